@@ -1,0 +1,5 @@
+pub mod Boundaries
+pub mod Places
+pub mod Search
+pub mod Forward
+pub mod FirstCut

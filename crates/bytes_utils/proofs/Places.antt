@@ -1,0 +1,69 @@
+-- A place in a text's bytes at which a character begins, and the text cut there.
+use Rattle.std.proofs.Common.{◌≡◌, refl, sym, ap, subst, ◌∙◌, ℕ, ◌+◌, ◌-◌, ◌<◌, ◌≤◌, List, [], ◌∷◌, ◌++◌, length, take, drop, arith, true, length-append, length-drop, length-take, take-add, take-append-drop, IsUtf8, IsCharBoundary}
+use Rattle.std.proofs.lemmas.List.{take_at, drop_at}
+use Rattle.std.proofs.lemmas.List.Elements.{All-nil, All-cons}
+use Rattle.std.proofs.lemmas.Bool.{and_from, and_parts}
+use Rattle.std.proofs.lemmas.Bool.Decides.{nat_tests}
+use Rattle.std.proofs.lemmas.Str.{IsCharBoundary-at_seam, encodes-append, encodes-chars, scalars-chars, chars_from_encodes, length-le-encodes}
+use Rattle.std.specs.Str.{chars, encode_utf8_all as encodes, all_scalars as scalars}
+use Rattle.std.specs.Char.{IsScalar, InScalarRange}
+use Rattle.bytes_utils.specs.Text.{AreCharacters, byte_place}
+
+InScalarRange-from : (c : ℕ) → IsScalar c → InScalarRange c
+InScalarRange-from c is = grind (arith, nat_tests)
+
+-- what a text holds are real characters
+pub AreCharacters-from_scalars : (cs : List ℕ) → scalars cs ≡ true → AreCharacters cs
+AreCharacters-from_scalars [] all = All-nil InScalarRange
+AreCharacters-from_scalars (c ∷ cs) all =
+    All-cons InScalarRange c cs (InScalarRange-from c (and_parts _ _ all).0) (AreCharacters-from_scalars cs (and_parts _ _ all).1)
+
+pub AreCharacters-chars : (text : List ℕ) → IsUtf8 text → AreCharacters (chars text)
+AreCharacters-chars text text_is = AreCharacters-from_scalars (chars text) (scalars-chars text text_is)
+
+scalars-part : (xs ys : List ℕ) → scalars (xs ++ ys) ≡ true → (scalars xs ≡ true) × (scalars ys ≡ true)
+scalars-part [] ys all = (refl, all)
+scalars-part (x ∷ xs) ys all =
+    let more = scalars-part xs ys (and_parts _ _ all).1 in
+    (and_from _ _ (and_parts _ _ all).0 more.0, more.1)
+
+-- fewer characters take fewer bytes
+pub byte_place-less : (t : List ℕ) (j i : ℕ) → j < i → i ≤ length t → byte_place t j < byte_place t i
+byte_place-less t j i l le =
+    let m : j + (i - j) ≡ i = omega arith in
+    let more = take (i - j) (drop j t) in
+    let split : take i t ≡ take j t ++ more = ap (λ n. take n t) (sym m) ∙ take-add j (i - j) t in
+    let sum : byte_place t i ≡ byte_place t j + length (encodes more) =
+    ap (λ z. length (encodes z)) split ∙ ap length (encodes-append (take j t) more) ∙ length-append (encodes (take j t)) (encodes more) in
+    omega (arith, sum, length-le-encodes more, length-take (i - j) (drop j t), length-drop j t)
+
+module _ (text : List ℕ) (text_is : IsUtf8 text) (i : ℕ) where
+  both_scalars : (scalars (take i (chars text)) ≡ true) × (scalars (drop i (chars text)) ≡ true)
+  both_scalars =
+      scalars-part (take i (chars text)) (drop i (chars text)) (ap scalars (take-append-drop i (chars text)) ∙ scalars-chars text text_is)
+
+  front_is : IsUtf8 (encodes (take i (chars text)))
+  front_is = (take i (chars text), (both_scalars.0, refl))
+
+  behind_is : IsUtf8 (encodes (drop i (chars text)))
+  behind_is = (drop i (chars text), (both_scalars.1, refl))
+
+  -- the text is the bytes of the characters before the place and of those from it on
+  pub split_at_place : text ≡ encodes (take i (chars text)) ++ encodes (drop i (chars text))
+  split_at_place =
+      sym (encodes-chars text text_is) ∙ ap encodes (sym (take-append-drop i (chars text))) ∙ encodes-append (take i (chars text)) (drop i (chars text))
+
+  pub boundary_at_place : IsCharBoundary text (byte_place (chars text) i)
+  boundary_at_place = IsCharBoundary-at_seam text _ _ split_at_place behind_is
+
+  pub chars-take_place : chars (take (byte_place (chars text) i) text) ≡ take i (chars text)
+  chars-take_place =
+      let bytes : take (byte_place (chars text) i) text ≡ encodes (take i (chars text)) =
+      ap (take (byte_place (chars text) i)) split_at_place ∙ take_at (encodes (take i (chars text))) (encodes (drop i (chars text))) _ refl in
+      sym (chars_from_encodes _ _ (subst IsUtf8 (sym bytes) front_is) (sym bytes))
+
+  pub chars-drop_place : chars (drop (byte_place (chars text) i) text) ≡ drop i (chars text)
+  chars-drop_place =
+      let bytes : drop (byte_place (chars text) i) text ≡ encodes (drop i (chars text)) =
+      ap (drop (byte_place (chars text) i)) split_at_place ∙ drop_at (encodes (take i (chars text))) (encodes (drop i (chars text))) _ refl in
+      sym (chars_from_encodes _ _ (subst IsUtf8 (sym bytes) behind_is) (sym bytes))

@@ -1,0 +1,59 @@
+-- What a search for bytes says of characters, by the law of boundaries.
+use Rattle.std.proofs.Common.{◌≡◌, ◌↔◌, refl, sym, ap, subst, ℕ, ◌<◌, List, [], ◌∷◌, Option, None, Some, length, arith, IsUtf8}
+use Rattle.std.proofs.lemmas.Str.{encodes-chars}
+use Rattle.std.specs.Str.{chars, encode_utf8_all as encodes}
+use Rattle.memchr.specs.Find.{OccursAt as HasNeedleAt, FindsNeedle}
+use Rattle.memchr.proofs.lemmas.MatchLemmas.{OccursAt-part}
+use Rattle.bytes_utils.specs.Text.{byte_place}
+use Rattle.bytes_utils.specs.Occurrence.{OccursAt, FindsFirst}
+use Rattle.bytes_utils.proofs.Boundaries.{OccursAt-fits, HasNeedleAt-from_occurs, boundaries_law}
+use Rattle.bytes_utils.proofs.Places.{AreCharacters-chars, byte_place-less}
+
+-- what has bytes has characters
+pub chars-some : (text : List ℕ) → IsUtf8 text → 0 < length text → 0 < length (chars text)
+chars-some text text_is some = some_chars (chars text) (ap length (encodes-chars text text_is))
+  where
+    some_chars : (cs : List ℕ) → length (encodes cs) ≡ length text → 0 < length cs
+    some_chars [] e = absurd (omega (arith, e, some))
+    some_chars (c ∷ cs) e = omega arith
+
+module _ (text sep : List ℕ) (text_is : IsUtf8 text) (sep_is : IsUtf8 sep) (some : 0 < length sep) where
+  long : 0 < length (chars sep)
+  long = chars-some sep sep_is some
+
+  law : (k : ℕ) → OccursAt (encodes (chars sep)) (encodes (chars text)) k ↔ ((i : ℕ) × (k ≡ byte_place (chars text) i) × OccursAt (chars sep) (chars text) i)
+  law k = boundaries_law (chars sep) (chars text) k long (AreCharacters-chars sep sep_is) (AreCharacters-chars text text_is)
+
+  -- an occurrence in bytes is one in characters
+  in_chars : (k : ℕ) → HasNeedleAt text sep k → (i : ℕ) × (k ≡ byte_place (chars text) i) × OccursAt (chars sep) (chars text) i
+  in_chars k here =
+      (law k).0 (subst (λ z. OccursAt z (encodes (chars text)) k) (sym (encodes-chars sep sep_is))
+      (subst (λ z. OccursAt sep z k) (sym (encodes-chars text text_is)) (OccursAt-part text sep k here)))
+
+  -- and the other way round
+  in_bytes : (i : ℕ) → OccursAt (chars sep) (chars text) i → HasNeedleAt text sep (byte_place (chars text) i)
+  in_bytes i here =
+      HasNeedleAt-from_occurs sep text (byte_place (chars text) i) some
+      (subst (λ z. OccursAt z text (byte_place (chars text) i)) (encodes-chars sep sep_is)
+      (subst (λ z. OccursAt (encodes (chars sep)) z (byte_place (chars text) i)) (encodes-chars text text_is)
+      ((law (byte_place (chars text) i)).1 (i, refl, here))))
+
+  pub FindsFirst-from_needle : (r : Option ℕ) → FindsNeedle text sep 0 r → FindsFirst (chars sep) (chars text) r
+  FindsFirst-from_needle None nowhere = λ occurs.
+      let here = in_bytes occurs.0 occurs.1 in
+      let fits = here.fits in
+      nowhere (byte_place (chars text) occurs.0) (omega arith) (omega arith) here
+  FindsFirst-from_needle (Some k) found =
+      let here = in_chars k found.1 in (
+        here.0,
+        here.1,
+        record {
+          here = here.2;
+          first = λ j there.
+              let occurs = in_bytes j there in
+              let not_before : byte_place (chars text) j < k → ⊥ = λ l. found.0.before _ (omega arith) l occurs in
+              let fits = OccursAt-fits _ _ here.0 long here.2 in
+              let not_below : j < here.0 → ⊥ = λ l. not_before (omega (arith, here.1, byte_place-less (chars text) j here.0 l (omega arith))) in
+              omega arith;
+        },
+      )

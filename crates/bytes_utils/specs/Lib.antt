@@ -1,0 +1,7 @@
+pub mod Text
+pub mod Occurrence
+pub mod Parts
+pub mod Lines
+pub mod Outcome
+pub mod Step
+pub mod Errors

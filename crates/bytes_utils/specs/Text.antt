@@ -1,0 +1,13 @@
+-- A text is a list of characters. Its bytes are their UTF-8, one character after another (RFC 3629), as std's `encode_utf8_all`
+-- has it, and `chars` reads the characters from the bytes.
+use Rattle.std.specs.Prelude.{ℕ, List, length, take, All}
+use Rattle.std.specs.Char.{InScalarRange}
+use Rattle.std.specs.Str.{encode_utf8_all}
+
+-- each number is a real character: 0 to U+D7FF, or U+E000 to U+10FFFF
+abbrev pub AreCharacters : List ℕ → Type 0
+AreCharacters = All InScalarRange
+
+-- the byte place at which the character at place i begins
+abbrev pub byte_place : List ℕ → ℕ → ℕ
+byte_place t i = length (encode_utf8_all (take i t))

@@ -1,0 +1,8 @@
+//! A text cut into owned parts.
+
+mod boundary;
+mod cut;
+mod separator;
+
+pub use boundary::boundaries;
+pub use separator::SplitBytes;

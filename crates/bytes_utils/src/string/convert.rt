@@ -1,0 +1,27 @@
+//! Conversions between a text and its storage.
+ghost use Rattle.std.specs.Prelude.{◌≡◌, ◌↔◌, IsUtf8, IsOk, IfOk, IfErr};
+ghost use Rattle.bytes_utils.specs.Errors.{refused_storage};
+
+use crate::string::{Str, Utf8Error};
+use bytes::Bytes;
+
+/// As `Str::from_inner`.
+impl TryFrom<Bytes> for Str {
+    type Error = Utf8Error<Bytes>;
+
+    ghost try_from_gives = { λ bytes r. (IsOk r ↔ IsUtf8 bytes) × IfOk r (λ text. text ≡ bytes)
+        × IfErr r (λ e. refused_storage e ≡ bytes) };
+
+    fn try_from(value: Bytes) -> Result<Self, Self::Error> {
+        Str::from_inner(value)
+    }
+}
+
+/// As `Str::into_inner`.
+impl From<Str> for Bytes {
+    ghost from_gives = { λ text bytes. bytes ≡ text };
+
+    fn from(text: Str) -> Bytes {
+        text.into_inner()
+    }
+}

@@ -1,0 +1,95 @@
+//! Text: its check, its reading and its cut.
+ghost use Rattle.std.specs.Prelude.{◌≡◌, ◌↔◌, length, take, drop, IsUtf8, IsCharBoundary, IsOk, IfOk, IfErr};
+ghost use Rattle.std.specs.Str.{valid_up_to, error_len};
+ghost use Rattle.std.specs.Str.Lossy.{utf8_valid_len, utf8_error_len};
+ghost use Rattle.bytes_utils.specs.Errors.{refused_storage, fault_of};
+
+use crate::string::{Storage, Utf8Error};
+use bytes_utils_buf::Refused;
+use std::marker::Model;
+use std::str;
+
+/// Text over a storage. A clause sees its bytes.
+#[derive(Drop)]
+pub struct StrInner<S: Storage> {
+    storage: S,
+}
+
+impl<S: Storage> Model for StrInner<S> {
+    ghost use Rattle.std.specs.Prelude.{ℕ, List, IsUtf8};
+
+    ghost Value = { List ℕ };
+
+    ghost view = { λ s. S.stored s.storage };
+
+    ghost invariant = { λ s. IsUtf8 (S.stored s.storage) };
+}
+
+impl<S: Storage> StrInner<S> {
+    /// The text of these bytes, where they are UTF-8.
+    pub fn from_inner(s: S) -> Result<Self, Utf8Error<S>>
+        ensures variant { IsOk result ↔ IsUtf8 (S.stored s) }
+        ensures ok { IfOk result (λ text. text ≡ S.stored s) }
+        ensures err { IfErr result (λ e. refused_storage e ≡ s) }
+        ensures valid_len { IfErr result (λ e. valid_up_to (fault_of e) ≡ utf8_valid_len (S.stored s)) }
+        ensures fault { IfErr result (λ e. error_len (fault_of e)
+            ≡ utf8_error_len (drop (valid_up_to (fault_of e)) (S.stored s))) }
+    {
+        match str::from_utf8(s.as_bytes()) {
+            Ok(_) => Ok(StrInner { storage: s }),
+            Err(fault) => Err(Utf8Error::new(s, fault)),
+        }
+    }
+
+    /// The text of bytes that are known to be UTF-8: nothing is tested. `from_inner` tests the condition.
+    pub fn from_inner_unchecked(s: S) -> Self
+        requires { IsUtf8 (S.stored s) }
+        ensures { result ≡ S.stored s }
+    {
+        StrInner { storage: s }
+    }
+
+    /// The storage.
+    pub fn inner(&self) -> &S
+        ensures value { S.stored result.now ≡ self.now }
+        ensures utf8 { IsUtf8 (S.stored result.now) }
+    {
+        &self.storage
+    }
+
+    /// The storage.
+    pub fn into_inner(self) -> S
+        ensures value { S.stored result ≡ self }
+        ensures utf8 { IsUtf8 (S.stored result) }
+    {
+        let StrInner { storage } = self;
+        storage
+    }
+
+    /// The text. Its `is_char_boundary` tests the conditions on places.
+    #[inline]
+    pub fn as_str(&self) -> &str
+        ensures value { result.now ≡ self.now }
+        ensures utf8 { IsUtf8 result.now }
+    {
+        unsafe { str::from_utf8_unchecked(self.storage.as_bytes()) }
+    }
+
+    /// The text before the byte place `at` and that from it on, or the text back. `is_char_boundary` of `as_str` tests the condition.
+    #[inline]
+    pub fn split_at_bytes(self, at: usize) -> Result<(Self, Self), Refused<Self>>
+        requires { IsCharBoundary self at }
+        ensures left { IfOk result (λ halves. halves.0 ≡ take at self) }
+        ensures right { IfOk result (λ halves. halves.1 ≡ drop at self) }
+        ensures err { IfErr result (λ e. e.back ≡ self) }
+    {
+        let StrInner { storage } = self;
+        match storage.split_at(at) {
+            Ok((left, right)) => Ok((StrInner { storage: left }, StrInner { storage: right })),
+            Err(Refused { reason, back }) => Err(Refused {
+                reason,
+                back: StrInner { storage: back },
+            }),
+        }
+    }
+}
