@@ -5,7 +5,8 @@ use Rattle.std.specs.Str.{chars, encode_utf8_all as encodes}
 use Rattle.bytes_utils.specs.Text.{byte_place}
 use Rattle.bytes_utils.specs.Occurrence.{Occurs, OccursFirstAt}
 use Rattle.bytes_utils.specs.Parts.{AreForwardParts}
-use Rattle.bytes_utils.specs.Step.{GivesFirst, forward_coming}
+use Rattle.bytes_utils.specs.Splitting.{AreForwardPartsToCome}
+use Rattle.bytes_utils.specs.Step.{GivesFirst}
 use Rattle.bytes_utils.proofs.Search.{chars-some}
 use Rattle.bytes_utils.proofs.Forward.{AreForwardParts-more, AreForwardParts-last, has_forward_parts}
 use Rattle.bytes_utils.proofs.Places.{boundary_at_place, chars-take_place, chars-drop_place}
@@ -29,7 +30,7 @@ module _ (text sep : List ℕ) (text_is : IsUtf8 text) (sep_is : IsUtf8 sep) (at
   next_boundary = subst (IsCharBoundary text) (sym next_place) (boundary_at_place text text_is (found.0 + length (chars sep)))
 
   pub gives_first : (part rest : List ℕ) → 0 < length sep → part ≡ take at text → rest ≡ drop (at + length sep) text
-      → GivesFirst forward_coming (record { rest = Some text; separator = sep }) (chars part) (record { rest = Some rest; separator = sep })
+      → GivesFirst AreForwardPartsToCome (record { rest = Some text; separator = sep }) (chars part) (record { rest = Some rest; separator = sep })
   gives_first part rest some part_is rest_is =
       let long = chars-some sep sep_is some in
       let part_chars : chars part ≡ take found.0 (chars text) =
@@ -49,7 +50,7 @@ module _ (text sep : List ℕ) (text_is : IsUtf8 text) (sep_is : IsUtf8 sep) (at
 
 -- a text without the separator is given whole
 pub gives_last : (text sep : List ℕ) → (¬ Occurs (chars sep) (chars text))
-    → GivesFirst forward_coming (record { rest = Some text; separator = sep }) (chars text) (record { rest = None; separator = sep })
+    → GivesFirst AreForwardPartsToCome (record { rest = Some text; separator = sep }) (chars text) (record { rest = None; separator = sep })
 gives_last text sep lacks = record {
   some = ([], refl);
   each = λ others none. rw none (AreForwardParts-last (chars sep) (chars text) lacks);

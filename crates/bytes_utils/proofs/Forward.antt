@@ -32,9 +32,9 @@ module _ {X : Type 0} (p t : List X) (i : ℕ) (some : 0 < length p) (first : Oc
       let whole : (take i t ++ p) ++ drop (i + length p) t ≡ t = append_assoc (take i t) p (drop (i + length p) t) ∙ cut_whole in
       record {
         here = ap (take (length p)) (drop_at (take i t) p (length (take i t)) refl) ∙ take_all p;
-        first = λ j there.
+        none_before = λ j there.
             let in_whole : OccursAt p t j = subst (λ z. OccursAt p z j) whole (OccursAt-append p (take i t ++ p) (drop (i + length p) t) j some there) in
-            omega (arith, size, first.first j in_whole);
+            omega (arith, size, first.none_before j in_whole);
       }
     where
       take_all : (xs : List X) → take (length xs) xs ≡ xs
@@ -47,8 +47,8 @@ module _ {X : Type 0} (p t : List X) (i : ℕ) (some : 0 < length p) (first : Oc
     some = omega arith;
     few = tt;
     joined = ap (λ z. take i t ++ (p ++ z)) are.joined ∙ cut_whole;
-    first = (first_in_part, are.first);
-    whole = λ below. are.whole below;
+    cut_at_first = (first_in_part, are.cut_at_first);
+    last = λ below. are.last below;
   }
 
 -- a text in which p doesn't occur is its only part
@@ -57,8 +57,8 @@ AreForwardParts-last p t lacks = record {
   some = omega arith;
   few = tt;
   joined = refl;
-  first = tt;
-  whole = λ _. lacks;
+  cut_at_first = tt;
+  last = λ _. lacks;
 }
 
 -- two lists of numbers are the same, or they aren't
@@ -84,11 +84,11 @@ module _ (p : List ℕ) (c : ℕ) (cs : List ℕ) (not_here : take (length p) (c
 
   first_more : (i : ℕ) → OccursFirstAt p cs i → (j : ℕ) → OccursAt p (c ∷ cs) j → suc i ≤ j
   first_more i first zero there = absurd (not_here there)
-  first_more i first (suc j) there = omega (arith, first.first j there)
+  first_more i first (suc j) there = omega (arith, first.none_before j there)
 
 first_at : (p : List ℕ) (c : ℕ) (cs : List ℕ) → (take (length p) (c ∷ cs) ≡ p) ⊎ (take (length p) (c ∷ cs) ≡ p → ⊥) → FirstOrNowhere p cs → FirstOrNowhere p (c ∷ cs)
-first_at p c cs (inl here) _ = inl (0, record { here = here; first = λ j there. omega arith })
-first_at p c cs (inr not_here) (inl found) = inl (suc found.0, record { here = found.1.here; first = first_more p c cs not_here found.0 found.1 })
+first_at p c cs (inl here) _ = inl (0, record { here = here; none_before = λ j there. omega arith })
+first_at p c cs (inr not_here) (inl found) = inl (suc found.0, record { here = found.1.here; none_before = first_more p c cs not_here found.0 found.1 })
 first_at p c cs (inr not_here) (inr nowhere) = inr (λ occurs. nowhere_more p c cs not_here nowhere occurs.0 occurs.1)
 
 pub first_or_nowhere : (p t : List ℕ) → 0 < length p → FirstOrNowhere p t

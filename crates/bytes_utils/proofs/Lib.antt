@@ -3,3 +3,4 @@ pub mod Places
 pub mod Search
 pub mod Forward
 pub mod FirstCut
+pub mod Cases

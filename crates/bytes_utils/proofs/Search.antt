@@ -49,7 +49,7 @@ module _ (text sep : List ℕ) (text_is : IsUtf8 text) (sep_is : IsUtf8 sep) (so
         here.1,
         record {
           here = here.2;
-          first = λ j there.
+          none_before = λ j there.
               let occurs = in_bytes j there in
               let not_before : byte_place (chars text) j < k → ⊥ = λ l. found.0.before _ (omega arith) l occurs in
               let fits = OccursAt-fits _ _ here.0 long here.2 in

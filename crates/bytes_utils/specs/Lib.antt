@@ -4,4 +4,5 @@ pub mod Parts
 pub mod Lines
 pub mod Outcome
 pub mod Step
+pub mod Splitting
 pub mod Errors

@@ -1,4 +1,5 @@
--- Where a list occurs in another: a separator in a text by characters, or its bytes in the text's bytes.
+-- Where a list occurs in another: a separator in a text by characters, or its bytes in the text's bytes. The list that is looked for
+-- comes first, the one that is looked through second.
 use Rattle.std.specs.Prelude.{◌≡◌, ◌↔◌, ℕ, ◌<◌, ◌≤◌, List, length, take, drop, Option, MatchOption}
 use Rattle.std.specs.Str.{encode_utf8_all}
 use Rattle.bytes_utils.specs.Text.{AreCharacters, byte_place}
@@ -14,13 +15,14 @@ Occurs p t = (i : ℕ) × OccursAt p t i
 -- p occurs in t at place i and at no place before it
 pub record OccursFirstAt {X : Type 0} (p t : List X) (i : ℕ) : Type 0 where
   pub here : OccursAt p t i
-  pub first : (j : ℕ) → OccursAt p t j → i ≤ j
-
--- For p not empty, the bytes of p occur in those of t exactly at the places at which a character of t begins from which on p occurs.
-abbrev pub BoundariesLaw : Type 0
-BoundariesLaw = (p t : List ℕ) (k : ℕ) → 0 < length p → AreCharacters p → AreCharacters t
-    → OccursAt (encode_utf8_all p) (encode_utf8_all t) k ↔ ((i : ℕ) × (k ≡ byte_place t i) × OccursAt p t i)
+  pub none_before : (j : ℕ) → OccursAt p t j → i ≤ j
 
 -- r is the byte place in t at which p occurs first, or `None` where it doesn't occur
 abbrev pub FindsFirst : List ℕ → List ℕ → Option ℕ → Type 0
 FindsFirst p t r = MatchOption r (¬ Occurs p t) (λ at. (i : ℕ) × (at ≡ byte_place t i) × OccursFirstAt p t i)
+
+-- For p not empty, both lists of real characters: the bytes of p occur in those of t exactly at the places at which a character of t
+-- begins from which on p occurs in t.
+abbrev pub BoundariesLaw : Type 0
+BoundariesLaw = (p t : List ℕ) (k : ℕ) → 0 < length p → AreCharacters p → AreCharacters t
+    → OccursAt (encode_utf8_all p) (encode_utf8_all t) k ↔ ((i : ℕ) × (k ≡ byte_place t i) × OccursAt p t i)

@@ -2,7 +2,7 @@
 use Rattle.std.specs.Prelude.{◌≡◌, ℕ, ◌<◌, ◌≤◌, List, [], ◌∷◌, ◌++◌, length, Option, ⊤, IfSome}
 use Rattle.bytes_utils.specs.Occurrence.{Occurs, OccursFirstAt}
 
--- the parts in order, with p between neighbours
+-- the parts in order, with p between neighbours, as Rust's `parts.join(p)`
 abbrev pub join : {X : Type 0} → List X → List (List X) → List X
 join p [] = []
 join p (part ∷ []) = part
@@ -20,17 +20,14 @@ OfLast P [] = ⊤
 OfLast P (x ∷ []) = P x
 OfLast P (x ∷ y ∷ xs) = OfLast P (y ∷ xs)
 
--- n is below the limit, if there is one
-abbrev pub IsBelow : ℕ → Option ℕ → Type 0
-IsBelow n limit = IfSome limit (λ most. n < most)
-
--- The parts of t between separators p, cut from the front, at most so many as the limit says, if there is one. It is what Rust's
--- `str::split` gives, and `str::splitn` with a limit, for p not empty and a limit of at least 1.
+-- The parts of t between separators p, cut from the front, at most as many as the limit says, if there is one: what Rust's
+-- `str::split` gives, and `str::splitn` with a limit. For p not empty and a limit of at least 1; the empty separator has a
+-- definition of its own.
 pub record AreForwardParts {X : Type 0} (t p : List X) (limit : Option ℕ) (parts : List (List X)) : Type 0 where
   pub some : 0 < length parts
   pub few : IfSome limit (λ most. length parts ≤ most)
   pub joined : join p parts ≡ t
-  -- a part ends where p occurs first in it and the p behind it
-  pub first : EachButLast (λ part. OccursFirstAt p (part ++ p) (length part)) parts
-  -- a last part that the limit didn't leave whole holds no p
-  pub whole : IsBelow (length parts) limit → OfLast (λ part. ¬ Occurs p part) parts
+  -- each part but the last, followed by p, has its first p right behind it
+  pub cut_at_first : EachButLast (λ part. OccursFirstAt p (part ++ p) (length part)) parts
+  -- unless the limit was reached, the last part holds no p
+  pub last : IfSome limit (λ most. length parts < most) → OfLast (λ part. ¬ Occurs p part) parts

@@ -1,11 +1,9 @@
 -- What one call of a splitter's `next` does.
-use Rattle.std.specs.Prelude.{◌≡◌, ℕ, ◌+◌, List, [], ◌∷◌, length, Option, None, Some, Result, MatchOption, MatchResult, IsSomeAnd}
+use Rattle.std.specs.Prelude.{ℕ, List, [], ◌∷◌, Option, Result, MatchOption, MatchResult}
 use Rattle.std.specs.Str.{chars}
-use Rattle.bytes_utils.specs.Occurrence.{Occurs}
-use Rattle.bytes_utils.specs.Parts.{AreForwardParts}
 
--- Below, `coming s parts` says that in the state s of a splitter these parts are to come, each as its characters, and `cuts s` that
--- a step from s splits the storage.
+-- Below, `coming s parts` says that in the state s of a splitter these parts are to come, each as its characters; at most one list
+-- is. `cuts s` says that a step from s splits the storage.
 
 -- the part is the first of those to come in s: some list is to come in t, and behind the part each such list is to come in s
 pub record GivesFirst {S : Type 0} (coming : S → List (List ℕ) → Type 0) (s : S) (part : List ℕ) (t : S) : Type 0 where
@@ -17,21 +15,3 @@ pub record GivesFirst {S : Type 0} (coming : S → List (List ℕ) → Type 0) (
 abbrev pub IsStep : {S E : Type 0} → (S → List (List ℕ) → Type 0) → (S → Type 0) → S → Option (Result (List ℕ) E) → S → Type 0
 IsStep coming cuts s r t = MatchOption r (coming s [] × coming t [])
     (λ item. (¬ coming s []) × MatchResult item (λ part. GivesFirst coming s (chars part) t) (λ _. cuts s × coming t []))
-
--- what a splitter by a separator has still to cut, if anything, and the separator, both as bytes
-pub record Splitting : Type 0 where
-  pub rest : Option (List ℕ)
-  pub separator : List ℕ
-
--- the parts of what is left, cut from the front, or none where nothing is left
-abbrev pub forward_coming : Splitting → List (List ℕ) → Type 0
-forward_coming s parts = MatchOption s.rest (parts ≡ []) (λ text. AreForwardParts (chars text) (chars s.separator) None parts)
-
--- what is left holds a separator
-abbrev pub HoldsSeparator : Splitting → Type 0
-HoldsSeparator s = IsSomeAnd s.rest (λ text. Occurs (chars s.separator) (chars text))
-
--- more parts than this are never to come
-abbrev pub most_parts : Option (List ℕ) → ℕ
-most_parts None = 0
-most_parts (Some text) = length text + 1

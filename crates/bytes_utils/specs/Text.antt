@@ -1,5 +1,5 @@
--- A text is a list of characters. Its bytes are their UTF-8, one character after another (RFC 3629), as std's `encode_utf8_all`
--- has it, and `chars` reads the characters from the bytes.
+-- A text is a list of characters. Its bytes are their UTF-8, one character after another (RFC 3629), as std's `encode_utf8_all` has
+-- it. std's `chars` gives the characters back from bytes that are UTF-8.
 use Rattle.std.specs.Prelude.{ℕ, List, length, take, All}
 use Rattle.std.specs.Char.{InScalarRange}
 use Rattle.std.specs.Str.{encode_utf8_all}
@@ -8,6 +8,6 @@ use Rattle.std.specs.Str.{encode_utf8_all}
 abbrev pub AreCharacters : List ℕ → Type 0
 AreCharacters = All InScalarRange
 
--- the byte place at which the character at place i begins
+-- the number of bytes of the first i characters of t, where the next one begins
 abbrev pub byte_place : List ℕ → ℕ → ℕ
 byte_place t i = length (encode_utf8_all (take i t))

@@ -1,13 +1,6 @@
-// A library with one function.
+//! Texts cut whole, and a program that does it.
 #![tactic(auto)]
 
-ghost use Rattle.std.specs.Prelude.{◌≡◌};
-ghost use Rattle.bytes_utils_run.specs.Echo.{echo_of};
+mod cut;
 
-// The `ensures` clause is the contract: what `echo` returns is `echo_of` of its argument, a definition
-// in `specs/Echo.antt`, which a caller's clause can cite too.
-pub fn echo(x: usize) -> usize
-    ensures { result ≡ echo_of x }
-{
-    x
-}
+pub use cut::{How, Parts, cut_all};

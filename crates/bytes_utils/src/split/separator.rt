@@ -3,7 +3,8 @@ ghost use Rattle.std.specs.Prelude.{◌≡◌, ◌<◌, ℕ, List, Some, length,
 ghost use Rattle.std.specs.Iterator.{at_most};
 ghost use Rattle.std.specs.Str.{chars};
 ghost use Rattle.bytes_utils.specs.Occurrence.{Occurs, FindsFirst};
-ghost use Rattle.bytes_utils.specs.Step.{IsStep, GivesFirst, forward_coming, HoldsSeparator, most_parts};
+ghost use Rattle.bytes_utils.specs.Splitting.{AreForwardPartsToCome, HoldsSeparator, most_parts};
+ghost use Rattle.bytes_utils.specs.Step.{GivesFirst, IsStep};
 
 use super::cut::cut_out;
 use crate::string::{Storage, StrInner};
@@ -26,7 +27,7 @@ fn first_part<S: Storage>(
     separator: &str,
 ) -> Result<(StrInner<S>, Option<StrInner<S>>), Reason>
     requires { 0 < length separator.now }
-    ensures gives { IfOk result (λ cut. GivesFirst forward_coming
+    ensures gives { IfOk result (λ cut. GivesFirst AreForwardPartsToCome
         (record { rest = Some text; separator = separator.now }) (chars cut.0)
         (record { rest = cut.1; separator = separator.now })) }
     ensures shorter { IfOk result (λ cut. IfSome cut.1 (λ rest. length rest < length text)) }
@@ -48,7 +49,7 @@ pub struct SplitBytes<'s, S: Storage> {
 
 impl<'s, S: Storage> Model for SplitBytes<'s, S> {
     ghost use Rattle.std.specs.Prelude.{◌<◌, length};
-    ghost use Rattle.bytes_utils.specs.Step.{Splitting};
+    ghost use Rattle.bytes_utils.specs.Splitting.{Splitting};
 
     ghost Value = { Splitting };
 
@@ -62,7 +63,7 @@ impl<S: Storage> StrInner<S> {
     pub fn split_bytes<'s>(self, separator: &'s str) -> SplitBytes<'s, S>
         requires { 0 < length separator.now }
         ensures value { result ≡ record { rest = Some self; separator = separator.now } }
-        ensures coming { (parts : List (List ℕ)) × forward_coming result parts }
+        ensures coming { (parts : List (List ℕ)) × AreForwardPartsToCome result parts }
     {
         SplitBytes {
             rest: Some(self),
@@ -74,9 +75,9 @@ impl<S: Storage> StrInner<S> {
 impl<'s, S: Storage> Iterator for SplitBytes<'s, S> {
     type Item = Result<StrInner<S>, Reason>;
 
-    ghost next_gives = { λ s r t. (t.separator ≡ s.separator) × IsStep forward_coming HoldsSeparator s r t };
+    ghost next_gives = { λ s r t. (t.separator ≡ s.separator) × IsStep AreForwardPartsToCome HoldsSeparator s r t };
 
-    ghost remaining = { λ s. at_most (most_parts s.rest) };
+    ghost remaining = { λ s. at_most (most_parts s) };
 
     fn next(&mut self) -> Option<Self::Item> {
         let text = self.rest.take()?;
