@@ -1,0 +1,4 @@
+pub mod Beginnings
+pub mod FirstLine
+pub mod Words
+pub mod Printing

@@ -2,5 +2,7 @@
 #![tactic(auto)]
 
 mod cut;
+mod program;
 
 pub use cut::{How, Parts, cut_all};
+pub use program::{Fault, script};

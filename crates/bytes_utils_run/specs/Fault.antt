@@ -1,0 +1,18 @@
+-- How a fault is told to who started the program.
+use Rattle.std.specs.Prelude.{ℕ, List, codes}
+use Rattle.bytes_utils_run.specs.declared.program.fault.Fault.{Fault}
+use Rattle.bytes_utils_run.specs.declared.program.fault.Fault.TheVariants.{UnknownCommand, NotUtf8, OutOfMemory, Io}
+
+-- the status with which the program ends
+abbrev pub status_of : Fault → ℕ
+status_of UnknownCommand = 2
+status_of NotUtf8 = 3
+status_of OutOfMemory = 4
+status_of Io = 5
+
+-- what is said of it, without a line feed
+abbrev pub fault_text : Fault → List ℕ
+fault_text UnknownCommand = codes "unknown command"
+fault_text NotUtf8 = codes "not UTF-8"
+fault_text OutOfMemory = codes "out of memory"
+fault_text Io = codes "read or write failed"

@@ -1,0 +1,158 @@
+//! Readers and writers that are slow, fail, take nothing or never end.
+ghost use Rattle.std.specs.Prelude.{◌<◌};
+
+use std::io::{self, ErrorKind, Read, Write};
+
+/// Counts calls, and lets one of them fail: the one at `fails_at`, from 1 on, or none at 0. It
+/// fails as `Interrupted`, which std's own loops try again, and the next call succeeds.
+#[derive(Drop)]
+struct Calls {
+    made: usize,
+    fails_at: usize,
+}
+
+impl Calls {
+    fn count(&mut self) -> io::Result<()> {
+        self.made = self.made.saturating_add(1);
+        if self.made == self.fails_at {
+            return Err(io::Error::from(ErrorKind::Interrupted));
+        }
+        Ok(())
+    }
+}
+
+/// Gives at most `most` bytes a call, and fails at one call.
+#[derive(Drop)]
+pub(super) struct SlowReader<'a> {
+    rest: &'a [u8],
+    most: usize,
+    calls: Calls,
+    ghost gives_some: { 0 < most },
+}
+
+impl<'a> SlowReader<'a> {
+    pub(super) fn new(input: &'a [u8], most: usize, fails_at: usize) -> Self
+        requires { 0 < most }
+    {
+        SlowReader {
+            rest: input,
+            most,
+            calls: Calls { made: 0, fails_at },
+        }
+    }
+
+    pub(super) fn rest(&self) -> &'a [u8] {
+        self.rest
+    }
+}
+
+impl Read for SlowReader<'_> {
+    ghost use Rattle.std.specs.Prelude.{Some};
+
+    ghost remaining = { λ reader. Some reader.rest.now };
+
+    fn read(&mut self, buf: &mut [u8]) -> io::Result<usize> {
+        self.calls.count()?;
+        let most = buf.len().min(self.most);
+        self.rest.read(&mut buf[..most])
+    }
+}
+
+/// Gives one `a` a call, never ends, and counts its calls.
+#[derive(Drop)]
+pub(super) struct EndlessReader {
+    pub(super) calls: usize,
+}
+
+impl Read for EndlessReader {
+    ghost use Rattle.std.specs.Prelude.{None};
+
+    ghost remaining = { λ _. None };
+
+    fn read(&mut self, buf: &mut [u8]) -> io::Result<usize> {
+        self.calls = self.calls.saturating_add(1);
+        if buf.is_empty() {
+            return Ok(0);
+        }
+        buf[0] = b'a';
+        Ok(1)
+    }
+}
+
+/// Takes at most `most` bytes a call, and fails at one call.
+#[derive(Drop)]
+pub(super) struct SlowWriter {
+    held: Vec<u8>,
+    most: usize,
+    calls: Calls,
+}
+
+impl SlowWriter {
+    pub(super) fn new(held: Vec<u8>, most: usize, fails_at: usize) -> Self {
+        SlowWriter {
+            held,
+            most,
+            calls: Calls { made: 0, fails_at },
+        }
+    }
+
+    pub(super) fn held(&self) -> &[u8] {
+        self.held.as_slice()
+    }
+}
+
+impl Write for SlowWriter {
+    ghost use Rattle.std.specs.Prelude.{Some};
+
+    ghost contents = { λ writer. Some writer.held.items };
+
+    fn write(&mut self, buf: &[u8]) -> io::Result<usize> {
+        self.calls.count()?;
+        let count = buf.len().min(self.most);
+        self.held.extend_from_slice(&buf[..count])?;
+        Ok(count)
+    }
+
+    fn flush(&mut self) -> io::Result<()> {
+        Ok(())
+    }
+}
+
+/// Answers 0 to every call, and so holds nothing.
+#[derive(Drop)]
+pub(super) struct StuckWriter;
+
+impl Write for StuckWriter {
+    ghost use Rattle.std.specs.Prelude.{Some, []};
+
+    ghost contents = { λ _. Some [] };
+
+    fn write(&mut self, _buf: &[u8]) -> io::Result<usize> {
+        Ok(0)
+    }
+
+    fn flush(&mut self) -> io::Result<()> {
+        Ok(())
+    }
+}
+
+/// Takes all it is given, and can't be flushed.
+#[derive(Drop)]
+pub(super) struct UnflushedWriter {
+    pub(super) held: Vec<u8>,
+}
+
+impl Write for UnflushedWriter {
+    ghost use Rattle.std.specs.Prelude.{Some};
+
+    ghost contents = { λ writer. Some writer.held.items };
+
+    fn write(&mut self, buf: &[u8]) -> io::Result<usize> {
+        self.held.extend_from_slice(buf)?;
+        Ok(buf.len())
+    }
+
+    fn flush(&mut self) -> io::Result<()> {
+        Err(io::Error::from(ErrorKind::Interrupted))
+    }
+}

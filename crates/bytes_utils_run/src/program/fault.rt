@@ -1,0 +1,53 @@
+//! Why a run of the program ended early.
+
+use std::error::Error;
+use std::fmt;
+
+/// Why a run of the program ended early.
+#[derive(Clone, Copy, Debug, Eq, PartialEq)]
+pub enum Fault {
+    /// The input begins with no command, or a line after `buf` is no call.
+    UnknownCommand,
+    /// The input isn't UTF-8.
+    NotUtf8,
+    /// A request for memory was refused.
+    OutOfMemory,
+    /// A read, a write or a flush failed, a write took nothing, or the input hadn't ended after
+    /// 1,048,576 reads.
+    Io,
+}
+
+impl Fault {
+    ghost use Rattle.std.specs.Prelude.{◌≡◌};
+    ghost use Rattle.bytes_utils_run.specs.Fault.{status_of};
+
+    /// The status with which the program ends.
+    pub fn status(&self) -> u8
+        ensures { result ≡ status_of self.now }
+    {
+        match self {
+            Fault::UnknownCommand => 2,
+            Fault::NotUtf8 => 3,
+            Fault::OutOfMemory => 4,
+            Fault::Io => 5,
+        }
+    }
+}
+
+impl fmt::Display for Fault {
+    ghost use Rattle.std.specs.Prelude.{Some};
+    ghost use Rattle.bytes_utils_run.specs.Fault.{fault_text};
+
+    ghost output = { λ fault. Some (fault_text fault) };
+
+    fn fmt<W: fmt::Write>(&self, f: &mut fmt::Formatter<W>) -> fmt::Result {
+        match self {
+            Fault::UnknownCommand => f.write_str("unknown command"),
+            Fault::NotUtf8 => f.write_str("not UTF-8"),
+            Fault::OutOfMemory => f.write_str("out of memory"),
+            Fault::Io => f.write_str("read or write failed"),
+        }
+    }
+}
+
+impl Error for Fault {}

@@ -1,0 +1,38 @@
+//! Reading all of the input.
+ghost use Rattle.std.specs.Prelude.{◌≡◌, ◌⊎◌, ◌*◌, ◌<◌, length, OnErr, IfOk, IfErr};
+ghost use Rattle.bytes_utils_run.specs.Moves.{ConsumesSome, ReadsWhole};
+
+use crate::program::Fault;
+use std::alloc::Global;
+use std::io::Read;
+
+/// How many bytes one call of `read` may give.
+const PLACE: usize = 4_096;
+
+/// How many calls of `read` are made at most.
+const MOST_READS: usize = 1_048_576;
+
+/// Reads to the end of the input. A read that fails isn't tried again, and a reader that hasn't
+/// ended after `MOST_READS` calls counts as a failed one.
+pub(super) fn read_all<R: Read>(alloc: Global, reader: &mut R) -> Result<Vec<u8>, Fault>
+    ensures whole { IfOk result
+        (λ bytes. ReadsWhole (R.remaining reader.old) (R.remaining reader.new) bytes.items) }
+    ensures bounded { IfOk result (λ bytes. length bytes.items < PLACE * MOST_READS) }
+    ensures err { OnErr result (ConsumesSome (R.remaining reader.old) (R.remaining reader.new)) }
+    ensures fault { IfErr result (λ fault. (fault ≡ Fault.Io) ⊎ (fault ≡ Fault.OutOfMemory)) }
+{
+    let mut bytes = Vec::new(alloc);
+    let mut place = [0; PLACE];
+    for _ in 0..MOST_READS {
+        match reader.read(&mut place) {
+            Ok(0) => return Ok(bytes),
+            Ok(count) => {
+                if bytes.extend_from_slice(&place[..count]).is_err() {
+                    return Err(Fault::OutOfMemory);
+                }
+            }
+            Err(_) => return Err(Fault::Io),
+        }
+    }
+    Err(Fault::Io)
+}
