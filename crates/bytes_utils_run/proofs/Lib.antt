@@ -2,3 +2,4 @@ pub mod Beginnings
 pub mod FirstLine
 pub mod Words
 pub mod Printing
+pub mod Counts

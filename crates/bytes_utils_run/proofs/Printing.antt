@@ -47,4 +47,4 @@ module _ (xs : List (List ℕ)) (i : ℕ) (x bytes : List ℕ) (within : i < len
   print_begun a b c before begun =
       subst (AppendsBeginning a c) (sym (printed_parts-chars xs))
       (AppendsBeginning-pieces print_chars xs i x a b c within is (subst (Appends a b) (printed_parts-chars (take i xs)) before)
-        (subst (AppendsBeginning b c) part_bytes begun))
+      (subst (AppendsBeginning b c) part_bytes begun))

@@ -82,7 +82,8 @@ fn gather<S: Storage, I: Splitter<S> + Drop>(alloc: Global, splitter: I) -> Part
 /// Cuts a text into all of its parts.
 pub fn cut_all<S: Storage>(alloc: Global, text: StrInner<S>, how: How<'_>) -> Parts<S>
     requires { IsAllowed how }
-    ensures { Outcome (ArePartsBy (cutting how.entry) (chars text)) (map chars result.given.items) result.refused }
+    ensures outcome { Outcome (ArePartsBy (cutting how.entry) (chars text)) (map chars result.given.items) result.refused }
+    ensures few { length result.given.items ≤ length (chars text) + 2 }
 {
     match how {
         How::Split(separator) => gather(alloc, text.split_bytes(separator)),

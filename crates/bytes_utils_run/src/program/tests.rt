@@ -1,7 +1,7 @@
-use crate::program::Fault;
 use crate::program::fakes::{EndlessReader, SlowReader, SlowWriter, StuckWriter, UnflushedWriter};
 use crate::program::input::read_all;
 use crate::program::output::{flush_out, print_part, write_out};
+use crate::program::{Fault, script};
 use std::io::Write;
 use std::test::Fail;
 
@@ -26,6 +26,40 @@ fn faults_are_told(rt: HostRuntime) -> Result<(), Fail> {
     ] {
         assert_eq!(rt; fault.status(), status);
         assert_eq!(rt; fault.to_string(rt.alloc())?.as_str(), text);
+    }
+    Ok(())
+}
+
+#[test]
+fn runs_of_the_program(rt: HostRuntime) -> Result<(), Fail> {
+    for (name, input, result, output) in [
+        ("program-split", INPUT.as_bytes(), Ok(()), PRINTED),
+        ("program-return", b"split ,\r\na,b", Ok(()), "1:a\n1:b\n"),
+        ("program-no-text", b"split ,", Ok(()), "0:\n"),
+        (
+            "program-faults",
+            b"nonsense",
+            Err(Fault::UnknownCommand),
+            "",
+        ),
+        ("program-faults", b"\xff", Err(Fault::NotUtf8), ""),
+        ("program-faults", b"", Err(Fault::UnknownCommand), ""),
+        (
+            "program-empty-separator",
+            b"split,",
+            Err(Fault::UnknownCommand),
+            "",
+        ),
+    ] {
+        let mut reader = input;
+        let mut writer = Vec::new(rt.alloc());
+        assert_eq!(rt;
+            script(rt.alloc(), &mut reader, &mut writer),
+            result,
+            "{name}"
+        );
+        assert_eq!(rt; writer.as_slice(), output.as_bytes(), "{name}");
+        assert!(rt; reader.is_empty(), "{name}");
     }
     Ok(())
 }
@@ -56,6 +90,14 @@ fn reader_fails(rt: HostRuntime) {
     let mut reader = SlowReader::new(INPUT.as_bytes(), 7, 2);
     assert_eq!(rt; read_all(rt.alloc(), &mut reader), Err(Fault::Io));
     assert_eq!(rt; reader.rest(), b"\na,b,,c".as_slice());
+
+    let mut reader = SlowReader::new(INPUT.as_bytes(), 7, 2);
+    let mut writer = Vec::new(rt.alloc());
+    assert_eq!(rt;
+        script(rt.alloc(), &mut reader, &mut writer),
+        Err(Fault::Io)
+    );
+    assert!(rt; writer.is_empty());
 }
 
 #[test]
@@ -63,6 +105,15 @@ fn reader_endless(rt: HostRuntime) {
     let mut reader = EndlessReader { calls: 0 };
     assert_eq!(rt; read_all(rt.alloc(), &mut reader), Err(Fault::Io));
     assert_eq!(rt; reader.calls, 1_048_576);
+
+    let mut reader = EndlessReader { calls: 0 };
+    let mut writer = Vec::new(rt.alloc());
+    assert_eq!(rt;
+        script(rt.alloc(), &mut reader, &mut writer),
+        Err(Fault::Io)
+    );
+    assert_eq!(rt; reader.calls, 1_048_576);
+    assert!(rt; writer.is_empty());
 }
 
 #[test]
@@ -103,6 +154,37 @@ fn writer_fails(rt: HostRuntime) {
         held: Vec::new(rt.alloc()),
     };
     assert_eq!(rt; print_four(&mut unflushed), Err(Fault::Io));
+    assert_eq!(rt; unflushed.held.as_slice(), PRINTED.as_bytes());
+}
+
+#[test]
+fn writer_fails_under_the_program(rt: HostRuntime) {
+    let mut failing = SlowWriter::new(Vec::new(rt.alloc()), 1, 4);
+    assert_eq!(rt;
+        script(rt.alloc(), &mut INPUT.as_bytes(), &mut failing),
+        Err(Fault::Io)
+    );
+    assert_eq!(rt; failing.held(), b"1:a".as_slice());
+
+    assert_eq!(rt;
+        script(rt.alloc(), &mut INPUT.as_bytes(), &mut StuckWriter),
+        Err(Fault::Io)
+    );
+
+    let mut slow = SlowWriter::new(Vec::new(rt.alloc()), 1, 0);
+    assert_eq!(rt;
+        script(rt.alloc(), &mut INPUT.as_bytes(), &mut slow),
+        Ok(())
+    );
+    assert_eq!(rt; slow.held(), PRINTED.as_bytes());
+
+    let mut unflushed = UnflushedWriter {
+        held: Vec::new(rt.alloc()),
+    };
+    assert_eq!(rt;
+        script(rt.alloc(), &mut INPUT.as_bytes(), &mut unflushed),
+        Err(Fault::Io)
+    );
     assert_eq!(rt; unflushed.held.as_slice(), PRINTED.as_bytes());
 }
 

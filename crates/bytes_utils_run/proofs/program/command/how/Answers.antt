@@ -18,6 +18,8 @@ returns c =
     let strip = c.in_ok-separator.ensures.cases in
     let some : 0 < length c.in_ok-separator.separator.now = search rules in (
       some,
-      (some-behind (codes "split ") _ _ strip.0 c.utf8.line strip.1.0 strip.1.2 strip.2 some,
-        chars-word (codes "split ") _ _ strip.0 IsPlain-split strip.1.1 strip.2),
+      (
+        some-behind (codes "split ") _ _ strip.0 c.utf8.line strip.1.0 strip.1.2 strip.2 some,
+        chars-word (codes "split ") _ _ strip.0 IsPlain-split strip.1.1 strip.2,
+      ),
     )
