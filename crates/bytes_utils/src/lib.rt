@@ -3,6 +3,8 @@
 
 pub mod split;
 pub mod string;
+#[cfg(test)]
+mod tests;
 
 pub use bytes_utils_buf::{Reason, Refused};
 pub use string::Str;

@@ -13,6 +13,9 @@ use bytes_utils::split::SplitBytes;
 use bytes_utils::string::{Storage, StrInner};
 use std::alloc::Global;
 
+#[cfg(test)]
+mod tests;
+
 /// How a text is cut.
 #[derive(Clone, Copy, Debug)]
 pub enum How<'s> {

@@ -1,0 +1,17 @@
+//! What no clause says: that calls succeed with ample memory, printed text, and worked cases.
+mod errors;
+mod parts;
+mod refusing;
+mod storages;
+mod texts;
+
+use crate::Str;
+use bytes::Bytes;
+use std::alloc::Global;
+use std::test::Fail;
+
+/// The text over shared bytes of its own.
+fn shared(alloc: Global, text: &str) -> Result<Str, Fail> {
+    let bytes = Bytes::copy_from_slice(alloc, text.as_bytes())?;
+    Ok(Str::from_inner(bytes)?)
+}
