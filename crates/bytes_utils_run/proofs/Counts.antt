@@ -1,5 +1,5 @@
 -- How many parts a text has.
-use Rattle.std.proofs.Common.{◌≡◌, refl, ap, ℕ, zero, suc, ◌+◌, ◌<◌, ◌≤◌, List, [], ◌∷◌, ◌++◌, Option, None, Some, IfSome, length, arith, length-append, ◌⊎◌, inl, inr}
+use Rattle.std.proofs.Common.{◌≡◌, refl, ap, ℕ, ◌+◌, ◌<◌, ◌≤◌, List, [], ◌∷◌, ◌++◌, Option, None, Some, length, arith, length-append}
 use Rattle.std.specs.Str.{chars}
 use Rattle.bytes_utils.specs.Occurrence.{Occurs}
 use Rattle.bytes_utils.specs.Outcome.{Outcome}

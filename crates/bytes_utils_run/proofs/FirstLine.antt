@@ -1,11 +1,11 @@
 -- The first line of a text and what is behind it, from the place of the first line feed among the bytes.
-use Rattle.std.proofs.Common.{◌≡◌, ◌≢◌, refl, sym, ap, subst, ◌∙◌, ℕ, ◌+◌, ◌-◌, ◌<◌, ◌≤◌, ◌==◌, List, [], ◌∷◌, ◌++◌, true, false, length, take, drop, arith, get_or, cond, eq-eqb, nat_eq, nat_lt, not, Bool, zero, suc, codes, ◌⊎◌, inl, inr, unwrap_or, slice_get, length-append, append_assoc, take-append-drop, IsUtf8, IsCharBoundary, None, Some}
+use Rattle.std.proofs.Common.{◌≡◌, ◌≢◌, refl, sym, ap, ◌∙◌, ℕ, ◌+◌, ◌-◌, ◌<◌, ◌≤◌, ◌==◌, List, [], ◌∷◌, ◌++◌, true, false, length, take, drop, arith, get_or, cond, eq-eqb, nat_eq, nat_lt, not, Bool, zero, suc, ◌⊎◌, inl, inr, unwrap_or, slice_get, length-append, append_assoc, take-append-drop, IsUtf8, IsCharBoundary, None, Some}
 use Rattle.std.proofs.lemmas.List.{length-take-le, drop_more, take_more, get_or-take}
 use Rattle.std.proofs.Math.Seq.{get_or-append_seam, take-length}
 use Rattle.std.proofs.lemmas.Bool.{ne_eqb, and_left, and_right}
 use Rattle.std.proofs.lemmas.Bool.Decides.{nat_tests}
 use Rattle.std.proofs.lemmas.List.Quantifiers.{position-Some}
-use Rattle.std.proofs.lemmas.Str.{chars-nil, chars-append, encodes-append, encodes-chars, chars_past_char, encode_ascii, IsUtf8-take, IsUtf8-drop, IsCharBoundary-before_ascii, IsCharBoundary-after_ascii}
+use Rattle.std.proofs.lemmas.Str.{chars-nil, chars-append, encodes-append, encodes-chars, IsUtf8-take, IsCharBoundary-before_ascii, IsCharBoundary-after_ascii}
 use Rattle.std.specs.List.{starts_with, position, prefix_len}
 use Rattle.std.specs.Char.{encode_utf8}
 use Rattle.std.specs.Str.{chars, encode_utf8_all as encodes}

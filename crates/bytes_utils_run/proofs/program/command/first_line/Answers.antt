@@ -1,5 +1,5 @@
 -- With no line feed the text is its first line; else the line ends at the line feed or at a carriage return before it.
-use Rattle.std.proofs.Common.{◌≡◌, ◌∙◌, sym, ap, Some, None, ◌==◌}
+use Rattle.std.proofs.Common.{◌≡◌, ◌∙◌, sym, Some, ◌==◌}
 use Rattle.std.specs.List.{position}
 use Rattle.bytes_utils_run.specs.Command.{EndsLine}
 use Rattle.bytes_utils_run.proofs.FirstLine.{none-from_position, FeedAt-from_position, end-boundary, next-boundary, line-at, text-at, end-order, line-all, text-none}
