@@ -40,7 +40,9 @@ trait Splitter<S: Storage>: Iterator<Item = Result<StrInner<S>, Reason>> {
     // Whether a step splits the storage.
     ghost cuts: { Self → Type 0 };
 
-    ghost steps: { (s : Self) (r : Option (Result (List ℕ) WhyRefused)) (t : Self) → Self.next_gives s r t → IsStep coming cuts s r t };
+    // Each step gives the first of them and leaves the others.
+    ghost steps: { (s : Self) (r : Option (Result (List ℕ) WhyRefused)) (t : Self)
+        → Self.next_gives s r t → IsStep coming cuts s r t };
 }
 
 impl<S: Storage> Splitter<S> for SplitBytes<'_, S> {
@@ -85,7 +87,8 @@ fn gather<S: Storage, I: Splitter<S> + Drop>(alloc: Global, splitter: I) -> Part
 /// Cuts a text into all of its parts.
 pub fn cut_all<S: Storage>(alloc: Global, text: StrInner<S>, how: How<'_>) -> Parts<S>
     requires { IsAllowed how }
-    ensures outcome { Outcome (ArePartsBy (cutting how.entry) (chars text)) (map chars result.given.items) result.refused }
+    ensures outcome { Outcome (ArePartsBy (cutting how.entry) (chars text))
+        (map chars result.given.items) result.refused }
     ensures few { length result.given.items ≤ length (chars text) + 2 }
 {
     match how {

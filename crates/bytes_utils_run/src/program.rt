@@ -50,7 +50,8 @@ fn parts_of(alloc: Global, input: Str) -> Result<Parts<Bytes>, Fault>
         (λ parts. Outcome (AreAskedFor (chars input)) (map chars parts.given.items) parts.refused) }
     ensures unknown { IsErrOf result Fault.UnknownCommand
         → (way : Cutting) → ¬ IsCommand way (command_line (chars input)) }
-    ensures fault { IfErr result (λ fault. (fault ≡ Fault.UnknownCommand) ⊎ (fault ≡ Fault.OutOfMemory)) }
+    ensures fault { IfErr result
+        (λ fault. (fault ≡ Fault.UnknownCommand) ⊎ (fault ≡ Fault.OutOfMemory)) }
 {
     let (end, next) = first_line(input.as_str());
     let (head, text) = match input.split_at_bytes(next) {
@@ -66,10 +67,13 @@ fn parts_of(alloc: Global, input: Str) -> Result<Parts<Bytes>, Fault>
 /// Prints the parts that were given and flushes, and tells whether others were refused.
 fn print_outcome<S: Storage, W: Write>(writer: &mut W, parts: &Parts<S>) -> Result<(), Fault>
     ensures ok { OnOk result ((parts.now.refused ≡ None)
-        × Appends (W.contents writer.old) (W.contents writer.new) (printed_parts (map chars parts.now.given.items))) }
+        × Appends (W.contents writer.old) (W.contents writer.new)
+        (printed_parts (map chars parts.now.given.items))) }
     ensures out_of_memory { IsErrOf result Fault.OutOfMemory → IsSome parts.now.refused
-        × Appends (W.contents writer.old) (W.contents writer.new) (printed_parts (map chars parts.now.given.items)) }
-    ensures io { IsErrOf result Fault.Io → AppendsBeginning (W.contents writer.old) (W.contents writer.new)
+        × Appends (W.contents writer.old) (W.contents writer.new)
+        (printed_parts (map chars parts.now.given.items)) }
+    ensures io { IsErrOf result Fault.Io
+        → AppendsBeginning (W.contents writer.old) (W.contents writer.new)
         (printed_parts (map chars parts.now.given.items)) }
     ensures fault { IfErr result (λ fault. (fault ≡ Fault.OutOfMemory) ⊎ (fault ≡ Fault.Io)) }
 {
@@ -81,9 +85,11 @@ fn print_outcome<S: Storage, W: Write>(writer: &mut W, parts: &Parts<S>) -> Resu
     }
 }
 
-/// Reads all of its input, does what its first line says with the rest, and writes what comes of it.
+/// Reads all of its input, does what its first line says with the rest, and writes what comes of
+/// it.
 ///
-/// The input is read by at most 1,048,576 calls of `read`; a reader that hasn't ended by then counts as one that failed.
+/// The input is read by at most 1,048,576 calls of `read`; a reader that hasn't ended by then
+/// counts as one that failed.
 pub fn script<R: Read, W: Write>(alloc: Global, reader: &mut R, writer: &mut W) -> Result<(), Fault>
     ensures ok { OnOk result (PrintsParts (R.remaining reader.old) (R.remaining reader.new)
         (W.contents writer.old) (W.contents writer.new)) }
@@ -93,10 +99,12 @@ pub fn script<R: Read, W: Write>(alloc: Global, reader: &mut R, writer: &mut W) 
     ensures not_utf8 { IsErrOf result Fault.NotUtf8
         → FindsNoText (R.remaining reader.old) (R.remaining reader.new)
         (W.contents writer.old) (W.contents writer.new) }
-    ensures out_of_memory { IsErrOf result Fault.OutOfMemory → Keeps (W.contents writer.old) (W.contents writer.new)
+    ensures out_of_memory { IsErrOf result Fault.OutOfMemory
+        → Keeps (W.contents writer.old) (W.contents writer.new)
         ⊎ PrintsFirstParts (R.remaining reader.old) (R.remaining reader.new)
         (W.contents writer.old) (W.contents writer.new) }
-    ensures io { IsErrOf result Fault.Io → Keeps (W.contents writer.old) (W.contents writer.new)
+    ensures io { IsErrOf result Fault.Io
+        → Keeps (W.contents writer.old) (W.contents writer.new)
         ⊎ WritesBeginning (R.remaining reader.old) (R.remaining reader.new)
         (W.contents writer.old) (W.contents writer.new) }
 {

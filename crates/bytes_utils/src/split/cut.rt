@@ -4,7 +4,8 @@ ghost use Rattle.std.specs.Prelude.{◌≡◌, ◌≤◌, take, drop, IsCharBoun
 use crate::string::{Storage, StrInner};
 use bytes_utils_buf::Reason;
 
-/// The text before the byte place `end` and that from `next` on, by two splits, the later place first.
+/// The text before the byte place `end` and that from `next` on, by two splits, the later place
+/// first.
 #[inline(always)]
 pub(super) fn cut_out<S: Storage>(
     text: StrInner<S>,

@@ -20,7 +20,8 @@ fn find(text: &str, separator: &str) -> Option<usize>
     memmem::find(text.as_bytes(), separator.as_bytes())
 }
 
-/// The part before the first separator and the text behind it, or the whole text where there is none.
+/// The part before the first separator and the text behind it, or the whole text where there is
+/// none.
 #[inline(always)]
 fn first_part<S: Storage>(
     text: StrInner<S>,
@@ -40,7 +41,8 @@ fn first_part<S: Storage>(
     Ok((part, Some(rest)))
 }
 
-/// The parts of a text between separators, first to last, as `str::split` has them. A refused cut is its last item.
+/// The parts of a text between separators, first to last, as `str::split` has them. A refused cut
+/// is its last item.
 #[derive(Drop)]
 pub struct SplitBytes<'s, S: Storage> {
     rest: Option<StrInner<S>>,
@@ -59,7 +61,8 @@ impl<'s, S: Storage> Model for SplitBytes<'s, S> {
 }
 
 impl<S: Storage> StrInner<S> {
-    /// The parts between separators, as `str::split` has them. `is_empty` of the separator tests the condition.
+    /// The parts between separators, as `str::split` has them. `is_empty` of the separator tests
+    /// the condition.
     pub fn split_bytes<'s>(self, separator: &'s str) -> SplitBytes<'s, S>
         requires { 0 < length separator.now }
         ensures value { result ≡ record { rest = Some self; separator = separator.now } }
@@ -75,7 +78,8 @@ impl<S: Storage> StrInner<S> {
 impl<'s, S: Storage> Iterator for SplitBytes<'s, S> {
     type Item = Result<StrInner<S>, Reason>;
 
-    ghost next_gives = { λ s r t. (t.separator ≡ s.separator) × IsStep AreForwardPartsToCome HoldsSeparator s r t };
+    ghost next_gives = { λ s r t. (t.separator ≡ s.separator)
+        × IsStep AreForwardPartsToCome HoldsSeparator s r t };
 
     ghost remaining = { λ s. at_most (most_parts s) };
 

@@ -29,7 +29,8 @@ pub trait Storage: Sized + Drop {
         ensures ok { IfOk result (λ s. stored s ≡ created creator) }
         ensures err { IfErr result (λ e. created e.back ≡ created creator) };
 
-    /// The bytes before `at` and those from `at` on, or the storage back. The length of `as_bytes` tests the condition.
+    /// The bytes before `at` and those from `at` on, or the storage back. The length of `as_bytes`
+    /// tests the condition.
     fn split_at(self, at: usize) -> Result<(Self, Self), Refused<Self>>
         requires { at ≤ length (stored self) }
         ensures left { IfOk result (λ pieces. stored pieces.0 ≡ take at (stored self)) }

@@ -31,7 +31,8 @@ impl<S: Storage> StrInner<S> {
         ensures variant { IsOk result ↔ IsUtf8 (S.stored s) }
         ensures ok { IfOk result (λ text. text ≡ S.stored s) }
         ensures err { IfErr result (λ e. refused_storage e ≡ s) }
-        ensures valid_len { IfErr result (λ e. valid_up_to (fault_of e) ≡ utf8_valid_len (S.stored s)) }
+        ensures valid_len { IfErr result
+            (λ e. valid_up_to (fault_of e) ≡ utf8_valid_len (S.stored s)) }
         ensures fault { IfErr result (λ e. error_len (fault_of e)
             ≡ utf8_error_len (drop (valid_up_to (fault_of e)) (S.stored s))) }
     {
@@ -41,7 +42,8 @@ impl<S: Storage> StrInner<S> {
         }
     }
 
-    /// The text of bytes that are known to be UTF-8: nothing is tested. `from_inner` tests the condition.
+    /// The text of bytes that are known to be UTF-8: nothing is tested. `from_inner` tests the
+    /// condition.
     pub fn from_inner_unchecked(s: S) -> Self
         requires { IsUtf8 (S.stored s) }
         ensures { result ≡ S.stored s }
@@ -75,7 +77,8 @@ impl<S: Storage> StrInner<S> {
         unsafe { str::from_utf8_unchecked(self.storage.as_bytes()) }
     }
 
-    /// The text before the byte place `at` and that from it on, or the text back. `is_char_boundary` of `as_str` tests the condition.
+    /// The text before the byte place `at` and that from it on, or the text back.
+    /// `is_char_boundary` of `as_str` tests the condition.
     #[inline]
     pub fn split_at_bytes(self, at: usize) -> Result<(Self, Self), Refused<Self>>
         requires { IsCharBoundary self at }

@@ -14,7 +14,8 @@ fn line_feed_place(bytes: &[u8]) -> Option<usize>
     bytes.iter().position(|byte| *byte == b'\n')
 }
 
-/// Where the line ends whose line feed stands at a place: before one carriage return, if one stands before the line feed.
+/// Where the line ends whose line feed stands at a place: before one carriage return, if one stands
+/// before the line feed.
 fn line_end(bytes: &[u8], at: usize) -> usize
     requires { at < length bytes.now }
     ensures { EndsLine bytes.now at result }
