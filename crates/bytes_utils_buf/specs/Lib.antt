@@ -1,0 +1,4 @@
+pub mod Log
+pub mod Parts
+pub mod Segments
+pub mod Tally

@@ -1,6 +1,8 @@
 //! Many byte buffers read as one.
 #![tactic(auto)]
 
+pub mod parts;
 mod refused;
+pub mod segmented;
 
 pub use refused::{Reason, Refused};
