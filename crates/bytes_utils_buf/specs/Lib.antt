@@ -2,3 +2,5 @@ pub mod Log
 pub mod Parts
 pub mod Segments
 pub mod Tally
+pub mod Handed
+pub mod Lent
