@@ -1,13 +1,14 @@
 -- Lent buffers, of which those at the front are read out.
-use Rattle.std.proofs.Common.{◌≡◌, ℕ, ◌+◌, ◌-◌, ◌<◌, ◌≤◌, List, [], ◌∷◌, ◌++◌, zero, suc, length, take, drop, map, get_or, replicate, ap, ◌∙◌, sym, refl, arith, drop_at, take_at, length-append, length-drop, append-nil, append_assoc}
-use Rattle.std.proofs.lemmas.List.{length-map, length-replicate, map-append, take-map, drop-map, take_rest, drop_all, drop-drop, take-append-drop, take-append-le, replicate-append-replicate}
+use Rattle.std.proofs.Common.{◌≡◌, ℕ, ◌+◌, ◌-◌, ◌<◌, ◌≤◌, List, [], ◌∷◌, ◌++◌, zero, suc, length, take, drop, map, get_or, set, replicate, ap, ◌∙◌, sym, refl, arith, drop_at, take_at, length-append, length-drop, append-nil, append_assoc}
+use Rattle.std.proofs.lemmas.List.{length-map, length-replicate, map-append, take-map, drop-map, take_rest, drop_all, take-append-drop, take-append-le, take-take, replicate-append-replicate}
+use Rattle.std.proofs.Math.Seq.{take-add}
 use Rattle.std.specs.List.{concat}
 use borrow.Rule.Slice.PartMut.{put_mid}
-use Rattle.bytes_utils_buf.specs.Lent.{Lent, lists_of, lent_at, IsReading, SkipsLent, IsLent}
+use Rattle.bytes_utils_buf.specs.Lent.{Lent, lists_of, lent_at, SkipsLent, IsLent}
 use Rattle.bytes.specs.Unread.{IsChunkOf}
 use Rattle.bytes_utils_buf.specs.Segments.{cut_front, front_of, FrontUnread, Skips}
 use Rattle.bytes_utils_buf.specs.Tally.{Tallied, IsCovered, IsPaid}
-use Rattle.bytes_utils_buf.proofs.Lists.{length-concat-take_more, read_at, concat_split, length-cut_front, Skips-from_count}
+use Rattle.bytes_utils_buf.proofs.Lists.{length-concat-take_more, read_at, concat_split, cut_front-none, Skips-from_count, Skips-none, Skips-more}
 
 -- ---- lists that are read out
 
@@ -38,44 +39,6 @@ map-put_mid f xs ys a h =
     ap (λ l. map f (take a xs ++ (ys ++ l))) none ∙ ap (λ l. map f (take a xs ++ l)) (append-nil ys)
     ∙ map-append f (take a xs) ys ∙ ap (λ l. l ++ map f ys) (sym (take-map f a xs))
 
--- ---- the reading place moves on
-
-cut_front-cut_front : (m n : ℕ) (xs : List (List ℕ)) → cut_front n (cut_front m xs) ≡ cut_front (m + n) xs
-cut_front-cut_front m n [] = refl
-cut_front-cut_front m n (x ∷ xs) = ap (λ s. s ∷ xs) (drop-drop n m x)
-
-drop-cut_front : (p m : ℕ) (xs : List (List ℕ)) → drop (suc p) (cut_front m xs) ≡ drop (suc p) xs
-drop-cut_front p m [] = refl
-drop-cut_front p m (x ∷ xs) = refl
-
--- what is left after a first cut, p passed lists and a second cut is left after one cut behind some lists
-record CutOnce (k p : ℕ) (all new : List (List ℕ)) : Type 0 where
-  cut : ℕ
-  rest : new ≡ cut_front cut (drop (k + p) all)
-
-cut_once : (k p m n : ℕ) (all new : List (List ℕ)) → new ≡ cut_front n (drop p (cut_front m (drop k all))) → CutOnce k p all new
-cut_once k zero m n all new e =
-    let same : k + 0 ≡ k = omega arith in
-    record { cut = m + n; rest = e ∙ cut_front-cut_front m n (drop k all) ∙ ap (λ i. cut_front (m + n) (drop i all)) (sym same) }
-cut_once k (suc p) m n all new e =
-    record { cut = n; rest = e ∙ ap (cut_front n) (drop-cut_front p m (drop k all) ∙ drop-drop (suc p) k all) }
-
-pub IsReading-skip : (n : ℕ) (old new : Lent) → IsReading old → SkipsLent n old new → IsReading new
-IsReading-skip n old new r s =
-    let all = old.handed_in in
-    let passed = s.segments.passed in
-    let left = ap length r.rest ∙ length-cut_front r.cut (drop old.place all) ∙ length-drop old.place all in
-    let gone = ap length s.segments.rest ∙ length-cut_front s.segments.cut (drop passed old.segments) ∙ length-drop passed old.segments in
-    let place : new.place ≡ old.place + passed = omega (arith, s.place, gone, s.segments.within) in
-    let once = cut_once old.place passed r.cut s.segments.cut all new.segments (s.segments.rest ∙ ap (λ l. cut_front s.segments.cut (drop passed l)) r.rest) in
-    record {
-      cut = once.cut;
-      within = omega (arith, r.within, place, left, s.segments.within, ap length s.handed_in);
-      rest = once.rest ∙ ap (λ l. cut_front once.cut (drop (old.place + passed) l)) (sym s.handed_in)
-          ∙ ap (λ i. cut_front once.cut (drop i new.handed_in)) (sym place);
-      front = s.segments.front;
-    }
-
 -- ---- every value stays as it must be
 
 -- a call that pays for itself and skips n bytes
@@ -85,7 +48,11 @@ IsLent-skip n remaining now next old new is skips lists paid =
     record {
       lists = lists;
       sum = omega (arith, is.sum, ap length skips.segments.bytes, length-drop n (concat old.segments));
-      reading = IsReading-skip n old new is.reading skips;
+      reading = record {
+        read = is.reading.read + n;
+        skips = rw skips.handed_in (Skips-more is.reading.read n old.handed_in old.segments new.segments is.reading.skips skips.segments);
+        place = omega (arith, is.reading.place, skips.place, ap length skips.handed_in);
+      };
       covered = omega (arith, is.covered, paid);
     }
 
@@ -119,6 +86,20 @@ lists_of-part f xs ys k p handed_in new name in_all before out =
     let behind = ap (drop (k + p)) lists ∙ drop_read_out (k + p) (drop p (map f ys)) in
     lists ∙ ap (λ l. replicate (k + p) [] ++ l) (sym behind)
 
+-- nothing is skipped
+pub SkipsLent-none : (lent : Lent) → FrontUnread lent.segments → SkipsLent 0 lent lent
+SkipsLent-none lent front = record { segments = Skips-none lent.segments front; place = refl; handed_in = refl; name = refl }
+
+-- one skip after another
+pub SkipsLent-more : (n m : ℕ) (old mid new : Lent) → SkipsLent n old mid → SkipsLent m mid new → SkipsLent (n + m) old new
+SkipsLent-more n m old mid new s t =
+    record {
+      segments = Skips-more n m old.segments mid.segments new.segments s.segments t.segments;
+      place = t.place ∙ s.place;
+      handed_in = t.handed_in ∙ s.handed_in;
+      name = t.name ∙ s.name;
+    }
+
 -- ---- sums of lengths
 
 -- a sum so far, and one more buffer
@@ -138,10 +119,6 @@ none_before zero now inside none = refl
 none_before (suc p) [] inside none = absurd (omega arith)
 none_before (suc p) ([] ∷ now) inside none = ap (λ l. [] ∷ l) (none_before p now (omega arith) none)
 none_before (suc p) ((b ∷ s) ∷ now) inside none = absurd (omega (arith, length-append (b ∷ s) (concat (take p now))))
-
-cut_front-none : (now : List (List ℕ)) → now ≡ cut_front 0 now
-cut_front-none [] = refl
-cut_front-none (s ∷ now) = refl
 
 -- what a loop that counts the empty lists at the front found
 pub record Trimmed (p : ℕ) (now : List (List ℕ)) : Type 0 where
@@ -168,10 +145,9 @@ IsLent-new p remaining now handed_in tally name trimmed same sum covered =
       lists = trimmed.before;
       sum = omega (arith, sum, ap length trimmed.skips.bytes);
       reading = record {
-        cut = 0;
-        within = omega (arith, trimmed.within, ap length same);
-        rest = cut_front-none (drop p now) ∙ ap (λ l. cut_front 0 (drop p l)) (sym same);
-        front = trimmed.skips.front;
+        read = 0;
+        skips = rw same trimmed.skips;
+        place = omega (arith, trimmed.within, length-drop p now, ap length same);
       };
       covered = covered;
     }
@@ -188,3 +164,17 @@ chunk_of_front chunk (s ∷ segments) some front is =
       fits = omega (arith, is.fits, length-append s (concat segments));
       some = λ _. is.some (front some);
     }
+
+-- the first of these buffers loses n bytes
+pub map-cut_first : {X : Type 0} (f : X → List ℕ) (xs : List X) (item new : X) (n : ℕ) → 0 < length xs → f new ≡ drop n (f (get_or xs 0 item))
+    → map f (set xs 0 new) ≡ cut_front n (map f xs)
+map-cut_first f [] item new n some lost = absurd (omega arith)
+map-cut_first f (x ∷ xs) item new n some lost = ap (λ s. s ∷ map f xs) lost
+
+-- a copy so far, and the first bytes of a chunk
+pub copy_more : (taken count : ℕ) (all rest copy chunk : List ℕ) → copy ≡ take taken all → rest ≡ drop taken all → IsChunkOf chunk rest
+    → count ≤ length chunk → copy ++ take count chunk ≡ take (taken + count) all
+copy_more taken count all rest copy chunk so_far left is fits =
+    ap (λ l. l ++ take count chunk) so_far
+    ∙ ap (λ l. take taken all ++ l) (ap (take count) (sym is.front) ∙ take-take count (length chunk) rest fits ∙ ap (take count) left)
+    ∙ sym (take-add taken count all)

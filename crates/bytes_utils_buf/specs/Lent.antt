@@ -1,7 +1,7 @@
 -- Lent buffers as one. Those before the reading place are passed, and those from it on are the segments to read.
-use Rattle.std.specs.Prelude.{◌≡◌, ℕ, ◌+◌, ◌≤◌, List, [], ◌++◌, length, drop, replicate}
+use Rattle.std.specs.Prelude.{◌≡◌, ℕ, ◌+◌, List, [], ◌++◌, length, drop, replicate}
 use Rattle.std.specs.List.{concat}
-use Rattle.bytes_utils_buf.specs.Segments.{cut_front, FrontUnread, Skips}
+use Rattle.bytes_utils_buf.specs.Segments.{Skips}
 use Rattle.bytes_utils_buf.specs.Tally.{Tallied, IsCovered}
 
 -- what clauses see of a `SegmentedSlice`
@@ -20,13 +20,11 @@ pub record Lent : Type 0 where
 abbrev pub lists_of : Lent → List (List ℕ)
 lists_of lent = replicate lent.place [] ++ lent.segments
 
--- the buffer at the reading place holds an end of what it had as it was handed in, which is not empty; the buffers
--- behind it are as they were handed in
+-- so many bytes were read: they are skipped of what was handed in, and what is gone from the front is passed
 pub record IsReading (lent : Lent) : Type 0 where
-  pub cut : ℕ
-  pub within : lent.place ≤ length lent.handed_in
-  pub rest : lent.segments ≡ cut_front cut (drop lent.place lent.handed_in)
-  pub front : FrontUnread lent.segments
+  pub read : ℕ
+  pub skips : Skips read lent.handed_in lent.segments
+  pub place : lent.place + length lent.segments ≡ length lent.handed_in
 
 -- n bytes are skipped: the buffers that are gone from the front of the segments joined the passed ones
 pub record SkipsLent (n : ℕ) (old new : Lent) : Type 0 where

@@ -1,21 +1,18 @@
 //! Lent buffers that read as one.
-ghost use Rattle.std.specs.Prelude.{◌≡◌, ◌+◌, ◌^◌, ◌<◌, ◌≤◌, [], ◌∷◌, length, map, take, drop, IfOk};
+ghost use Rattle.std.specs.Prelude.{◌≡◌, ◌+◌, ◌^◌, ◌<◌, ◌≤◌, [], ◌∷◌, length, map};
 ghost use Rattle.std.specs.List.{concat};
 ghost use Rattle.std.specs.Option.{SomeIff};
 ghost use Rattle.bytes_utils_buf.specs.Lent.{lists_of, IsReading, SkipsLent};
-ghost use Rattle.bytes_utils_buf.specs.Parts.{taken_by, FillsTable};
-ghost use Rattle.bytes_utils_buf.specs.Segments.{front_of, FrontUnread, Skips};
-ghost use Rattle.bytes_utils_buf.specs.Tally.{IsCovered, IsPaid, CountsCopy};
+ghost use Rattle.bytes_utils_buf.specs.Segments.{Skips};
+ghost use Rattle.bytes_utils_buf.specs.Tally.{IsCovered, IsPaid};
 
+mod hand_out;
 mod handed;
 
-use super::copy::fill_from_lent;
 use super::tally::Tally;
 use super::walk::{count_lent, skip_lent};
-use crate::parts::{BufParts, CopyRefused};
-use bytes::{Buf, Bytes};
+use bytes::Buf;
 use handed::Handed;
-use std::alloc::Global;
 use std::marker::Model;
 
 /// Lent buffers that read as one buffer.
@@ -147,15 +144,5 @@ impl<B: Buf> Buf for SegmentedSlice<'_, B> {
 
     fn advance(&mut self, cnt: usize) {
         SegmentedSlice::advance(self, cnt)
-    }
-}
-
-impl<B: BufParts> SegmentedSlice<'_, B> {
-    /// Fills the first places of `dst` with slices of the unread bytes.
-    pub fn chunks_vectored<'s>(&'s self, dst: &mut [&'s [u8]]) -> usize
-        ensures { FillsTable result dst.old dst.new (concat self.now.segments) }
-    {
-        let bufs = &*self.bufs;
-        fill_from_lent(&bufs[self.place..], dst)
     }
 }

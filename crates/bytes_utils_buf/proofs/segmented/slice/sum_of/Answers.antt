@@ -1,5 +1,4 @@
-use Rattle.std.proofs.Common.{◌≡◌, ◌+◌, length, map, take, rules, arith}
-use Rattle.std.specs.List.{concat}
+use Rattle.std.proofs.Common.{◌+◌, map, arith}
 use Rattle.bytes_utils_buf.proofs.Lent.{sum_more, length-concat-take_le}
 use Rattle.bytes_utils_buf.proofs.segmented.slice.sum_of.Goals as goal
 

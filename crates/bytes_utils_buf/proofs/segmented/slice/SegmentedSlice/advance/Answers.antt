@@ -1,7 +1,6 @@
-use Rattle.std.proofs.Common.{◌≡◌, ◌≤◌, ◌+◌, ◌-◌, length, map, take, drop, replicate, [], ap, ◌∙◌, sym, subst, arith, length-drop}
-use Rattle.std.proofs.lemmas.List.{length-map}
+use Rattle.std.proofs.Common.{◌+◌, ◌-◌, length, map, ap, ◌∙◌, arith}
 use borrow.Rule.Slice.PartMut.{put_mid}
-use Rattle.bytes_utils_buf.specs.Lent.{Lent, lent_at, SkipsLent}
+use Rattle.bytes_utils_buf.specs.Lent.{lent_at, SkipsLent}
 use Rattle.bytes_utils_buf.specs.Tally.{IsPaid}
 use Rattle.bytes_utils_buf.proofs.Lent.{take_read_out, place_inside, map-part, IsLent-skip, SkipsLent-part, lists_of-part}
 use Rattle.bytes_utils_buf.proofs.segmented.slice.SegmentedSlice.advance.Goals as goal

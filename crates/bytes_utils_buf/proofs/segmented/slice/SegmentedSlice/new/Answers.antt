@@ -1,4 +1,4 @@
-use Rattle.std.proofs.Common.{◌≡◌, map, drop, arith, ap, length-drop}
+use Rattle.std.proofs.Common.{map, drop, arith, ap, length-drop}
 use Rattle.std.proofs.lemmas.List.{length-map}
 use Rattle.bytes_utils_buf.specs.Tally.{IsCovered}
 use Rattle.bytes_utils_buf.proofs.Lent.{IsLent-new, Trimmed-from_count}

@@ -12,5 +12,5 @@ returns-then-self-bufs g c =
     let here : k < length xs = search rules in
     let item = front_of_drop (map f xs) k ∙ read_at f xs k c.index-bufs-self.result here c.index-bufs-self.is in
     rw (← ap (λ q. q.segments) c.self.view_is)
-    (chunk_of_front c.chunk.result.now (drop k (map f xs)) (omega (arith, here, length-drop k (map f xs), length-map xs f)) c.self.invariant.reading.front
+    (chunk_of_front c.chunk.result.now (drop k (map f xs)) (omega (arith, here, length-drop k (map f xs), length-map xs f)) c.self.invariant.reading.skips.front
     (rw item c.chunk.ensures))
