@@ -2,5 +2,4 @@ pub mod Log
 pub mod Parts
 pub mod Segments
 pub mod Tally
-pub mod Handed
 pub mod Lent

@@ -7,22 +7,33 @@ ghost use Rattle.bytes_utils_buf.specs.Segments.{Skips};
 ghost use Rattle.bytes_utils_buf.specs.Tally.{IsCovered, IsPaid};
 
 mod hand_out;
-mod handed;
 
 use super::tally::Tally;
 use super::walk::{count_lent, skip_lent};
 use bytes::Buf;
-use handed::Handed;
 use std::marker::Model;
+use std::snapshot::Snapshot;
 
 /// Lent buffers that read as one buffer.
-#[derive(Debug, Drop)]
+///
+/// It serves a reader that wants one buffer where the parts lie side by side in a slice of their owner. Reading takes the
+/// bytes off the lent buffers themselves: a buffer that is passed is read out, and empty ones stay where they stand. The
+/// owner has what is left by [`into_lent`](SegmentedSlice::into_lent), or once the borrow ends.
+#[derive(Drop)]
+#[derive_where(Debug; B)]
 pub struct SegmentedSlice<'a, B: Buf> {
     bufs: &'a mut [B],
     place: usize,
     remaining: usize,
     tally: Tally,
-    handed: Handed<B>,
+    #[derive_where(skip)]
+    handed_in: Snapshot<Loan<'a, B>>,
+}
+
+/// The lent buffers before they are read. A snapshot of it has no bytes at run time.
+#[derive(Drop)]
+struct Loan<'a, B> {
+    bufs: &'a mut [B],
 }
 
 impl<'a, B: Buf> Model for SegmentedSlice<'a, B> {
@@ -31,10 +42,12 @@ impl<'a, B: Buf> Model for SegmentedSlice<'a, B> {
 
     ghost Value = { Lent };
 
-    ghost view = { λ q. lent_at q.place (map B.unread q.handed) (map B.unread q.bufs.now) q.tally q.bufs.ghost_name };
+    ghost view = { λ q. lent_at q.place (map B.unread q.handed_in.value.bufs.now)
+        (map B.unread q.bufs.now) q.tally q.bufs.ghost_name };
 
     ghost invariant = { λ q. IsLent (map B.unread q.bufs.now) q.remaining
-        (lent_at q.place (map B.unread q.handed) (map B.unread q.bufs.now) q.tally q.bufs.ghost_name) };
+        (lent_at q.place (map B.unread q.handed_in.value.bufs.now)
+        (map B.unread q.bufs.now) q.tally q.bufs.ghost_name) };
 }
 
 impl<'a, B: Buf> SegmentedSlice<'a, B> {
@@ -50,12 +63,17 @@ impl<'a, B: Buf> SegmentedSlice<'a, B> {
         Some(sum)
     }
 
-    /// Reads these buffers as one, from the first that isn't empty on.
+    /// Reads these buffers as one. The reading place is the first that isn't empty. It counts as a call, which gives all
+    /// the buffers, the empty ones too.
     pub fn new(bufs: &'a mut [B]) -> SegmentedSlice<'a, B>
         requires { length (concat (map B.unread bufs.old)) < 2 ^ 64 }
         ensures handed_in { result.handed_in ≡ map B.unread bufs.old }
         ensures name { result.name ≡ bufs.entry.ghost_name }
         ensures skips { Skips 0 (map B.unread bufs.old) result.segments }
+        ensures place { result.place + length result.segments ≡ length bufs.old }
+
+        // The walk to the first buffer that isn't empty turns once for each that it passes.
+        ensures turns { result.tally.turns ≡ result.place }
         ensures given { result.tally.given ≡ length bufs.old }
         ensures calls { result.tally.calls ≡ 1 }
         ensures covered { IsCovered result.segments result.tally }
@@ -63,19 +81,22 @@ impl<'a, B: Buf> SegmentedSlice<'a, B> {
         let mut tally = Tally::new();
         tally.give(bufs.len());
         tally.call();
-        let handed = Handed::of(bufs);
         let remaining = sum_of(bufs);
         let (place, _) = count_lent(bufs, &mut tally, 0);
+        let loan = Loan { bufs };
+        let handed_in = Snapshot::of(&loan);
+        let Loan { bufs } = loan;
         SegmentedSlice {
             bufs,
             place,
             remaining,
             tally,
-            handed,
+            handed_in,
         }
     }
 
-    /// Hands the lent buffers back.
+    /// Hands the lent buffers back: the passed ones are read out, the one at the reading place holds what is left of it,
+    /// and the others are as they were.
     pub fn into_lent(self) -> &'a mut [B]
         ensures lists { map B.unread result.now ≡ lists_of self.entry }
         ensures reading { IsReading self.entry }
@@ -86,12 +107,12 @@ impl<'a, B: Buf> SegmentedSlice<'a, B> {
             place: _,
             remaining: _,
             tally: _,
-            handed: _,
+            handed_in: _,
         } = self;
         bufs
     }
 
-    /// Takes `cnt` bytes off the front.
+    /// Takes `cnt` bytes off the front. The buffers that are passed are read out, each by one `advance`.
     pub fn advance(&mut self, cnt: usize)
         requires { cnt ≤ length (concat self.old.segments) }
         ensures skips { SkipsLent cnt self.old self.new }
