@@ -1,2 +1,3 @@
-pub mod Tables
+pub mod Accepting
 pub mod Lists
+pub mod Tables

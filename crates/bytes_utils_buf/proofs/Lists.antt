@@ -1,10 +1,10 @@
 -- Lists of lists, seen from the front.
-use Rattle.std.proofs.Common.{◌≡◌, ℕ, ◌+◌, ◌<◌, ◌≤◌, List, [], ◌∷◌, ◌++◌, zero, suc, length, take, drop, map, get_or, set, replicate, ap, ◌∙◌, sym, refl, arith, length-append, append_assoc, length-drop}
-use Rattle.std.proofs.lemmas.List.{take_more, drop-append-le, take-append-drop}
-use Rattle.std.proofs.lemmas.List.Elements.{All-tail, All-cons, All-same, All-drop}
-use Rattle.std.specs.List.{concat}
+use Rattle.std.proofs.Common.{◌≡◌, nat_lt, lt-ltb, cond, true, ◌⊎◌, inl, inr, ℕ, ◌+◌, ◌<◌, ◌≤◌, List, [], ◌∷◌, ◌++◌, zero, suc, length, take, drop, map, get_or, set, replicate, ap, ◌∙◌, sym, refl, arith, length-append, append-nil, append_assoc, length-drop}
+use Rattle.std.proofs.lemmas.List.{take_more, drop-append-le, drop-drop, take-append-drop, drop_all, map-append, nil_from_length}
+use Rattle.std.proofs.lemmas.List.Elements.{All-nil, All-cons, All-head, All-tail, All-same, All-drop, All-append}
+use Rattle.std.specs.List.{concat, filter, AllZip}
 use Rattle.bytes.proofs.Chunks.{concat_push}
-use Rattle.bytes_utils_buf.specs.Segments.{cut_front, cut_at, front_of, NoneEmpty, FrontUnread, Skips}
+use Rattle.bytes_utils_buf.specs.Segments.{cut_front, cut_at, front_of, without_empty, NoneEmpty, FrontUnread, Skips}
 
 -- ---- joined bytes
 
@@ -130,3 +130,161 @@ pub cut_behind : (xs : List (List ℕ)) (p n : ℕ) → cut_at p n (replicate p 
 cut_behind [] zero n = refl
 cut_behind (x ∷ xs) zero n = refl
 cut_behind xs (suc p) n = ap (λ l. [] ∷ l) (cut_behind xs p n)
+
+-- ---- lists that come in
+
+pub without_empty-append : (xs ys : List (List ℕ)) → without_empty (xs ++ ys) ≡ without_empty xs ++ without_empty ys
+without_empty-append [] ys = refl
+without_empty-append ([] ∷ xs) ys = without_empty-append xs ys
+without_empty-append ((b ∷ x) ∷ xs) ys = ap (λ l. (b ∷ x) ∷ l) (without_empty-append xs ys)
+
+pub concat-without_empty : (xs : List (List ℕ)) → concat (without_empty xs) ≡ concat xs
+concat-without_empty [] = refl
+concat-without_empty ([] ∷ xs) = concat-without_empty xs
+concat-without_empty ((b ∷ x) ∷ xs) = ap (λ l. (b ∷ x) ++ l) (concat-without_empty xs)
+
+pub NoneEmpty-without_empty : (xs : List (List ℕ)) → NoneEmpty (without_empty xs)
+NoneEmpty-without_empty [] = All-nil (λ s. 0 < length s)
+NoneEmpty-without_empty ([] ∷ xs) = NoneEmpty-without_empty xs
+NoneEmpty-without_empty ((b ∷ x) ∷ xs) =
+    All-cons (λ s. 0 < length s) (b ∷ x) (without_empty xs) (omega arith) (NoneEmpty-without_empty xs)
+
+pub length-without_empty : (xs : List (List ℕ)) → length (without_empty xs) ≤ length xs
+length-without_empty [] = omega arith
+length-without_empty ([] ∷ xs) = omega (arith, length-without_empty xs)
+length-without_empty ((b ∷ x) ∷ xs) = omega (arith, length-without_empty xs)
+
+-- lists that come in behind others
+pub NoneEmpty-accepted : (xs ys : List (List ℕ)) → NoneEmpty xs → NoneEmpty (xs ++ without_empty ys)
+NoneEmpty-accepted xs ys all = All-append (λ s. 0 < length s) xs (without_empty ys) all (NoneEmpty-without_empty ys)
+
+pub length-concat-accepted : (xs ys : List (List ℕ)) → length (concat (xs ++ without_empty ys)) ≡ length (concat xs) + length (concat ys)
+length-concat-accepted xs ys =
+    ap length (concat-append xs (without_empty ys) ∙ ap (λ l. concat xs ++ l) (concat-without_empty ys)) ∙ length-append (concat xs) (concat ys)
+
+pub length-accepted : (xs ys : List (List ℕ)) → length (xs ++ without_empty ys) ≤ length xs + length ys
+length-accepted xs ys = omega (arith, length-append xs (without_empty ys), length-without_empty ys)
+
+-- one more comes in
+pub accepted_more : (xs ys : List (List ℕ)) (y : List ℕ) → (xs ++ without_empty ys) ++ without_empty (y ∷ []) ≡ xs ++ without_empty (ys ++ y ∷ [])
+accepted_more xs ys y =
+    append_assoc xs (without_empty ys) (without_empty (y ∷ [])) ∙ ap (λ l. xs ++ l) (sym (without_empty-append ys (y ∷ [])))
+
+-- a buffer that is not empty comes in
+pub map-push_some : {X : Type 0} (f : X → List ℕ) (xs : List X) (x : X) → 0 < length (f x)
+    → map f (xs ++ x ∷ []) ≡ map f xs ++ without_empty (f x ∷ [])
+map-push_some f xs x some = map-append f xs (x ∷ []) ∙ ap (λ l. map f xs ++ l) (sym (kept (f x) some))
+  where
+    kept : (s : List ℕ) → 0 < length s → without_empty (s ∷ []) ≡ s ∷ []
+    kept [] h = absurd (omega arith)
+    kept (b ∷ s) h = refl
+
+-- an empty one leaves no trace
+pub push_none : (xs : List (List ℕ)) (s : List ℕ) → length s ≡ 0 → xs ≡ xs ++ without_empty (s ∷ [])
+push_none xs [] h = sym (append-nil xs)
+push_none xs (b ∷ s) h = absurd (omega arith)
+
+-- ---- one skip after another
+
+cut_front-twice : (xs : List (List ℕ)) (j k : ℕ) → cut_front k (cut_front j xs) ≡ cut_front (j + k) xs
+cut_front-twice [] j k = refl
+cut_front-twice (x ∷ xs) j k = ap (λ l. l ∷ xs) (drop-drop k j x)
+
+drop-cut_front : (xs : List (List ℕ)) (j p : ℕ) → 0 < p → drop p (cut_front j xs) ≡ drop p xs
+drop-cut_front [] j p h = refl
+drop-cut_front (x ∷ xs) j zero h = absurd (omega arith)
+drop-cut_front (x ∷ xs) j (suc p) h = refl
+
+pub FrontUnread-from_none_empty : (xs : List (List ℕ)) → NoneEmpty xs → FrontUnread xs
+FrontUnread-from_none_empty [] all h = absurd (omega arith)
+FrontUnread-from_none_empty (x ∷ xs) all h = All-head (λ s. 0 < length s) x xs all
+
+cases_zero : (n : ℕ) → (n ≡ 0) ⊎ (0 < n)
+cases_zero zero = inl refl
+cases_zero (suc n) = inr (omega arith)
+
+cut_front-none : (xs : List (List ℕ)) → xs ≡ cut_front 0 xs
+cut_front-none [] = refl
+cut_front-none (x ∷ xs) = refl
+
+pub Skips-none : (xs : List (List ℕ)) → FrontUnread xs → Skips 0 xs xs
+Skips-none xs front = record { passed = 0; cut = 0; within = omega arith; rest = cut_front-none xs; bytes = refl; front = front }
+
+-- a cut of lists that some were taken off before, and then a skip
+Skips-behind : (n m j p : ℕ) (xs ys zs : List (List ℕ)) → p ≤ length xs → ys ≡ cut_front j (drop p xs) → concat ys ≡ drop n (concat xs)
+    → Skips m ys zs → Skips (n + m) xs zs
+Skips-behind n m j p xs ys zs within same bytes s =
+    elim (cases_zero s.passed) [
+      | inl none ↦
+          record {
+            passed = p;
+            cut = j + s.cut;
+            within = within;
+            rest = s.rest ∙ ap (λ k. cut_front s.cut (drop k ys)) none ∙ ap (cut_front s.cut) same ∙ cut_front-twice (drop p xs) j s.cut;
+            bytes = s.bytes ∙ ap (drop m) bytes ∙ drop-drop m n (concat xs);
+            front = s.front;
+          }
+      | inr some ↦
+          record {
+            passed = p + s.passed;
+            cut = s.cut;
+            within = omega (arith, s.within, ap length same, length-cut_front j (drop p xs), length-drop p xs);
+            rest = s.rest ∙ ap (λ l. cut_front s.cut (drop s.passed l)) same ∙ ap (cut_front s.cut) (drop-cut_front (drop p xs) j s.passed some ∙ drop-drop s.passed p xs);
+            bytes = s.bytes ∙ ap (drop m) bytes ∙ drop-drop m n (concat xs);
+            front = s.front;
+          }
+    ]
+
+pub Skips-more : (n m : ℕ) (xs ys zs : List (List ℕ)) → Skips n xs ys → Skips m ys zs → Skips (n + m) xs zs
+Skips-more n m xs ys zs s t = Skips-behind n m s.cut s.passed xs ys zs s.within s.rest s.bytes t
+
+-- the first list is cut, perhaps to nothing, and then trimmed away
+pub Skips-trimmed : (n : ℕ) (xs ys zs : List (List ℕ)) → n ≤ length (front_of xs) → ys ≡ cut_front n xs → Skips 0 ys zs → Skips n xs zs
+Skips-trimmed n xs ys zs fits same s =
+    let whole : n + 0 ≡ n = omega arith in
+    rw whole at (Skips-behind n 0 n 0 xs ys zs (omega arith) same (ap concat same ∙ concat-cut_first xs n fits) s)
+  where
+    concat-cut_first : (xs : List (List ℕ)) (n : ℕ) → n ≤ length (front_of xs) → concat (cut_front n xs) ≡ drop n (concat xs)
+    concat-cut_first [] n h = sym (drop_all n [] (omega arith))
+    concat-cut_first (x ∷ xs) n h = sym (drop-append-le n x (concat xs) h)
+
+pub length-Skips : (n : ℕ) (xs ys : List (List ℕ)) → Skips n xs ys → length ys ≤ length xs
+length-Skips n xs ys s = omega (arith, ap length s.rest, length-cut_front s.cut (drop s.passed xs), length-drop s.passed xs)
+
+pub NoneEmpty-behind_cut : (xs : List (List ℕ)) (n : ℕ) → NoneEmpty xs → NoneEmpty (drop 1 (cut_front n xs))
+NoneEmpty-behind_cut [] n all = all
+NoneEmpty-behind_cut (x ∷ xs) n all = All-tail (λ s. 0 < length s) x xs all
+
+-- a first list that is read out is dropped
+pub Skips-drop_front : (xs : List (List ℕ)) → 0 < length xs → length (front_of xs) ≡ 0 → NoneEmpty (drop 1 xs) → Skips 0 xs (drop 1 xs)
+Skips-drop_front [] some none all = absurd (omega arith)
+Skips-drop_front (x ∷ xs) some none all =
+    record {
+      passed = 1;
+      cut = 0;
+      within = omega arith;
+      rest = cut_front-none xs;
+      bytes = sym (ap (λ l. l ++ concat xs) (nil_from_length x none));
+      front = FrontUnread-from_none_empty xs all;
+    }
+
+-- ---- elements and their unread lists
+
+pub map-filter_unread : {X : Type 0} (f : X → List ℕ) (xs : List X) → map f (filter (λ x. nat_lt 0 (length (f x))) xs) ≡ without_empty (map f xs)
+map-filter_unread f [] = refl
+map-filter_unread {X = X} f (x ∷ xs) = by (f x) refl (map f xs) _ (map-filter_unread f xs)
+  where
+    by : (s : List ℕ) → f x ≡ s → (ys : List (List ℕ)) (kept : List X) → map f kept ≡ without_empty ys
+        → map f (cond (nat_lt 0 (length s)) (x ∷ kept) kept) ≡ without_empty (s ∷ ys)
+    by [] e ys kept rest = rest
+    by (b ∷ s) e ys kept rest =
+        let some : nat_lt 0 (length (b ∷ s)) ≡ true = lt-ltb 0 (length (b ∷ s)) (omega arith) in
+        rw some (λ i. e i ∷ rest i)
+
+-- clones that show the same unread bytes
+pub map-clones : {X : Type 0} (R : X → X → Type 0) (f : X → List ℕ) → ((x y : X) → R x y → f y ≡ f x)
+    → (xs ys : List X) → AllZip R xs ys → map f ys ≡ map f xs
+map-clones R f same [] [] all = refl
+map-clones R f same [] (y ∷ ys) all = absurd all
+map-clones R f same (x ∷ xs) [] all = absurd all
+map-clones R f same (x ∷ xs) (y ∷ ys) all = (λ i. same x y all.0 i ∷ map-clones R f same xs ys all.1 i)
