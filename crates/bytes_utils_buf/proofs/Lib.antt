@@ -1,3 +1,4 @@
-pub mod Tables
+pub mod Accepting
 pub mod Lists
+pub mod Tables
 pub mod Lent

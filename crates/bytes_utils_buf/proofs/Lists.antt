@@ -1,8 +1,8 @@
 -- Lists of lists, seen from the front.
-use Rattle.std.proofs.Common.{◌≡◌, ◌⊎◌, inl, inr, ℕ, ◌+◌, ◌<◌, ◌≤◌, List, [], ◌∷◌, ◌++◌, zero, suc, length, take, drop, map, get_or, set, replicate, ap, ◌∙◌, sym, refl, arith, length-append, append-nil, append_assoc, length-drop}
-use Rattle.std.proofs.lemmas.List.{take_more, drop-append-le, drop-drop, take-append-drop, drop_all, map-append}
+use Rattle.std.proofs.Common.{◌≡◌, nat_lt, lt-ltb, cond, true, ◌⊎◌, inl, inr, ℕ, ◌+◌, ◌<◌, ◌≤◌, List, [], ◌∷◌, ◌++◌, zero, suc, length, take, drop, map, get_or, set, replicate, ap, ◌∙◌, sym, refl, arith, length-append, append-nil, append_assoc, length-drop}
+use Rattle.std.proofs.lemmas.List.{take_more, drop-append-le, drop-drop, take-append-drop, drop_all, map-append, nil_from_length}
 use Rattle.std.proofs.lemmas.List.Elements.{All-nil, All-cons, All-head, All-tail, All-same, All-drop, All-append}
-use Rattle.std.specs.List.{concat}
+use Rattle.std.specs.List.{concat, filter, AllZip}
 use Rattle.bytes.proofs.Chunks.{concat_push}
 use Rattle.bytes_utils_buf.specs.Segments.{cut_front, cut_at, front_of, without_empty, NoneEmpty, FrontUnread, Skips}
 
@@ -247,3 +247,44 @@ Skips-trimmed n xs ys zs fits same s =
     concat-cut_first : (xs : List (List ℕ)) (n : ℕ) → n ≤ length (front_of xs) → concat (cut_front n xs) ≡ drop n (concat xs)
     concat-cut_first [] n h = sym (drop_all n [] (omega arith))
     concat-cut_first (x ∷ xs) n h = sym (drop-append-le n x (concat xs) h)
+
+pub length-Skips : (n : ℕ) (xs ys : List (List ℕ)) → Skips n xs ys → length ys ≤ length xs
+length-Skips n xs ys s = omega (arith, ap length s.rest, length-cut_front s.cut (drop s.passed xs), length-drop s.passed xs)
+
+pub NoneEmpty-behind_cut : (xs : List (List ℕ)) (n : ℕ) → NoneEmpty xs → NoneEmpty (drop 1 (cut_front n xs))
+NoneEmpty-behind_cut [] n all = all
+NoneEmpty-behind_cut (x ∷ xs) n all = All-tail (λ s. 0 < length s) x xs all
+
+-- a first list that is read out is dropped
+pub Skips-drop_front : (xs : List (List ℕ)) → 0 < length xs → length (front_of xs) ≡ 0 → NoneEmpty (drop 1 xs) → Skips 0 xs (drop 1 xs)
+Skips-drop_front [] some none all = absurd (omega arith)
+Skips-drop_front (x ∷ xs) some none all =
+    record {
+      passed = 1;
+      cut = 0;
+      within = omega arith;
+      rest = cut_front-none xs;
+      bytes = sym (ap (λ l. l ++ concat xs) (nil_from_length x none));
+      front = FrontUnread-from_none_empty xs all;
+    }
+
+-- ---- elements and their unread lists
+
+pub map-filter_unread : {X : Type 0} (f : X → List ℕ) (xs : List X) → map f (filter (λ x. nat_lt 0 (length (f x))) xs) ≡ without_empty (map f xs)
+map-filter_unread f [] = refl
+map-filter_unread {X = X} f (x ∷ xs) = by (f x) refl (map f xs) _ (map-filter_unread f xs)
+  where
+    by : (s : List ℕ) → f x ≡ s → (ys : List (List ℕ)) (kept : List X) → map f kept ≡ without_empty ys
+        → map f (cond (nat_lt 0 (length s)) (x ∷ kept) kept) ≡ without_empty (s ∷ ys)
+    by [] e ys kept rest = rest
+    by (b ∷ s) e ys kept rest =
+        let some : nat_lt 0 (length (b ∷ s)) ≡ true = lt-ltb 0 (length (b ∷ s)) (omega arith) in
+        rw some (λ i. e i ∷ rest i)
+
+-- clones that show the same unread bytes
+pub map-clones : {X : Type 0} (R : X → X → Type 0) (f : X → List ℕ) → ((x y : X) → R x y → f y ≡ f x)
+    → (xs ys : List X) → AllZip R xs ys → map f ys ≡ map f xs
+map-clones R f same [] [] all = refl
+map-clones R f same [] (y ∷ ys) all = absurd all
+map-clones R f same (x ∷ xs) [] all = absurd all
+map-clones R f same (x ∷ xs) (y ∷ ys) all = (λ i. same x y all.0 i ∷ map-clones R f same xs ys all.1 i)

@@ -1,16 +1,16 @@
 //! Held buffers that read as one.
-ghost use Rattle.std.specs.Prelude.{◌≡◌, ◌+◌, ◌-◌, ◌^◌, ◌<◌, ◌≤◌, [], ◌∷◌, ◌++◌, length, map, take, drop, IsTrue, ◌↔◌, IsOk, OnOk, OnErr, IfOk, IfErr};
+ghost use Rattle.std.specs.Prelude.{◌≡◌, ◌+◌, ◌^◌, ◌<◌, ◌≤◌, [], ◌∷◌, length, map, IsTrue, ◌↔◌, IfOk, IfErr};
 ghost use Rattle.std.specs.List.{concat};
-ghost use Rattle.bytes_utils_buf.specs.Parts.{taken_by, FillsTable};
-ghost use Rattle.bytes_utils_buf.specs.Segments.{NoneEmpty, front_of, after_accepting, nothing_held, Skips};
-ghost use Rattle.bytes_utils_buf.specs.Tally.{IsCovered, IsPaid, CountsCopy};
+ghost use Rattle.bytes_utils_buf.specs.Segments.{NoneEmpty, nothing_held, Skips};
+ghost use Rattle.bytes_utils_buf.specs.Tally.{IsCovered, IsPaid};
 
-use super::copy::{append_chunk, copy_front, fill_from_held, front_holds};
+mod accept;
+mod hand_out;
+
 use super::tally::Tally;
 use super::walk::skip_held;
-use crate::parts::{BufParts, CopyRefused};
-use crate::{Reason, Refused};
-use bytes::{Buf, Bytes};
+use crate::Reason;
+use bytes::Buf;
 use std::alloc::Global;
 use std::collections::VecDeque;
 use std::marker::Model;
@@ -70,6 +70,18 @@ impl<B: Buf + Drop> SegmentedBuf<B> {
         n <= usize::MAX - self.remaining
     }
 
+    /// The held segments, front first.
+    pub fn into_inner(self) -> VecDeque<B>
+        ensures { map B.unread result.items ≡ self.segments }
+    {
+        let SegmentedBuf {
+            segments,
+            remaining: _,
+            tally: _,
+        } = self;
+        segments
+    }
+
     /// Takes `cnt` bytes off the front. A segment that is passed is dropped, and isn't advanced before.
     pub fn advance(&mut self, cnt: usize)
         requires { cnt ≤ length (concat self.old.segments) }
@@ -81,6 +93,37 @@ impl<B: Buf + Drop> SegmentedBuf<B> {
         self.tally.call();
         skip_held(&mut self.segments, &mut self.tally, cnt);
         self.remaining -= cnt;
+    }
+}
+
+impl<B: Buf + Clone> SegmentedBuf<B> {
+    /// Clones of the held segments, with a tally of their own. Clones have to show the same unread bytes.
+    pub fn try_clone(&self) -> Result<SegmentedBuf<B>, Reason>
+        requires { (x y : B) → B.is_clone x y → B.unread y ≡ B.unread x }
+        ensures ok { IfOk result (λ all. all ≡ record {
+          segments = self.now.segments;
+          tally = record { given = length self.now.segments; calls = 0; turns = 0 };
+        }) }
+        ensures err { IfErr result (λ reason. reason ≡ Reason.OutOfMemory) }
+    {
+        let Ok(segments) = self.segments.clone() else {
+            return Err(Reason::OutOfMemory);
+        };
+        let mut tally = Tally::new();
+        tally.give(segments.len());
+        Ok(SegmentedBuf {
+            segments,
+            remaining: self.remaining,
+            tally,
+        })
+    }
+}
+
+impl<B: Buf + Drop> From<SegmentedBuf<B>> for VecDeque<B> {
+    ghost from_gives = { λ all segments. map B.unread segments.items ≡ all.segments };
+
+    fn from(all: SegmentedBuf<B>) -> VecDeque<B> {
+        all.into_inner()
     }
 }
 

@@ -1,8 +1,9 @@
 //! Parts of buffers in a row: bytes copied out, and tables filled with slices.
 ghost use Rattle.std.specs.Prelude.{◌≡◌, ◌+◌, ◌-◌, ◌<◌, ◌≤◌, [], ◌++◌, length, map, min, take, drop, slice_index_or, vec_capacity, IsTrue, ◌↔◌, IfOk};
+ghost use Rattle.std.specs.Bool.{OnTrue, OnFalse};
 ghost use Rattle.std.specs.List.{concat};
 ghost use Rattle.bytes_utils_buf.specs.Parts.{taken_by, FillsTable};
-ghost use Rattle.bytes_utils_buf.specs.Segments.{cut_front, front_of};
+ghost use Rattle.bytes_utils_buf.specs.Segments.{cut_front, front_of, FrontUnread};
 
 use crate::parts::{BufParts, CopyRefused};
 use bytes::{Buf, Bytes};
@@ -17,6 +18,28 @@ pub(super) fn front_holds<B: Buf>(segments: &VecDeque<B>, len: usize) -> bool
     match segments.front() {
         Some(front) => len <= front.remaining(),
         None => false,
+    }
+}
+
+/// Whether there is a first held segment and it is read out.
+pub(super) fn front_is_read_out<B: Buf>(segments: &VecDeque<B>) -> bool
+    ensures yes { OnTrue result
+        ((0 < length segments.now.items) × (length (front_of (map B.unread segments.now.items)) ≡ 0)) }
+    ensures no { OnFalse result (FrontUnread (map B.unread segments.now.items)) }
+{
+    match segments.front() {
+        Some(front) => front.remaining() == 0,
+        None => false,
+    }
+}
+
+/// How many bytes a copy of `len` bytes took.
+pub(super) fn bytes_taken(copy: &Result<Bytes, CopyRefused>, len: usize) -> usize
+    ensures { result ≡ taken_by len copy.now }
+{
+    match copy {
+        Ok(_) => len,
+        Err(refused) => refused.taken,
     }
 }
 

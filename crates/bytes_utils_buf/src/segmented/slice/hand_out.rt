@@ -8,7 +8,7 @@ ghost use Rattle.bytes_utils_buf.specs.Tally.{IsPaid, CountsCopy};
 
 use super::SegmentedSlice;
 use crate::parts::{BufParts, CopyRefused};
-use crate::segmented::copy::{append_chunk, fill_from_lent};
+use crate::segmented::copy::{append_chunk, bytes_taken, fill_from_lent};
 use crate::segmented::tally::Tally;
 use crate::segmented::walk::count_lent;
 use bytes::{Buf, Bytes};
@@ -66,7 +66,7 @@ impl<B: BufParts> SegmentedSlice<'_, B> {
         let bufs = &mut *self.bufs;
         let (passed, copy) = copy_of_first(&mut bufs[place..], &mut self.tally, alloc, len);
         self.place += passed;
-        self.remaining -= count_taken(&copy, len);
+        self.remaining -= bytes_taken(&copy, len);
         copy
     }
 
@@ -112,16 +112,6 @@ fn copy_of_first<B: BufParts>(
     let copy = bufs[0].copy_out(alloc, len);
     let (empty, _) = count_lent(bufs, tally, 0);
     (empty, copy)
-}
-
-/// How many bytes a copy of `len` bytes took.
-fn count_taken(copy: &Result<Bytes, CopyRefused>, len: usize) -> usize
-    ensures { result ≡ taken_by len copy.now }
-{
-    match copy {
-        Ok(_) => len,
-        Err(refused) => refused.taken,
-    }
 }
 
 /// As `copy_to_bytes` and `chunks_vectored`.

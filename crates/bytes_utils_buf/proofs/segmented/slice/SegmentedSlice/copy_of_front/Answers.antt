@@ -28,7 +28,7 @@ invariant_of-self g c =
     let skips : SkipsLent taken old new =
     SkipsLent-part f xs now.bufs taken s.place p handed_in s.tally now.tally s.bufs.ghost_name in_all before e.passed c.copy_of_first-passed.auto.bufs e.read_out e.skips in
     let paid : IsPaid old.segments old.tally new.segments new.tally = rw e.turns (omega (arith, skips.place)) in
-    rw c.count_taken.ensures
+    rw c.bytes_taken.ensures
     (IsLent-skip taken s.remaining (map f xs) _ old new c.self.invariant skips
     (lists_of-part f xs now.bufs s.place p handed_in now.tally s.bufs.ghost_name in_all before e.read_out) paid)
 
