@@ -1,0 +1,5 @@
+pub mod Log
+pub mod Parts
+pub mod Segments
+pub mod Tally
+pub mod Lent

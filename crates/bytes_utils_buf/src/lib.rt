@@ -1,6 +1,11 @@
 //! Many byte buffers read as one.
 #![tactic(auto)]
 
+pub mod parts;
 mod refused;
+pub mod segmented;
 
 pub use refused::{Reason, Refused};
+
+#[cfg(test)]
+mod tests;

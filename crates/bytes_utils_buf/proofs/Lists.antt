@@ -1,0 +1,290 @@
+-- Lists of lists, seen from the front.
+use Rattle.std.proofs.Common.{◌≡◌, nat_lt, lt-ltb, cond, true, ◌⊎◌, inl, inr, ℕ, ◌+◌, ◌<◌, ◌≤◌, List, [], ◌∷◌, ◌++◌, zero, suc, length, take, drop, map, get_or, set, replicate, ap, ◌∙◌, sym, refl, arith, length-append, append-nil, append_assoc, length-drop}
+use Rattle.std.proofs.lemmas.List.{take_more, drop-append-le, drop-drop, take-append-drop, drop_all, map-append, nil_from_length}
+use Rattle.std.proofs.lemmas.List.Elements.{All-nil, All-cons, All-head, All-tail, All-same, All-drop, All-append}
+use Rattle.std.specs.List.{concat, filter, AllZip}
+use Rattle.bytes.proofs.Chunks.{concat_push}
+use Rattle.bytes_utils_buf.specs.Segments.{cut_front, cut_at, front_of, without_empty, NoneEmpty, FrontUnread, Skips}
+
+-- ---- joined bytes
+
+pub length-concat-take_more : (xs : List (List ℕ)) (k : ℕ) → k < length xs
+    → length (concat (take (k + 1) xs)) ≡ length (concat (take k xs)) + length (get_or xs k [])
+length-concat-take_more xs k h =
+    ap (λ l. length (concat l)) (take_more xs k [] h) ∙ ap length (concat_push (take k xs) (get_or xs k []))
+    ∙ length-append (concat (take k xs)) (get_or xs k [])
+
+-- what a read of the element at place k says of its unread list
+pub read_at : {X : Type 0} (f : X → List ℕ) (xs : List X) (k : ℕ) (x : X) → k < length xs → x ≡ get_or xs k x
+    → get_or (map f xs) k [] ≡ f x
+read_at f [] k x h e = absurd (omega arith)
+read_at f (y ∷ ys) zero x h e = ap f (sym e)
+read_at f (y ∷ ys) (suc k) x h e = read_at f ys k x (omega arith) e
+
+pub concat-append : (xs ys : List (List ℕ)) → concat (xs ++ ys) ≡ concat xs ++ concat ys
+concat-append [] ys = refl
+concat-append (x ∷ xs) ys = ap (λ l. x ++ l) (concat-append xs ys) ∙ sym (append_assoc x (concat xs) (concat ys))
+
+pub concat_split : (n : ℕ) (xs : List (List ℕ)) → concat xs ≡ concat (take n xs) ++ concat (drop n xs)
+concat_split n xs = ap concat (sym (take-append-drop n xs)) ∙ concat-append (take n xs) (drop n xs)
+
+pub drop-append_past : (xs ys : List ℕ) (n m : ℕ) → m ≡ length xs + n → drop m (xs ++ ys) ≡ drop n ys
+drop-append_past [] ys n m e = let same : m ≡ n = omega arith in rw same
+drop-append_past (x ∷ xs) ys n zero e = absurd (omega arith)
+drop-append_past (x ∷ xs) ys n (suc m) e = drop-append_past xs ys n m (omega arith)
+
+-- ---- the first list is cut
+
+pub length-cut_front : (n : ℕ) (xs : List (List ℕ)) → length (cut_front n xs) ≡ length xs
+length-cut_front n [] = refl
+length-cut_front n (x ∷ xs) = refl
+
+pub front_of_drop : (xs : List (List ℕ)) (p : ℕ) → front_of (drop p xs) ≡ get_or xs p []
+front_of_drop [] zero = refl
+front_of_drop (x ∷ xs) zero = refl
+front_of_drop [] (suc p) = refl
+front_of_drop (x ∷ xs) (suc p) = front_of_drop xs p
+
+-- so many lists are passed, and n bytes of the next one
+pub concat-cut_front : (xs : List (List ℕ)) (p n m : ℕ) → p ≤ length xs → length (concat (take p xs)) + n ≡ m → m ≤ length (concat xs)
+    → (p < length xs → n < length (get_or xs p [])) → concat (cut_front n (drop p xs)) ≡ drop m (concat xs)
+concat-cut_front [] zero n m h e b q = let none : m ≡ 0 = omega arith in rw none refl
+concat-cut_front (x ∷ xs) zero n m h e b q =
+    let same : m ≡ n = omega arith in rw same (sym (drop-append-le n x (concat xs) (omega (arith, q (omega arith)))))
+concat-cut_front [] (suc p) n m h e b q = absurd (omega arith)
+concat-cut_front (x ∷ xs) (suc p) n m h e b q =
+    let size = length-append x (concat (take p xs)) in
+    let all = length-append x (concat xs) in
+    concat-cut_front xs p n (length (concat (take p xs)) + n) (omega arith) refl (omega arith) (λ l. q (omega arith))
+    ∙ sym (drop-append_past x (concat xs) (length (concat (take p xs)) + n) m (omega arith))
+
+pub length-drop_some : (n : ℕ) (x : List ℕ) → n < length x → 0 < length (drop n x)
+length-drop_some n x h = omega (arith, length-drop n x)
+
+pub FrontUnread-cut : (xs : List (List ℕ)) (p n : ℕ) → (p < length xs → n < length (get_or xs p [])) → FrontUnread (cut_front n (drop p xs))
+FrontUnread-cut [] zero n q = λ h. absurd (omega arith)
+FrontUnread-cut [] (suc p) n q = λ h. absurd (omega arith)
+FrontUnread-cut (x ∷ xs) zero n q = λ h. length-drop_some n x (q (omega arith))
+FrontUnread-cut (x ∷ xs) (suc p) n q = FrontUnread-cut xs p n (λ l. q (omega arith))
+
+-- what a loop that counts the passed lists found
+pub Skips-from_count : (xs ys : List (List ℕ)) (p n m : ℕ) → p ≤ length xs → length (concat (take p xs)) + n ≡ m → m ≤ length (concat xs)
+    → (p < length xs → n < length (get_or xs p [])) → ys ≡ cut_front n (drop p xs) → Skips m xs ys
+Skips-from_count xs ys p n m within left fits next same =
+    record {
+      passed = p;
+      cut = n;
+      within = within;
+      rest = same;
+      bytes = ap concat same ∙ concat-cut_front xs p n m within left fits next;
+      front = rw same (FrontUnread-cut xs p n next);
+    }
+
+-- ---- lists none of which is empty
+
+-- where no other list is empty, a first list that has unread bytes leaves none empty
+pub NoneEmpty-cut_front : (xs : List (List ℕ)) (n : ℕ) → NoneEmpty xs → FrontUnread (cut_front n xs) → NoneEmpty (cut_front n xs)
+NoneEmpty-cut_front [] n all front = all
+NoneEmpty-cut_front (x ∷ xs) n all front =
+    All-cons (λ s. 0 < length s) (drop n x) xs (front (omega arith)) (All-tail (λ s. 0 < length s) x xs all)
+
+pub NoneEmpty-Skips : (n : ℕ) (xs ys : List (List ℕ)) → NoneEmpty xs → Skips n xs ys → NoneEmpty ys
+NoneEmpty-Skips n xs ys all s =
+    let front : FrontUnread (cut_front s.cut (drop s.passed xs)) = rw (← s.rest) s.front in
+    All-same (λ x. 0 < length x) ys _ s.rest (NoneEmpty-cut_front (drop s.passed xs) s.cut (All-drop (λ x. 0 < length x) s.passed xs all) front)
+
+pub get_or-drop_first : (xs : List (List ℕ)) (p : ℕ) → get_or (drop p xs) 0 [] ≡ get_or xs p []
+get_or-drop_first xs zero = refl
+get_or-drop_first [] (suc p) = refl
+get_or-drop_first (x ∷ xs) (suc p) = get_or-drop_first xs p
+
+-- what the element at place k has unread
+pub map_at : {X : Type 0} (f : X → List ℕ) (xs : List X) (k : ℕ) (d : X) → k < length xs → f (get_or xs k d) ≡ get_or (map f xs) k []
+map_at f [] k d h = absurd (omega arith)
+map_at f (x ∷ xs) zero d h = refl
+map_at f (x ∷ xs) (suc k) d h = map_at f xs k d (omega arith)
+
+-- ---- passed lists are read out
+
+-- one more is read out
+set-replicated : (xs : List (List ℕ)) (i : ℕ) → i < length xs → set (replicate i [] ++ drop i xs) i [] ≡ replicate (suc i) [] ++ drop (suc i) xs
+set-replicated [] i h = absurd (omega arith)
+set-replicated (x ∷ xs) zero h = refl
+set-replicated (x ∷ xs) (suc i) h = ap (λ l. [] ∷ l) (set-replicated xs i (omega arith))
+
+pub set-replicated_more : (xs : List (List ℕ)) (i : ℕ) → i < length xs → set (replicate i [] ++ drop i xs) i [] ≡ replicate (i + 1) [] ++ drop (i + 1) xs
+set-replicated_more xs i h = let e : i + 1 ≡ suc i = omega arith in rw e (set-replicated xs i h)
+
+-- the list at one place is cut
+pub set_cut : (xs : List (List ℕ)) (k n : ℕ) → k < length xs → set xs k (drop n (get_or xs k [])) ≡ cut_at k n xs
+set_cut [] k n h = absurd (omega arith)
+set_cut (x ∷ xs) zero n h = refl
+set_cut (x ∷ xs) (suc k) n h = ap (λ l. x ∷ l) (set_cut xs k n (omega arith))
+
+pub cut_past : (xs : List (List ℕ)) (k n : ℕ) → length xs ≤ k → xs ≡ cut_at k n xs
+cut_past [] k n h = refl
+cut_past (x ∷ xs) zero n h = absurd (omega arith)
+cut_past (x ∷ xs) (suc k) n h = ap (λ l. x ∷ l) (cut_past xs k n (omega arith))
+
+pub cut_behind : (xs : List (List ℕ)) (p n : ℕ) → cut_at p n (replicate p [] ++ xs) ≡ replicate p [] ++ cut_front n xs
+cut_behind [] zero n = refl
+cut_behind (x ∷ xs) zero n = refl
+cut_behind xs (suc p) n = ap (λ l. [] ∷ l) (cut_behind xs p n)
+
+-- ---- lists that come in
+
+pub without_empty-append : (xs ys : List (List ℕ)) → without_empty (xs ++ ys) ≡ without_empty xs ++ without_empty ys
+without_empty-append [] ys = refl
+without_empty-append ([] ∷ xs) ys = without_empty-append xs ys
+without_empty-append ((b ∷ x) ∷ xs) ys = ap (λ l. (b ∷ x) ∷ l) (without_empty-append xs ys)
+
+pub concat-without_empty : (xs : List (List ℕ)) → concat (without_empty xs) ≡ concat xs
+concat-without_empty [] = refl
+concat-without_empty ([] ∷ xs) = concat-without_empty xs
+concat-without_empty ((b ∷ x) ∷ xs) = ap (λ l. (b ∷ x) ++ l) (concat-without_empty xs)
+
+pub NoneEmpty-without_empty : (xs : List (List ℕ)) → NoneEmpty (without_empty xs)
+NoneEmpty-without_empty [] = All-nil (λ s. 0 < length s)
+NoneEmpty-without_empty ([] ∷ xs) = NoneEmpty-without_empty xs
+NoneEmpty-without_empty ((b ∷ x) ∷ xs) =
+    All-cons (λ s. 0 < length s) (b ∷ x) (without_empty xs) (omega arith) (NoneEmpty-without_empty xs)
+
+pub length-without_empty : (xs : List (List ℕ)) → length (without_empty xs) ≤ length xs
+length-without_empty [] = omega arith
+length-without_empty ([] ∷ xs) = omega (arith, length-without_empty xs)
+length-without_empty ((b ∷ x) ∷ xs) = omega (arith, length-without_empty xs)
+
+-- lists that come in behind others
+pub NoneEmpty-accepted : (xs ys : List (List ℕ)) → NoneEmpty xs → NoneEmpty (xs ++ without_empty ys)
+NoneEmpty-accepted xs ys all = All-append (λ s. 0 < length s) xs (without_empty ys) all (NoneEmpty-without_empty ys)
+
+pub length-concat-accepted : (xs ys : List (List ℕ)) → length (concat (xs ++ without_empty ys)) ≡ length (concat xs) + length (concat ys)
+length-concat-accepted xs ys =
+    ap length (concat-append xs (without_empty ys) ∙ ap (λ l. concat xs ++ l) (concat-without_empty ys)) ∙ length-append (concat xs) (concat ys)
+
+pub length-accepted : (xs ys : List (List ℕ)) → length (xs ++ without_empty ys) ≤ length xs + length ys
+length-accepted xs ys = omega (arith, length-append xs (without_empty ys), length-without_empty ys)
+
+-- one more comes in
+pub accepted_more : (xs ys : List (List ℕ)) (y : List ℕ) → (xs ++ without_empty ys) ++ without_empty (y ∷ []) ≡ xs ++ without_empty (ys ++ y ∷ [])
+accepted_more xs ys y =
+    append_assoc xs (without_empty ys) (without_empty (y ∷ [])) ∙ ap (λ l. xs ++ l) (sym (without_empty-append ys (y ∷ [])))
+
+-- a buffer that is not empty comes in
+pub map-push_some : {X : Type 0} (f : X → List ℕ) (xs : List X) (x : X) → 0 < length (f x)
+    → map f (xs ++ x ∷ []) ≡ map f xs ++ without_empty (f x ∷ [])
+map-push_some f xs x some = map-append f xs (x ∷ []) ∙ ap (λ l. map f xs ++ l) (sym (kept (f x) some))
+  where
+    kept : (s : List ℕ) → 0 < length s → without_empty (s ∷ []) ≡ s ∷ []
+    kept [] h = absurd (omega arith)
+    kept (b ∷ s) h = refl
+
+-- an empty one leaves no trace
+pub push_none : (xs : List (List ℕ)) (s : List ℕ) → length s ≡ 0 → xs ≡ xs ++ without_empty (s ∷ [])
+push_none xs [] h = sym (append-nil xs)
+push_none xs (b ∷ s) h = absurd (omega arith)
+
+-- ---- one skip after another
+
+cut_front-twice : (xs : List (List ℕ)) (j k : ℕ) → cut_front k (cut_front j xs) ≡ cut_front (j + k) xs
+cut_front-twice [] j k = refl
+cut_front-twice (x ∷ xs) j k = ap (λ l. l ∷ xs) (drop-drop k j x)
+
+drop-cut_front : (xs : List (List ℕ)) (j p : ℕ) → 0 < p → drop p (cut_front j xs) ≡ drop p xs
+drop-cut_front [] j p h = refl
+drop-cut_front (x ∷ xs) j zero h = absurd (omega arith)
+drop-cut_front (x ∷ xs) j (suc p) h = refl
+
+pub FrontUnread-from_none_empty : (xs : List (List ℕ)) → NoneEmpty xs → FrontUnread xs
+FrontUnread-from_none_empty [] all h = absurd (omega arith)
+FrontUnread-from_none_empty (x ∷ xs) all h = All-head (λ s. 0 < length s) x xs all
+
+cases_zero : (n : ℕ) → (n ≡ 0) ⊎ (0 < n)
+cases_zero zero = inl refl
+cases_zero (suc n) = inr (omega arith)
+
+pub cut_front-none : (xs : List (List ℕ)) → xs ≡ cut_front 0 xs
+cut_front-none [] = refl
+cut_front-none (x ∷ xs) = refl
+
+pub Skips-none : (xs : List (List ℕ)) → FrontUnread xs → Skips 0 xs xs
+Skips-none xs front = record { passed = 0; cut = 0; within = omega arith; rest = cut_front-none xs; bytes = refl; front = front }
+
+-- a cut of lists that some were taken off before, and then a skip
+Skips-behind : (n m j p : ℕ) (xs ys zs : List (List ℕ)) → p ≤ length xs → ys ≡ cut_front j (drop p xs) → concat ys ≡ drop n (concat xs)
+    → Skips m ys zs → Skips (n + m) xs zs
+Skips-behind n m j p xs ys zs within same bytes s =
+    elim (cases_zero s.passed) [
+      | inl none ↦
+          record {
+            passed = p;
+            cut = j + s.cut;
+            within = within;
+            rest = s.rest ∙ ap (λ k. cut_front s.cut (drop k ys)) none ∙ ap (cut_front s.cut) same ∙ cut_front-twice (drop p xs) j s.cut;
+            bytes = s.bytes ∙ ap (drop m) bytes ∙ drop-drop m n (concat xs);
+            front = s.front;
+          }
+      | inr some ↦
+          record {
+            passed = p + s.passed;
+            cut = s.cut;
+            within = omega (arith, s.within, ap length same, length-cut_front j (drop p xs), length-drop p xs);
+            rest = s.rest ∙ ap (λ l. cut_front s.cut (drop s.passed l)) same ∙ ap (cut_front s.cut) (drop-cut_front (drop p xs) j s.passed some ∙ drop-drop s.passed p xs);
+            bytes = s.bytes ∙ ap (drop m) bytes ∙ drop-drop m n (concat xs);
+            front = s.front;
+          }
+    ]
+
+pub Skips-more : (n m : ℕ) (xs ys zs : List (List ℕ)) → Skips n xs ys → Skips m ys zs → Skips (n + m) xs zs
+Skips-more n m xs ys zs s t = Skips-behind n m s.cut s.passed xs ys zs s.within s.rest s.bytes t
+
+-- the first list is cut, perhaps to nothing, and then trimmed away
+pub Skips-trimmed : (n : ℕ) (xs ys zs : List (List ℕ)) → n ≤ length (front_of xs) → ys ≡ cut_front n xs → Skips 0 ys zs → Skips n xs zs
+Skips-trimmed n xs ys zs fits same s =
+    let whole : n + 0 ≡ n = omega arith in
+    rw whole at (Skips-behind n 0 n 0 xs ys zs (omega arith) same (ap concat same ∙ concat-cut_first xs n fits) s)
+  where
+    concat-cut_first : (xs : List (List ℕ)) (n : ℕ) → n ≤ length (front_of xs) → concat (cut_front n xs) ≡ drop n (concat xs)
+    concat-cut_first [] n h = sym (drop_all n [] (omega arith))
+    concat-cut_first (x ∷ xs) n h = sym (drop-append-le n x (concat xs) h)
+
+pub length-Skips : (n : ℕ) (xs ys : List (List ℕ)) → Skips n xs ys → length ys ≤ length xs
+length-Skips n xs ys s = omega (arith, ap length s.rest, length-cut_front s.cut (drop s.passed xs), length-drop s.passed xs)
+
+pub NoneEmpty-behind_cut : (xs : List (List ℕ)) (n : ℕ) → NoneEmpty xs → NoneEmpty (drop 1 (cut_front n xs))
+NoneEmpty-behind_cut [] n all = all
+NoneEmpty-behind_cut (x ∷ xs) n all = All-tail (λ s. 0 < length s) x xs all
+
+-- a first list that is read out is dropped
+pub Skips-drop_front : (xs : List (List ℕ)) → 0 < length xs → length (front_of xs) ≡ 0 → NoneEmpty (drop 1 xs) → Skips 0 xs (drop 1 xs)
+Skips-drop_front [] some none all = absurd (omega arith)
+Skips-drop_front (x ∷ xs) some none all =
+    record {
+      passed = 1;
+      cut = 0;
+      within = omega arith;
+      rest = cut_front-none xs;
+      bytes = sym (ap (λ l. l ++ concat xs) (nil_from_length x none));
+      front = FrontUnread-from_none_empty xs all;
+    }
+
+-- ---- elements and their unread lists
+
+pub map-filter_unread : {X : Type 0} (f : X → List ℕ) (xs : List X) → map f (filter (λ x. nat_lt 0 (length (f x))) xs) ≡ without_empty (map f xs)
+map-filter_unread f [] = refl
+map-filter_unread {X = X} f (x ∷ xs) = by (f x) refl (map f xs) _ (map-filter_unread f xs)
+  where
+    by : (s : List ℕ) → f x ≡ s → (ys : List (List ℕ)) (kept : List X) → map f kept ≡ without_empty ys
+        → map f (cond (nat_lt 0 (length s)) (x ∷ kept) kept) ≡ without_empty (s ∷ ys)
+    by [] e ys kept rest = rest
+    by (b ∷ s) e ys kept rest =
+        let some : nat_lt 0 (length (b ∷ s)) ≡ true = lt-ltb 0 (length (b ∷ s)) (omega arith) in
+        rw some (λ i. e i ∷ rest i)
+
+-- clones that show the same unread bytes
+pub map-clones : {X : Type 0} (R : X → X → Type 0) (f : X → List ℕ) → ((x y : X) → R x y → f y ≡ f x)
+    → (xs ys : List X) → AllZip R xs ys → map f ys ≡ map f xs
+map-clones R f same [] [] all = refl
+map-clones R f same [] (y ∷ ys) all = absurd all
+map-clones R f same (x ∷ xs) [] all = absurd all
+map-clones R f same (x ∷ xs) (y ∷ ys) all = (λ i. same x y all.0 i ∷ map-clones R f same xs ys all.1 i)

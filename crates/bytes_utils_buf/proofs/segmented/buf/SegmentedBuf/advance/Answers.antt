@@ -1,0 +1,27 @@
+use Rattle.std.proofs.Common.{length, map, arith, ap, length-drop}
+use Rattle.std.proofs.lemmas.List.{length-map}
+use Rattle.std.specs.List.{concat}
+use Rattle.bytes_utils_buf.proofs.Lists.{NoneEmpty-Skips}
+use Rattle.bytes_utils_buf.proofs.segmented.buf.SegmentedBuf.advance.Goals as goal
+
+pub invariant_of-self : goal.invariant_of-self
+invariant_of-self g c =
+    let f = g.B.Buf.unread in
+    let old = c.self.inside.segments.items in
+    let new = c.skip_held.new.segments.items in
+    let s = c.skip_held.ensures in (
+      omega (arith, ap length s.skips.bytes, length-drop c.args.cnt (concat (map f old)), c.self.invariant.0),
+      NoneEmpty-Skips c.args.cnt (map f old) (map f new) c.self.invariant.1 s.skips,
+      omega (
+        arith,
+        s.turns,
+        s.given,
+        s.calls,
+        ap (λ t. t.given) c.call.ensures,
+        ap (λ t. t.calls) c.call.ensures,
+        ap (λ t. t.turns) c.call.ensures,
+        length-map old f,
+        length-map new f,
+        c.self.invariant.2,
+      ),
+    )

@@ -1,0 +1,18 @@
+use Rattle.std.proofs.Common.{length, arith, ap}
+use Rattle.bytes_utils_buf.specs.Parts.{taken_by}
+use Rattle.bytes_utils_buf.proofs.Lists.{length-Skips}
+use Rattle.bytes_utils_buf.proofs.segmented.buf.SegmentedBuf.copy_to_bytes.Goals as goal
+
+pub returns-then-front_holds-clause-paid : goal.returns-then-front_holds-clause-paid
+returns-then-front_holds-clause-paid g c =
+    let s = c.copy_of_front.ensures in
+    let old = c.self.view_is in
+    rw (s.tally, c.call.ensures)
+    (omega (
+      arith,
+      length-Skips (taken_by c.args.len c.copy_of_front.result) _ _ s.skips,
+      ap (λ q. length q.segments) old,
+      ap (λ q. q.tally.given) old,
+      ap (λ q. q.tally.calls) old,
+      ap (λ q. q.tally.turns) old,
+    ))

@@ -1,0 +1,21 @@
+use Rattle.std.proofs.Common.{map, ap, ◌∙◌, sym}
+use Rattle.std.proofs.lemmas.List.{map_push}
+use Rattle.bytes_utils_buf.specs.Segments.{after_accepting}
+use Rattle.bytes_utils_buf.proofs.Accepting.{with_one, with_one-accepting, IsPaid-accepting}
+use Rattle.bytes_utils_buf.proofs.segmented.buf.SegmentedBuf.extend.Goals as goal
+
+pub loop-buf-preserved : goal.loop-buf-preserved
+loop-buf-preserved g c =
+    let f = g.B.Buf.unread in
+    let old = c.args.self.now in
+    let items = c.loop-buf.yielded in
+    c.in_ok-accept.ensures.ok ∙ ap (λ q. with_one q (f c.in-Some.buf)) c.loop-buf.invariant
+    ∙ with_one-accepting old (map f items) (f c.in-Some.buf) ∙ ap (after_accepting old) (sym (map_push f items c.in-Some.buf))
+
+pub returns-in_err-accept-clause-paid : goal.returns-in_err-accept-clause-paid
+returns-in_err-accept-clause-paid g c =
+    rw (c.in_err-accept.ensures.err, c.loop-buf.invariant) (IsPaid-accepting c.args.self.now (map g.B.Buf.unread c.loop-buf.yielded))
+
+pub returns-clause-paid : goal.returns-clause-paid
+returns-clause-paid g c =
+    rw c.loop-buf.invariant (IsPaid-accepting c.args.self.now (map g.B.Buf.unread c.loop-buf.yielded))

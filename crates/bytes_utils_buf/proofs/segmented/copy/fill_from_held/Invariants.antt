@@ -1,0 +1,13 @@
+use Rattle.std.proofs.Common.{◌≡◌, ◌-◌, ◌≤◌, length, map, take}
+use Rattle.std.specs.List.{concat}
+use Rattle.bytes_utils_buf.specs.Parts.{FillsTable}
+use Rattle.bytes_utils_buf.proofs.segmented.copy.fill_from_held.Given as goal
+
+abbrev pub invariant-loop-i : goal.invariant-loop-i
+invariant-loop-i g l =
+    (l.i ≤ length l.segments.items)
+    × (length l.dst ≡ length l.fn.dst)
+    × FillsTable l.filled l.fn.dst l.dst (concat (take l.i (map g.B.Buf.unread l.segments.items)))
+
+abbrev pub decreases-loop-i : goal.decreases-loop-i
+decreases-loop-i g l = length l.segments.items - l.i

@@ -1,0 +1,61 @@
+-- Many buffers as one. Their unread lists, front first, are a list of byte lists, and the bytes to read are these joined.
+use Rattle.std.specs.Prelude.{◌≡◌, ℕ, zero, suc, ◌+◌, ◌<◌, ◌≤◌, List, [], ◌∷◌, ◌++◌, length, drop, All}
+use Rattle.std.specs.List.{concat}
+use Rattle.bytes_utils_buf.specs.Tally.{Tallied}
+
+-- what clauses see of a `SegmentedBuf`: the unread lists of the segments that it holds, and its tally
+pub record Held : Type 0 where
+  pub segments : List (List ℕ)
+  pub tally : Tallied
+
+-- no list is empty
+abbrev pub NoneEmpty : List (List ℕ) → Type 0
+NoneEmpty = All (λ s. 0 < length s)
+
+-- the lists without the empty ones
+abbrev pub without_empty : List (List ℕ) → List (List ℕ)
+without_empty [] = []
+without_empty ([] ∷ segments) = without_empty segments
+without_empty ((b ∷ s) ∷ segments) = (b ∷ s) ∷ without_empty segments
+
+-- the first list, and no bytes where there is none
+abbrev pub front_of : List (List ℕ) → List ℕ
+front_of [] = []
+front_of (s ∷ segments) = s
+
+-- there is no list, or the first one is not empty
+abbrev pub FrontUnread : List (List ℕ) → Type 0
+FrontUnread segments = 0 < length segments → 0 < length (front_of segments)
+
+-- the first list loses its first n bytes
+abbrev pub cut_front : ℕ → List (List ℕ) → List (List ℕ)
+cut_front n [] = []
+cut_front n (s ∷ segments) = drop n s ∷ segments
+
+-- the list at place k loses its first n bytes
+abbrev pub cut_at : ℕ → ℕ → List (List ℕ) → List (List ℕ)
+cut_at k n [] = []
+cut_at zero n (s ∷ segments) = drop n s ∷ segments
+cut_at (suc k) n (s ∷ segments) = s ∷ cut_at k n segments
+
+-- n bytes are skipped: some lists are gone from the front, the first of the rest is cut to an end of itself,
+-- the bytes to read lost their first n, and the first list is not empty
+pub record Skips (n : ℕ) (old new : List (List ℕ)) : Type 0 where
+  pub passed : ℕ
+  pub cut : ℕ
+  pub within : passed ≤ length old
+  pub rest : new ≡ cut_front cut (drop passed old)
+  pub bytes : concat new ≡ drop n (concat old)
+  pub front : FrontUnread new
+
+-- after a counted call that accepts buffers with these unread lists, in order: empty ones are given too, but not held
+abbrev pub after_accepting : Held → List (List ℕ) → Held
+after_accepting held lists =
+    record {
+      segments = held.segments ++ without_empty lists;
+      tally = record { given = held.tally.given + length lists; calls = held.tally.calls + 1; turns = held.tally.turns };
+    }
+
+-- a new value, which holds nothing
+abbrev pub nothing_held : Held
+nothing_held = record { segments = []; tally = record { given = 0; calls = 0; turns = 0 } }

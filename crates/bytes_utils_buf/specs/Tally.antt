@@ -1,0 +1,35 @@
+-- What a segmented value counted so far, and what pays for the turns of its loops.
+use Rattle.std.specs.Prelude.{◌≡◌, ℕ, ◌+◌, ◌*◌, ◌≤◌, List, length}
+
+-- segments given, counted calls, and turns: runs of the body of a loop that steps past segments
+pub record Tallied : Type 0 where
+  pub given : ℕ
+  pub calls : ℕ
+  pub turns : ℕ
+
+-- what the tally of a new value is
+abbrev pub nothing_counted : Tallied
+nothing_counted = record { given = 0; calls = 0; turns = 0 }
+
+-- the turns so far, and two to come for each segment left
+abbrev pub cost_of : List (List ℕ) → Tallied → ℕ
+cost_of segments tally = tally.turns + 2 * length segments
+
+-- two for each segment given and two for each call
+abbrev pub pay_of : Tallied → ℕ
+pay_of tally = 2 * tally.given + 2 * tally.calls
+
+-- what was given and called pays for the turns
+abbrev pub IsCovered : List (List ℕ) → Tallied → Type 0
+IsCovered segments tally = cost_of segments tally ≤ pay_of tally
+
+-- a call that leads from old to new makes the cost less the pay no greater, so it pays for itself
+abbrev pub IsPaid : List (List ℕ) → Tallied → List (List ℕ) → Tallied → Type 0
+IsPaid old_segments old new_segments new =
+    cost_of new_segments new + pay_of old ≤ cost_of old_segments old + pay_of new
+
+-- a copy that took so many bytes counts as one call, and as one more for each of its advances, which took a byte at least
+pub record CountsCopy (taken : ℕ) (old new : Tallied) : Type 0 where
+  pub given : new.given ≡ old.given
+  pub least : old.calls + 1 ≤ new.calls
+  pub most : new.calls ≤ old.calls + 1 + taken

@@ -1,0 +1,66 @@
+//! Buffers that hand out their unread bytes in parts.
+ghost use Rattle.std.specs.Prelude.{◌≡◌, ◌≤◌, length, take, drop, IfOk};
+ghost use Rattle.bytes_utils_buf.specs.Parts.{taken_by, FillsTable};
+
+use bytes::{Buf, Bytes};
+use std::alloc::Global;
+
+/// A copy was refused for want of memory.
+#[derive(Clone, Copy, Debug, Eq, PartialEq)]
+pub struct CopyRefused {
+    /// How many bytes were taken before. They are gone.
+    pub taken: usize,
+}
+
+/// A buffer that copies its unread bytes out, and shows them as slices.
+///
+/// Generic code that reads segmented types asks for this trait. A type of the caller implements it by the laws that
+/// stand here as clauses.
+pub trait BufParts: Buf {
+    /// Takes the first `len` unread bytes out. A refusal gives none, and tells how many are gone.
+    fn copy_out(&mut self, alloc: Global, len: usize) -> Result<Bytes, CopyRefused>
+        requires { len ≤ length (Self.unread self.old) }
+        ensures value { IfOk result (λ copy. copy ≡ take len (Self.unread self.old)) }
+        ensures taken { taken_by len result ≤ len }
+        ensures rest { Self.unread self.new ≡ drop (taken_by len result) (Self.unread self.old) }
+        ensures kept { Self.kept self.new ≡ Self.kept self.old };
+
+    /// Fills the first places of `dst` with slices of the unread bytes, and answers how many places.
+    fn chunks_into<'s>(&'s self, dst: &mut [&'s [u8]]) -> usize
+        ensures { FillsTable result dst.old dst.new (Self.unread self.now) };
+}
+
+/// `copy_out` shares the bytes. A refusal has taken none.
+impl BufParts for Bytes {
+    fn copy_out(&mut self, _alloc: Global, len: usize) -> Result<Bytes, CopyRefused> {
+        self.split_to(len).map_err(|_| CopyRefused { taken: 0 })
+    }
+
+    fn chunks_into<'s>(&'s self, dst: &mut [&'s [u8]]) -> usize {
+        if self.is_empty() || dst.is_empty() {
+            return 0;
+        }
+        dst[0] = self.as_slice();
+        1
+    }
+}
+
+/// `copy_out` copies the bytes. A refusal has taken none.
+impl BufParts for &[u8] {
+    fn copy_out(&mut self, alloc: Global, len: usize) -> Result<Bytes, CopyRefused> {
+        let all: &[u8] = *self;
+        let copy = Bytes::copy_from_slice(alloc, &all[..len]).map_err(|_| CopyRefused {
+            taken: 0,
+        })?;
+        *self = &all[len..];
+        Ok(copy)
+    }
+
+    fn chunks_into<'s>(&'s self, dst: &mut [&'s [u8]]) -> usize {
+        if self.is_empty() || dst.is_empty() {
+            return 0;
+        }
+        dst[0] = *self;
+        1
+    }
+}

@@ -1,0 +1,149 @@
+//! Held buffers that read as one.
+ghost use Rattle.std.specs.Prelude.{◌≡◌, ◌+◌, ◌^◌, ◌<◌, ◌≤◌, [], ◌∷◌, length, map, IsTrue, ◌↔◌, IfOk, IfErr};
+ghost use Rattle.std.specs.List.{concat};
+ghost use Rattle.bytes_utils_buf.specs.Segments.{NoneEmpty, nothing_held, Skips};
+ghost use Rattle.bytes_utils_buf.specs.Tally.{IsCovered, IsPaid};
+
+mod accept;
+mod hand_out;
+
+use super::tally::Tally;
+use super::walk::skip_held;
+use crate::Reason;
+use bytes::Buf;
+use std::alloc::Global;
+use std::collections::VecDeque;
+use std::marker::Model;
+
+/// Buffers that read as one buffer.
+#[derive(Debug, Drop)]
+pub struct SegmentedBuf<B: Buf + Drop> {
+    segments: VecDeque<B>,
+    remaining: usize,
+    tally: Tally,
+}
+
+impl<B: Buf + Drop> Model for SegmentedBuf<B> {
+    ghost use Rattle.std.specs.Prelude.{◌≡◌, length, map};
+    ghost use Rattle.std.specs.List.{concat};
+    ghost use Rattle.bytes_utils_buf.specs.Segments.{Held, NoneEmpty};
+    ghost use Rattle.bytes_utils_buf.specs.Tally.{IsCovered};
+
+    ghost Value = { Held };
+
+    ghost view = { λ q. record { segments = map B.unread q.segments.items; tally = q.tally } };
+
+    ghost invariant = { λ q. (q.remaining ≡ length (concat (map B.unread q.segments.items)))
+        × NoneEmpty (map B.unread q.segments.items)
+        × IsCovered (map B.unread q.segments.items) q.tally };
+}
+
+impl<B: Buf + Drop> SegmentedBuf<B> {
+    /// An empty value. It allocates nothing.
+    pub fn new(alloc: Global) -> SegmentedBuf<B>
+        ensures { result ≡ nothing_held }
+    {
+        SegmentedBuf {
+            segments: VecDeque::new(alloc),
+            remaining: 0,
+            tally: Tally::new(),
+        }
+    }
+
+    /// How many segments are held.
+    pub fn segments(&self) -> usize
+        ensures count { result ≡ length self.now.segments }
+        ensures none { (result ≡ 0) ↔ (concat self.now.segments ≡ []) }
+
+        // What is true of every value, whatever was called before.
+        ensures none_empty { NoneEmpty self.now.segments }
+        ensures covered { IsCovered self.now.segments self.now.tally }
+    {
+        self.segments.len()
+    }
+
+    /// Whether `n` more bytes leave `remaining` a `usize`. It is the test for `push`.
+    pub fn fits(&self, n: usize) -> bool
+        ensures test { IsTrue result ↔ (length (concat self.now.segments) + n < 2 ^ 64) }
+        ensures always { length (concat self.now.segments) < 2 ^ 64 }
+    {
+        n <= usize::MAX - self.remaining
+    }
+
+    /// The held segments, front first.
+    pub fn into_inner(self) -> VecDeque<B>
+        ensures { map B.unread result.items ≡ self.segments }
+    {
+        let SegmentedBuf {
+            segments,
+            remaining: _,
+            tally: _,
+        } = self;
+        segments
+    }
+
+    /// Takes `cnt` bytes off the front. A segment that is passed is dropped, and isn't advanced before.
+    pub fn advance(&mut self, cnt: usize)
+        requires { cnt ≤ length (concat self.old.segments) }
+        ensures skips { Skips cnt self.old.segments self.new.segments }
+        ensures given { self.new.tally.given ≡ self.old.tally.given }
+        ensures calls { self.new.tally.calls ≡ self.old.tally.calls + 1 }
+        ensures paid { IsPaid self.old.segments self.old.tally self.new.segments self.new.tally }
+    {
+        self.tally.call();
+        skip_held(&mut self.segments, &mut self.tally, cnt);
+        self.remaining -= cnt;
+    }
+}
+
+impl<B: Buf + Clone> SegmentedBuf<B> {
+    /// Clones of the held segments, with a tally of their own. Clones have to show the same unread bytes.
+    pub fn try_clone(&self) -> Result<SegmentedBuf<B>, Reason>
+        requires { (x y : B) → B.is_clone x y → B.unread y ≡ B.unread x }
+        ensures ok { IfOk result (λ all. all ≡ record {
+          segments = self.now.segments;
+          tally = record { given = length self.now.segments; calls = 0; turns = 0 };
+        }) }
+        ensures err { IfErr result (λ reason. reason ≡ Reason.OutOfMemory) }
+    {
+        let Ok(segments) = self.segments.clone() else {
+            return Err(Reason::OutOfMemory);
+        };
+        let mut tally = Tally::new();
+        tally.give(segments.len());
+        Ok(SegmentedBuf {
+            segments,
+            remaining: self.remaining,
+            tally,
+        })
+    }
+}
+
+impl<B: Buf + Drop> From<SegmentedBuf<B>> for VecDeque<B> {
+    ghost from_gives = { λ all segments. map B.unread segments.items ≡ all.segments };
+
+    fn from(all: SegmentedBuf<B>) -> VecDeque<B> {
+        all.into_inner()
+    }
+}
+
+impl<B: Buf + Drop> Buf for SegmentedBuf<B> {
+    ghost unread = { λ q. concat q.segments };
+
+    ghost kept = { λ q. ([], q.tally.given) ∷ [] };
+
+    fn remaining(&self) -> usize {
+        self.remaining
+    }
+
+    fn chunk(&self) -> &[u8] {
+        match self.segments.front() {
+            Some(front) => front.chunk(),
+            None => &[],
+        }
+    }
+
+    fn advance(&mut self, cnt: usize) {
+        SegmentedBuf::advance(self, cnt)
+    }
+}

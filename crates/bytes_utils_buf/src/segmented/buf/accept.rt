@@ -1,0 +1,183 @@
+//! Buffers that come in: one, many, and whole collections.
+ghost use Rattle.std.specs.Prelude.{◌≡◌, ◌+◌, ◌^◌, ◌<◌, ◌≤◌, List, [], ◌∷◌, ◌++◌, length, map, ◌↔◌, Some, IsOk, IsErr, OnOk, OnErr, IfOk, IfErr};
+ghost use Rattle.std.specs.Iterator.{IsFinite, Drains, YieldsThen};
+ghost use Rattle.std.specs.List.{concat};
+ghost use Rattle.std.specs.Option.{SomeIff};
+ghost use Rattle.bytes_utils_buf.specs.Segments.{after_accepting, nothing_held, without_empty};
+ghost use Rattle.bytes_utils_buf.specs.Tally.{IsPaid};
+
+use super::SegmentedBuf;
+use crate::segmented::tally::Tally;
+use crate::{Reason, Refused};
+use bytes::Buf;
+use std::alloc::Global;
+use std::collections::VecDeque;
+
+impl<B: Buf + Drop> SegmentedBuf<B> {
+    /// Puts `buf` behind the held segments. An empty one is dropped.
+    #[inline(always)]
+    pub fn push(&mut self, buf: B) -> Result<(), Refused<B>>
+        requires { length (concat self.old.segments) + length (B.unread buf) < 2 ^ 64 }
+        ensures ok { OnOk result (self.new ≡ after_accepting self.old (B.unread buf ∷ [])) }
+        ensures err { OnErr result (self.new ≡ self.old) }
+        ensures back { IfErr result (λ e. e.back ≡ buf) }
+        ensures reason { IfErr result (λ e. e.reason ≡ Reason.OutOfMemory) }
+        ensures empty { B.unread buf ≡ [] → IsOk result }
+        ensures paid { IsPaid self.old.segments self.old.tally self.new.segments self.new.tally }
+    {
+        let size = buf.remaining();
+        append(&mut self.segments, buf, size)?;
+        self.remaining += size;
+        self.tally.give(1);
+        self.tally.call();
+        Ok(())
+    }
+
+    /// Puts the items behind the held segments, until one is refused. Empty ones are dropped, and so are those behind a
+    /// refused one.
+    pub fn extend<I: Iterator<Item = B> + Drop>(&mut self, iter: I) -> Result<(), Refused<B>>
+        requires can { I.can_next iter }
+        requires ends { IsFinite (I.remaining iter) }
+
+        // All items went in, or those before the one that comes back.
+        ensures ok { OnOk result ((items : List B) × Drains I.next_gives iter items
+            × (self.new ≡ after_accepting self.old (map B.unread items))) }
+        ensures err { IfErr result (λ e. (items : List B) × (rest : I)
+            × YieldsThen I.next_gives iter items (Some e.back) rest
+            × (self.new ≡ after_accepting self.old (map B.unread items))) }
+
+        // Which refusal it is, and that an empty item meets none.
+        ensures too_long { IfErr result (λ e. (e.reason ≡ Reason.TooLong)
+            ↔ (2 ^ 64 ≤ length (concat self.new.segments) + length (B.unread e.back))) }
+        ensures empty { IfErr result (λ e. 0 < length (B.unread e.back)) }
+        ensures paid { IsPaid self.old.segments self.old.tally self.new.segments self.new.tally }
+    {
+        self.tally.call();
+        for buf in iter {
+            self.accept(buf)?;
+        }
+        Ok(())
+    }
+
+    /// Takes one item in. It is no counted call.
+    #[inline(always)]
+    fn accept(&mut self, buf: B) -> Result<(), Refused<B>>
+        ensures ok { OnOk result (self.new ≡ record {
+          segments = self.old.segments ++ without_empty (B.unread buf ∷ []);
+          tally = record self.old.tally { given = self.old.tally.given + 1 };
+        }) }
+        ensures err { OnErr result (self.new ≡ self.old) }
+        ensures back { IfErr result (λ e. e.back ≡ buf) }
+        ensures too_long { IfErr result (λ e. (e.reason ≡ Reason.TooLong)
+            ↔ (2 ^ 64 ≤ length (concat self.old.segments) + length (B.unread e.back))) }
+        ensures empty { IfErr result (λ e. 0 < length (B.unread e.back)) }
+    {
+        let size = buf.remaining();
+        let Some(remaining) = self.remaining.checked_add(size) else {
+            return Err(Refused {
+                reason: Reason::TooLong,
+                back: buf,
+            });
+        };
+        append(&mut self.segments, buf, size)?;
+        self.remaining = remaining;
+        self.tally.give(1);
+        Ok(())
+    }
+
+    /// The buffers of a vector. It takes no memory: the vector's own is used on.
+    pub fn from_vec(_alloc: Global, bufs: Vec<B>) -> Result<SegmentedBuf<B>, Refused<Vec<B>>>
+        ensures too_long { IsErr result ↔ (2 ^ 64 ≤ length (concat (map B.unread bufs.items))) }
+        ensures ok { IfOk result (λ all. all ≡ after_accepting nothing_held (map B.unread bufs.items)) }
+        ensures back { IfErr result (λ e. e.back.items ≡ bufs.items) }
+        ensures reason { IfErr result (λ e. e.reason ≡ Reason.TooLong) }
+    {
+        SegmentedBuf::from_deque(VecDeque::from_vec(bufs)).map_err(|refused| Refused {
+            reason: refused.reason,
+            back: refused.back.into_vec(),
+        })
+    }
+
+    /// The buffers of a deque.
+    pub fn from_deque(mut bufs: VecDeque<B>) -> Result<SegmentedBuf<B>, Refused<VecDeque<B>>>
+        ensures too_long { IsErr result ↔ (2 ^ 64 ≤ length (concat (map B.unread bufs.items))) }
+        ensures ok { IfOk result (λ all. all ≡ after_accepting nothing_held (map B.unread bufs.items)) }
+        ensures back { IfErr result (λ e. e.back.items ≡ bufs.items) }
+        ensures reason { IfErr result (λ e. e.reason ≡ Reason.TooLong) }
+    {
+        let Some(remaining) = sum_of(&bufs) else {
+            return Err(Refused {
+                reason: Reason::TooLong,
+                back: bufs,
+            });
+        };
+        let mut tally = Tally::new();
+        tally.give(bufs.len());
+        tally.call();
+        bufs.retain(|buf| buf.remaining() > 0);
+        Ok(SegmentedBuf {
+            segments: bufs,
+            remaining,
+            tally,
+        })
+    }
+
+    /// The items of an iterator, all of which are dropped but the one that is refused.
+    pub fn from_iter<I: Iterator<Item = B> + Drop>(
+        alloc: Global,
+        iter: I,
+    ) -> Result<SegmentedBuf<B>, Refused<B>>
+        requires can { I.can_next iter }
+        requires ends { IsFinite (I.remaining iter) }
+        ensures ok { IfOk result (λ all. (items : List B) × Drains I.next_gives iter items
+            × (all ≡ after_accepting nothing_held (map B.unread items))) }
+
+        // The item that comes back is the first that passes `usize`, or one for which memory was refused before that.
+        ensures err { IfErr result (λ e. (items : List B) × (rest : I)
+            × YieldsThen I.next_gives iter items (Some e.back) rest
+            × (length (concat (map B.unread items)) < 2 ^ 64)
+            × ((e.reason ≡ Reason.TooLong)
+            ↔ (2 ^ 64 ≤ length (concat (map B.unread items)) + length (B.unread e.back)))) }
+        ensures empty { IfErr result (λ e. 0 < length (B.unread e.back)) }
+    {
+        let mut all = SegmentedBuf::new(alloc);
+        all.extend(iter)?;
+        Ok(all)
+    }
+}
+
+/// Puts `buf`, which has `size` bytes, behind the segments, or drops it where it is empty.
+#[inline(always)]
+fn append<B: Buf + Drop>(segments: &mut VecDeque<B>, buf: B, size: usize) -> Result<(), Refused<B>>
+    requires { size ≡ length (B.unread buf) }
+    ensures ok { OnOk result (map B.unread segments.new.items
+        ≡ map B.unread segments.old.items ++ without_empty (B.unread buf ∷ [])) }
+    ensures err { OnErr result (segments.new.items ≡ segments.old.items) }
+    ensures back { IfErr result (λ e. e.back ≡ buf) }
+    ensures reason { IfErr result (λ e. e.reason ≡ Reason.OutOfMemory) }
+    ensures empty { size ≡ 0 → IsOk result }
+{
+    if size == 0 {
+        return Ok(());
+    }
+    if segments.reserve(1).is_err() {
+        return Err(Refused {
+            reason: Reason::OutOfMemory,
+            back: buf,
+        });
+    }
+    segments.push_back_reserved(buf);
+    Ok(())
+}
+
+/// How many bytes are unread in all, or `None` past `usize`.
+fn sum_of<B: Buf>(bufs: &VecDeque<B>) -> Option<usize>
+    ensures { SomeIff result (length (concat (map B.unread bufs.now.items)) < 2 ^ 64)
+        (length (concat (map B.unread bufs.now.items))) }
+{
+    let mut sum: usize = 0;
+    for i in 0..bufs.len() {
+        sum = sum.checked_add(bufs[i].remaining())?;
+    }
+    Some(sum)
+}

@@ -1,0 +1,100 @@
+//! Bytes that go out in parts: copies and tables of slices.
+ghost use Rattle.std.specs.Prelude.{◌≡◌, ◌+◌, ◌<◌, ◌≤◌, length, map, take, drop, IfOk};
+ghost use Rattle.std.specs.List.{concat};
+ghost use Rattle.bytes_utils_buf.specs.Parts.{taken_by, FillsTable};
+ghost use Rattle.bytes_utils_buf.specs.Segments.{NoneEmpty, front_of, Skips};
+ghost use Rattle.bytes_utils_buf.specs.Tally.{IsPaid, CountsCopy};
+
+use super::SegmentedBuf;
+use crate::parts::{BufParts, CopyRefused};
+use crate::segmented::copy::{
+    append_chunk, bytes_taken, copy_front, fill_from_held, front_holds, front_is_read_out,
+};
+use bytes::{Buf, Bytes};
+use std::alloc::Global;
+use std::collections::VecDeque;
+
+impl<B: BufParts + Drop> SegmentedBuf<B> {
+    /// Takes the first `len` bytes out. The first segment is asked alone where it holds them; else they are collected
+    /// chunk by chunk. What a refusal took is gone.
+    pub fn copy_to_bytes(&mut self, alloc: Global, len: usize) -> Result<Bytes, CopyRefused>
+        requires { len ≤ length (concat self.old.segments) }
+        ensures value { IfOk result (λ copy. copy ≡ take len (concat self.old.segments)) }
+        ensures taken { taken_by len result ≤ len }
+        ensures skips { Skips (taken_by len result) self.old.segments self.new.segments }
+        ensures counts { CountsCopy (taken_by len result) self.old.tally self.new.tally }
+        ensures alone { len ≤ length (front_of self.old.segments)
+            → self.new.tally.calls ≡ self.old.tally.calls + 1 }
+        ensures paid { IsPaid self.old.segments self.old.tally self.new.segments self.new.tally }
+    {
+        self.tally.call();
+        if front_holds(&self.segments, len) {
+            self.copy_of_front(alloc, len)
+        } else {
+            self.collect(alloc, len)
+        }
+    }
+
+    /// Fills the first places of `dst` with slices of the unread bytes, and answers how many places. The segments are
+    /// asked one after another, and a nested one gives the slices of its own.
+    pub fn chunks_vectored<'s>(&'s self, dst: &mut [&'s [u8]]) -> usize
+        ensures { FillsTable result dst.old dst.new (concat self.now.segments) }
+    {
+        fill_from_held(&self.segments, dst)
+    }
+
+    fn copy_of_front(&mut self, alloc: Global, len: usize) -> Result<Bytes, CopyRefused>
+        requires some { 0 < length self.old.segments }
+        requires holds { len ≤ length (front_of self.old.segments) }
+        ensures value { IfOk result (λ copy. copy ≡ take len (concat self.old.segments)) }
+        ensures taken { taken_by len result ≤ len }
+        ensures skips { Skips (taken_by len result) self.old.segments self.new.segments }
+        ensures tally { self.new.tally ≡ self.old.tally }
+    {
+        let copy = copy_front(&mut self.segments, alloc, len);
+        drop_read_out_front(&mut self.segments);
+        self.remaining -= bytes_taken(&copy, len);
+        copy
+    }
+
+    fn collect(&mut self, alloc: Global, len: usize) -> Result<Bytes, CopyRefused>
+        requires fits { len ≤ length (concat self.old.segments) }
+        requires held { NoneEmpty self.old.segments }
+        ensures value { IfOk result (λ copy. copy ≡ take len (concat self.old.segments)) }
+        ensures taken { taken_by len result ≤ len }
+        ensures skips { Skips (taken_by len result) self.old.segments self.new.segments }
+        ensures given { self.new.tally.given ≡ self.old.tally.given }
+        ensures least { self.old.tally.calls ≤ self.new.tally.calls }
+        ensures most { self.new.tally.calls ≤ self.old.tally.calls + taken_by len result }
+        ensures paid { IsPaid self.old.segments self.old.tally self.new.segments self.new.tally }
+    {
+        let Ok(mut copy) = Vec::with_capacity(alloc, len) else {
+            return Err(CopyRefused { taken: 0 });
+        };
+        while copy.len() < len {
+            let count = append_chunk(&mut copy, self.chunk(), len);
+            self.advance(count);
+        }
+        Bytes::from_vec(copy).map_err(|_| CopyRefused { taken: len })
+    }
+}
+
+/// Drops the first segment where it is read out.
+fn drop_read_out_front<B: Buf + Drop>(segments: &mut VecDeque<B>)
+    ensures { NoneEmpty (drop 1 (map B.unread segments.old.items))
+        → Skips 0 (map B.unread segments.old.items) (map B.unread segments.new.items) }
+{
+    if front_is_read_out(segments) {
+        let _ = segments.pop_front();
+    }
+}
+
+impl<B: BufParts + Drop> BufParts for SegmentedBuf<B> {
+    fn copy_out(&mut self, alloc: Global, len: usize) -> Result<Bytes, CopyRefused> {
+        self.copy_to_bytes(alloc, len)
+    }
+
+    fn chunks_into<'s>(&'s self, dst: &mut [&'s [u8]]) -> usize {
+        self.chunks_vectored(dst)
+    }
+}

@@ -1,0 +1,3 @@
+//! What no clause says: worked cases, that calls succeed, printed text, and how often a buffer is asked.
+mod odd;
+mod slice;
