@@ -83,7 +83,7 @@ OfLast-from_test p (part ∷ []) h = λ occurs. lacks-Occurs p part h occurs.0 o
 OfLast-from_test p (part ∷ next ∷ parts) h = OfLast-from_test p (next ∷ parts) h
 
 -- the parts without a limit
-all_parts : (t p : List ℕ) (parts : List (List ℕ)) → 0 < length parts → join p parts ≡ t
+pub all_parts : (t p : List ℕ) (parts : List (List ℕ)) → 0 < length parts → join p parts ≡ t
     → are_cut_at_first p parts ≡ true → last_lacks p parts ≡ true → AreForwardParts t p None parts
 all_parts t p parts some joined first last = record {
   some = some;

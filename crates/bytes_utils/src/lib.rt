@@ -1,10 +1,16 @@
-//! Text over shared storage that is cut into owned parts.
+//! Many byte buffers read as one, and text over shared storage that is cut into owned parts.
+//!
+//! [`SegmentedBuf`] holds buffers and [`SegmentedSlice`] reads lent ones; each reads as one buffer.
+//! [`Str`] is text over shared bytes, and its splitters give owned parts that mean what the methods
+//! of the same names on `str` mean.
 #![tactic(auto)]
 
 pub mod split;
 pub mod string;
+
+pub use bytes_utils_buf::{Reason, Refused, parts, segmented};
+pub use segmented::{SegmentedBuf, SegmentedSlice};
+pub use string::Str;
+
 #[cfg(test)]
 mod tests;
-
-pub use bytes_utils_buf::{Reason, Refused};
-pub use string::Str;

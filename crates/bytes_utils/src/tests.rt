@@ -1,6 +1,7 @@
 //! What no clause says: that calls succeed with ample memory, printed text, and worked cases.
 mod errors;
 mod parts;
+mod readme;
 mod refusing;
 mod storages;
 mod texts;

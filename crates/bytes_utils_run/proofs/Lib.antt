@@ -3,3 +3,4 @@ pub mod FirstLine
 pub mod Words
 pub mod Printing
 pub mod Counts
+pub mod Cases

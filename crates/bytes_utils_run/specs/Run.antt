@@ -13,13 +13,14 @@ use Rattle.bytes_utils_run.specs.Printed.{printed}
 abbrev pub printed_parts : List (List ℕ) → List ℕ
 printed_parts parts = flat_map (λ part. printed (encode_utf8_all part)) parts
 
--- the first line of the input is a command, and these are the parts that it makes of the text behind that line
+-- the first line of the input, given as its characters, is a command, and these are the parts that it makes of the text behind
+-- that line
 pub record AreAskedFor (input : List ℕ) (parts : List (List ℕ)) : Type 0 where
   pub way : Cutting
   pub command : IsCommand way (command_line input)
   pub right : ArePartsBy way (text_behind input) parts
 
--- all of the input was read, and it is this text
+-- all of the input was read; these are its bytes, and they are UTF-8
 pub record ReadsText (unread unread' : Option (List ℕ)) (input : List ℕ) : Type 0 where
   pub whole : ReadsWhole unread unread' input
   pub utf8 : IsUtf8 input
@@ -58,8 +59,8 @@ pub record FindsNoCommand (unread unread' held held' : Option (List ℕ)) : Type
   pub unwritten : Keeps held held'
 
 -- the input isn't UTF-8, and nothing was written
-pub record FindsNoText (unread unread' held held' : Option (List ℕ)) : Type 0 where
+pub record FindsNotUtf8 (unread unread' held held' : Option (List ℕ)) : Type 0 where
   pub input : List ℕ
   pub whole : ReadsWhole unread unread' input
-  pub no_text : ¬ IsUtf8 input
+  pub not_utf8 : ¬ IsUtf8 input
   pub unwritten : Keeps held held'

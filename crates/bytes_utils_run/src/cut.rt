@@ -84,7 +84,7 @@ fn gather<S: Storage, I: Splitter<S> + Drop>(alloc: Global, splitter: I) -> Part
     }
 }
 
-/// Cuts a text into all of its parts.
+/// Cuts a text into all of its parts. `is_empty` of the separator tests the condition.
 pub fn cut_all<S: Storage>(alloc: Global, text: StrInner<S>, how: How<'_>) -> Parts<S>
     requires { IsAllowed how }
     ensures outcome { Outcome (ArePartsBy (cutting how.entry) (chars text))

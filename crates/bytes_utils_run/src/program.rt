@@ -6,7 +6,7 @@ ghost use Rattle.bytes_utils.specs.Outcome.{Outcome};
 ghost use Rattle.bytes_utils_run.specs.Command.{IsCommand, command_line};
 ghost use Rattle.bytes_utils_run.specs.Cutting.{Cutting};
 ghost use Rattle.bytes_utils_run.specs.Moves.{AppendsBeginning};
-ghost use Rattle.bytes_utils_run.specs.Run.{AreAskedFor, FindsNoCommand, FindsNoText, PrintsFirstParts, PrintsParts, WritesBeginning, printed_parts};
+ghost use Rattle.bytes_utils_run.specs.Run.{AreAskedFor, FindsNoCommand, FindsNotUtf8, PrintsFirstParts, PrintsParts, WritesBeginning, printed_parts};
 
 mod command;
 #[cfg(test)]
@@ -66,8 +66,8 @@ fn parts_of(alloc: Global, input: Str) -> Result<Parts<Bytes>, Fault>
 
 /// Prints the parts that were given and flushes, and tells whether others were refused.
 fn print_outcome<S: Storage, W: Write>(writer: &mut W, parts: &Parts<S>) -> Result<(), Fault>
-    ensures ok { OnOk result ((parts.now.refused ≡ None)
-        × Appends (W.contents writer.old) (W.contents writer.new)
+    ensures whole { OnOk result (parts.now.refused ≡ None) }
+    ensures ok { OnOk result (Appends (W.contents writer.old) (W.contents writer.new)
         (printed_parts (map chars parts.now.given.items))) }
     ensures out_of_memory { IsErrOf result Fault.OutOfMemory → IsSome parts.now.refused
         × Appends (W.contents writer.old) (W.contents writer.new)
@@ -97,7 +97,7 @@ pub fn script<R: Read, W: Write>(alloc: Global, reader: &mut R, writer: &mut W) 
         → FindsNoCommand (R.remaining reader.old) (R.remaining reader.new)
         (W.contents writer.old) (W.contents writer.new) }
     ensures not_utf8 { IsErrOf result Fault.NotUtf8
-        → FindsNoText (R.remaining reader.old) (R.remaining reader.new)
+        → FindsNotUtf8 (R.remaining reader.old) (R.remaining reader.new)
         (W.contents writer.old) (W.contents writer.new) }
     ensures out_of_memory { IsErrOf result Fault.OutOfMemory
         → Keeps (W.contents writer.old) (W.contents writer.new)

@@ -2,6 +2,7 @@
 ghost use Rattle.std.specs.Prelude.{◌≡◌, ◌<◌, ◌≤◌, ◌==◌, MatchOption, Option, length, take, drop, IsCharBoundary};
 ghost use Rattle.std.specs.List.{position};
 ghost use Rattle.std.specs.Str.{chars};
+ghost use Rattle.bytes_utils.specs.Lines.{line_feed};
 ghost use Rattle.bytes_utils_run.specs.Command.{EndsLine, IsCommand, command_line, text_behind};
 ghost use Rattle.bytes_utils_run.specs.Cutting.{Cutting, IsAllowed, cutting};
 
@@ -9,7 +10,7 @@ use crate::How;
 
 /// The place of the first line feed.
 fn line_feed_place(bytes: &[u8]) -> Option<usize>
-    ensures { result ≡ position (λ byte. byte == 10) bytes.now }
+    ensures { result ≡ position (λ byte. byte == line_feed) bytes.now }
 {
     bytes.iter().position(|byte| *byte == b'\n')
 }

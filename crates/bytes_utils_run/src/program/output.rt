@@ -29,7 +29,7 @@ pub(super) fn write_out<W: Write>(writer: &mut W, bytes: &[u8]) -> Result<(), Fa
     Ok(())
 }
 
-/// Prints a part or a piece: its length in bytes, a colon, its bytes, a line feed.
+/// Prints a part: its length in bytes, a colon, its bytes, a line feed.
 pub(super) fn print_part<W: Write>(writer: &mut W, part: &[u8]) -> Result<(), Fault>
     ensures ok { OnOk result
         (Appends (W.contents writer.old) (W.contents writer.new) (printed part.now)) }
