@@ -6,3 +6,6 @@ mod refused;
 pub mod segmented;
 
 pub use refused::{Reason, Refused};
+
+#[cfg(test)]
+mod tests;

@@ -1,0 +1,67 @@
+//! Lawful but odd buffers.
+ghost use Rattle.std.specs.Prelude.{◌≡◌, List, ℕ, replicate};
+
+use bytes::{Buf, Bytes};
+use std::cell::Cell;
+
+/// So many zero bytes, of which at most 8 lie together.
+#[derive(Debug, Drop)]
+pub(super) struct Zeros {
+    pub left: usize,
+}
+
+impl Buf for Zeros {
+    ghost unread = { λ z. replicate z.left 0 };
+
+    fn remaining(&self) -> usize {
+        self.left
+    }
+
+    fn chunk(&self) -> &[u8] {
+        let eight: &[u8] = b"\0\0\0\0\0\0\0\0";
+        &eight[..self.left.min(8)]
+    }
+
+    fn advance(&mut self, cnt: usize) {
+        self.left -= cnt;
+    }
+}
+
+/// A buffer that counts how often it is advanced, and how often it is looked at.
+#[derive(Debug, Drop)]
+pub(super) struct Asked {
+    pub bytes: Bytes,
+    pub advanced: usize,
+    pub looks: Cell<usize>,
+}
+
+impl Asked {
+    pub fn new(bytes: Bytes) -> Asked
+        ensures { result.bytes ≡ bytes }
+    {
+        Asked {
+            bytes,
+            advanced: 0,
+            looks: Cell::new(0),
+        }
+    }
+}
+
+impl Buf for Asked {
+    ghost unread = { λ a. a.bytes };
+
+    fn remaining(&self) -> usize {
+        self.looks.set(self.looks.get().saturating_add(1));
+        self.bytes.remaining()
+    }
+
+    fn chunk(&self) -> &[u8] {
+        self.looks.set(self.looks.get().saturating_add(1));
+        self.bytes.chunk()
+    }
+
+    fn advance(&mut self, cnt: usize) {
+        self.advanced = self.advanced.saturating_add(1);
+        self.bytes.advance(cnt);
+    }
+}
