@@ -1,3 +1,4 @@
 pub mod Accepting
 pub mod Lists
 pub mod Tables
+pub mod Lent

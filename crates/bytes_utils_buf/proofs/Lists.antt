@@ -203,7 +203,7 @@ cases_zero : (n : ℕ) → (n ≡ 0) ⊎ (0 < n)
 cases_zero zero = inl refl
 cases_zero (suc n) = inr (omega arith)
 
-cut_front-none : (xs : List (List ℕ)) → xs ≡ cut_front 0 xs
+pub cut_front-none : (xs : List (List ℕ)) → xs ≡ cut_front 0 xs
 cut_front-none [] = refl
 cut_front-none (x ∷ xs) = refl
 

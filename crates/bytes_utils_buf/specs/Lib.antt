@@ -2,3 +2,4 @@ pub mod Log
 pub mod Parts
 pub mod Segments
 pub mod Tally
+pub mod Lent

@@ -1,5 +1,5 @@
 -- Many buffers as one. Their unread lists, front first, are a list of byte lists, and the bytes to read are these joined.
-use Rattle.std.specs.Prelude.{◌≡◌, ℕ, zero, suc, ◌+◌, ◌-◌, ◌<◌, ◌≤◌, List, [], ◌∷◌, ◌++◌, length, drop, replicate, All}
+use Rattle.std.specs.Prelude.{◌≡◌, ℕ, zero, suc, ◌+◌, ◌<◌, ◌≤◌, List, [], ◌∷◌, ◌++◌, length, drop, All}
 use Rattle.std.specs.List.{concat}
 use Rattle.bytes_utils_buf.specs.Tally.{Tallied}
 
@@ -7,14 +7,6 @@ use Rattle.bytes_utils_buf.specs.Tally.{Tallied}
 pub record Held : Type 0 where
   pub segments : List (List ℕ)
   pub tally : Tallied
-
--- what clauses see of a `SegmentedSlice`: the unread lists of the lent buffers before the reading place and from it
--- on, the tally, and which borrow lends the buffers
-pub record Lent : Type 0 where
-  pub passed : List (List ℕ)
-  pub segments : List (List ℕ)
-  pub tally : Tallied
-  pub name : ℕ
 
 -- no list is empty
 abbrev pub NoneEmpty : List (List ℕ) → Type 0
@@ -55,12 +47,6 @@ pub record Skips (n : ℕ) (old new : List (List ℕ)) : Type 0 where
   pub rest : new ≡ cut_front cut (drop passed old)
   pub bytes : concat new ≡ drop n (concat old)
   pub front : FrontUnread new
-
--- of lent buffers n bytes are skipped: those that are gone from the front joined the passed ones, read out
-pub record SkipsLent (n : ℕ) (old new : Lent) : Type 0 where
-  pub segments : Skips n old.segments new.segments
-  pub passed : new.passed ≡ old.passed ++ replicate (length old.segments - length new.segments) []
-  pub name : new.name ≡ old.name
 
 -- after a counted call that accepts buffers with these unread lists, in order: empty ones are given too, but not held
 abbrev pub after_accepting : Held → List (List ℕ) → Held

@@ -1,7 +1,9 @@
 //! Many buffers that read as one.
 mod buf;
 mod copy;
+mod slice;
 mod tally;
 mod walk;
 
 pub use buf::SegmentedBuf;
+pub use slice::SegmentedSlice;

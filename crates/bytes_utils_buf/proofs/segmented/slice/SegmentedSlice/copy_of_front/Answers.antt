@@ -1,0 +1,53 @@
+use Rattle.std.proofs.Common.{◌+◌, ◌-◌, length, map, ap, ◌∙◌, arith}
+use borrow.Rule.Slice.PartMut.{put_mid}
+use Rattle.bytes_utils_buf.specs.Lent.{lent_at, SkipsLent}
+use Rattle.bytes_utils_buf.specs.Parts.{taken_by}
+use Rattle.bytes_utils_buf.specs.Tally.{IsPaid}
+use Rattle.bytes_utils_buf.proofs.Lent.{take_read_out, place_inside, map-part, IsLent-skip, SkipsLent-part, lists_of-part}
+use Rattle.bytes_utils_buf.proofs.segmented.slice.SegmentedSlice.copy_of_front.Goals as goal
+
+pub copy_of_first-passed-requires-clause-holds : goal.copy_of_first-passed-requires-clause-holds
+copy_of_first-passed-requires-clause-holds g c =
+    let part = map-part g.B.Buf.unread c.self.inside.bufs.now c.self.inside.place ∙ ap (λ q. q.segments) c.self.view_is in
+    rw part c.requires.holds
+
+pub invariant_of-self : goal.invariant_of-self
+invariant_of-self g c =
+    let f = g.B.Buf.unread in
+    let s = c.self.inside in
+    let xs = s.bufs.now in
+    let e = c.copy_of_first-passed.ensures in
+    let handed_in = map f s.handed_in.value.bufs.now in
+    let now = c.copy_of_first-passed.new in
+    let p = c.copy_of_first-passed.result.0 in
+    let taken = taken_by c.args.len c.copy_of_first-passed.result.1 in
+    let old = lent_at s.place handed_in (map f xs) s.tally s.bufs.ghost_name in
+    let new = lent_at (s.place + p) handed_in (map f (put_mid s.place (length xs - s.place) xs now.bufs)) now.tally s.bufs.ghost_name in
+    let before = take_read_out s.place (map f xs) c.self.invariant.lists in
+    let in_all = place_inside f xs s.place c.self.invariant.lists in
+    let skips : SkipsLent taken old new =
+    SkipsLent-part f xs now.bufs taken s.place p handed_in s.tally now.tally s.bufs.ghost_name in_all before e.passed c.copy_of_first-passed.auto.bufs e.read_out e.skips in
+    let paid : IsPaid old.segments old.tally new.segments new.tally = rw e.turns (omega (arith, skips.place)) in
+    rw c.bytes_taken.ensures
+    (IsLent-skip taken s.remaining (map f xs) _ old new c.self.invariant skips
+    (lists_of-part f xs now.bufs s.place p handed_in now.tally s.bufs.ghost_name in_all before e.read_out) paid)
+
+pub returns-clause-value : goal.returns-clause-value
+returns-clause-value g c =
+    let part = map-part g.B.Buf.unread c.self.inside.bufs.now c.self.inside.place ∙ ap (λ q. q.segments) c.self.view_is in
+    rw (← part) c.copy_of_first-passed.ensures.value
+
+pub returns-clause-skips : goal.returns-clause-skips
+returns-clause-skips g c =
+    let f = g.B.Buf.unread in
+    let s = c.self.inside in
+    let xs = s.bufs.now in
+    let e = c.copy_of_first-passed.ensures in
+    let handed_in = map f s.handed_in.value.bufs.now in
+    let now = c.copy_of_first-passed.new in
+    let taken = taken_by c.args.len c.copy_of_first-passed.result.1 in
+    let before = take_read_out s.place (map f xs) c.self.invariant.lists in
+    let in_all = place_inside f xs s.place c.self.invariant.lists in
+    rw (← c.self.view_is)
+    (SkipsLent-part f xs now.bufs taken s.place c.copy_of_first-passed.result.0 handed_in s.tally now.tally s.bufs.ghost_name in_all before e.passed
+    c.copy_of_first-passed.auto.bufs e.read_out e.skips)

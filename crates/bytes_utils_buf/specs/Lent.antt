@@ -1,0 +1,46 @@
+-- Lent buffers as one. Those before the reading place are passed, and those from it on are the segments to read.
+use Rattle.std.specs.Prelude.{◌≡◌, ℕ, ◌+◌, List, [], ◌++◌, length, drop, replicate}
+use Rattle.std.specs.List.{concat}
+use Rattle.bytes_utils_buf.specs.Segments.{Skips}
+use Rattle.bytes_utils_buf.specs.Tally.{Tallied, IsCovered}
+
+-- what clauses see of a `SegmentedSlice`
+pub record Lent : Type 0 where
+  -- the unread lists of the lent buffers as they were handed in
+  pub handed_in : List (List ℕ)
+  -- the reading place: so many buffers are passed
+  pub place : ℕ
+  -- the unread lists of the buffers from the reading place on
+  pub segments : List (List ℕ)
+  pub tally : Tallied
+  -- the name of the borrow that lends the buffers
+  pub name : ℕ
+
+-- the unread lists of all lent buffers: the passed ones are read out
+abbrev pub lists_of : Lent → List (List ℕ)
+lists_of lent = replicate lent.place [] ++ lent.segments
+
+-- so many bytes were read: they are skipped of what was handed in, and what is gone from the front is passed
+pub record IsReading (lent : Lent) : Type 0 where
+  pub read : ℕ
+  pub skips : Skips read lent.handed_in lent.segments
+  pub place : lent.place + length lent.segments ≡ length lent.handed_in
+
+-- n bytes are skipped: the buffers that are gone from the front of the segments joined the passed ones
+pub record SkipsLent (n : ℕ) (old new : Lent) : Type 0 where
+  pub segments : Skips n old.segments new.segments
+  pub place : new.place + length new.segments ≡ old.place + length old.segments
+  pub handed_in : new.handed_in ≡ old.handed_in
+  pub name : new.name ≡ old.name
+
+-- lent buffers whose unread lists are `now`, read from a place on
+abbrev pub lent_at : ℕ → List (List ℕ) → List (List ℕ) → Tallied → ℕ → Lent
+lent_at place handed_in now tally name =
+    record { handed_in = handed_in; place = place; segments = drop place now; tally = tally; name = name }
+
+-- what is true of every `SegmentedSlice`, whose lent buffers have the unread lists `now`
+pub record IsLent (now : List (List ℕ)) (remaining : ℕ) (lent : Lent) : Type 0 where
+  pub lists : now ≡ lists_of lent
+  pub sum : remaining ≡ length (concat lent.segments)
+  pub reading : IsReading lent
+  pub covered : IsCovered lent.segments lent.tally

@@ -1,0 +1,169 @@
+//! Lent buffers that read as one.
+ghost use Rattle.std.specs.Prelude.{◌≡◌, ◌+◌, ◌^◌, ◌<◌, ◌≤◌, [], ◌∷◌, length, map};
+ghost use Rattle.std.specs.List.{concat};
+ghost use Rattle.std.specs.Option.{SomeIff};
+ghost use Rattle.bytes_utils_buf.specs.Lent.{lists_of, IsReading, SkipsLent};
+ghost use Rattle.bytes_utils_buf.specs.Segments.{Skips};
+ghost use Rattle.bytes_utils_buf.specs.Tally.{IsCovered, IsPaid};
+
+mod hand_out;
+
+use super::tally::Tally;
+use super::walk::{count_lent, skip_lent};
+use bytes::Buf;
+use std::marker::Model;
+use std::snapshot::Snapshot;
+
+/// Lent buffers that read as one buffer.
+///
+/// It serves a reader that wants one buffer where the parts lie side by side in a slice of their owner. Reading takes the
+/// bytes off the lent buffers themselves: a buffer that is passed is read out, and empty ones stay where they stand. The
+/// owner has what is left by [`into_lent`](SegmentedSlice::into_lent), or once the borrow ends.
+#[derive(Drop)]
+#[derive_where(Debug; B)]
+pub struct SegmentedSlice<'a, B: Buf> {
+    bufs: &'a mut [B],
+    place: usize,
+    remaining: usize,
+    tally: Tally,
+    #[derive_where(skip)]
+    handed_in: Snapshot<Loan<'a, B>>,
+}
+
+/// The lent buffers before they are read. A snapshot of it has no bytes at run time.
+#[derive(Drop)]
+struct Loan<'a, B> {
+    bufs: &'a mut [B],
+}
+
+impl<'a, B: Buf> Model for SegmentedSlice<'a, B> {
+    ghost use Rattle.std.specs.Prelude.{map};
+    ghost use Rattle.bytes_utils_buf.specs.Lent.{Lent, lent_at, IsLent};
+
+    ghost Value = { Lent };
+
+    ghost view = { λ q. lent_at q.place (map B.unread q.handed_in.value.bufs.now)
+        (map B.unread q.bufs.now) q.tally q.bufs.ghost_name };
+
+    ghost invariant = { λ q. IsLent (map B.unread q.bufs.now) q.remaining
+        (lent_at q.place (map B.unread q.handed_in.value.bufs.now)
+        (map B.unread q.bufs.now) q.tally q.bufs.ghost_name) };
+}
+
+impl<'a, B: Buf> SegmentedSlice<'a, B> {
+    /// How many bytes these buffers hold together, where that is a `usize`. It is the test for `new`.
+    pub fn total(bufs: &[B]) -> Option<usize>
+        ensures { SomeIff result (length (concat (map B.unread bufs.now)) < 2 ^ 64)
+            (length (concat (map B.unread bufs.now))) }
+    {
+        let mut sum: usize = 0;
+        for buf in bufs {
+            sum = sum.checked_add(buf.remaining())?;
+        }
+        Some(sum)
+    }
+
+    /// Reads these buffers as one. The reading place is the first that isn't empty. It counts as a call, which gives all
+    /// the buffers, the empty ones too.
+    pub fn new(bufs: &'a mut [B]) -> SegmentedSlice<'a, B>
+        requires { length (concat (map B.unread bufs.old)) < 2 ^ 64 }
+        ensures handed_in { result.handed_in ≡ map B.unread bufs.old }
+        ensures name { result.name ≡ bufs.entry.ghost_name }
+        ensures skips { Skips 0 (map B.unread bufs.old) result.segments }
+        ensures place { result.place + length result.segments ≡ length bufs.old }
+
+        // The walk to the first buffer that isn't empty turns once for each that it passes.
+        ensures turns { result.tally.turns ≡ result.place }
+        ensures given { result.tally.given ≡ length bufs.old }
+        ensures calls { result.tally.calls ≡ 1 }
+        ensures covered { IsCovered result.segments result.tally }
+    {
+        let mut tally = Tally::new();
+        tally.give(bufs.len());
+        tally.call();
+        let remaining = sum_of(bufs);
+        let (place, _) = count_lent(bufs, &mut tally, 0);
+        let loan = Loan { bufs };
+        let handed_in = Snapshot::of(&loan);
+        let Loan { bufs } = loan;
+        SegmentedSlice {
+            bufs,
+            place,
+            remaining,
+            tally,
+            handed_in,
+        }
+    }
+
+    /// Hands the lent buffers back: the passed ones are read out, the one at the reading place holds what is left of it,
+    /// and the others are as they were.
+    pub fn into_lent(self) -> &'a mut [B]
+        ensures lists { map B.unread result.now ≡ lists_of self.entry }
+        ensures reading { IsReading self.entry }
+        ensures name { result.ghost_name ≡ self.entry.name }
+    {
+        let SegmentedSlice {
+            bufs,
+            place: _,
+            remaining: _,
+            tally: _,
+            handed_in: _,
+        } = self;
+        bufs
+    }
+
+    /// Takes `cnt` bytes off the front. The buffers that are passed are read out, each by one `advance`.
+    pub fn advance(&mut self, cnt: usize)
+        requires { cnt ≤ length (concat self.old.segments) }
+        ensures skips { SkipsLent cnt self.old self.new }
+        ensures given { self.new.tally.given ≡ self.old.tally.given }
+        ensures calls { self.new.tally.calls ≡ self.old.tally.calls + 1 }
+        ensures paid { IsPaid self.old.segments self.old.tally self.new.segments self.new.tally }
+    {
+        self.tally.call();
+        let place = self.place;
+        let bufs = &mut *self.bufs;
+        let passed = skip_lent(&mut bufs[place..], &mut self.tally, cnt);
+        self.place += passed;
+        self.remaining -= cnt;
+    }
+}
+
+/// How many bytes these buffers hold together.
+fn sum_of<B: Buf>(bufs: &[B]) -> usize
+    requires { length (concat (map B.unread bufs.now)) < 2 ^ 64 }
+    ensures { result ≡ length (concat (map B.unread bufs.now)) }
+{
+    let mut sum = 0;
+    for buf in bufs {
+        sum += buf.remaining();
+    }
+    sum
+}
+
+impl<B: Buf> Buf for SegmentedSlice<'_, B> {
+    ghost unread = { λ q. concat q.segments };
+
+    ghost kept = { λ q. ([], q.name) ∷ ([], q.tally.given) ∷ map (λ s. (s, 0)) q.handed_in };
+
+    fn remaining(&self) -> usize
+        ensures value { result ≡ length (concat self.now.segments) }
+        ensures reading { IsReading self.now }
+        ensures covered { IsCovered self.now.segments self.now.tally }
+    {
+        self.remaining
+    }
+
+    fn chunk(&self) -> &[u8] {
+        let bufs = &*self.bufs;
+        if self.place < bufs.len() {
+            bufs[self.place].chunk()
+        } else {
+            &[]
+        }
+    }
+
+    fn advance(&mut self, cnt: usize) {
+        SegmentedSlice::advance(self, cnt)
+    }
+}

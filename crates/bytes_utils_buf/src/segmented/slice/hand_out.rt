@@ -1,0 +1,126 @@
+//! Unread bytes of lent buffers handed out: copies, and tables of slices.
+ghost use Rattle.std.specs.Prelude.{◌≡◌, ◌+◌, ◌<◌, ◌≤◌, [], length, map, take, drop, replicate, IsTrue, ◌↔◌, IfOk};
+ghost use Rattle.std.specs.List.{concat};
+ghost use Rattle.bytes_utils_buf.specs.Lent.{SkipsLent};
+ghost use Rattle.bytes_utils_buf.specs.Parts.{taken_by, FillsTable};
+ghost use Rattle.bytes_utils_buf.specs.Segments.{front_of, FrontUnread, Skips};
+ghost use Rattle.bytes_utils_buf.specs.Tally.{IsPaid, CountsCopy};
+
+use super::SegmentedSlice;
+use crate::parts::{BufParts, CopyRefused};
+use crate::segmented::copy::{append_chunk, bytes_taken, fill_from_lent};
+use crate::segmented::tally::Tally;
+use crate::segmented::walk::count_lent;
+use bytes::{Buf, Bytes};
+use std::alloc::Global;
+
+impl<B: BufParts> SegmentedSlice<'_, B> {
+    /// Takes the first `len` bytes out. The front buffer is asked alone where it holds them; else they are collected
+    /// chunk by chunk. What a refusal took is gone.
+    pub fn copy_to_bytes(&mut self, alloc: Global, len: usize) -> Result<Bytes, CopyRefused>
+        requires { len ≤ length (concat self.old.segments) }
+        ensures value { IfOk result (λ copy. copy ≡ take len (concat self.old.segments)) }
+        ensures taken { taken_by len result ≤ len }
+        ensures skips { SkipsLent (taken_by len result) self.old self.new }
+        ensures counts { CountsCopy (taken_by len result) self.old.tally self.new.tally }
+        ensures alone { len ≤ length (front_of self.old.segments)
+            → self.new.tally.calls ≡ self.old.tally.calls + 1 }
+        ensures paid { IsPaid self.old.segments self.old.tally self.new.segments self.new.tally }
+    {
+        self.tally.call();
+        if self.front_holds(len) {
+            self.copy_of_front(alloc, len)
+        } else {
+            self.collect(alloc, len)
+        }
+    }
+
+    /// Fills the first places of `dst` with slices of the unread bytes, and answers how many places. The buffers are
+    /// asked one after another, and a nested one gives the slices of its own.
+    pub fn chunks_vectored<'s>(&'s self, dst: &mut [&'s [u8]]) -> usize
+        ensures { FillsTable result dst.old dst.new (concat self.now.segments) }
+    {
+        let bufs = &*self.bufs;
+        fill_from_lent(&bufs[self.place..], dst)
+    }
+
+    fn front_holds(&self, len: usize) -> bool
+        ensures { IsTrue result
+            ↔ ((0 < length self.now.segments) × (len ≤ length (front_of self.now.segments))) }
+    {
+        let bufs = &*self.bufs;
+        self.place < bufs.len() && len <= bufs[self.place].remaining()
+    }
+
+    fn copy_of_front(&mut self, alloc: Global, len: usize) -> Result<Bytes, CopyRefused>
+        requires some { 0 < length self.old.segments }
+        requires holds { len ≤ length (front_of self.old.segments) }
+        ensures value { IfOk result (λ copy. copy ≡ take len (concat self.old.segments)) }
+        ensures taken { taken_by len result ≤ len }
+        ensures skips { SkipsLent (taken_by len result) self.old self.new }
+        ensures given { self.new.tally.given ≡ self.old.tally.given }
+        ensures calls { self.new.tally.calls ≡ self.old.tally.calls }
+        ensures paid { IsPaid self.old.segments self.old.tally self.new.segments self.new.tally }
+    {
+        let place = self.place;
+        let bufs = &mut *self.bufs;
+        let (passed, copy) = copy_of_first(&mut bufs[place..], &mut self.tally, alloc, len);
+        self.place += passed;
+        self.remaining -= bytes_taken(&copy, len);
+        copy
+    }
+
+    fn collect(&mut self, alloc: Global, len: usize) -> Result<Bytes, CopyRefused>
+        requires fits { len ≤ length (concat self.old.segments) }
+        requires front { FrontUnread self.old.segments }
+        ensures value { IfOk result (λ copy. copy ≡ take len (concat self.old.segments)) }
+        ensures taken { taken_by len result ≤ len }
+        ensures skips { SkipsLent (taken_by len result) self.old self.new }
+        ensures given { self.new.tally.given ≡ self.old.tally.given }
+        ensures least { self.old.tally.calls ≤ self.new.tally.calls }
+        ensures most { self.new.tally.calls ≤ self.old.tally.calls + taken_by len result }
+        ensures paid { IsPaid self.old.segments self.old.tally self.new.segments self.new.tally }
+    {
+        let Ok(mut copy) = Vec::with_capacity(alloc, len) else {
+            return Err(CopyRefused { taken: 0 });
+        };
+        while copy.len() < len {
+            let count = append_chunk(&mut copy, self.chunk(), len);
+            self.advance(count);
+        }
+        Bytes::from_vec(copy).map_err(|_| CopyRefused { taken: len })
+    }
+}
+
+/// Copies `len` bytes out of the first of these buffers alone, and then counts the empty ones at the front.
+fn copy_of_first<B: BufParts>(
+    bufs: &mut [B],
+    tally: &mut Tally,
+    alloc: Global,
+    len: usize,
+) -> (usize, Result<Bytes, CopyRefused>)
+    requires some { 0 < length bufs.old }
+    requires holds { len ≤ length (front_of (map B.unread bufs.old)) }
+    ensures value { IfOk result.1 (λ copy. copy ≡ take len (concat (map B.unread bufs.old))) }
+    ensures taken { taken_by len result.1 ≤ len }
+    ensures passed { result.0 ≤ length bufs.old }
+    ensures read_out { take result.0 (map B.unread bufs.new) ≡ replicate result.0 [] }
+    ensures skips { Skips (taken_by len result.1) (map B.unread bufs.old)
+        (drop result.0 (map B.unread bufs.new)) }
+    ensures turns { tally.new ≡ record tally.old { turns = tally.old.turns + result.0 } }
+{
+    let copy = bufs[0].copy_out(alloc, len);
+    let (empty, _) = count_lent(bufs, tally, 0);
+    (empty, copy)
+}
+
+/// As `copy_to_bytes` and `chunks_vectored`.
+impl<B: BufParts> BufParts for SegmentedSlice<'_, B> {
+    fn copy_out(&mut self, alloc: Global, len: usize) -> Result<Bytes, CopyRefused> {
+        self.copy_to_bytes(alloc, len)
+    }
+
+    fn chunks_into<'s>(&'s self, dst: &mut [&'s [u8]]) -> usize {
+        self.chunks_vectored(dst)
+    }
+}
