@@ -36,11 +36,16 @@ fn assert_shows<B: Buf + Drop>(rt: &impl Abort, buf: &SegmentedBuf<B>, shown: Sh
 #[test]
 fn advances(rt: HostRuntime) -> Result<(), Fail> {
     for (cnt, shown) in [
+        // segments
         (0, (11, 3, "Hello")),
-        (2, (9, 3, "llo")),
         (3, (8, 3, "lo")),
+        // advance_within
+        (2, (9, 3, "llo")),
+        // advance_border
         (5, (6, 2, " ")),
+        // empty_at_border
         (6, (5, 1, "World")),
+        // advance_across
         (7, (4, 1, "orld")),
         (11, (0, 0, "")),
     ] {
@@ -60,6 +65,7 @@ fn advances(rt: HostRuntime) -> Result<(), Fail> {
 fn copies(rt: HostRuntime) -> Result<(), Fail> {
     for (cnt, len, piece, shown) in [
         (3, 6, "lo Wor", (2, 1, "ld")),
+        // to_bytes_all
         (0, 11, "Hello World", (0, 0, "")),
         (0, 5, "Hello", (6, 2, " ")),
         (5, 0, "", (6, 2, " ")),
@@ -134,7 +140,7 @@ fn pushes_between_reads(rt: HostRuntime) -> Result<(), Fail> {
 }
 
 #[test]
-fn holds_no_empty_buffer(rt: HostRuntime) -> Result<(), Fail> {
+fn empty_bufs(rt: HostRuntime) -> Result<(), Fail> {
     let empties = ["", ""];
     assert_shows(&rt, &held(rt.alloc(), &[])?, (0, 0, ""));
     assert_shows(&rt, &held(rt.alloc(), &empties)?, (0, 0, ""));
@@ -199,7 +205,7 @@ fn assert_fills<B: BufParts + Drop>(
 }
 
 #[test]
-fn fills_tables(rt: HostRuntime) -> Result<(), Fail> {
+fn chunk_vectored(rt: HostRuntime) -> Result<(), Fail> {
     let mut buf = held(rt.alloc(), &FOUR)?;
     assert_fills(&rt, &buf, 0, &[]);
     assert_fills(&rt, &buf, 2, &["Hello", " "]);
