@@ -3,3 +3,4 @@ mod agree;
 mod buf;
 mod odd;
 mod parts;
+mod slice;
