@@ -16,6 +16,20 @@ use std::collections::VecDeque;
 use std::marker::Model;
 
 /// Buffers that read as one buffer.
+///
+/// It serves who collects a message in parts and reads it as a whole, as a body that comes in chunks. A part goes behind
+/// the others by [`push`](SegmentedBuf::push), and no part is copied or joined:
+///
+/// ```text
+/// let mut body: SegmentedBuf<Bytes> = SegmentedBuf::new(alloc);
+/// body.push(hello)?;                        // `Hello`, where `body.fits(hello.len())`
+/// body.push(world)?;                        // ` World`
+/// let front = body.copy_to_bytes(alloc, 8)?;
+/// // `front` is `Hello Wo`, one segment is left, and `body.chunk()` is `rld`
+/// ```
+///
+/// It holds no empty buffer: one that comes in is dropped, and so is one that is read out. It is a `Buf` itself, so
+/// these nest.
 #[derive(Debug, Drop)]
 pub struct SegmentedBuf<B: Buf + Drop> {
     segments: VecDeque<B>,

@@ -90,7 +90,7 @@ fn advances_and_hands_back(rt: HostRuntime) -> Result<(), Fail> {
 }
 
 #[test]
-fn reads_no_buffers(rt: HostRuntime) -> Result<(), Fail> {
+fn empty_slices(rt: HostRuntime) -> Result<(), Fail> {
     let mut none: [&[u8]; 0] = [];
     let mut all = read(&rt, &mut none);
     assert_shows(&rt, &all, 0, "");
@@ -113,7 +113,7 @@ fn reads_empty_buffers(rt: HostRuntime) -> Result<(), Fail> {
 }
 
 #[test]
-fn reads_to_the_end(rt: HostRuntime) -> Result<(), Fail> {
+fn sliced_hello(rt: HostRuntime) -> Result<(), Fail> {
     let mut bufs = slices_of(rt.alloc(), &FIVE)?;
     let all = read(&rt, &mut bufs);
     assert_shows(&rt, &all, 11, "Hello");
@@ -180,7 +180,7 @@ fn assert_shows_three<B: BufParts>(rt: &impl Abort, all: &SegmentedSlice<'_, B>)
 }
 
 #[test]
-fn fills_tables_from_nested_buffers(rt: HostRuntime) -> Result<(), Fail> {
+fn chunk_vectored_nested(rt: HostRuntime) -> Result<(), Fail> {
     let alloc = rt.alloc();
     let upper = SegmentedBuf::from_vec(alloc, bytes_of(alloc, &FOUR)?)?;
     let lower = SegmentedBuf::from_vec(alloc, bytes_of(alloc, &FOUR)?)?;
@@ -258,7 +258,7 @@ fn assert_gives<B: BufParts>(
 }
 
 #[test]
-fn cuts_agree(rt: HostRuntime) -> Result<(), Fail> {
+fn random(rt: HostRuntime) -> Result<(), Fail> {
     let alloc = rt.alloc();
     let mut bytes = Bytes::from_static(b"Hello World");
     let mut held = SegmentedBuf::from_iter(alloc, slices_of(alloc, &FIVE)?.into_iter())?;
