@@ -1,5 +1,5 @@
 //! What text is stored in.
-ghost use Rattle.std.specs.Prelude.{◌≡◌, ℕ, ◌≤◌, List, [], length, take, drop, IfOk, IfErr};
+ghost use Rattle.std.specs.Prelude.{◌≡◌, ℕ, ◌≤◌, List, [], length, take, drop, IsOk, IfOk, IfErr};
 
 use bytes::{Bytes, BytesMut};
 use bytes_utils_buf::{Reason, Refused};
@@ -45,7 +45,11 @@ impl Storage for Bytes {
 
     ghost created = { λ c. c.items };
 
-    fn empty(_alloc: Global) -> Result<Self, Reason> {
+    fn empty(_alloc: Global) -> Result<Self, Reason>
+        ensures value { IfOk result (λ s. s ≡ []) }
+        // It takes no memory.
+        ensures succeeds { IsOk result }
+    {
         Ok(Bytes::new())
     }
 
