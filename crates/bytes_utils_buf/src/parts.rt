@@ -14,10 +14,11 @@ pub struct CopyRefused {
 
 /// A buffer that copies its unread bytes out, and shows them as slices.
 ///
-/// Generic code that reads segmented types asks for this trait. A type of the caller implements it by the laws that
-/// stand here as clauses.
+/// Generic code that reads segmented types asks for this trait. A type of the caller implements it
+/// by the laws that stand here as clauses.
 pub trait BufParts: Buf {
     /// Takes the first `len` unread bytes out. A refusal gives none, and tells how many are gone.
+    /// `remaining` tests the condition.
     fn copy_out(&mut self, alloc: Global, len: usize) -> Result<Bytes, CopyRefused>
         requires { len ≤ length (Self.unread self.old) }
         ensures value { IfOk result (λ copy. copy ≡ take len (Self.unread self.old)) }
@@ -25,7 +26,8 @@ pub trait BufParts: Buf {
         ensures rest { Self.unread self.new ≡ drop (taken_by len result) (Self.unread self.old) }
         ensures kept { Self.kept self.new ≡ Self.kept self.old };
 
-    /// Fills the first places of `dst` with slices of the unread bytes, and answers how many places.
+    /// Fills the first places of `dst` with slices of the unread bytes, and answers how many
+    /// places.
     fn chunks_into<'s>(&'s self, dst: &mut [&'s [u8]]) -> usize
         ensures { FillsTable result dst.old dst.new (Self.unread self.now) };
 }

@@ -1,4 +1,5 @@
-//! What no clause says: worked cases, that calls succeed, printed text, and how often a buffer is asked.
+//! What no clause says: worked cases, that calls succeed, printed text, and how often a buffer is
+//! asked.
 mod buf;
 mod odd;
 mod parts;

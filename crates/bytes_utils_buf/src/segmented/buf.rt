@@ -17,8 +17,9 @@ use std::marker::Model;
 
 /// Buffers that read as one buffer.
 ///
-/// It serves who collects a message in parts and reads it as a whole, as a body that comes in chunks. A part goes behind
-/// the others by [`push`](SegmentedBuf::push), and no part is copied or joined:
+/// It serves who collects a message in parts and reads it as a whole, as a body that comes in
+/// chunks. A part goes behind the others by [`push`](SegmentedBuf::push), and no part is copied or
+/// joined:
 ///
 /// ```text
 /// let mut body: SegmentedBuf<Bytes> = SegmentedBuf::new(alloc);
@@ -28,8 +29,8 @@ use std::marker::Model;
 /// // `front` is `Hello Wo`, one segment is left, and `body.chunk()` is `rld`
 /// ```
 ///
-/// It holds no empty buffer: one that comes in is dropped, and so is one that is read out. It is a `Buf` itself, so
-/// these nest.
+/// It holds no empty buffer: one that comes in is dropped, and so is one that is read out. It is a
+/// `Buf` itself, so these nest.
 #[derive(Debug, Drop)]
 pub struct SegmentedBuf<B: Buf + Drop> {
     segments: VecDeque<B>,
@@ -96,7 +97,8 @@ impl<B: Buf + Drop> SegmentedBuf<B> {
         segments
     }
 
-    /// Takes `cnt` bytes off the front. A segment that is passed is dropped, and isn't advanced before.
+    /// Takes `cnt` bytes off the front. A segment that is passed is dropped, and isn't advanced
+    /// before. `remaining` tests the condition.
     pub fn advance(&mut self, cnt: usize)
         requires { cnt ≤ length (concat self.old.segments) }
         ensures skips { Skips cnt self.old.segments self.new.segments }
@@ -111,7 +113,8 @@ impl<B: Buf + Drop> SegmentedBuf<B> {
 }
 
 impl<B: Buf + Clone> SegmentedBuf<B> {
-    /// Clones of the held segments, with a tally of their own. Clones have to show the same unread bytes.
+    /// Clones of the held segments, with a tally of their own. Clones have to show the same unread
+    /// bytes.
     pub fn try_clone(&self) -> Result<SegmentedBuf<B>, Reason>
         requires { (x y : B) → B.is_clone x y → B.unread y ≡ B.unread x }
         ensures ok { IfOk result (λ all. all ≡ record {

@@ -62,8 +62,8 @@ pub(super) fn copy_front<B: BufParts>(
     front.copy_out(alloc, len)
 }
 
-/// Appends the bytes of `chunk` to a copy that is to hold `len` bytes, or as many as it still wants, and answers how
-/// many. There is room for them.
+/// Appends the bytes of `chunk` to a copy that is to hold `len` bytes, or as many as it still
+/// wants, and answers how many. There is room for them.
 pub(super) fn append_chunk(copy: &mut Vec<u8>, chunk: &[u8], len: usize) -> usize
     requires { (length copy.old.items ≤ len) × (len ≤ vec_capacity copy.old) }
     ensures count { result ≡ min (length chunk.now) (len - length copy.old.items) }

@@ -16,9 +16,10 @@ use std::snapshot::Snapshot;
 
 /// Lent buffers that read as one buffer.
 ///
-/// It serves a reader that wants one buffer where the parts lie side by side in a slice of their owner. Reading takes the
-/// bytes off the lent buffers themselves: a buffer that is passed is read out, and empty ones stay where they stand. The
-/// owner has what is left by [`into_lent`](SegmentedSlice::into_lent), or once the borrow ends.
+/// It serves a reader that wants one buffer where the parts lie side by side in a slice of their
+/// owner. Reading takes the bytes off the lent buffers themselves: a buffer that is passed is read
+/// out, and empty ones stay where they stand. The owner has what is left by
+/// [`into_lent`](SegmentedSlice::into_lent), or once the borrow ends.
 #[derive(Drop)]
 #[derive_where(Debug; B)]
 pub struct SegmentedSlice<'a, B: Buf> {
@@ -51,7 +52,8 @@ impl<'a, B: Buf> Model for SegmentedSlice<'a, B> {
 }
 
 impl<'a, B: Buf> SegmentedSlice<'a, B> {
-    /// How many bytes these buffers hold together, where that is a `usize`. It is the test for `new`.
+    /// How many bytes these buffers hold together, where that is a `usize`. It is the test for
+    /// `new`.
     pub fn total(bufs: &[B]) -> Option<usize>
         ensures { SomeIff result (length (concat (map B.unread bufs.now)) < 2 ^ 64)
             (length (concat (map B.unread bufs.now))) }
@@ -63,8 +65,8 @@ impl<'a, B: Buf> SegmentedSlice<'a, B> {
         Some(sum)
     }
 
-    /// Reads these buffers as one. The reading place is the first that isn't empty. It counts as a call, which gives all
-    /// the buffers, the empty ones too.
+    /// Reads these buffers as one. The reading place is the first that isn't empty. It counts as a
+    /// call, which gives all the buffers, the empty ones too. `total` tests the condition.
     pub fn new(bufs: &'a mut [B]) -> SegmentedSlice<'a, B>
         requires { length (concat (map B.unread bufs.old)) < 2 ^ 64 }
         ensures handed_in { result.handed_in ≡ map B.unread bufs.old }
@@ -95,8 +97,8 @@ impl<'a, B: Buf> SegmentedSlice<'a, B> {
         }
     }
 
-    /// Hands the lent buffers back: the passed ones are read out, the one at the reading place holds what is left of it,
-    /// and the others are as they were.
+    /// Hands the lent buffers back: the passed ones are read out, the one at the reading place
+    /// holds what is left of it, and the others are as they were.
     pub fn into_lent(self) -> &'a mut [B]
         ensures lists { map B.unread result.now ≡ lists_of self.entry }
         ensures reading { IsReading self.entry }
@@ -112,7 +114,8 @@ impl<'a, B: Buf> SegmentedSlice<'a, B> {
         bufs
     }
 
-    /// Takes `cnt` bytes off the front. The buffers that are passed are read out, each by one `advance`.
+    /// Takes `cnt` bytes off the front. The buffers that are passed are read out, each by one
+    /// `advance`. `remaining` tests the condition.
     pub fn advance(&mut self, cnt: usize)
         requires { cnt ≤ length (concat self.old.segments) }
         ensures skips { SkipsLent cnt self.old self.new }

@@ -7,8 +7,8 @@ use super::tally::Tally;
 use bytes::Buf;
 use std::collections::VecDeque;
 
-/// Takes `cnt` bytes off the held segments: those that are passed are counted first and dropped together, and the
-/// next one is advanced.
+/// Takes `cnt` bytes off the held segments: those that are passed are counted first and dropped
+/// together, and the next one is advanced.
 pub(super) fn skip_held<B: Buf + Drop>(segments: &mut VecDeque<B>, tally: &mut Tally, cnt: usize)
     requires { cnt ≤ length (concat (map B.unread segments.old.items)) }
     ensures skips { Skips cnt (map B.unread segments.old.items) (map B.unread segments.new.items) }
@@ -64,8 +64,8 @@ fn advance_front<B: Buf>(segments: &mut VecDeque<B>, left: usize)
     }
 }
 
-/// Takes `cnt` bytes off lent buffers: those that are passed are counted first and read out together, and the next
-/// one is advanced. Answers how many were passed.
+/// Takes `cnt` bytes off lent buffers: those that are passed are counted first and read out
+/// together, and the next one is advanced. Answers how many were passed.
 pub(super) fn skip_lent<B: Buf>(bufs: &mut [B], tally: &mut Tally, cnt: usize) -> usize
     requires { cnt ≤ length (concat (map B.unread bufs.old)) }
     ensures passed { result ≤ length bufs.old }
@@ -79,8 +79,8 @@ pub(super) fn skip_lent<B: Buf>(bufs: &mut [B], tally: &mut Tally, cnt: usize) -
     passed
 }
 
-/// Counts the lent buffers that `cnt` bytes step past, empty ones behind them too, and what is left to take off the
-/// next one. With `cnt` 0 it counts the empty ones at the front.
+/// Counts the lent buffers that `cnt` bytes step past, empty ones behind them too, and what is left
+/// to take off the next one. With `cnt` 0 it counts the empty ones at the front.
 pub(super) fn count_lent<B: Buf>(bufs: &[B], tally: &mut Tally, cnt: usize) -> (usize, usize)
     requires { cnt ≤ length (concat (map B.unread bufs.now)) }
     ensures passed { result.0 ≤ length bufs.now }

@@ -49,7 +49,8 @@ fn assert_holds(rt: &impl Abort, bufs: &[Bytes], texts: &[&'static str]) {
     }
 }
 
-/// How many bytes are skipped of `FIVE`, how many are left then, the chunk, and what the lent buffers hold.
+/// How many bytes are skipped of `FIVE`, how many are left then, the chunk, and what the lent
+/// buffers hold.
 type Advance = (usize, usize, &'static str, [&'static str; 5]);
 
 const ADVANCES: [Advance; 6] = [

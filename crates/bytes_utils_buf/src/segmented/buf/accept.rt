@@ -14,7 +14,7 @@ use std::alloc::Global;
 use std::collections::VecDeque;
 
 impl<B: Buf + Drop> SegmentedBuf<B> {
-    /// Puts `buf` behind the held segments. An empty one is dropped.
+    /// Puts `buf` behind the held segments. An empty one is dropped. `fits` tests the condition.
     #[inline(always)]
     pub fn push(&mut self, buf: B) -> Result<(), Refused<B>>
         requires { length (concat self.old.segments) + length (B.unread buf) < 2 ^ 64 }
@@ -33,8 +33,8 @@ impl<B: Buf + Drop> SegmentedBuf<B> {
         Ok(())
     }
 
-    /// Puts the items behind the held segments, until one is refused. Empty ones are dropped, and so are those behind a
-    /// refused one.
+    /// Puts the items behind the held segments, until one is refused. Empty ones are dropped, and
+    /// so are those behind a refused one.
     pub fn extend<I: Iterator<Item = B> + Drop>(&mut self, iter: I) -> Result<(), Refused<B>>
         requires can { I.can_next iter }
         requires ends { IsFinite (I.remaining iter) }
@@ -132,7 +132,8 @@ impl<B: Buf + Drop> SegmentedBuf<B> {
         ensures ok { IfOk result (λ all. (items : List B) × Drains I.next_gives iter items
             × (all ≡ after_accepting nothing_held (map B.unread items))) }
 
-        // The item that comes back is the first that passes `usize`, or one for which memory was refused before that.
+        // The item that comes back is the first that passes `usize`, or one for which memory was
+        // refused before that.
         ensures err { IfErr result (λ e. (items : List B) × (rest : I)
             × YieldsThen I.next_gives iter items (Some e.back) rest
             × (length (concat (map B.unread items)) < 2 ^ 64)

@@ -15,8 +15,9 @@ use std::alloc::Global;
 use std::collections::VecDeque;
 
 impl<B: BufParts + Drop> SegmentedBuf<B> {
-    /// Takes the first `len` bytes out. The first segment is asked alone where it holds them; else they are collected
-    /// chunk by chunk. What a refusal took is gone.
+    /// Takes the first `len` bytes out. The first segment is asked alone where it holds them; else
+    /// they are collected chunk by chunk. What a refusal took is gone. `remaining` tests the
+    /// condition.
     pub fn copy_to_bytes(&mut self, alloc: Global, len: usize) -> Result<Bytes, CopyRefused>
         requires { len ≤ length (concat self.old.segments) }
         ensures value { IfOk result (λ copy. copy ≡ take len (concat self.old.segments)) }
@@ -35,8 +36,9 @@ impl<B: BufParts + Drop> SegmentedBuf<B> {
         }
     }
 
-    /// Fills the first places of `dst` with slices of the unread bytes, and answers how many places. The segments are
-    /// asked one after another, and a nested one gives the slices of its own.
+    /// Fills the first places of `dst` with slices of the unread bytes, and answers how many
+    /// places. The segments are asked one after another, and a nested one gives the slices of its
+    /// own.
     pub fn chunks_vectored<'s>(&'s self, dst: &mut [&'s [u8]]) -> usize
         ensures { FillsTable result dst.old dst.new (concat self.now.segments) }
     {

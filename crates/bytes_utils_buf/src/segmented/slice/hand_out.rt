@@ -15,8 +15,9 @@ use bytes::{Buf, Bytes};
 use std::alloc::Global;
 
 impl<B: BufParts> SegmentedSlice<'_, B> {
-    /// Takes the first `len` bytes out. The front buffer is asked alone where it holds them; else they are collected
-    /// chunk by chunk. What a refusal took is gone.
+    /// Takes the first `len` bytes out. The front buffer is asked alone where it holds them; else
+    /// they are collected chunk by chunk. What a refusal took is gone. `remaining` tests the
+    /// condition.
     pub fn copy_to_bytes(&mut self, alloc: Global, len: usize) -> Result<Bytes, CopyRefused>
         requires { len ≤ length (concat self.old.segments) }
         ensures value { IfOk result (λ copy. copy ≡ take len (concat self.old.segments)) }
@@ -35,8 +36,9 @@ impl<B: BufParts> SegmentedSlice<'_, B> {
         }
     }
 
-    /// Fills the first places of `dst` with slices of the unread bytes, and answers how many places. The buffers are
-    /// asked one after another, and a nested one gives the slices of its own.
+    /// Fills the first places of `dst` with slices of the unread bytes, and answers how many
+    /// places. The buffers are asked one after another, and a nested one gives the slices of its
+    /// own.
     pub fn chunks_vectored<'s>(&'s self, dst: &mut [&'s [u8]]) -> usize
         ensures { FillsTable result dst.old dst.new (concat self.now.segments) }
     {
@@ -92,7 +94,8 @@ impl<B: BufParts> SegmentedSlice<'_, B> {
     }
 }
 
-/// Copies `len` bytes out of the first of these buffers alone, and then counts the empty ones at the front.
+/// Copies `len` bytes out of the first of these buffers alone, and then counts the empty ones at
+/// the front.
 fn copy_of_first<B: BufParts>(
     bufs: &mut [B],
     tally: &mut Tally,
