@@ -1,3 +1,4 @@
 //! What no clause says: worked cases, that calls succeed, printed text, and how often a buffer is asked.
+mod caller;
 mod odd;
 mod slice;
