@@ -9,7 +9,18 @@ use bytes_utils_buf::Refused;
 use std::marker::Model;
 use std::str;
 
-/// Text over a storage. A clause sees its bytes.
+/// Text over a storage.
+///
+/// It serves whoever keeps parts of a text after the text is gone: a part is owned, and shares what
+/// it was cut from where the storage does, as `Bytes` does:
+///
+/// ```text
+/// let text = Str::from_inner(bytes)?;          // `Bytes` of `key=value`, refused where it isn't UTF-8
+/// let (key, rest) = text.split_at_bytes(3)?;   // `key`, `=value`, where 3 is a character boundary
+/// for part in rest.split_bytes("=") { .. }     // an empty part, `value`
+/// ```
+///
+/// A clause sees its bytes.
 #[derive(Drop)]
 pub struct StrInner<S: Storage> {
     storage: S,

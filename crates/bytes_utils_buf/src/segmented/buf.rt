@@ -17,6 +17,20 @@ use std::marker::Model;
 
 /// Buffers that read as one buffer.
 ///
+/// It serves whoever gets a body in pieces and reads it as a whole, without copying the pieces
+/// together:
+///
+/// ```text
+/// let mut body = SegmentedBuf::new(alloc);
+/// body.push(head)?;                // a `Bytes` of `Hello`, where `body.fits(head.len())`
+/// body.push(tail)?;                // and one of ` World`
+/// body.advance(3);                 // where `body.remaining()` is at least 3
+/// body.copy_to_bytes(alloc, 6)?    // `lo Wor`; 2 bytes are left in 1 segment
+/// ```
+///
+/// An empty buffer is dropped wherever it comes, and one that is read out is dropped then. It is a
+/// `Buf` itself, so these nest.
+///
 /// It serves who collects a message in parts and reads it as a whole, as a body that comes in
 /// chunks. A part goes behind the others by [`push`](SegmentedBuf::push), and no part is copied or
 /// joined:

@@ -17,9 +17,19 @@ use std::snapshot::Snapshot;
 /// Lent buffers that read as one buffer.
 ///
 /// It serves a reader that wants one buffer where the parts lie side by side in a slice of their
-/// owner. Reading takes the bytes off the lent buffers themselves: a buffer that is passed is read
-/// out, and empty ones stay where they stand. The owner has what is left by
-/// [`into_lent`](SegmentedSlice::into_lent), or once the borrow ends.
+/// owner, who keeps them:
+///
+/// ```text
+/// let mut parts = [b"Hello".as_slice(), b"", b" ", b"World"];
+/// let mut all = SegmentedSlice::new(&mut parts); // where `SegmentedSlice::total(&parts)` isn't `None`
+/// all.advance(7);                                // where `all.remaining()` is at least 7
+/// // `all.chunk()` is `orld`; of `parts` the first three are read out, and the last is `orld`
+/// ```
+///
+/// Reading takes the bytes off the lent buffers themselves: one that is passed is read out, and
+/// empty ones stay where they stand. The owner has what is left by
+/// [`into_lent`](SegmentedSlice::into_lent), or once the borrow ends. It is a `Buf` itself, so these
+/// nest.
 #[derive(Drop)]
 #[derive_where(Debug; B)]
 pub struct SegmentedSlice<'a, B: Buf> {
