@@ -8,7 +8,7 @@ use Rattle.bytes_utils_buf.specs.Lent.{Lent, lists_of, lent_at, SkipsLent, IsLen
 use Rattle.bytes.specs.Unread.{IsChunkOf}
 use Rattle.bytes_utils_buf.specs.Segments.{cut_front, front_of, FrontUnread, Skips}
 use Rattle.bytes_utils_buf.specs.Tally.{Tallied, IsCovered, IsPaid}
-use Rattle.bytes_utils_buf.proofs.Lists.{length-concat-take_more, read_at, concat_split, cut_front-none, Skips-from_count, Skips-none, Skips-more}
+use Rattle.bytes_utils_buf.proofs.Lists.{length-concat-take_more, read_at, concat_split, cut_front-none, Skips-from_count, Skips-more}
 
 -- ---- lists that are read out
 
@@ -85,10 +85,6 @@ lists_of-part f xs ys k p handed_in new name in_all before out =
     let lists = map-put_mid f xs ys k in_all ∙ more_read_out k p (map f xs) (map f ys) before out in
     let behind = ap (drop (k + p)) lists ∙ drop_read_out (k + p) (drop p (map f ys)) in
     lists ∙ ap (λ l. replicate (k + p) [] ++ l) (sym behind)
-
--- nothing is skipped
-pub SkipsLent-none : (lent : Lent) → FrontUnread lent.segments → SkipsLent 0 lent lent
-SkipsLent-none lent front = record { segments = Skips-none lent.segments front; place = refl; handed_in = refl; name = refl }
 
 -- one skip after another
 pub SkipsLent-more : (n m : ℕ) (old mid new : Lent) → SkipsLent n old mid → SkipsLent m mid new → SkipsLent (n + m) old new
