@@ -1,6 +1,6 @@
 -- Lists of lists, seen from the front.
-use Rattle.std.proofs.Common.{◌≡◌, nat_lt, lt-ltb, cond, true, ◌⊎◌, inl, inr, ℕ, ◌+◌, ◌<◌, ◌≤◌, List, [], ◌∷◌, ◌++◌, zero, suc, length, take, drop, map, get_or, set, replicate, ap, ◌∙◌, sym, refl, arith, length-append, append-nil, append_assoc, length-drop}
-use Rattle.std.proofs.lemmas.List.{take_more, drop-append-le, drop-drop, take-append-drop, drop_all, map-append, nil_from_length}
+use Rattle.std.proofs.Common.{◌≡◌, nat_lt, lt-ltb, cond, true, ◌⊎◌, inl, inr, ℕ, ◌+◌, ◌<◌, ◌≤◌, List, [], ◌∷◌, ◌++◌, zero, suc, length, take, drop, map, get_or, set, replicate, ap, ◌∙◌, sym, refl, arith, length-append, append_assoc, length-drop}
+use Rattle.std.proofs.lemmas.List.{take_more, drop-append-le, drop-drop, take-append-drop, drop_all, nil_from_length}
 use Rattle.std.proofs.lemmas.List.Elements.{All-nil, All-cons, All-head, All-tail, All-same, All-drop, All-append}
 use Rattle.std.specs.List.{concat, filter, AllZip}
 use Rattle.bytes.proofs.Chunks.{concat_push}
@@ -170,20 +170,6 @@ pub accepted_more : (xs ys : List (List ℕ)) (y : List ℕ) → (xs ++ without_
 accepted_more xs ys y =
     append_assoc xs (without_empty ys) (without_empty (y ∷ [])) ∙ ap (λ l. xs ++ l) (sym (without_empty-append ys (y ∷ [])))
 
--- a buffer that is not empty comes in
-pub map-push_some : {X : Type 0} (f : X → List ℕ) (xs : List X) (x : X) → 0 < length (f x)
-    → map f (xs ++ x ∷ []) ≡ map f xs ++ without_empty (f x ∷ [])
-map-push_some f xs x some = map-append f xs (x ∷ []) ∙ ap (λ l. map f xs ++ l) (sym (kept (f x) some))
-  where
-    kept : (s : List ℕ) → 0 < length s → without_empty (s ∷ []) ≡ s ∷ []
-    kept [] h = absurd (omega arith)
-    kept (b ∷ s) h = refl
-
--- an empty one leaves no trace
-pub push_none : (xs : List (List ℕ)) (s : List ℕ) → length s ≡ 0 → xs ≡ xs ++ without_empty (s ∷ [])
-push_none xs [] h = sym (append-nil xs)
-push_none xs (b ∷ s) h = absurd (omega arith)
-
 -- ---- one skip after another
 
 cut_front-twice : (xs : List (List ℕ)) (j k : ℕ) → cut_front k (cut_front j xs) ≡ cut_front (j + k) xs
@@ -206,9 +192,6 @@ cases_zero (suc n) = inr (omega arith)
 pub cut_front-none : (xs : List (List ℕ)) → xs ≡ cut_front 0 xs
 cut_front-none [] = refl
 cut_front-none (x ∷ xs) = refl
-
-pub Skips-none : (xs : List (List ℕ)) → FrontUnread xs → Skips 0 xs xs
-Skips-none xs front = record { passed = 0; cut = 0; within = omega arith; rest = cut_front-none xs; bytes = refl; front = front }
 
 -- a cut of lists that some were taken off before, and then a skip
 Skips-behind : (n m j p : ℕ) (xs ys zs : List (List ℕ)) → p ≤ length xs → ys ≡ cut_front j (drop p xs) → concat ys ≡ drop n (concat xs)

@@ -24,17 +24,6 @@ joined-append : (xs ys : List (Bor (List ℕ))) → joined (xs ++ ys) ≡ joined
 joined-append [] ys = refl
 joined-append (x ∷ xs) ys = ap (λ l. x.now ++ l) (joined-append xs ys) ∙ sym (append_assoc x.now (joined xs) (joined ys))
 
--- before the first buffer
-pub FillsTable-none : (dst : List (Bor (List ℕ))) → FillsTable 0 dst dst []
-FillsTable-none dst =
-    record {
-      count = omega arith;
-      some = All-nil (λ s. 0 < length s.now);
-      front = refl;
-      whole = λ _. refl;
-      tail = refl;
-    }
-
 pub FillsTable-same : (n : ℕ) (old new : List (Bor (List ℕ))) (xs ys : List ℕ) → ys ≡ xs → FillsTable n old new xs → FillsTable n old new ys
 FillsTable-same n old new xs ys e h = rw e h
 
