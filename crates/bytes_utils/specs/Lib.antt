@@ -1,8 +1,11 @@
 pub mod Text
 pub mod Occurrence
+pub mod EmptySeparator
 pub mod Parts
 pub mod Lines
+pub mod Words
 pub mod Outcome
 pub mod Step
 pub mod Splitting
+pub mod Keeping
 pub mod Errors

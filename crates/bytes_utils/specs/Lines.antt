@@ -1,8 +1,10 @@
 -- The lines of a text, as Rust's `str::lines` has them: a line ends at each line feed, one carriage return directly before that
 -- line feed is taken off with it, and a last line without a line feed counts where it isn't empty. std has a `lines` too, over
 -- bytes and by the parts between line feeds; this one is over characters, by what each character does.
-use Rattle.std.specs.Prelude.{ℕ, List, [], ◌∷◌, ◌==◌, ◌&&◌, if◌then◌else◌, nat_eq}
+use Rattle.std.specs.Prelude.{◌≡◌, ℕ, List, [], ◌∷◌, ◌==◌, ◌&&◌, if◌then◌else◌, nat_eq, Option, MatchOption, IsSomeAnd}
 use Rattle.std.specs.List.{starts_with}
+use Rattle.std.specs.Str.{chars}
+use Rattle.bytes_utils.specs.Occurrence.{Occurs}
 
 -- the codes of a line feed and a carriage return
 abbrev pub line_feed : ℕ
@@ -22,3 +24,11 @@ lines (c ∷ t) =
     if c == line_feed then [] ∷ lines t
     else if c == carriage_return && starts_with nat_eq t (line_feed ∷ []) then lines t
     else first_led_by c (lines t)
+
+-- The state of a splitter by lines is what is still to be cut, if anything: these lines of it are to come.
+abbrev pub AreLinesToCome : Option (List ℕ) → List (List ℕ) → Type 0
+AreLinesToCome rest parts = MatchOption rest (parts ≡ []) (λ text. parts ≡ lines (chars text))
+
+-- what is left holds a line feed, without which no step splits the storage
+abbrev pub HoldsLineFeed : Option (List ℕ) → Type 0
+HoldsLineFeed rest = IsSomeAnd rest (λ text. Occurs (line_feed ∷ []) (chars text))

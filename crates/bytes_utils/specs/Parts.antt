@@ -1,6 +1,7 @@
 -- The parts of a text between separators.
-use Rattle.std.specs.Prelude.{◌≡◌, ℕ, ◌<◌, ◌≤◌, List, [], ◌∷◌, ◌++◌, length, Option, ⊤, IfSome}
-use Rattle.bytes_utils.specs.Occurrence.{Occurs, OccursFirstAt}
+use Rattle.std.specs.Prelude.{◌≡◌, ◌⊎◌, ℕ, zero, suc, ◌-◌, ◌<◌, ◌≤◌, List, [], ◌∷◌, ◌++◌, length, reverse, Option, None, Some, ⊤, IfSome, All}
+use Rattle.bytes_utils.specs.Occurrence.{Occurs, OccursFirstAt, OccursLastAt}
+use Rattle.bytes_utils.specs.EmptySeparator.{by_element, by_element_backward}
 
 -- the parts in order, with p between neighbours, as Rust's `parts.join(p)`
 abbrev pub join : {X : Type 0} → List X → List (List X) → List X
@@ -31,3 +32,49 @@ pub record AreForwardParts {X : Type 0} (t p : List X) (limit : Option ℕ) (par
   pub cut_at_first : EachButLast (λ part. OccursFirstAt p (part ++ p) (length part)) parts
   -- unless the limit was reached, the last part holds no p
   pub last : IfSome limit (λ most. length parts < most) → OfLast (λ part. ¬ Occurs p part) parts
+
+-- The parts of t between separators p, cut from the back and given from the back, at most as many as the limit says, if there is one:
+-- what Rust's `str::rsplit` gives, and `str::rsplitn` with a limit. For p not empty and a limit of at least 1.
+pub record AreBackwardParts {X : Type 0} (t p : List X) (limit : Option ℕ) (parts : List (List X)) : Type 0 where
+  pub some : 0 < length parts
+  pub few : IfSome limit (λ most. length parts ≤ most)
+  pub joined : join p (reverse parts) ≡ t
+  -- each part but the last that is given, behind p, has its last p right before it
+  pub cut_at_last : EachButLast (λ part. OccursLastAt p (p ++ part) 0) parts
+  -- unless the limit was reached, the last part that is given holds no p
+  pub last : IfSome limit (λ most. length parts < most) → OfLast (λ part. ¬ Occurs p part) parts
+
+-- p occurs at the end of the part and nowhere before
+abbrev pub EndsAtFirst : {X : Type 0} → List X → List X → Type 0
+EndsAtFirst p part = OccursFirstAt p part (length part - length p)
+
+-- The parts of t that keep the separator p at their ends: what Rust's `str::split_inclusive` gives. For p not empty. The empty list has
+-- none.
+pub record AreInclusiveParts {X : Type 0} (t p : List X) (parts : List (List X)) : Type 0 where
+  pub joined : join [] parts ≡ t
+  pub none_empty : All (λ part. 0 < length part) parts
+  pub cut_behind_first : EachButLast (EndsAtFirst p) parts
+  pub last : OfLast (λ part. EndsAtFirst p part ⊎ (¬ Occurs p part)) parts
+
+-- the parts from the front for a limit that isn't 0: the empty separator has its own
+abbrev AreSomeFromFront : {X : Type 0} → List X → List X → Option ℕ → List (List X) → Type 0
+AreSomeFromFront t [] limit parts = parts ≡ by_element t limit
+AreSomeFromFront t (x ∷ p) limit parts = AreForwardParts t (x ∷ p) limit parts
+
+-- The parts of t from the front, for every separator and every limit: what Rust's `str::split` and `str::splitn` give. With a limit of 0
+-- there is none.
+abbrev pub ArePartsFromFront : {X : Type 0} → List X → List X → Option ℕ → List (List X) → Type 0
+ArePartsFromFront t p None parts = AreSomeFromFront t p None parts
+ArePartsFromFront t p (Some zero) parts = parts ≡ []
+ArePartsFromFront t p (Some (suc most)) parts = AreSomeFromFront t p (Some (suc most)) parts
+
+-- the parts from the back for a limit that isn't 0
+abbrev AreSomeFromBack : {X : Type 0} → List X → List X → Option ℕ → List (List X) → Type 0
+AreSomeFromBack t [] limit parts = parts ≡ by_element_backward t limit
+AreSomeFromBack t (x ∷ p) limit parts = AreBackwardParts t (x ∷ p) limit parts
+
+-- The parts of t from the back, for every separator and every limit: what Rust's `str::rsplit` and `str::rsplitn` give.
+abbrev pub ArePartsFromBack : {X : Type 0} → List X → List X → Option ℕ → List (List X) → Type 0
+ArePartsFromBack t p None parts = AreSomeFromBack t p None parts
+ArePartsFromBack t p (Some zero) parts = parts ≡ []
+ArePartsFromBack t p (Some (suc most)) parts = AreSomeFromBack t p (Some (suc most)) parts

@@ -2,6 +2,7 @@
 
 mod boundary;
 mod cut;
+mod search;
 mod separator;
 
 pub use boundary::boundaries;

@@ -2,23 +2,15 @@
 ghost use Rattle.std.specs.Prelude.{◌≡◌, ◌<◌, ℕ, List, Some, length, IfOk, OnErr, IfSome};
 ghost use Rattle.std.specs.Iterator.{at_most};
 ghost use Rattle.std.specs.Str.{chars};
-ghost use Rattle.bytes_utils.specs.Occurrence.{Occurs, FindsFirst};
+ghost use Rattle.bytes_utils.specs.Occurrence.{Occurs};
 ghost use Rattle.bytes_utils.specs.Splitting.{AreForwardPartsToCome, HoldsSeparator, most_parts};
 ghost use Rattle.bytes_utils.specs.Step.{GivesFirst, IsStep};
 
 use super::cut::cut_out;
+use super::search::find;
 use crate::string::{Storage, StrInner};
 use bytes_utils_buf::Reason;
-use memchr::memmem;
 use std::marker::Model;
-
-/// The byte place at which the separator occurs first.
-fn find(text: &str, separator: &str) -> Option<usize>
-    requires { 0 < length separator.now }
-    ensures { FindsFirst (chars separator.now) (chars text.now) result }
-{
-    memmem::find(text.as_bytes(), separator.as_bytes())
-}
 
 /// The part before the first separator and the text behind it, or the whole text where there is
 /// none.

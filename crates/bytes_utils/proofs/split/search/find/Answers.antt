@@ -1,5 +1,5 @@
 use Rattle.bytes_utils.proofs.Search.{FindsFirst-from_needle}
-use Rattle.bytes_utils.proofs.split.separator.find.Goals as goal
+use Rattle.bytes_utils.proofs.split.search.find.Goals as goal
 
 pub returns : goal.returns
 returns c =

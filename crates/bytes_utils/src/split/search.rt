@@ -1,0 +1,14 @@
+//! The search for a separator, in bytes and by `memchr` alone.
+ghost use Rattle.std.specs.Prelude.{◌<◌, length};
+ghost use Rattle.std.specs.Str.{chars};
+ghost use Rattle.bytes_utils.specs.Occurrence.{FindsFirst};
+
+use memchr::memmem;
+
+/// The byte place at which the separator occurs first.
+pub(super) fn find(text: &str, separator: &str) -> Option<usize>
+    requires { 0 < length separator.now }
+    ensures { FindsFirst (chars separator.now) (chars text.now) result }
+{
+    memmem::find(text.as_bytes(), separator.as_bytes())
+}
