@@ -187,7 +187,7 @@ step-part = (
   λ nothing. not-suc-le-zero nothing.some,
   record {
     some = (codes "b" ∷ codes "c" ∷ [], all_parts _ _ _ (lit< tt) refl refl refl);
-    each = λ others are. AreForwardParts-more (codes ",") (codes "a,b,c") 1 (lit< tt) (OccursFirstAt-from_test (codes ",") (codes "a,b,c") 1 refl) others are;
+    each = λ others are. AreForwardParts-more (codes ",") (codes "a,b,c") 1 (lit< tt) (OccursFirstAt-from_test (codes ",") (codes "a,b,c") 1 refl) None tt others are;
   },
 )
 

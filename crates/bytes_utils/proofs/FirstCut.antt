@@ -38,11 +38,11 @@ module _ (text sep : List ℕ) (text_is : IsUtf8 text) (sep_is : IsUtf8 sep) (at
       let rest_chars : chars rest ≡ drop (found.0 + length (chars sep)) (chars text) =
       ap chars (rest_is ∙ ap (λ k. drop k text) next_place) ∙ chars-drop_place text text_is (found.0 + length (chars sep)) in
       record {
-        some = has_forward_parts (chars sep) (chars rest) long;
+        some = has_forward_parts (chars sep) (chars rest) None long tt;
         each = λ others are.
             let behind = subst (λ z. AreForwardParts z (chars sep) None others) rest_chars are in
             subst (λ z. AreForwardParts (chars text) (chars sep) None (z ∷ others)) (sym part_chars)
-            (AreForwardParts-more (chars sep) (chars text) found.0 long found.2 others behind);
+            (AreForwardParts-more (chars sep) (chars text) found.0 long found.2 None tt others behind);
       }
 
   pub rest_shorter : (rest : List ℕ) → 0 < length sep → rest ≡ drop (at + length sep) text → length rest < length text
@@ -53,5 +53,5 @@ pub gives_last : (text sep : List ℕ) → (¬ Occurs (chars sep) (chars text))
     → GivesFirst AreForwardPartsToCome (record { rest = Some text; separator = sep }) (chars text) (record { rest = None; separator = sep })
 gives_last text sep lacks = record {
   some = ([], refl);
-  each = λ others none. rw none (AreForwardParts-last (chars sep) (chars text) lacks);
+  each = λ others none. rw none (AreForwardParts-last (chars sep) (chars text) None tt lacks);
 }

@@ -1,115 +1,120 @@
 -- How a list of forward parts grows at its front, and that every text has one.
-use Rattle.std.proofs.Common.{◌≡◌, refl, sym, ap, subst, ◌∙◌, ℕ, zero, suc, ◌+◌, ◌<◌, ◌≤◌, List, [], ◌∷◌, ◌++◌, None, length, take, drop, arith, append_assoc, length-drop, take-append-drop, ◌⊎◌, inl, inr}
-use Rattle.std.proofs.lemmas.List.{drop_at, length-take-le, take-append-le, drop-append-le, drop-drop}
+use Rattle.std.proofs.Common.{◌≡◌, refl, sym, ap, subst, ◌∙◌, ℕ, zero, suc, ◌+◌, ◌-◌, ◌<◌, ◌≤◌, List, [], ◌∷◌, ◌++◌, Option, None, Some, length, take, drop, arith, append_assoc, length-drop, ◌⊎◌, inl, inr}
+use Rattle.std.specs.Option.{IfSome, option_map}
+use Rattle.std.proofs.lemmas.List.{take_all, drop_at, length-take-le}
 use Rattle.std.proofs.lemmas.Bool.{cases_eq}
 use Rattle.bytes_utils.specs.Occurrence.{OccursAt, Occurs, OccursFirstAt}
 use Rattle.bytes_utils.specs.Parts.{AreForwardParts}
 use Rattle.bytes_utils.proofs.Boundaries.{OccursAt-fits}
+use Rattle.bytes_utils.proofs.Occurrences.{cut_whole, OccursAt-append, FirstOrNowhere, first_or_nowhere}
 
--- what occurs in a front occurs in the whole
-pub OccursAt-append : {X : Type 0} (p xs ys : List X) (i : ℕ) → 0 < length p → OccursAt p xs i → OccursAt p (xs ++ ys) i
-OccursAt-append p xs ys i some here =
-    let fits = OccursAt-fits p xs i some here in
-    let le : i ≤ length xs = omega arith in
-    let enough : length p ≤ length (drop i xs) = omega (arith, length-drop i xs) in
-    ap (take (length p)) (drop-append-le i xs ys le) ∙ take-append-le (length p) (drop i xs) ys enough ∙ here
+-- the limit that is left behind one part
+abbrev pub less_one : Option ℕ → Option ℕ
+less_one limit = option_map (λ most. most - 1) limit
+
+few_more : (limit : Option ℕ) (n : ℕ) → IfSome limit (λ most. 1 < most) → IfSome (less_one limit) (λ most. n ≤ most) → IfSome limit (λ most. suc n ≤ most)
+few_more None n room few = tt
+few_more (Some most) n room few = omega arith
+
+below_less_one : (limit : Option ℕ) (n : ℕ) → IfSome limit (λ most. suc n < most) → IfSome (less_one limit) (λ most. n < most)
+below_less_one None n below = tt
+below_less_one (Some most) n below = omega arith
+
+some_less_one : (limit : Option ℕ) → IfSome limit (λ most. 1 < most) → IfSome (less_one limit) (λ most. 0 < most)
+some_less_one None room = tt
+some_less_one (Some most) room = omega arith
 
 module _ {X : Type 0} (p t : List X) (i : ℕ) (some : 0 < length p) (first : OccursFirstAt p t i) where
-  fits : i + length p ≤ length t
-  fits = OccursAt-fits p t i some first.here
-
-  -- t is what is before the first occurrence, p, and what is behind
-  pub cut_whole : take i t ++ (p ++ drop (i + length p) t) ≡ t
-  cut_whole =
-      let behind : drop (i + length p) t ≡ drop (length p) (drop i t) = sym (drop-drop (length p) i t) in
-      ap (λ z. take i t ++ (p ++ z)) behind ∙ ap (λ z. take i t ++ (z ++ drop (length p) (drop i t))) (sym first.here)
-      ∙ ap (λ z. take i t ++ z) (take-append-drop (length p) (drop i t)) ∙ take-append-drop i t
-
-  -- the part before it ends where p occurs first in it and p
+  -- the part before the first occurrence ends where p occurs first in it and p
   pub first_in_part : OccursFirstAt p (take i t ++ p) (length (take i t))
   first_in_part =
-      let size : length (take i t) ≡ i = length-take-le i t (omega (arith, fits)) in
-      let whole : (take i t ++ p) ++ drop (i + length p) t ≡ t = append_assoc (take i t) p (drop (i + length p) t) ∙ cut_whole in
+      let fits = OccursAt-fits p t i some first.here in
+      let size : length (take i t) ≡ i = length-take-le i t (omega arith) in
+      let whole : (take i t ++ p) ++ drop (i + length p) t ≡ t = append_assoc (take i t) p (drop (i + length p) t) ∙ cut_whole p t i first.here in
       record {
-        here = ap (take (length p)) (drop_at (take i t) p (length (take i t)) refl) ∙ take_all p;
+        here = ap (take (length p)) (drop_at (take i t) p (length (take i t)) refl) ∙ take_all (length p) p (omega arith);
         none_before = λ j there.
             let in_whole : OccursAt p t j = subst (λ z. OccursAt p z j) whole (OccursAt-append p (take i t ++ p) (drop (i + length p) t) j some there) in
             omega (arith, size, first.none_before j in_whole);
       }
-    where
-      take_all : (xs : List X) → take (length xs) xs ≡ xs
-      take_all [] = refl
-      take_all (x ∷ xs) = ap (λ z. x ∷ z) (take_all xs)
 
-  pub AreForwardParts-more : (parts : List (List X)) → AreForwardParts (drop (i + length p) t) p None parts → AreForwardParts t p None (take i t ∷ parts)
-  AreForwardParts-more [] are = absurd (omega (arith, are.some))
-  AreForwardParts-more (part ∷ parts) are = record {
+  -- a part cut off at the first occurrence comes before those of what is behind it
+  pub AreForwardParts-more : (limit : Option ℕ) → IfSome limit (λ most. 1 < most) → (parts : List (List X))
+      → AreForwardParts (drop (i + length p) t) p (less_one limit) parts → AreForwardParts t p limit (take i t ∷ parts)
+  AreForwardParts-more limit room [] are = absurd (omega (arith, are.some))
+  AreForwardParts-more limit room (part ∷ parts) are = record {
     some = omega arith;
-    few = tt;
-    joined = ap (λ z. take i t ++ (p ++ z)) are.joined ∙ cut_whole;
+    few = few_more limit _ room are.few;
+    joined = ap (λ z. take i t ++ (p ++ z)) are.joined ∙ cut_whole p t i first.here;
     cut_at_first = (first_in_part, are.cut_at_first);
-    last = λ below. are.last below;
+    last = λ below. are.last (below_less_one limit _ below);
   }
 
+few_one : (limit : Option ℕ) → IfSome limit (λ most. 0 < most) → IfSome limit (λ most. 1 ≤ most)
+few_one None positive = tt
+few_one (Some most) positive = omega arith
+
 -- a text in which p doesn't occur is its only part
-pub AreForwardParts-last : {X : Type 0} (p t : List X) → (¬ Occurs p t) → AreForwardParts t p None (t ∷ [])
-AreForwardParts-last p t lacks = record {
+pub AreForwardParts-last : {X : Type 0} (p t : List X) (limit : Option ℕ) → IfSome limit (λ most. 0 < most) → (¬ Occurs p t) → AreForwardParts t p limit (t ∷ [])
+AreForwardParts-last p t limit positive lacks = record {
   some = omega arith;
-  few = tt;
+  few = few_one limit positive;
   joined = refl;
   cut_at_first = tt;
   last = λ _. lacks;
 }
 
--- two lists of numbers are the same, or they aren't
-same_lists : (xs ys : List ℕ) → (xs ≡ ys) ⊎ (xs ≡ ys → ⊥)
-same_lists [] [] = inl refl
-same_lists [] (y ∷ ys) = inr (λ e. cc)
-same_lists (x ∷ xs) [] = inr (λ e. cc)
-same_lists (x ∷ xs) (y ∷ ys) = same_more x y xs ys (cases_eq x y) (same_lists xs ys)
-  where
-    same_more : (a b : ℕ) (more others : List ℕ) → (a ≡ b) ⊎ (a ≡ b → ⊥) → (more ≡ others) ⊎ (more ≡ others → ⊥) → (a ∷ more ≡ b ∷ others) ⊎ (a ∷ more ≡ b ∷ others → ⊥)
-    same_more a b more others (inl e) (inl f) = inl cc
-    same_more a b more others (inl e) (inr f) = inr (λ g. f cc)
-    same_more a b more others (inr e) _ = inr (λ g. e cc)
+-- where one part is the limit, it is the uncut text
+pub AreForwardParts-rest : {X : Type 0} (p t : List X) → AreForwardParts t p (Some 1) (t ∷ [])
+AreForwardParts-rest p t = record {
+  some = omega arith;
+  few = omega arith;
+  joined = refl;
+  cut_at_first = tt;
+  last = λ below. absurd (omega (arith, below));
+}
 
--- p occurs first at some place of t, or nowhere
-abbrev FirstOrNowhere : List ℕ → List ℕ → Type 0
-FirstOrNowhere p t = ((i : ℕ) × OccursFirstAt p t i) ⊎ (¬ Occurs p t)
+abbrev pub HasForwardParts : {X : Type 0} → List X → List X → Option ℕ → Type 0
+HasForwardParts {X} p t limit = (parts : List (List X)) × AreForwardParts t p limit parts
 
-module _ (p : List ℕ) (c : ℕ) (cs : List ℕ) (not_here : take (length p) (c ∷ cs) ≡ p → ⊥) where
-  nowhere_more : (¬ Occurs p cs) → (i : ℕ) → OccursAt p (c ∷ cs) i → ⊥
-  nowhere_more nowhere zero here = not_here here
-  nowhere_more nowhere (suc i) here = nowhere (i, here)
+-- a limit of at least 1 allows one part, or room for more
+one_or_more : (limit : Option ℕ) → IfSome limit (λ most. 0 < most) → (limit ≡ Some 1) ⊎ IfSome limit (λ most. 1 < most)
+one_or_more None positive = inr tt
+one_or_more (Some zero) positive = absurd (omega arith)
+one_or_more (Some (suc zero)) positive = inl refl
+one_or_more (Some (suc (suc n))) positive = inr (omega arith)
 
-  first_more : (i : ℕ) → OccursFirstAt p cs i → (j : ℕ) → OccursAt p (c ∷ cs) j → suc i ≤ j
-  first_more i first zero there = absurd (not_here there)
-  first_more i first (suc j) there = omega (arith, first.none_before j there)
+-- Elements of which any two are the same or aren't.
+module _ {X : Type 0} (same : (x y : X) → (x ≡ y) ⊎ (¬ (x ≡ y))) (p : List X) (some : 0 < length p) where
+  -- shorter texts have parts under every limit
+  abbrev ShorterHave : List X → Type 0
+  ShorterHave t = (rest : List X) (limit : Option ℕ) → IfSome limit (λ most. 0 < most) → length rest < length t → HasForwardParts p rest limit
 
-first_at : (p : List ℕ) (c : ℕ) (cs : List ℕ) → (take (length p) (c ∷ cs) ≡ p) ⊎ (take (length p) (c ∷ cs) ≡ p → ⊥) → FirstOrNowhere p cs → FirstOrNowhere p (c ∷ cs)
-first_at p c cs (inl here) _ = inl (0, record { here = here; none_before = λ j there. omega arith })
-first_at p c cs (inr not_here) (inl found) = inl (suc found.0, record { here = found.1.here; none_before = first_more p c cs not_here found.0 found.1 })
-first_at p c cs (inr not_here) (inr nowhere) = inr (λ occurs. nowhere_more p c cs not_here nowhere occurs.0 occurs.1)
+  cut_or_last : (t : List X) (limit : Option ℕ) → IfSome limit (λ most. 1 < most) → FirstOrNowhere p t → ShorterHave t → HasForwardParts p t limit
+  cut_or_last t limit room (inr lacks) later = (t ∷ [], AreForwardParts-last p t limit (positive limit room) lacks)
+    where
+      positive : (most : Option ℕ) → IfSome most (λ n. 1 < n) → IfSome most (λ n. 0 < n)
+      positive None r = tt
+      positive (Some n) r = omega arith
+  cut_or_last t limit room (inl found) later =
+      let fits = OccursAt-fits p t found.0 some found.1.here in
+      let rest = drop (found.0 + length p) t in
+      let more = later rest (less_one limit) (some_less_one limit room) (omega (arith, length-drop (found.0 + length p) t, some)) in
+      (take found.0 t ∷ more.0, AreForwardParts-more p t found.0 some found.1 limit room more.0 more.1)
 
-pub first_or_nowhere : (p t : List ℕ) → 0 < length p → FirstOrNowhere p t
-first_or_nowhere p [] some = inr (λ occurs. omega (arith, OccursAt-fits p [] occurs.0 some occurs.1, some))
-first_or_nowhere p (c ∷ cs) some = first_at p c cs (same_lists (take (length p) (c ∷ cs)) p) (first_or_nowhere p cs some)
+  whole_or_cut : (t : List X) (limit : Option ℕ) → (limit ≡ Some 1) ⊎ IfSome limit (λ most. 1 < most) → ShorterHave t → HasForwardParts p t limit
+  whole_or_cut t limit (inl one) later = subst (HasForwardParts p t) (sym one) (t ∷ [], AreForwardParts-rest p t)
+  whole_or_cut t limit (inr room) later = cut_or_last t limit room (first_or_nowhere same p t some) later
 
-abbrev HasForwardParts : List ℕ → List ℕ → Type 0
-HasForwardParts p t = (parts : List (List ℕ)) × AreForwardParts t p None parts
+  parts_within : (n : ℕ) (t : List X) (limit : Option ℕ) → IfSome limit (λ most. 0 < most) → length t ≤ n → HasForwardParts p t limit
+  parts_within zero t limit positive le = whole_or_cut t limit (one_or_more limit positive) (λ rest left more lt. absurd (omega arith))
+  parts_within (suc n) t limit positive le =
+      whole_or_cut t limit (one_or_more limit positive) (λ rest left more lt. parts_within n rest left more (omega arith))
 
-cut_or_last : (p t : List ℕ) → 0 < length p → FirstOrNowhere p t → ((rest : List ℕ) → length rest < length t → HasForwardParts p rest) → HasForwardParts p t
-cut_or_last p t some (inr lacks) later = (t ∷ [], AreForwardParts-last p t lacks)
-cut_or_last p t some (inl found) later =
-    let fits = OccursAt-fits p t found.0 some found.1.here in
-    let rest = drop (found.0 + length p) t in
-    let more = later rest (omega (arith, length-drop (found.0 + length p) t, some)) in
-    (take found.0 t ∷ more.0, AreForwardParts-more p t found.0 some found.1 more.0 more.1)
+  -- every list of them has a list of forward parts
+  pub forward_parts : (t : List X) (limit : Option ℕ) → IfSome limit (λ most. 0 < most) → HasForwardParts p t limit
+  forward_parts t limit positive = parts_within (length t) t limit positive (omega arith)
 
-has_parts_within : (n : ℕ) (p t : List ℕ) → 0 < length p → length t ≤ n → HasForwardParts p t
-has_parts_within zero p t some le = cut_or_last p t some (first_or_nowhere p t some) (λ rest lt. absurd (omega arith))
-has_parts_within (suc n) p t some le = cut_or_last p t some (first_or_nowhere p t some) (λ rest lt. has_parts_within n p rest some (omega arith))
-
--- every text has a list of forward parts
-pub has_forward_parts : (p t : List ℕ) → 0 < length p → HasForwardParts p t
-has_forward_parts p t some = has_parts_within (length t) p t some (omega arith)
+-- and every text
+pub has_forward_parts : (p t : List ℕ) (limit : Option ℕ) → 0 < length p → IfSome limit (λ most. 0 < most) → HasForwardParts p t limit
+has_forward_parts p t limit some positive = forward_parts cases_eq p some t limit positive
