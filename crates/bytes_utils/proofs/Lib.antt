@@ -2,6 +2,9 @@ pub mod Boundaries
 pub mod Places
 pub mod Search
 pub mod Occurrences
+pub mod Joins
 pub mod Forward
+pub mod Mirror
+pub mod Backward
 pub mod FirstCut
 pub mod Cases

@@ -1,0 +1,12 @@
+-- Lists of parts that are joined.
+use Rattle.std.proofs.Common.{◌≡◌, refl, sym, ap, ◌∙◌, ◌<◌, List, [], ◌∷◌, ◌++◌, length, arith, append_assoc}
+use Rattle.bytes_utils.specs.Parts.{join}
+
+pub join-append : {X : Type 0} (p : List X) (xs ys : List (List X)) → 0 < length xs → 0 < length ys → join p (xs ++ ys) ≡ join p xs ++ (p ++ join p ys)
+join-append p [] ys some others = absurd (omega arith)
+join-append p (x ∷ xs) [] some others = absurd (omega arith)
+join-append p (x ∷ []) (y ∷ ys) some others = refl
+join-append p (x ∷ z ∷ xs) (y ∷ ys) some others =
+    let more : join p (z ∷ (xs ++ y ∷ ys)) ≡ join p (z ∷ xs) ++ (p ++ join p (y ∷ ys)) = join-append p (z ∷ xs) (y ∷ ys) (omega arith) others in
+    ap (λ w. x ++ (p ++ w)) more ∙ ap (λ w. x ++ w) (sym (append_assoc p (join p (z ∷ xs)) (p ++ join p (y ∷ ys))))
+    ∙ sym (append_assoc x (p ++ join p (z ∷ xs)) (p ++ join p (y ∷ ys)))
