@@ -1,12 +1,12 @@
 -- How a list of forward parts grows at its front, and that every text has one.
-use Rattle.std.proofs.Common.{◌≡◌, refl, sym, ap, subst, ◌∙◌, ℕ, zero, suc, ◌+◌, ◌-◌, ◌<◌, ◌≤◌, List, [], ◌∷◌, ◌++◌, Option, None, Some, length, take, drop, arith, append_assoc, length-drop, ◌⊎◌, inl, inr}
+use Rattle.std.proofs.Common.{◌≡◌, refl, sym, ap, subst, ◌∙◌, ℕ, zero, suc, ◌+◌, ◌-◌, ◌<◌, ◌≤◌, List, [], ◌∷◌, ◌++◌, Option, None, Some, length, take, drop, arith, append_assoc, length-append, length-drop, ◌⊎◌, inl, inr}
 use Rattle.std.specs.Option.{IfSome, option_map}
-use Rattle.std.proofs.lemmas.List.{take_all, drop_at, length-take-le}
+use Rattle.std.proofs.lemmas.List.{length-take-le}
 use Rattle.std.proofs.lemmas.Bool.{cases_eq}
-use Rattle.bytes_utils.specs.Occurrence.{OccursAt, Occurs, OccursFirstAt}
+use Rattle.bytes_utils.specs.Occurrence.{Occurs, OccursFirstAt}
 use Rattle.bytes_utils.specs.Parts.{AreForwardParts}
 use Rattle.bytes_utils.proofs.Boundaries.{OccursAt-fits}
-use Rattle.bytes_utils.proofs.Occurrences.{cut_whole, OccursAt-append, FirstOrNowhere, first_or_nowhere}
+use Rattle.bytes_utils.proofs.Occurrences.{cut_whole, OccursFirstAt-front, FirstOrNowhere, first_or_nowhere}
 
 -- the limit that is left behind one part
 abbrev pub less_one : Option ℕ → Option ℕ
@@ -24,31 +24,36 @@ some_less_one : (limit : Option ℕ) → IfSome limit (λ most. 1 < most) → If
 some_less_one None room = tt
 some_less_one (Some most) room = omega arith
 
+-- a part with its first p right behind it comes before the parts of what follows that p
+pub AreForwardParts-led : {X : Type 0} (p part rest : List X) (limit : Option ℕ) → IfSome limit (λ most. 1 < most) → OccursFirstAt p (part ++ p) (length part)
+    → (parts : List (List X)) → AreForwardParts rest p (less_one limit) parts → AreForwardParts (part ++ (p ++ rest)) p limit (part ∷ parts)
+AreForwardParts-led p part rest limit room first [] are = absurd (omega (arith, are.some))
+AreForwardParts-led p part rest limit room first (next ∷ parts) are = record {
+  some = omega arith;
+  few = few_more limit _ room are.few;
+  joined = ap (λ z. part ++ (p ++ z)) are.joined;
+  cut_at_first = (first, are.cut_at_first);
+  last = λ below. are.last (below_less_one limit _ below);
+}
+
 module _ {X : Type 0} (p t : List X) (i : ℕ) (some : 0 < length p) (first : OccursFirstAt p t i) where
   -- the part before the first occurrence ends where p occurs first in it and p
-  pub first_in_part : OccursFirstAt p (take i t ++ p) (length (take i t))
+  first_in_part : OccursFirstAt p (take i t ++ p) (length (take i t))
   first_in_part =
       let fits = OccursAt-fits p t i some first.here in
       let size : length (take i t) ≡ i = length-take-le i t (omega arith) in
-      let whole : (take i t ++ p) ++ drop (i + length p) t ≡ t = append_assoc (take i t) p (drop (i + length p) t) ∙ cut_whole p t i first.here in
-      record {
-        here = ap (take (length p)) (drop_at (take i t) p (length (take i t)) refl) ∙ take_all (length p) p (omega arith);
-        none_before = λ j there.
-            let in_whole : OccursAt p t j = subst (λ z. OccursAt p z j) whole (OccursAt-append p (take i t ++ p) (drop (i + length p) t) j some there) in
-            omega (arith, size, first.none_before j in_whole);
-      }
+      let front : OccursFirstAt p (take i t ++ p) i =
+      OccursFirstAt-front p (take i t ++ p) (drop (i + length p) t) i some
+      (subst (λ z. OccursFirstAt p z i) (sym (append_assoc (take i t) p (drop (i + length p) t) ∙ cut_whole p t i first.here)) first)
+      (omega (arith, length-append (take i t) p)) in
+      subst (OccursFirstAt p (take i t ++ p)) (sym size) front
 
   -- a part cut off at the first occurrence comes before those of what is behind it
   pub AreForwardParts-more : (limit : Option ℕ) → IfSome limit (λ most. 1 < most) → (parts : List (List X))
       → AreForwardParts (drop (i + length p) t) p (less_one limit) parts → AreForwardParts t p limit (take i t ∷ parts)
-  AreForwardParts-more limit room [] are = absurd (omega (arith, are.some))
-  AreForwardParts-more limit room (part ∷ parts) are = record {
-    some = omega arith;
-    few = few_more limit _ room are.few;
-    joined = ap (λ z. take i t ++ (p ++ z)) are.joined ∙ cut_whole p t i first.here;
-    cut_at_first = (first_in_part, are.cut_at_first);
-    last = λ below. are.last (below_less_one limit _ below);
-  }
+  AreForwardParts-more limit room parts are =
+      subst (λ z. AreForwardParts z p limit (take i t ∷ parts)) (cut_whole p t i first.here)
+      (AreForwardParts-led p (take i t) (drop (i + length p) t) limit room first_in_part parts are)
 
 few_one : (limit : Option ℕ) → IfSome limit (λ most. 0 < most) → IfSome limit (λ most. 1 ≤ most)
 few_one None positive = tt

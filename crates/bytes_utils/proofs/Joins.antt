@@ -1,5 +1,6 @@
 -- Lists of parts that are joined.
-use Rattle.std.proofs.Common.{◌≡◌, refl, sym, ap, ◌∙◌, ◌<◌, List, [], ◌∷◌, ◌++◌, length, arith, append_assoc}
+use Rattle.std.proofs.Common.{◌≡◌, refl, sym, ap, ◌∙◌, ◌<◌, List, [], ◌∷◌, ◌++◌, length, take, drop, arith, append_assoc}
+use Rattle.std.proofs.lemmas.List.{take_at, drop_at}
 use Rattle.bytes_utils.specs.Parts.{join}
 
 pub join-append : {X : Type 0} (p : List X) (xs ys : List (List X)) → 0 < length xs → 0 < length ys → join p (xs ++ ys) ≡ join p xs ++ (p ++ join p ys)
@@ -10,3 +11,10 @@ join-append p (x ∷ z ∷ xs) (y ∷ ys) some others =
     let more : join p (z ∷ (xs ++ y ∷ ys)) ≡ join p (z ∷ xs) ++ (p ++ join p (y ∷ ys)) = join-append p (z ∷ xs) (y ∷ ys) (omega arith) others in
     ap (λ w. x ++ (p ++ w)) more ∙ ap (λ w. x ++ w) (sym (append_assoc p (join p (z ∷ xs)) (p ++ join p (y ∷ ys))))
     ∙ sym (append_assoc x (p ++ join p (z ∷ xs)) (p ++ join p (y ∷ ys)))
+
+-- lists that are joined from two, where the first of both are as long
+pub append_same : {X : Type 0} (a b c d : List X) → length a ≡ length b → a ++ c ≡ b ++ d → (a ≡ b) × (c ≡ d)
+append_same a b c d size whole = (
+  sym (take_at a c (length a) refl) ∙ ap (take (length a)) whole ∙ take_at b d (length a) (sym size),
+  sym (drop_at a c (length a) refl) ∙ ap (drop (length a)) whole ∙ drop_at b d (length a) (sym size),
+)

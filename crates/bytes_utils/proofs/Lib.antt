@@ -6,5 +6,6 @@ pub mod Joins
 pub mod Forward
 pub mod Mirror
 pub mod Backward
+pub mod Inclusive
 pub mod FirstCut
 pub mod Cases

@@ -1,6 +1,7 @@
 -- What an occurrence cuts a list into, and whether there is one.
 use Rattle.std.proofs.Common.{◌≡◌, refl, sym, ap, ◌∙◌, ℕ, zero, suc, ◌+◌, ◌<◌, ◌≤◌, List, [], ◌∷◌, ◌++◌, length, take, drop, arith, length-drop, take-append-drop, ◌⊎◌, inl, inr}
 use Rattle.std.proofs.lemmas.List.{take_at, drop_at, take-append-le, drop-append-le, drop-drop}
+use Rattle.std.proofs.lemmas.Bool.{cases_lt}
 use Rattle.bytes_utils.specs.Occurrence.{OccursAt, Occurs, OccursFirstAt}
 use Rattle.bytes_utils.proofs.Boundaries.{OccursAt-fits}
 
@@ -23,6 +24,37 @@ OccursAt-append p xs ys i some here =
     let le : i ≤ length xs = omega arith in
     let enough : length p ≤ length (drop i xs) = omega (arith, length-drop i xs) in
     ap (take (length p)) (drop-append-le i xs ys le) ∙ take-append-le (length p) (drop i xs) ys enough ∙ here
+
+-- what occurs in the whole and ends within a front occurs in the front
+pub OccursAt-front : {X : Type 0} (p xs ys : List X) (i : ℕ) → OccursAt p (xs ++ ys) i → i + length p ≤ length xs → OccursAt p xs i
+OccursAt-front p xs ys i here fits =
+    let le : i ≤ length xs = omega arith in
+    let enough : length p ≤ length (drop i xs) = omega (arith, length-drop i xs) in
+    sym (take-append-le (length p) (drop i xs) ys enough) ∙ ap (take (length p)) (sym (drop-append-le i xs ys le)) ∙ here
+
+-- the first place in a front is the first in the whole
+pub OccursFirstAt-append : {X : Type 0} (p xs ys : List X) (i : ℕ) → 0 < length p → OccursFirstAt p xs i → OccursFirstAt p (xs ++ ys) i
+OccursFirstAt-append p xs ys i some first = record {
+  here = OccursAt-append p xs ys i some first.here;
+  none_before = λ j there. not_before j there (cases_lt j i);
+}
+  where
+    not_before : (j : ℕ) → OccursAt p (xs ++ ys) j → (j < i) ⊎ (i ≤ j) → i ≤ j
+    not_before j there (inr le) = le
+    not_before j there (inl lt) =
+        let fits = OccursAt-fits p xs i some first.here in
+        first.none_before j (OccursAt-front p xs ys j there (omega arith))
+
+-- and the other way round, where the front holds it
+pub OccursFirstAt-front : {X : Type 0} (p xs ys : List X) (i : ℕ) → 0 < length p → OccursFirstAt p (xs ++ ys) i → i + length p ≤ length xs → OccursFirstAt p xs i
+OccursFirstAt-front p xs ys i some first fits = record {
+  here = OccursAt-front p xs ys i first.here fits;
+  none_before = λ j there. first.none_before j (OccursAt-append p xs ys j some there);
+}
+
+-- there is one first place
+pub first_places_same : {X : Type 0} (p t : List X) (i j : ℕ) → OccursFirstAt p t i → OccursFirstAt p t j → i ≡ j
+first_places_same p t i j first other = omega (arith, first.none_before j other.here, other.none_before i first.here)
 
 -- p occurs first at some place of t, or nowhere
 abbrev pub FirstOrNowhere : {X : Type 0} → List X → List X → Type 0
