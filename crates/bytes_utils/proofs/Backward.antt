@@ -1,12 +1,12 @@
 -- How a list of backward parts grows at the end of the text, and that every text has one: the mirror of the forward parts.
 use Rattle.std.proofs.Common.{◌≡◌, refl, sym, ap, subst, ◌∙◌, ℕ, ◌+◌, ◌-◌, ◌<◌, List, [], ◌∷◌, ◌++◌, Option, Some, length, map, take, drop, reverse, arith, append_assoc, length-append, ◌⊎◌}
 use Rattle.std.specs.Option.{IfSome}
-use Rattle.std.proofs.lemmas.List.{take_at, drop_at, reverse-reverse}
+use Rattle.std.proofs.lemmas.List.{take_at, drop_at}
 use Rattle.std.proofs.lemmas.Bool.{cases_eq}
 use Rattle.bytes_utils.specs.Occurrence.{Occurs, OccursLastAt}
 use Rattle.bytes_utils.specs.Parts.{AreForwardParts, AreBackwardParts}
 use Rattle.bytes_utils.proofs.Forward.{less_one, AreForwardParts-more, AreForwardParts-last, forward_parts}
-use Rattle.bytes_utils.proofs.Mirror.{length-some_reverse, reverse_cut, reverse_place, OccursFirstAt-reverse, AreForwardParts-from_mirror, AreBackwardParts-from_mirror}
+use Rattle.bytes_utils.proofs.Mirror.{length-some_reverse, reversed_twice, reverse_cut, reverse_place, OccursFirstAt-reverse, AreForwardParts-from_mirror, AreBackwardParts-from_mirror}
 
 module _ {X : Type 0} (p t : List X) (i : ℕ) (some : 0 < length p) (last : OccursLastAt p t i) where
   -- in the reverse, what was behind p is in front of it
@@ -62,10 +62,6 @@ backward_parts same p some t limit positive =
     let mirrored = forward_parts same (reverse p) (length-some_reverse p some) (reverse t) limit positive in
     let parts = map reverse mirrored.0 in
     (parts, AreBackwardParts-from_mirror t p limit parts some (subst (AreForwardParts (reverse t) (reverse p) limit) (sym (reversed_twice mirrored.0)) mirrored.1))
-  where
-    reversed_twice : {A : Type 0} (lists : List (List A)) → map reverse (map reverse lists) ≡ lists
-    reversed_twice [] = refl
-    reversed_twice (list ∷ lists) = λ k. reverse-reverse list k ∷ reversed_twice lists k
 
 -- and so has every text
 pub has_backward_parts : (p t : List ℕ) (limit : Option ℕ) → 0 < length p → IfSome limit (λ most. 0 < most) → HasBackwardParts p t limit

@@ -1,5 +1,5 @@
 -- How a list of inclusive parts grows at its front, and that every text has one.
-use Rattle.std.proofs.Common.{◌≡◌, refl, sym, ap, subst, ℕ, zero, suc, ◌+◌, ◌<◌, ◌≤◌, List, [], ◌∷◌, ◌++◌, length, take, drop, arith, length-drop, take-append-drop, ◌⊎◌, inl, inr}
+use Rattle.std.proofs.Common.{◌≡◌, refl, sym, ap, subst, ℕ, zero, suc, ◌+◌, ◌-◌, ◌<◌, ◌≤◌, List, [], ◌∷◌, ◌++◌, length, take, drop, arith, length-drop, take-append-drop, ◌⊎◌, inl, inr}
 use Rattle.std.proofs.lemmas.List.{length-take-le}
 use Rattle.std.proofs.lemmas.List.Elements.{All-nil, All-cons}
 use Rattle.std.proofs.lemmas.Bool.{cases_eq, cases_lt}
@@ -9,8 +9,8 @@ use Rattle.bytes_utils.proofs.Boundaries.{OccursAt-fits}
 use Rattle.bytes_utils.proofs.Occurrences.{OccursFirstAt-front, FirstOrNowhere, first_or_nowhere}
 
 -- the list without an element has no parts
-pub AreInclusiveParts-nil : {X : Type 0} (p : List X) → AreInclusiveParts [] p []
-AreInclusiveParts-nil p = record {
+pub AreInclusiveParts-none : {X : Type 0} (p : List X) → AreInclusiveParts [] p []
+AreInclusiveParts-none p = record {
   joined = refl;
   none_empty = All-nil (λ part. 0 < length part);
   cut_behind_first = tt;
@@ -18,8 +18,8 @@ AreInclusiveParts-nil p = record {
 }
 
 -- a text that isn't empty is its only part where p doesn't occur in it, or first at its end
-pub AreInclusiveParts-whole : {X : Type 0} (p t : List X) → 0 < length t → EndsAtFirst p t ⊎ (¬ Occurs p t) → AreInclusiveParts t p (t ∷ [])
-AreInclusiveParts-whole p t long ends = record {
+pub AreInclusiveParts-last : {X : Type 0} (p t : List X) → 0 < length t → EndsAtFirst p t ⊎ (¬ Occurs p t) → AreInclusiveParts t p (t ∷ [])
+AreInclusiveParts-last p t long ends = record {
   joined = refl;
   none_empty = All-cons (λ part. 0 < length part) t [] long (All-nil (λ part. 0 < length part));
   cut_behind_first = tt;
@@ -55,6 +55,10 @@ module _ {X : Type 0} (p t : List X) (i : ℕ) (some : 0 < length p) (first : Oc
       subst (λ z. AreInclusiveParts z p (take (i + length p) t ∷ parts)) (take-append-drop (i + length p) t)
       (AreInclusiveParts-led p (take (i + length p) t) (drop (i + length p) t) (omega (arith, size)) front_ends (omega (arith, length-drop (i + length p) t)) parts are)
 
+-- a first occurrence that ends the text
+pub ends_whole : {X : Type 0} (p t : List X) (i : ℕ) → OccursFirstAt p t i → i + length p ≡ length t → EndsAtFirst p t
+ends_whole p t i first whole = let place : i ≡ length t - length p = omega arith in subst (OccursFirstAt p t) place first
+
 abbrev pub HasInclusiveParts : {X : Type 0} → List X → List X → Type 0
 HasInclusiveParts {X} p t = (parts : List (List X)) × AreInclusiveParts t p parts
 
@@ -69,14 +73,14 @@ module _ {X : Type 0} (same : (x y : X) → (x ≡ y) ⊎ (¬ (x ≡ y))) (p : L
       (take (i + length p) t ∷ more.0, AreInclusiveParts-more p t i some first left more.0 more.1)
   cut_or_whole t long i first (inr end) later =
       let fits = OccursAt-fits p t i some first.here in
-      (t ∷ [], AreInclusiveParts-whole p t long (inl (subst (OccursFirstAt p t) (omega arith) first)))
+      (t ∷ [], AreInclusiveParts-last p t long (inl (ends_whole p t i first (omega arith))))
 
   cut_or_last : (t : List X) → 0 < length t → FirstOrNowhere p t → ShorterHave t → HasInclusiveParts p t
-  cut_or_last t long (inr lacks) later = (t ∷ [], AreInclusiveParts-whole p t long (inr lacks))
+  cut_or_last t long (inr lacks) later = (t ∷ [], AreInclusiveParts-last p t long (inr lacks))
   cut_or_last t long (inl found) later = cut_or_whole t long found.0 found.1 (cases_lt (found.0 + length p) (length t)) later
 
   parts_within : (n : ℕ) (t : List X) → length t ≤ n → HasInclusiveParts p t
-  parts_within n [] le = ([], AreInclusiveParts-nil p)
+  parts_within n [] le = ([], AreInclusiveParts-none p)
   parts_within zero (c ∷ cs) le = absurd (omega arith)
   parts_within (suc n) (c ∷ cs) le =
       cut_or_last (c ∷ cs) (omega arith) (first_or_nowhere same p (c ∷ cs) some) (λ rest lt. parts_within n rest (omega arith))

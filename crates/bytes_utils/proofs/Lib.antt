@@ -7,5 +7,6 @@ pub mod Forward
 pub mod Mirror
 pub mod Backward
 pub mod Inclusive
+pub mod Unique
 pub mod FirstCut
 pub mod Cases

@@ -13,12 +13,17 @@ pub length-some_reverse : {X : Type 0} (p : List X) → 0 < length p → 0 < len
 length-some_reverse p some = omega (arith, length-reverse p, some)
 
 -- a relation of three things, each replaced by one that is the same
-replaced : {A B C : Type 0} (R : A → B → C → Type 0) {a b : A} {c d : B} {u v : C} → a ≡ b → c ≡ d → u ≡ v → R a c u → R b d v
+pub replaced : {A B C : Type 0} (R : A → B → C → Type 0) {a b : A} {c d : B} {u v : C} → a ≡ b → c ≡ d → u ≡ v → R a c u → R b d v
 replaced R {b} {c} {d} {u} e f g h = subst (λ z. R b d z) g (subst (λ z. R b z u) f (subst (λ z. R z c u) e h))
 
 reverse-between : {X : Type 0} (front p back : List X) → reverse (front ++ (p ++ back)) ≡ reverse back ++ (reverse p ++ reverse front)
 reverse-between front p back =
     reverse-append front (p ++ back) ∙ ap (λ z. z ++ reverse front) (reverse-append p back) ∙ append_assoc (reverse back) (reverse p) (reverse front)
+
+-- lists that are each reversed twice
+pub reversed_twice : {X : Type 0} (lists : List (List X)) → map reverse (map reverse lists) ≡ lists
+reversed_twice [] = refl
+reversed_twice (list ∷ lists) = λ k. reverse-reverse list k ∷ reversed_twice lists k
 
 -- the place, counted from the other end
 module _ {X : Type 0} (p t : List X) (i : ℕ) (here : OccursAt p t i) where
@@ -35,7 +40,7 @@ module _ {X : Type 0} (p t : List X) (i : ℕ) (here : OccursAt p t i) where
       subst (λ k. OccursAt (reverse p) (reverse t) k) reverse_place
       (subst (λ z. OccursAt (reverse p) z (length back)) (sym reverse_cut) (OccursAt-between back (reverse p) (reverse (take i t))))
 
-OccursAt-from_reverse : {X : Type 0} (p t : List X) (j : ℕ) → OccursAt (reverse p) (reverse t) j → OccursAt p t (length t - (j + length p))
+pub OccursAt-from_reverse : {X : Type 0} (p t : List X) (j : ℕ) → OccursAt (reverse p) (reverse t) j → OccursAt p t (length t - (j + length p))
 OccursAt-from_reverse p t j here =
     let place : length (reverse t) - (j + length (reverse p)) ≡ length t - (j + length p) = λ k. length-reverse t k - (j + length-reverse p k) in
     replaced OccursAt (reverse-reverse p) (reverse-reverse t) place (OccursAt-reverse (reverse p) (reverse t) j here)
@@ -58,8 +63,8 @@ OccursLastAt-reverse p t i some first = record {
       omega (arith, first.none_before _ (OccursAt-from_reverse p t j there), fits, length-reverse p, length-reverse t);
 }
 
--- what occurs in no list occurs in no reverse, and the other way round
-lacks-reverse : {X : Type 0} (p t : List X) → (¬ Occurs p t) → ¬ Occurs (reverse p) (reverse t)
+-- what doesn't occur in a list doesn't occur in its reverse, and the other way round
+pub lacks-reverse : {X : Type 0} (p t : List X) → (¬ Occurs p t) → ¬ Occurs (reverse p) (reverse t)
 lacks-reverse p t lacks = λ occurs. lacks (_, OccursAt-from_reverse p t occurs.0 occurs.1)
 
 lacks-from_reverse : {X : Type 0} (p t : List X) → (¬ Occurs (reverse p) (reverse t)) → ¬ Occurs p t
@@ -103,7 +108,7 @@ module _ {X Y : Type 0} (f : X → Y) (P : X → Type 0) (Q : Y → Type 0) wher
   OfLast-from_map each (x ∷ []) holds = each x holds
   OfLast-from_map each (x ∷ y ∷ xs) holds = OfLast-from_map each (y ∷ xs) holds
 
-map-reverse : {X Y : Type 0} (f : X → Y) (xs : List X) → map f (reverse xs) ≡ reverse (map f xs)
+pub map-reverse : {X Y : Type 0} (f : X → Y) (xs : List X) → map f (reverse xs) ≡ reverse (map f xs)
 map-reverse f [] = refl
 map-reverse f (x ∷ xs) =
     ap (map f) (reverse-append (x ∷ []) xs) ∙ map-append f (reverse xs) (x ∷ []) ∙ ap (λ z. z ++ f x ∷ []) (map-reverse f xs)
@@ -119,7 +124,7 @@ reverse-join p (part ∷ next ∷ parts) =
     ∙ sym (join-append (reverse p) (reverse others) (reverse part ∷ []) some (omega arith)) ∙ ap (join (reverse p)) (sym (reverse-append (reverse part ∷ []) others))
 
 -- parts, each reversed, join to the reverse of what they join to in the other order
-join-reversed : {X : Type 0} (p : List X) (parts : List (List X)) → reverse (join p (reverse parts)) ≡ join (reverse p) (map reverse parts)
+pub join-reversed : {X : Type 0} (p : List X) (parts : List (List X)) → reverse (join p (reverse parts)) ≡ join (reverse p) (map reverse parts)
 join-reversed p parts =
     reverse-join p (reverse parts) ∙ ap (λ z. join (reverse p) (reverse z)) (map-reverse reverse parts)
     ∙ ap (join (reverse p)) (reverse-reverse (map reverse parts))

@@ -1,0 +1,133 @@
+-- A list has no two lists of forward parts, of backward parts, or of inclusive parts.
+use Rattle.std.proofs.Common.{◌≡◌, refl, sym, ap, subst, ◌∙◌, ℕ, suc, ◌-◌, ◌<◌, ◌≤◌, List, [], ◌∷◌, ◌++◌, Option, None, Some, length, map, reverse, arith, append_assoc, length-append, ◌⊎◌, inl, inr}
+use Rattle.std.specs.Option.{IfSome}
+use Rattle.std.proofs.lemmas.List.{append_cancel_left}
+use Rattle.std.proofs.lemmas.List.Elements.{All-head, All-tail}
+use Rattle.bytes_utils.specs.Occurrence.{Occurs, OccursFirstAt}
+use Rattle.bytes_utils.specs.Parts.{join, EndsAtFirst, AreForwardParts, AreBackwardParts, AreInclusiveParts}
+use Rattle.bytes_utils.proofs.Boundaries.{OccursAt-fits}
+use Rattle.bytes_utils.proofs.Occurrences.{OccursFirstAt-append, first_places_same}
+use Rattle.bytes_utils.proofs.Joins.{append_same}
+use Rattle.bytes_utils.proofs.Forward.{less_one}
+use Rattle.bytes_utils.proofs.Mirror.{length-some_reverse, reversed_twice, AreForwardParts-from_mirror}
+
+-- Of a limit that allows another part.
+
+room_for_two : (limit : Option ℕ) (n : ℕ) → IfSome limit (λ most. suc (suc n) ≤ most) → IfSome limit (λ most. 1 < most)
+room_for_two None n few = tt
+room_for_two (Some most) n few = omega arith
+
+few_less_one : (limit : Option ℕ) (n : ℕ) → IfSome limit (λ most. suc n ≤ most) → IfSome (less_one limit) (λ most. n ≤ most)
+few_less_one None n few = tt
+few_less_one (Some most) n few = omega arith
+
+below_more : (limit : Option ℕ) (n : ℕ) → IfSome (less_one limit) (λ most. n < most) → IfSome limit (λ most. suc n < most)
+below_more None n below = tt
+below_more (Some most) n below = omega arith
+
+-- The first of two forward parts or more.
+module _ {X : Type 0} (p t : List X) (some : 0 < length p) (limit : Option ℕ) (part next : List X) (parts : List (List X)) (are : AreForwardParts t p limit (part ∷ next ∷ parts)) where
+  -- it ends at the first place at which p occurs in t
+  pub first_place : OccursFirstAt p t (length part)
+  first_place =
+      let longer = OccursFirstAt-append p (part ++ p) (join p (next ∷ parts)) (length part) some are.cut_at_first.0 in
+      subst (λ z. OccursFirstAt p z (length part)) (append_assoc part p (join p (next ∷ parts)) ∙ are.joined) longer
+
+  -- and the others are the parts of what is behind that p
+  pub AreForwardParts-others : AreForwardParts (join p (next ∷ parts)) p (less_one limit) (next ∷ parts)
+  AreForwardParts-others = record {
+    some = omega arith;
+    few = few_less_one limit _ are.few;
+    joined = refl;
+    cut_at_first = are.cut_at_first.1;
+    last = λ below. are.last (below_more limit _ below);
+  }
+
+  -- so t isn't its own only part
+  not_alone : (whole : List X) → AreForwardParts t p limit (whole ∷ []) → ⊥
+  not_alone whole alone =
+      alone.last (room_for_two limit _ are.few) (subst (Occurs p) (sym alone.joined) (length part, first_place.here))
+
+module _ {X : Type 0} (p : List X) (some : 0 < length p) where
+  pub forward_same : (t : List X) (limit : Option ℕ) (parts others : List (List X)) → AreForwardParts t p limit parts → AreForwardParts t p limit others → parts ≡ others
+  forward_same t limit [] others are also = absurd (omega (arith, are.some))
+  forward_same t limit (part ∷ parts) [] are also = absurd (omega (arith, also.some))
+  forward_same t limit (part ∷ []) (other ∷ []) are also = ap (λ z. z ∷ []) (are.joined ∙ sym also.joined)
+  forward_same t limit (part ∷ []) (other ∷ next ∷ others) are also = absurd (not_alone p t some limit other next others also part are)
+  forward_same t limit (part ∷ next ∷ parts) (other ∷ []) are also = absurd (not_alone p t some limit part next parts are other also)
+  forward_same t limit (part ∷ next ∷ parts) (other ∷ later ∷ others) are also =
+      let size = first_places_same p t (length part) (length other) (first_place p t some limit part next parts are) (first_place p t some limit other later others also) in
+      let cut = append_same part other (p ++ join p (next ∷ parts)) (p ++ join p (later ∷ others)) size (are.joined ∙ sym also.joined) in
+      let rest = append_cancel_left p (join p (next ∷ parts)) (join p (later ∷ others)) cut.1 in
+      let behind = AreForwardParts-others p t some limit other later others also in
+      let more = forward_same (join p (next ∷ parts)) (less_one limit) (next ∷ parts) (later ∷ others) (AreForwardParts-others p t some limit part next parts are)
+      (subst (λ z. AreForwardParts z p (less_one limit) (later ∷ others)) (sym rest) behind) in
+      λ k. cut.0 k ∷ more k
+
+-- the same from the back, by the mirror
+pub backward_same : {X : Type 0} (p : List X) → 0 < length p → (t : List X) (limit : Option ℕ) (parts others : List (List X))
+    → AreBackwardParts t p limit parts → AreBackwardParts t p limit others → parts ≡ others
+backward_same p some t limit parts others are also =
+    let mirrored = forward_same (reverse p) (length-some_reverse p some) (reverse t) limit (map reverse parts) (map reverse others)
+    (AreForwardParts-from_mirror t p limit parts some are) (AreForwardParts-from_mirror t p limit others some also) in
+    sym (reversed_twice parts) ∙ ap (map reverse) mirrored ∙ reversed_twice others
+
+length-join : {X : Type 0} (part : List X) (parts : List (List X)) → length part ≤ length (join [] (part ∷ parts))
+length-join part [] = omega arith
+length-join part (next ∷ parts) = omega (arith, length-append part (join [] (next ∷ parts)))
+
+-- The first of two inclusive parts or more.
+module _ {X : Type 0} (p t : List X) (some : 0 < length p) (part next : List X) (parts : List (List X)) (are : AreInclusiveParts t p (part ∷ next ∷ parts)) where
+  first_end : OccursFirstAt p t (length part - length p)
+  first_end =
+      subst (λ z. OccursFirstAt p z (length part - length p)) are.joined
+      (OccursFirstAt-append p part (join [] (next ∷ parts)) (length part - length p) some are.cut_behind_first.0)
+
+  part_long : length p ≤ length part
+  part_long = omega (arith, OccursAt-fits p part (length part - length p) some are.cut_behind_first.0.here)
+
+  AreInclusiveParts-others : AreInclusiveParts (join [] (next ∷ parts)) p (next ∷ parts)
+  AreInclusiveParts-others = record {
+    joined = refl;
+    none_empty = All-tail (λ q. 0 < length q) part (next ∷ parts) are.none_empty;
+    cut_behind_first = are.cut_behind_first.1;
+    last = are.last;
+  }
+
+  part_short : length part < length t
+  part_short =
+      let long = All-head (λ q. 0 < length q) next parts (All-tail (λ q. 0 < length q) part (next ∷ parts) are.none_empty) in
+      omega (arith, ap length are.joined, length-append part (join [] (next ∷ parts)), length-join next parts, long)
+
+  -- so t isn't its own only part
+  not_alone_inclusive : (whole : List X) → AreInclusiveParts t p (whole ∷ []) → ⊥
+  not_alone_inclusive whole alone = otherwise alone.last
+    where
+      otherwise : EndsAtFirst p whole ⊎ (¬ Occurs p whole) → ⊥
+      otherwise (inr lacks) = lacks (subst (Occurs p) (sym alone.joined) (length part - length p, first_end.here))
+      otherwise (inl ends) =
+          let fits = OccursAt-fits p whole (length whole - length p) some ends.here in
+          let at_end = subst (λ z. OccursFirstAt p z (length whole - length p)) alone.joined ends in
+          omega (arith, first_places_same p t (length part - length p) (length whole - length p) first_end at_end, part_long, part_short, ap length alone.joined)
+
+module _ {X : Type 0} (p : List X) (some : 0 < length p) where
+  none_join : (t part : List X) (parts : List (List X)) → AreInclusiveParts t p [] → AreInclusiveParts t p (part ∷ parts) → ⊥
+  none_join t part parts none are =
+      let long = All-head (λ q. 0 < length q) part parts are.none_empty in
+      omega (arith, ap length none.joined, ap length are.joined, length-join part parts, long)
+
+  pub inclusive_same : (t : List X) (parts others : List (List X)) → AreInclusiveParts t p parts → AreInclusiveParts t p others → parts ≡ others
+  inclusive_same t [] [] are also = refl
+  inclusive_same t [] (other ∷ others) are also = absurd (none_join t other others are also)
+  inclusive_same t (part ∷ parts) [] are also = absurd (none_join t part parts also are)
+  inclusive_same t (part ∷ []) (other ∷ []) are also = ap (λ z. z ∷ []) (are.joined ∙ sym also.joined)
+  inclusive_same t (part ∷ []) (other ∷ next ∷ others) are also = absurd (not_alone_inclusive p t some other next others also part are)
+  inclusive_same t (part ∷ next ∷ parts) (other ∷ []) are also = absurd (not_alone_inclusive p t some part next parts are other also)
+  inclusive_same t (part ∷ next ∷ parts) (other ∷ later ∷ others) are also =
+      let place = first_places_same p t (length part - length p) (length other - length p) (first_end p t some part next parts are) (first_end p t some other later others also) in
+      let size : length part ≡ length other = omega (arith, place, part_long p t some part next parts are, part_long p t some other later others also) in
+      let cut = append_same part other (join [] (next ∷ parts)) (join [] (later ∷ others)) size (are.joined ∙ sym also.joined) in
+      let behind = AreInclusiveParts-others p t some other later others also in
+      let more = inclusive_same (join [] (next ∷ parts)) (next ∷ parts) (later ∷ others) (AreInclusiveParts-others p t some part next parts are)
+      (subst (λ z. AreInclusiveParts z p (later ∷ others)) (sym cut.1) behind) in
+      λ k. cut.0 k ∷ more k
