@@ -8,5 +8,6 @@ pub mod Mirror
 pub mod Backward
 pub mod Inclusive
 pub mod Unique
+pub mod Agree
 pub mod FirstCut
 pub mod Cases
