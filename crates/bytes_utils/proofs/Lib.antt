@@ -9,5 +9,6 @@ pub mod Backward
 pub mod Inclusive
 pub mod Unique
 pub mod Agree
+pub mod Limits
 pub mod FirstCut
 pub mod Cases
