@@ -2,6 +2,7 @@
 #![tactic(auto)]
 
 mod cut;
+pub mod laws;
 mod program;
 
 pub use cut::{How, Parts, cut_all};

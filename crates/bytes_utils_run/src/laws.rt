@@ -1,0 +1,41 @@
+//! What the definitions of parts say of one another: laws for callers, of lists of any elements.
+//!
+//! A law is a function without parameters that does nothing. Its contract is a statement about the
+//! definitions that the contracts of the working functions cite, so a call of it lets a caller
+//! conclude more from those contracts. The type parameter is the type of the elements.
+ghost use Rattle.bytes_utils_run.specs.Laws.{UniqueForwardLaw, UniqueBackwardLaw, UniqueInclusiveLaw, MirrorLaw, AgreeLaw, ForwardLimitLaw, BackwardLimitLaw};
+
+/// Exactly one list of parts is cut from the front, with a limit of at least 1 or none. So two
+/// runs of `split` or `splitn` that aren't refused give the same parts, whoever wrote them, also
+/// where a separator overlaps itself.
+pub fn unique_forward<X>()
+    ensures { UniqueForwardLaw X }
+{}
+
+/// Exactly one list of parts is cut from the back, with a limit of at least 1 or none: the law of
+/// `rsplit` and `rsplitn`.
+pub fn unique_backward<X>()
+    ensures { UniqueBackwardLaw X }
+{}
+
+/// Exactly one list of parts keeps the separator at their ends: the law of `split_inclusive`.
+pub fn unique_inclusive<X>()
+    ensures { UniqueInclusiveLaw X }
+{}
+
+/// Cutting from the back is cutting from the front in a mirror.
+pub fn mirror<X>()
+    ensures { MirrorLaw X }
+{}
+
+/// Where a separator doesn't overlap itself, both ways give the same parts, in opposite orders. In
+/// `ababa` the separator `aba` does, and the two ways give other parts.
+pub fn agree<X>()
+    ensures { AgreeLaw X }
+{}
+
+/// The parts under a limit are those without one, the last ones uncut.
+pub fn limits<X>()
+    ensures forward { ForwardLimitLaw X }
+    ensures backward { BackwardLimitLaw X }
+{}
