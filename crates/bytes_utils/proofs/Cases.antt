@@ -4,7 +4,7 @@ use Rattle.std.specs.Str.{chars}
 use Rattle.std.proofs.lemmas.Slice.Eq.{bytes_eq-Decides}
 use Rattle.bytes_utils.specs.Occurrence.{Occurs, OccursAt, OccursFirstAt}
 use Rattle.bytes_utils.specs.Parts.{join, EachButLast, OfLast, AreForwardParts}
-use Rattle.bytes_utils.specs.Splitting.{Splitting, AreForwardPartsToCome, HoldsSeparator}
+use Rattle.bytes_utils.specs.Splitting.{Splitting, AreForwardPartsToCome, CutsNext}
 use Rattle.bytes_utils.specs.Step.{IsStep}
 use Rattle.bytes_utils.proofs.Forward.{AreForwardParts-more}
 use Rattle.bytes_utils.specs.Lines.{lines, line_feed, carriage_return}
@@ -175,11 +175,11 @@ lines-inner_return = refl
 
 -- a splitter by a comma that has this text still to cut
 abbrev by_comma : Option (List ℕ) → Splitting
-by_comma rest = record { rest = rest; separator = codes "," }
+by_comma rest = record { rest = rest; separator = codes ","; limit = None; begun = false }
 
 -- a step of it
 abbrev IsStepByComma : Option (List ℕ) → Option (Result (List ℕ) ℕ) → Option (List ℕ) → Type 0
-IsStepByComma rest answer left = IsStep AreForwardPartsToCome HoldsSeparator (by_comma rest) answer (by_comma left)
+IsStepByComma rest answer left = IsStep AreForwardPartsToCome CutsNext (by_comma rest) answer (by_comma left)
 
 pub step-part : IsStepByComma (Some (codes "a,b,c")) (Some (Ok (codes "a"))) (Some (codes "b,c"))
 unfolding chars
@@ -193,7 +193,7 @@ step-part = (
 
 pub step-refused : IsStepByComma (Some (codes "b,c")) (Some (Err 1)) None
 unfolding chars
-step-refused = (λ nothing. not-suc-le-zero nothing.some, ((1, refl), refl))
+step-refused = (λ nothing. not-suc-le-zero nothing.some, ((tt, ((1, refl), tt)), refl))
 
 pub step-last : IsStepByComma (Some (codes "c")) (Some (Ok (codes "c"))) None
 unfolding chars
@@ -213,14 +213,16 @@ step-end = (refl, refl)
 -- an error where nothing has to be cut
 pub last_part_fails : ¬ IsStepByComma (Some (codes "c")) (Some (Err 1)) None
 unfolding chars
-last_part_fails step = lacks-Occurs _ _ refl step.1.0.0 step.1.0.1
+last_part_fails step = lacks-Occurs _ _ refl step.1.0.1.0.0 step.1.0.1.0.1
 
 -- an error after which parts still come
 pub goes_on_after_error : ¬ IsStepByComma (Some (codes "b,c")) (Some (Err 1)) (Some (codes "c"))
+unfolding chars
 goes_on_after_error step = not-suc-le-zero step.1.1.some
 
 -- the end, where a part is to come
 pub ends_early : ¬ IsStepByComma (Some (codes "c")) None None
+unfolding chars
 ends_early step = not-suc-le-zero step.0.some
 
 -- a part after the end

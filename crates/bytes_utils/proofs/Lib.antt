@@ -10,5 +10,10 @@ pub mod Inclusive
 pub mod Unique
 pub mod Agree
 pub mod Limits
-pub mod FirstCut
+pub mod FromEnds
+pub mod PartCut
+pub mod EachCharacter
+pub mod CharacterCut
+pub mod NextPart
+pub mod Results
 pub mod Cases

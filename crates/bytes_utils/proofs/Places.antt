@@ -1,10 +1,10 @@
 -- A place in a text's bytes at which a character begins, and the text cut there.
 use Rattle.std.proofs.Common.{◌≡◌, refl, sym, ap, subst, ◌∙◌, ℕ, ◌+◌, ◌-◌, ◌<◌, ◌≤◌, List, [], ◌∷◌, ◌++◌, length, take, drop, arith, true, length-append, length-drop, length-take, take-add, take-append-drop, IsUtf8, IsCharBoundary}
-use Rattle.std.proofs.lemmas.List.{take_at, drop_at}
+use Rattle.std.proofs.lemmas.List.{take_at, drop_at, take_all, length-take-le}
 use Rattle.std.proofs.lemmas.List.Elements.{All-nil, All-cons}
 use Rattle.std.proofs.lemmas.Bool.{and_from, and_parts}
 use Rattle.std.proofs.lemmas.Bool.Decides.{nat_tests}
-use Rattle.std.proofs.lemmas.Str.{IsCharBoundary-at_seam, encodes-append, encodes-chars, scalars-chars, chars_from_encodes, length-le-encodes}
+use Rattle.std.proofs.lemmas.Str.{IsCharBoundary-at_seam, IsUtf8-take, chars-append, encodes-append, encodes-chars, scalars-chars, chars_from_encodes, length-le-encodes}
 use Rattle.std.specs.Str.{chars, encode_utf8_all as encodes, all_scalars as scalars}
 use Rattle.std.specs.Char.{IsScalar, InScalarRange}
 use Rattle.bytes_utils.specs.Text.{AreCharacters, byte_place}
@@ -67,3 +67,31 @@ module _ (text : List ℕ) (text_is : IsUtf8 text) (i : ℕ) where
       let bytes : drop (byte_place (chars text) i) text ≡ encodes (drop i (chars text)) =
       ap (drop (byte_place (chars text) i)) split_at_place ∙ drop_at (encodes (take i (chars text))) (encodes (drop i (chars text))) _ refl in
       sym (chars_from_encodes _ _ (subst IsUtf8 (sym bytes) behind_is) (sym bytes))
+
+-- a boundary is where some character begins, or the end
+pub place_of_boundary : (text : List ℕ) → IsUtf8 text → (at : ℕ) → IsCharBoundary text at
+    → at ≡ byte_place (chars text) (length (chars (take at text)))
+place_of_boundary text text_is at boundary =
+    let front_is = IsUtf8-take text at text_is boundary in
+    let front = chars (take at text) in
+    let whole : chars text ≡ front ++ chars (drop at text) = ap chars (sym (take-append-drop at text)) ∙ chars-append (take at text) (drop at text) front_is in
+    let first : take (length front) (chars text) ≡ front = ap (take (length front)) whole ∙ take_at front (chars (drop at text)) (length front) refl in
+    sym (ap (λ z. length (encodes z)) first ∙ ap length (encodes-chars (take at text) front_is) ∙ length-take-le at text boundary.0)
+
+-- the last boundary before the end is where the last character begins
+pub last_place : (text : List ℕ) → IsUtf8 text → (at : ℕ) → at < length text → IsCharBoundary text at
+    → ((i : ℕ) → at < i → i < length text → ¬ IsCharBoundary text i)
+    → (0 < length (chars text)) × (at ≡ byte_place (chars text) (length (chars text) - 1))
+last_place text text_is at within boundary nearest =
+    let n = length (chars text) in
+    let i = length (chars (take at text)) in
+    let place = place_of_boundary text text_is at boundary in
+    let all = (λ (k : ℕ) (l : n ≤ k). ap (λ z. length (encodes z)) (take_all k (chars text) l) ∙ ap length (encodes-chars text text_is)) in
+    let past : n ≤ i → ⊥ = λ l. omega (arith, place, within, all i l) in
+    let inside : i < n = omega (arith, past) in
+    let last_inside : byte_place (chars text) (n - 1) < length text =
+    omega (arith, all n (omega arith), byte_place-less (chars text) (n - 1) n (omega (arith, inside)) (omega arith)) in
+    let lower : i < n - 1 → ⊥ = λ l. nearest (byte_place (chars text) (n - 1)) (omega (arith, place, byte_place-less (chars text) i (n - 1) l (omega arith))) last_inside
+    (boundary_at_place text text_is (n - 1)) in
+    let same : i ≡ n - 1 = omega (arith, lower, inside) in
+    (omega (arith, inside), place ∙ ap (byte_place (chars text)) same)

@@ -2,10 +2,10 @@
 use Rattle.std.proofs.Common.{◌≡◌, ◌↔◌, refl, sym, ap, subst, ℕ, ◌<◌, List, [], ◌∷◌, Option, None, Some, length, arith, IsUtf8}
 use Rattle.std.proofs.lemmas.Str.{encodes-chars}
 use Rattle.std.specs.Str.{chars, encode_utf8_all as encodes}
-use Rattle.memchr.specs.Find.{OccursAt as HasNeedleAt, FindsNeedle}
+use Rattle.memchr.specs.Find.{OccursAt as HasNeedleAt, FindsNeedle, FindsLastNeedle}
 use Rattle.memchr.proofs.lemmas.MatchLemmas.{OccursAt-part}
 use Rattle.bytes_utils.specs.Text.{byte_place}
-use Rattle.bytes_utils.specs.Occurrence.{OccursAt, FindsFirst}
+use Rattle.bytes_utils.specs.Occurrence.{OccursAt, FindsFirst, FindsLast}
 use Rattle.bytes_utils.proofs.Boundaries.{OccursAt-fits, HasNeedleAt-from_occurs, boundaries_law}
 use Rattle.bytes_utils.proofs.Places.{AreCharacters-chars, byte_place-less}
 
@@ -55,5 +55,26 @@ module _ (text sep : List ℕ) (text_is : IsUtf8 text) (sep_is : IsUtf8 sep) (so
               let fits = OccursAt-fits _ _ here.0 long here.2 in
               let not_below : j < here.0 → ⊥ = λ l. not_before (omega (arith, here.1, byte_place-less (chars text) j here.0 l (omega arith))) in
               omega arith;
+        },
+      )
+
+  pub FindsLast-from_needle : (r : Option ℕ) → FindsLastNeedle text sep r → FindsLast (chars sep) (chars text) r
+  FindsLast-from_needle None nowhere = λ occurs.
+      let here = in_bytes occurs.0 occurs.1 in
+      let fits = here.fits in
+      nowhere (byte_place (chars text) occurs.0) (omega arith) (omega arith) here
+  FindsLast-from_needle (Some k) found =
+      let here = in_chars k found.1 in (
+        here.0,
+        here.1,
+        record {
+          here = here.2;
+          none_behind = λ j there.
+              let occurs = in_bytes j there in
+              let occurs_fits = occurs.fits in
+              let not_behind : k < byte_place (chars text) j → ⊥ = λ l. found.0.after _ (omega (arith, l)) (omega (arith, occurs_fits)) occurs in
+              let fits = OccursAt-fits _ _ j long there in
+              let not_above : here.0 < j → ⊥ = λ l. not_behind (omega (arith, here.1, byte_place-less (chars text) here.0 j l (omega (arith, fits)))) in
+              omega (arith, not_above);
         },
       )

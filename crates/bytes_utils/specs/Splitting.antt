@@ -1,23 +1,54 @@
--- The state of a splitter by a separator.
-use Rattle.std.specs.Prelude.{◌≡◌, ℕ, ◌+◌, List, [], length, Option, None, MatchOption, IsSomeAnd}
-use Rattle.std.specs.Option.{option_map_or}
+-- The state of a splitter by a separator, and what is still to come in it.
+use Rattle.std.specs.Prelude.{◌≡◌, ℕ, suc, ◌+◌, ◌-◌, ◌<◌, List, [], ◌∷◌, length, Bool, Option, MatchOption, IfSome, IsSomeAnd, if◌then◌else◌}
+use Rattle.std.specs.Bool.{MatchBool, OnTrue}
+use Rattle.std.specs.Option.{option_map, option_map_or}
 use Rattle.std.specs.Str.{chars}
 use Rattle.bytes_utils.specs.Occurrence.{Occurs}
-use Rattle.bytes_utils.specs.Parts.{AreForwardParts}
+use Rattle.bytes_utils.specs.Parts.{ArePartsFromFront, ArePartsFromBack}
+use Rattle.bytes_utils.specs.declared.split.direction.Direction.{Direction}
+use Rattle.bytes_utils.specs.declared.split.direction.Direction.TheVariants.{Forward, Backward}
 
--- what is still to be cut, if anything, and the separator, both as bytes
+-- A splitter by a separator: what is still to be cut, if anything, and the separator, both as bytes; how many parts may still be given,
+-- where that is limited; whether the first empty part that an empty separator makes has been given.
 pub record Splitting : Type 0 where
   pub rest : Option (List ℕ)
   pub separator : List ℕ
+  pub limit : Option ℕ
+  pub begun : Bool
 
--- these parts of what is left are to come, cut from the front; none where nothing is left
+-- Are says which lists are the parts of a text by a separator with a limit. These parts of what is left are to come; none where nothing
+-- is left. Once the first empty part by an empty separator was given, those behind it are.
+abbrev AreLeft : (List ℕ → List ℕ → Option ℕ → List (List ℕ) → Type 0) → Splitting → List (List ℕ) → Type 0
+AreLeft Are s parts = MatchOption s.rest (parts ≡ [])
+    (λ text. MatchBool s.begun (Are (chars text) [] (option_map suc s.limit) ([] ∷ parts)) (Are (chars text) (chars s.separator) s.limit parts))
+
+-- these parts are to come, from the front
 abbrev pub AreForwardPartsToCome : Splitting → List (List ℕ) → Type 0
-AreForwardPartsToCome s parts = MatchOption s.rest (parts ≡ []) (λ text. AreForwardParts (chars text) (chars s.separator) None parts)
+AreForwardPartsToCome = AreLeft ArePartsFromFront
 
--- what is left holds a separator
-abbrev pub HoldsSeparator : Splitting → Type 0
-HoldsSeparator s = IsSomeAnd s.rest (λ text. Occurs (chars s.separator) (chars text))
+-- these parts are to come, from the back
+abbrev pub AreBackwardPartsToCome : Splitting → List (List ℕ) → Type 0
+AreBackwardPartsToCome = AreLeft ArePartsFromBack
 
--- a bound on the parts to come: one more than the bytes left
+-- these parts are to come, from the end that is named
+abbrev pub ArePartsToCome : Direction → Splitting → List (List ℕ) → Type 0
+ArePartsToCome Forward = AreForwardPartsToCome
+ArePartsToCome Backward = AreBackwardPartsToCome
+
+-- there is no limit, or it leaves more than one part
+abbrev pub LeavesMore : Option ℕ → Type 0
+LeavesMore limit = IfSome limit (λ most. 1 < most)
+
+-- what is left of a limit when a part was given
+abbrev pub one_less : Option ℕ → Option ℕ
+one_less = option_map (λ most. most - 1)
+
+-- The next step splits the storage: the limit leaves more than one part, and what is left holds a separator. Every text holds the empty
+-- one; but what is left when all characters were given is the last part, and needs no split.
+abbrev pub CutsNext : Splitting → Type 0
+CutsNext s = LeavesMore s.limit
+    × IsSomeAnd s.rest (λ text. Occurs (chars s.separator) (chars text) × OnTrue s.begun (0 < length text))
+
+-- a bound on the parts to come
 abbrev pub most_parts : Splitting → ℕ
-most_parts s = option_map_or (λ text. length text + 1) s.rest 0
+most_parts s = option_map_or (λ text. length text + (if s.begun then 1 else 2)) s.rest 0

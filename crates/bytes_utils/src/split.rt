@@ -1,9 +1,14 @@
 //! A text cut into owned parts.
 
 mod boundary;
+mod character;
 mod cut;
+mod direction;
+mod each_character;
 mod search;
+mod separated;
 mod separator;
 
 pub use boundary::boundaries;
-pub use separator::SplitBytes;
+pub use direction::Direction;
+pub use separator::{RSplitBytes, RSplitNBytes, SplitBytes, SplitNBytes};

@@ -1,0 +1,153 @@
+-- A text cut by the empty separator: behind its first character, or before its last one.
+use Rattle.std.proofs.Common.{◌≡◌, refl, sym, ap, subst, ◌∙◌, ℕ, zero, suc, ◌-◌, ◌<◌, List, [], ◌∷◌, Option, None, Some, length, map, take, drop, reverse, true, false, arith, length-drop, length-take, IsUtf8, IsCharBoundary}
+use Rattle.std.proofs.lemmas.Str.{chars-nil}
+use Rattle.std.specs.Option.{option_map}
+use Rattle.std.specs.Str.{chars}
+use Rattle.bytes_utils.specs.Text.{byte_place}
+use Rattle.bytes_utils.specs.EmptySeparator.{by_element, by_element_backward}
+use Rattle.bytes_utils.specs.Parts.{ArePartsFromFront, ArePartsFromBack}
+use Rattle.bytes_utils.specs.Splitting.{Splitting, AreForwardPartsToCome, AreBackwardPartsToCome, ArePartsToCome, LeavesMore, one_less}
+use Rattle.bytes_utils.specs.declared.split.direction.Direction.{Direction}
+use Rattle.bytes_utils.specs.declared.split.direction.Direction.TheVariants.{Forward, Backward}
+use Rattle.bytes_utils.specs.Step.{GivesFirst}
+use Rattle.bytes_utils.proofs.EachCharacter.{behind_first, by_element-first, by_element-nothing_left, suc-less, first_element, last_element}
+use Rattle.bytes_utils.proofs.Places.{boundary_at_place, chars-take_place, chars-drop_place, byte_place-less}
+
+-- behind the first empty part, and before it
+abbrev behind : Option (List ℕ) → Option ℕ → Splitting
+behind rest limit = record { rest = rest; separator = []; limit = limit; begun = true }
+
+abbrev before : Option (List ℕ) → Option ℕ → Splitting
+before rest limit = record { rest = rest; separator = []; limit = limit; begun = false }
+
+-- the empty separator's parts, with one more than the limit
+front_to : (t : List ℕ) (limit : Option ℕ) (parts : List (List ℕ)) → ArePartsFromFront t [] (option_map suc limit) parts → parts ≡ by_element t (option_map suc limit)
+front_to t None parts are = are
+front_to t (Some n) parts are = are
+
+front_from : (t : List ℕ) (limit : Option ℕ) (parts : List (List ℕ)) → parts ≡ by_element t (option_map suc limit) → ArePartsFromFront t [] (option_map suc limit) parts
+front_from t None parts are = are
+front_from t (Some n) parts are = are
+
+back_to : (t : List ℕ) (limit : Option ℕ) (parts : List (List ℕ)) → ArePartsFromBack t [] (option_map suc limit) parts → parts ≡ by_element_backward t (option_map suc limit)
+back_to t None parts are = are
+back_to t (Some n) parts are = are
+
+back_from : (t : List ℕ) (limit : Option ℕ) (parts : List (List ℕ)) → parts ≡ by_element_backward t (option_map suc limit) → ArePartsFromBack t [] (option_map suc limit) parts
+back_from t None parts are = are
+back_from t (Some n) parts are = are
+
+module _ (text : List ℕ) (text_is : IsUtf8 text) (i at : ℕ) (at_is : at ≡ byte_place (chars text) i) where
+  pub boundary : IsCharBoundary text at
+  boundary = subst (IsCharBoundary text) (sym at_is) (boundary_at_place text text_is i)
+
+  chars_before : (part : List ℕ) → part ≡ take at text → chars part ≡ take i (chars text)
+  chars_before part is = ap chars (is ∙ ap (λ k. take k text) at_is) ∙ chars-take_place text text_is i
+
+  chars_behind : (part : List ℕ) → part ≡ drop at text → chars part ≡ drop i (chars text)
+  chars_behind part is = ap chars (is ∙ ap (λ k. drop k text) at_is) ∙ chars-drop_place text text_is i
+
+-- the first character, and then what is behind it
+module _ (text : List ℕ) (text_is : IsUtf8 text) (at : ℕ) (some : 0 < length (chars text)) where
+  pub gives_first_character : at ≡ byte_place (chars text) 1 → (part rest : List ℕ) → part ≡ take at text → rest ≡ drop at text → (limit : Option ℕ) → LeavesMore limit
+      → GivesFirst AreForwardPartsToCome (behind (Some text) limit) (chars part) (behind (Some rest) (one_less limit))
+  gives_first_character at_is part rest part_is rest_is limit more = record {
+    some = (
+      behind_first (chars rest) limit,
+      front_from (chars rest) (one_less limit) _
+          (sym (by_element-first (chars rest) limit more) ∙ ap (by_element (chars rest)) (sym (suc-less limit more))),
+    );
+    each = λ others are.
+        let left : [] ∷ others ≡ by_element (chars rest) limit = front_to (chars rest) (one_less limit) ([] ∷ others) are ∙ ap (by_element (chars rest)) (suc-less limit more) in
+        let left_chars : [] ∷ others ≡ by_element (drop 1 (chars text)) limit = left ∙ ap (λ z. by_element z limit) (chars_behind text text_is 1 at at_is rest rest_is) in
+        front_from (chars text) limit ([] ∷ chars part ∷ others)
+        (ap (λ z. [] ∷ z ∷ others) (chars_before text text_is 1 at at_is part part_is) ∙ first_element (chars text) limit others some more left_chars);
+  }
+
+  -- the last character, and then what is before it
+  pub gives_last_character : at ≡ byte_place (chars text) (length (chars text) - 1) → (part rest : List ℕ) → part ≡ drop at text → rest ≡ take at text → (limit : Option ℕ) → LeavesMore limit
+      → GivesFirst AreBackwardPartsToCome (behind (Some text) limit) (chars part) (behind (Some rest) (one_less limit))
+  gives_last_character at_is part rest part_is rest_is limit more =
+      let i = length (chars text) - 1 in
+      record {
+        some = (
+          map reverse (behind_first (reverse (chars rest)) limit),
+          back_from (chars rest) (one_less limit) _
+              (ap (map reverse) (sym (by_element-first (reverse (chars rest)) limit more)) ∙ ap (by_element_backward (chars rest)) (sym (suc-less limit more))),
+        );
+        each = λ others are.
+            let left : [] ∷ others ≡ by_element_backward (chars rest) limit = back_to (chars rest) (one_less limit) ([] ∷ others) are ∙ ap (by_element_backward (chars rest)) (suc-less limit more) in
+            let left_chars : [] ∷ others ≡ by_element_backward (take i (chars text)) limit = left ∙ ap (λ z. by_element_backward z limit) (chars_before text text_is i at at_is rest rest_is) in
+            back_from (chars text) limit ([] ∷ chars part ∷ others)
+            (ap (λ z. [] ∷ z ∷ others) (chars_behind text text_is i at at_is part part_is) ∙ last_element (chars text) limit others some more left_chars);
+      }
+
+  at_byte : (i : ℕ) → i < length (chars text) → at ≡ byte_place (chars text) i → at < length text
+  at_byte i l at_is =
+      let less = byte_place-less (chars text) i (length (chars text)) l (omega arith) in
+      let b = (boundary_at_place text text_is (length (chars text))).0 in
+      omega (arith, at_is, less, b)
+
+  pub behind_shorter : at ≡ byte_place (chars text) 1 → (rest : List ℕ) → rest ≡ drop at text → length rest < length text
+  behind_shorter at_is rest is =
+      let place = byte_place-less (chars text) 0 1 (omega arith) (omega (arith, some)) in
+      let within = (boundary text text_is 1 at at_is).0 in
+      omega (arith, ap length is, length-drop at text, at_is, place, within)
+
+  pub before_shorter : at ≡ byte_place (chars text) (length (chars text) - 1) → (rest : List ℕ) → rest ≡ take at text → length rest < length text
+  before_shorter at_is rest is =
+      omega (arith, ap length is, length-take at text, at_byte (length (chars text) - 1) (omega (arith, some)) at_is)
+
+  pub text_some : 0 < length text
+  text_some =
+      let place = byte_place-less (chars text) 0 (length (chars text)) some (omega arith) in
+      let b = (boundary_at_place text text_is (length (chars text))).0 in
+      omega (arith, place, b)
+
+-- behind all characters the empty rest is the last part
+pub gives_nothing_left : (text : List ℕ) → chars text ≡ [] → (limit : Option ℕ) → LeavesMore limit
+    → GivesFirst AreForwardPartsToCome (behind (Some text) limit) (chars text) (behind None (one_less limit))
+gives_nothing_left text none limit more = record {
+  some = ([], refl);
+  each = λ others is. rw (is, none) (front_from [] limit ([] ∷ [] ∷ []) (sym (by_element-nothing_left limit more)));
+}
+
+pub gives_nothing_left_back : (text : List ℕ) → chars text ≡ [] → (limit : Option ℕ) → LeavesMore limit
+    → GivesFirst AreBackwardPartsToCome (behind (Some text) limit) (chars text) (behind None (one_less limit))
+gives_nothing_left_back text none limit more = record {
+  some = ([], refl);
+  each = λ others is. rw (is, none) (back_from [] limit ([] ∷ [] ∷ []) (ap (map reverse) (sym (by_element-nothing_left limit more))));
+}
+
+-- parts by the empty separator, where there may be some
+front_any : (t : List ℕ) (limit : Option ℕ) (parts : List (List ℕ)) → LeavesMore limit → parts ≡ by_element t limit → ArePartsFromFront t [] limit parts
+front_any t None parts more are = are
+front_any t (Some zero) parts more are = absurd (omega (arith, more))
+front_any t (Some (suc n)) parts more are = are
+
+back_any : (t : List ℕ) (limit : Option ℕ) (parts : List (List ℕ)) → LeavesMore limit → parts ≡ by_element_backward t limit → ArePartsFromBack t [] limit parts
+back_any t None parts more are = are
+back_any t (Some zero) parts more are = absurd (omega (arith, more))
+back_any t (Some (suc n)) parts more are = are
+
+-- the first part is empty
+pub gives_empty : (from : Direction) (text part : List ℕ) → part ≡ [] → (limit : Option ℕ) → LeavesMore limit
+    → GivesFirst (ArePartsToCome from) (before (Some text) limit) (chars part) (behind (Some text) (one_less limit))
+gives_empty Forward text part none limit more = rw (none, chars-nil) record {
+  some = (
+    behind_first (chars text) limit,
+    front_from (chars text) (one_less limit) _
+        (sym (by_element-first (chars text) limit more) ∙ ap (by_element (chars text)) (sym (suc-less limit more))),
+  );
+  each = λ others are. rw chars-nil (front_any (chars text) limit ([] ∷ others) more
+      (front_to (chars text) (one_less limit) ([] ∷ others) are ∙ ap (by_element (chars text)) (suc-less limit more)));
+}
+gives_empty Backward text part none limit more = rw (none, chars-nil) record {
+  some = (
+    map reverse (behind_first (reverse (chars text)) limit),
+    back_from (chars text) (one_less limit) _
+        (ap (map reverse) (sym (by_element-first (reverse (chars text)) limit more)) ∙ ap (by_element_backward (chars text)) (sym (suc-less limit more))),
+  );
+  each = λ others are. rw chars-nil (back_any (chars text) limit ([] ∷ others) more
+      (back_to (chars text) (one_less limit) ([] ∷ others) are ∙ ap (by_element_backward (chars text)) (suc-less limit more)));
+}

@@ -1,0 +1,61 @@
+-- Parts from the front and from the back, by a separator that isn't empty.
+use Rattle.std.proofs.Common.{refl, ℕ, zero, suc, ◌<◌, List, [], ◌∷◌, Option, None, Some, length, arith}
+use Rattle.std.specs.Option.{IfSome}
+use Rattle.bytes_utils.specs.Parts.{AreForwardParts, AreBackwardParts, ArePartsFromFront, ArePartsFromBack}
+use Rattle.bytes_utils.specs.EmptySeparator.{by_element, by_element_backward}
+use Rattle.bytes_utils.specs.Splitting.{LeavesMore, one_less}
+use Rattle.bytes_utils.proofs.Forward.{has_forward_parts}
+use Rattle.bytes_utils.proofs.Backward.{has_backward_parts}
+
+pub positive : (limit : Option ℕ) → LeavesMore limit → IfSome limit (λ most. 0 < most)
+positive None more = tt
+positive (Some most) more = omega (arith, more)
+
+pub positive-less : (limit : Option ℕ) → LeavesMore limit → IfSome (one_less limit) (λ most. 0 < most)
+positive-less None more = tt
+positive-less (Some most) more = omega (arith, more)
+
+module _ {X : Type 0} (t : List X) where
+  pub front-from : (p : List X) (limit : Option ℕ) (parts : List (List X)) → 0 < length p → IfSome limit (λ most. 0 < most)
+      → AreForwardParts t p limit parts → ArePartsFromFront t p limit parts
+  front-from [] limit parts some more are = absurd (omega (arith, some))
+  front-from (x ∷ p) None parts some more are = are
+  front-from (x ∷ p) (Some zero) parts some more are = absurd (omega (arith, more))
+  front-from (x ∷ p) (Some (suc most)) parts some more are = are
+
+  pub front-to : (p : List X) (limit : Option ℕ) (parts : List (List X)) → 0 < length p → IfSome limit (λ most. 0 < most)
+      → ArePartsFromFront t p limit parts → AreForwardParts t p limit parts
+  front-to [] limit parts some more are = absurd (omega (arith, some))
+  front-to (x ∷ p) None parts some more are = are
+  front-to (x ∷ p) (Some zero) parts some more are = absurd (omega (arith, more))
+  front-to (x ∷ p) (Some (suc most)) parts some more are = are
+
+  pub back-from : (p : List X) (limit : Option ℕ) (parts : List (List X)) → 0 < length p → IfSome limit (λ most. 0 < most)
+      → AreBackwardParts t p limit parts → ArePartsFromBack t p limit parts
+  back-from [] limit parts some more are = absurd (omega (arith, some))
+  back-from (x ∷ p) None parts some more are = are
+  back-from (x ∷ p) (Some zero) parts some more are = absurd (omega (arith, more))
+  back-from (x ∷ p) (Some (suc most)) parts some more are = are
+
+  pub back-to : (p : List X) (limit : Option ℕ) (parts : List (List X)) → 0 < length p → IfSome limit (λ most. 0 < most)
+      → ArePartsFromBack t p limit parts → AreBackwardParts t p limit parts
+  back-to [] limit parts some more are = absurd (omega (arith, some))
+  back-to (x ∷ p) None parts some more are = are
+  back-to (x ∷ p) (Some zero) parts some more are = absurd (omega (arith, more))
+  back-to (x ∷ p) (Some (suc most)) parts some more are = are
+
+-- every text has parts from the front, by every separator and with every limit
+pub has_front : (t p : List ℕ) (limit : Option ℕ) → (parts : List (List ℕ)) × ArePartsFromFront t p limit parts
+has_front t p (Some zero) = ([], refl)
+has_front t [] None = (by_element t None, refl)
+has_front t [] (Some (suc most)) = (by_element t (Some (suc most)), refl)
+has_front t (x ∷ p) None = has_forward_parts (x ∷ p) t None (omega arith) tt
+has_front t (x ∷ p) (Some (suc most)) = has_forward_parts (x ∷ p) t (Some (suc most)) (omega arith) (omega arith)
+
+-- and from the back
+pub has_back : (t p : List ℕ) (limit : Option ℕ) → (parts : List (List ℕ)) × ArePartsFromBack t p limit parts
+has_back t p (Some zero) = ([], refl)
+has_back t [] None = (by_element_backward t None, refl)
+has_back t [] (Some (suc most)) = (by_element_backward t (Some (suc most)), refl)
+has_back t (x ∷ p) None = has_backward_parts (x ∷ p) t None (omega arith) tt
+has_back t (x ∷ p) (Some (suc most)) = has_backward_parts (x ∷ p) t (Some (suc most)) (omega arith) (omega arith)

@@ -1,0 +1,96 @@
+-- The next part where one part is the limit, and that there is one.
+use Rattle.std.proofs.Common.{◌≡◌, ◌≢◌, refl, sym, ap, ◌∙◌, ℕ, zero, suc, ◌<◌, List, [], ◌∷◌, Bool, true, false, Option, None, Some, Result, Ok, Err, IfOk, length, map, reverse, arith}
+use Rattle.std.proofs.lemmas.List.{length-map, reverse-reverse}
+use Rattle.std.proofs.lemmas.Str.{chars-nil}
+use Rattle.std.specs.Option.{IfSome, option_map}
+use Rattle.std.specs.Str.{chars}
+use Rattle.bytes_utils.specs.EmptySeparator.{by_element, by_element_backward}
+use Rattle.bytes_utils.specs.Occurrence.{Occurs}
+use Rattle.bytes_utils.specs.Parts.{ArePartsFromFront, ArePartsFromBack}
+use Rattle.bytes_utils.specs.Splitting.{ArePartsToCome, LeavesMore}
+use Rattle.bytes_utils.specs.declared.split.direction.Direction.{Direction}
+use Rattle.bytes_utils.specs.declared.split.direction.Direction.TheVariants.{Forward, Backward}
+use Rattle.bytes_utils.specs.Step.{GivesFirst}
+use Rattle.bytes_utils.proofs.Forward.{AreForwardParts-rest}
+use Rattle.bytes_utils.proofs.Backward.{AreBackwardParts-rest}
+use Rattle.bytes_utils.proofs.EachCharacter.{by_element-one, by_element-two, by_element-some, by_element-behind}
+
+-- an empty separator has no characters, so it occurs in every text
+pub no_chars : (sep : List ℕ) → length sep ≡ 0 → chars sep ≡ []
+no_chars [] none = chars-nil
+no_chars (c ∷ sep) none = absurd (omega (arith, none))
+
+pub occurs-empty : (sep text : List ℕ) → length sep ≡ 0 → Occurs (chars sep) (chars text)
+occurs-empty sep text none = rw (no_chars sep none) (0, refl)
+
+some-limit : (limit : Option ℕ) → limit ≢ Some 0 → IfSome limit (λ most. 0 < most)
+some-limit None not = tt
+some-limit (Some zero) not = absurd (not refl)
+some-limit (Some (suc most)) not = omega arith
+
+-- all of the text is the last part that the limit allows
+one_from_front : (t p : List ℕ) → ArePartsFromFront t p (Some 1) (t ∷ [])
+one_from_front t [] = sym (by_element-one t)
+one_from_front t (x ∷ p) = AreForwardParts-rest (x ∷ p) t
+
+one_from_back : (t p : List ℕ) → ArePartsFromBack t p (Some 1) (t ∷ [])
+one_from_back t [] = sym (ap (map reverse) (by_element-one (reverse t)) ∙ ap (λ z. z ∷ []) (reverse-reverse t))
+one_from_back t (x ∷ p) = AreBackwardParts-rest (x ∷ p) t
+
+two_from_back : (t : List ℕ) → [] ∷ t ∷ [] ≡ by_element_backward t (Some 2)
+two_from_back t = sym (ap (map reverse) (by_element-two (reverse t)) ∙ ap (λ z. [] ∷ z ∷ []) (reverse-reverse t))
+
+pub gives_rest : (from : Direction) (text sep : List ℕ) (begun later : Bool) (left : Option ℕ)
+    → GivesFirst (ArePartsToCome from) (record { rest = Some text; separator = sep; limit = Some 1; begun = begun }) (chars text)
+    (record { rest = None; separator = sep; limit = left; begun = later })
+gives_rest Forward text sep false later left = record { some = ([], refl); each = λ others none. rw none (one_from_front (chars text) (chars sep)) }
+gives_rest Forward text sep true later left = record { some = ([], refl); each = λ others none. rw none (sym (by_element-two (chars text))) }
+gives_rest Backward text sep false later left = record { some = ([], refl); each = λ others none. rw none (one_from_back (chars text) (chars sep)) }
+gives_rest Backward text sep true later left = record { some = ([], refl); each = λ others none. rw none (two_from_back (chars text)) }
+
+-- where the limit allows a part, one is to come of what is left
+some_from_front : (t p : List ℕ) (limit : Option ℕ) → IfSome limit (λ most. 0 < most) → ArePartsFromFront t p limit [] → ⊥
+some_from_front t [] None some are = omega (arith, ap length are, by_element-some t None tt)
+some_from_front t [] (Some zero) some are = omega (arith, some)
+some_from_front t [] (Some (suc most)) some are = omega (arith, ap length are, by_element-some t (Some (suc most)) some)
+some_from_front t (x ∷ p) None some are = omega (arith, are.some)
+some_from_front t (x ∷ p) (Some zero) some are = omega (arith, some)
+some_from_front t (x ∷ p) (Some (suc most)) some are = omega (arith, are.some)
+
+some_from_back : (t p : List ℕ) (limit : Option ℕ) → IfSome limit (λ most. 0 < most) → ArePartsFromBack t p limit [] → ⊥
+some_from_back t [] None some are = omega (arith, ap length are, by_element-some (reverse t) None tt, length-map (by_element (reverse t) None) reverse)
+some_from_back t [] (Some zero) some are = omega (arith, some)
+some_from_back t [] (Some (suc most)) some are =
+    omega (arith, ap length are, by_element-some (reverse t) (Some (suc most)) some, length-map (by_element (reverse t) (Some (suc most))) reverse)
+some_from_back t (x ∷ p) None some are = omega (arith, are.some)
+some_from_back t (x ∷ p) (Some zero) some are = omega (arith, some)
+some_from_back t (x ∷ p) (Some (suc most)) some are = omega (arith, are.some)
+
+behind_front : (t : List ℕ) (limit : Option ℕ) → IfSome limit (λ most. 0 < most) → ArePartsFromFront t [] (option_map suc limit) ([] ∷ []) → ⊥
+behind_front t None some are = omega (arith, ap length are, by_element-behind t None tt)
+behind_front t (Some most) some are = omega (arith, ap length are, by_element-behind t (Some most) some)
+
+behind_back : (t : List ℕ) (limit : Option ℕ) → IfSome limit (λ most. 0 < most) → ArePartsFromBack t [] (option_map suc limit) ([] ∷ []) → ⊥
+behind_back t None some are = omega (arith, ap length are, by_element-behind (reverse t) None tt, length-map (by_element (reverse t) None) reverse)
+behind_back t (Some most) some are =
+    omega (arith, ap length are, by_element-behind (reverse t) (Some most) some, length-map (by_element (reverse t) (Some (suc most))) reverse)
+
+pub some_to_come : (from : Direction) (text sep : List ℕ) (limit : Option ℕ) (begun : Bool) → limit ≢ Some 0
+    → ¬ ArePartsToCome from (record { rest = Some text; separator = sep; limit = limit; begun = begun }) []
+some_to_come Forward text sep limit false not = some_from_front (chars text) (chars sep) limit (some-limit limit not)
+some_to_come Forward text sep limit true not = behind_front (chars text) limit (some-limit limit not)
+some_to_come Backward text sep limit false not = some_from_back (chars text) (chars sep) limit (some-limit limit not)
+some_to_come Backward text sep limit true not = behind_back (chars text) limit (some-limit limit not)
+
+-- a limit that allows a part, and not just one, leaves more
+pub leaves-more : (limit : Option ℕ) → limit ≢ Some 0 → limit ≢ Some 1 → LeavesMore limit
+leaves-more None not_none not_one = tt
+leaves-more (Some zero) not_none not_one = absurd (not_none refl)
+leaves-more (Some (suc zero)) not_none not_one = absurd (not_one refl)
+leaves-more (Some (suc (suc most))) not_none not_one = omega arith
+
+-- what holds of a cut under every limit that leaves more holds under this one
+pub at_limit : {E C : Type 0} (r : Result C E) (G : C → Option ℕ → Type 0) (limit : Option ℕ) → limit ≢ Some 0 → limit ≢ Some 1
+    → IfOk r (λ cut. (most : Option ℕ) → LeavesMore most → G cut most) → IfOk r (λ cut. G cut limit)
+at_limit (Ok cut) G limit not_none not_one gives = gives limit (leaves-more limit not_none not_one)
+at_limit (Err e) G limit not_none not_one gives = tt

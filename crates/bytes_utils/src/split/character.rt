@@ -1,0 +1,24 @@
+//! Where a text's first and last characters are.
+ghost use Rattle.std.specs.Prelude.{◌≡◌, ◌-◌, ◌<◌, [], MatchOption, length};
+ghost use Rattle.std.specs.Str.{chars};
+ghost use Rattle.bytes_utils.specs.Text.{byte_place};
+
+/// The byte place at which the first character ends, of a text that isn't empty.
+#[inline]
+pub(super) fn first_end(text: &str) -> Option<usize>
+    ensures { MatchOption result (chars text.now ≡ []) (λ end. (0 < length (chars text.now))
+        × (end ≡ byte_place (chars text.now) 1)) }
+{
+    let character = text.chars().next()?;
+    Some(character.len_utf8())
+}
+
+/// The byte place at which the last character begins, of a text that isn't empty.
+#[inline]
+pub(super) fn last_start(text: &str) -> Option<usize>
+    ensures { MatchOption result (chars text.now ≡ []) (λ start. (0 < length (chars text.now))
+        × (start ≡ byte_place (chars text.now) (length (chars text.now) - 1))) }
+{
+    let inside_last = text.len().checked_sub(1)?;
+    Some(text.floor_char_boundary(inside_last))
+}

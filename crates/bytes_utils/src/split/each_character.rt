@@ -1,0 +1,98 @@
+//! A text cut by the empty separator: an empty part, each character, an empty part.
+ghost use Rattle.std.specs.Prelude.{◌≡◌, ◌<◌, ℕ, [], Option, None, Some, length, true, false, IfOk, OnErr, IfSome};
+ghost use Rattle.std.specs.Bool.{OnTrue};
+ghost use Rattle.std.specs.Str.{chars};
+ghost use Rattle.bytes_utils.specs.Splitting.{ArePartsToCome, AreForwardPartsToCome, AreBackwardPartsToCome, LeavesMore, one_less, most_parts};
+ghost use Rattle.bytes_utils.specs.Step.{GivesFirst};
+
+use super::character::{first_end, last_start};
+use super::cut::{Cut, cut_at, cut_out};
+use super::direction::Direction;
+use crate::string::{Storage, StrInner};
+use bytes_utils_buf::Reason;
+
+/// The empty part at an end of a text, and the text, by one split.
+#[inline(always)]
+fn empty_part<S: Storage>(text: StrInner<S>, from: Direction) -> Result<Cut<S>, Reason>
+    ensures gives { IfOk result (λ cut. (limit : Option ℕ) → LeavesMore limit
+        → GivesFirst (ArePartsToCome from)
+        (record { rest = Some text; separator = []; limit = limit; begun = false })
+        (chars cut.0)
+        (record { rest = cut.1; separator = []; limit = one_less limit; begun = true })) }
+    ensures rest { IfOk result (λ cut. cut.1 ≡ Some text) }
+{
+    let end = text.as_str().len();
+    match from {
+        Direction::Forward => {
+            let (part, rest) = cut_at(text, 0)?;
+            Ok((part, Some(rest)))
+        }
+        Direction::Backward => {
+            let (rest, part) = cut_at(text, end)?;
+            Ok((part, Some(rest)))
+        }
+    }
+}
+
+/// The first character and the text behind it, or the whole text where it is empty.
+#[inline(always)]
+fn first_character<S: Storage>(text: StrInner<S>) -> Result<Cut<S>, Reason>
+    ensures gives { IfOk result (λ cut. (limit : Option ℕ) → LeavesMore limit
+        → GivesFirst AreForwardPartsToCome
+        (record { rest = Some text; separator = []; limit = limit; begun = true })
+        (chars cut.0)
+        (record { rest = cut.1; separator = []; limit = one_less limit; begun = true })) }
+    ensures shorter { IfOk result (λ cut. IfSome cut.1 (λ rest. length rest < length text)) }
+    ensures err { OnErr result (0 < length text) }
+{
+    let Some(end) = first_end(text.as_str()) else {
+        return Ok((text, None));
+    };
+    let (part, rest) = cut_out(text, end, end)?;
+    Ok((part, Some(rest)))
+}
+
+/// The last character and the text before it, or the whole text where it is empty.
+#[inline(always)]
+fn last_character<S: Storage>(text: StrInner<S>) -> Result<Cut<S>, Reason>
+    ensures gives { IfOk result (λ cut. (limit : Option ℕ) → LeavesMore limit
+        → GivesFirst AreBackwardPartsToCome
+        (record { rest = Some text; separator = []; limit = limit; begun = true })
+        (chars cut.0)
+        (record { rest = cut.1; separator = []; limit = one_less limit; begun = true })) }
+    ensures shorter { IfOk result (λ cut. IfSome cut.1 (λ rest. length rest < length text)) }
+    ensures err { OnErr result (0 < length text) }
+{
+    let Some(start) = last_start(text.as_str()) else {
+        return Ok((text, None));
+    };
+    let (rest, part) = cut_out(text, start, start)?;
+    Ok((part, Some(rest)))
+}
+
+/// The next part by the empty separator and what is left, where more than one part may be given:
+/// the empty part first, then each character, and at last what is left of the text, which is empty.
+#[inline(always)]
+pub(super) fn cut_character<S: Storage>(
+    text: StrInner<S>,
+    begun: bool,
+    from: Direction,
+) -> Result<Cut<S>, Reason>
+    ensures gives { IfOk result (λ cut. (limit : Option ℕ) → LeavesMore limit
+        → GivesFirst (ArePartsToCome from)
+        (record { rest = Some text; separator = []; limit = limit; begun = begun })
+        (chars cut.0)
+        (record { rest = cut.1; separator = []; limit = one_less limit; begun = true })) }
+    ensures fewer { IfOk result (λ cut. most_parts
+        (record { rest = cut.1; separator = []; limit = None; begun = true })
+        < most_parts (record { rest = Some text; separator = []; limit = None; begun = begun })) }
+    ensures err { OnErr result (OnTrue begun (0 < length text)) }
+{
+    if !begun {
+        return empty_part(text, from);
+    }
+    match from {
+        Direction::Forward => first_character(text),
+        Direction::Backward => last_character(text),
+    }
+}

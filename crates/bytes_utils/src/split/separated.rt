@@ -1,0 +1,223 @@
+//! A text that is cut by a separator, from either end.
+ghost use Rattle.std.specs.Prelude.{◌≡◌, ◌≢◌, ◌<◌, ◌==◌, ℕ, Option, Some, length, false, None, IfOk, OnErr, OnSome, IfSome};
+ghost use Rattle.std.specs.Bool.{OnTrue};
+ghost use Rattle.std.specs.Str.{chars};
+ghost use Rattle.bytes_utils.specs.Occurrence.{Occurs};
+ghost use Rattle.bytes_utils.specs.Splitting.{ArePartsToCome, AreForwardPartsToCome, AreBackwardPartsToCome, CutsNext, LeavesMore, one_less, most_parts};
+ghost use Rattle.bytes_utils.specs.Step.{GivesFirst, IsStep};
+
+use super::cut::{Cut, cut_out};
+use super::direction::Direction;
+use super::each_character::cut_character;
+use super::search::{find, rfind};
+use crate::string::{Storage, StrInner};
+use bytes_utils_buf::Reason;
+use std::marker::Model;
+
+/// The part before the first separator and the text behind it, or the whole text where there is
+/// none.
+#[inline(always)]
+fn first_part<S: Storage>(text: StrInner<S>, separator: &str) -> Result<Cut<S>, Reason>
+    requires { 0 < length separator.now }
+    ensures gives { IfOk result (λ cut. (limit : Option ℕ) → LeavesMore limit
+        → GivesFirst AreForwardPartsToCome
+        (record { rest = Some text; separator = separator.now; limit = limit; begun = false })
+        (chars cut.0)
+        (record {
+          rest = cut.1;
+          separator = separator.now;
+          limit = one_less limit;
+          begun = false;
+        })) }
+    ensures shorter { IfOk result (λ cut. IfSome cut.1 (λ rest. length rest < length text)) }
+    ensures err { OnErr result (Occurs (chars separator.now) (chars text)) }
+{
+    let Some(at) = find(text.as_str(), separator) else {
+        return Ok((text, None));
+    };
+    let (part, rest) = cut_out(text, at, at + separator.len())?;
+    Ok((part, Some(rest)))
+}
+
+/// The part behind the last separator and the text before it, or the whole text where there is
+/// none.
+#[inline(always)]
+fn last_part<S: Storage>(text: StrInner<S>, separator: &str) -> Result<Cut<S>, Reason>
+    requires { 0 < length separator.now }
+    ensures gives { IfOk result (λ cut. (limit : Option ℕ) → LeavesMore limit
+        → GivesFirst AreBackwardPartsToCome
+        (record { rest = Some text; separator = separator.now; limit = limit; begun = false })
+        (chars cut.0)
+        (record {
+          rest = cut.1;
+          separator = separator.now;
+          limit = one_less limit;
+          begun = false;
+        })) }
+    ensures shorter { IfOk result (λ cut. IfSome cut.1 (λ rest. length rest < length text)) }
+    ensures err { OnErr result (Occurs (chars separator.now) (chars text)) }
+{
+    let Some(at) = rfind(text.as_str(), separator) else {
+        return Ok((text, None));
+    };
+    let (rest, part) = cut_out(text, at, at + separator.len())?;
+    Ok((part, Some(rest)))
+}
+
+/// The next part and what is left, where more than one part may be given: a separator that isn't
+/// empty is searched for, an empty one stands around each character.
+#[inline(always)]
+fn cut_next<S: Storage>(
+    text: StrInner<S>,
+    separator: &str,
+    begun: bool,
+    from: Direction,
+) -> Result<Cut<S>, Reason>
+    requires { OnTrue begun (length separator.now ≡ 0) }
+    ensures gives { IfOk result (λ cut. (limit : Option ℕ) → LeavesMore limit
+        → GivesFirst (ArePartsToCome from)
+        (record { rest = Some text; separator = separator.now; limit = limit; begun = begun })
+        (chars cut.0)
+        (record {
+          rest = cut.1;
+          separator = separator.now;
+          limit = one_less limit;
+          begun = length separator.now == 0;
+        })) }
+    ensures fewer { IfOk result (λ cut. most_parts
+        (record {
+          rest = cut.1;
+          separator = separator.now;
+          limit = None;
+          begun = length separator.now == 0;
+        })
+        < most_parts (record {
+          rest = Some text;
+          separator = separator.now;
+          limit = None;
+          begun = begun;
+        })) }
+    ensures holds { OnErr result (Occurs (chars separator.now) (chars text)) }
+    ensures more { OnErr result (OnTrue begun (0 < length text)) }
+{
+    if separator.is_empty() {
+        return cut_character(text, begun, from);
+    }
+    match from {
+        Direction::Forward => first_part(text, separator),
+        Direction::Backward => last_part(text, separator),
+    }
+}
+
+/// The next part and what is left: all of the text where one part is the limit.
+#[inline(always)]
+fn next_part<S: Storage>(
+    text: StrInner<S>,
+    separator: &str,
+    limit: Option<usize>,
+    begun: bool,
+    from: Direction,
+) -> Result<Cut<S>, Reason>
+    requires some { limit ≢ Some 0 }
+    requires begun { OnTrue begun (length separator.now ≡ 0) }
+    ensures gives { IfOk result (λ cut. GivesFirst (ArePartsToCome from)
+        (record { rest = Some text; separator = separator.now; limit = limit; begun = begun })
+        (chars cut.0)
+        (record {
+          rest = cut.1;
+          separator = separator.now;
+          limit = one_less limit;
+          begun = length separator.now == 0;
+        })) }
+    ensures fewer { IfOk result (λ cut. most_parts
+        (record {
+          rest = cut.1;
+          separator = separator.now;
+          limit = None;
+          begun = length separator.now == 0;
+        })
+        < most_parts (record {
+          rest = Some text;
+          separator = separator.now;
+          limit = None;
+          begun = begun;
+        })) }
+    ensures left { IfOk result (λ cut. IfSome cut.1 (λ _. LeavesMore limit)) }
+    ensures holds { OnErr result (Occurs (chars separator.now) (chars text)) }
+    ensures more { OnErr result (OnTrue begun (0 < length text)) }
+    ensures limit { OnErr result (LeavesMore limit) }
+{
+    if limit == Some(1) {
+        return Ok((text, None));
+    }
+    cut_next(text, separator, begun, from)
+}
+
+/// What is left of a text that is cut by a separator, and how many parts may still be given. A
+/// refused cut is its last item.
+#[derive(Drop)]
+pub(super) struct Separated<'s, S: Storage> {
+    rest: Option<StrInner<S>>,
+    separator: &'s str,
+    limit: Option<usize>,
+    begun: bool,
+}
+
+impl<'s, S: Storage> Model for Separated<'s, S> {
+    ghost use Rattle.std.specs.Prelude.{◌≡◌, ◌≢◌, length, Some, IfSome};
+    ghost use Rattle.std.specs.Bool.{OnTrue};
+    ghost use Rattle.bytes_utils.specs.Splitting.{Splitting};
+
+    ghost Value = { Splitting };
+
+    ghost view = { λ s. record {
+      rest = s.rest;
+      separator = s.separator.now;
+      limit = s.limit;
+      begun = s.begun;
+    } };
+
+    ghost invariant = { λ s. IfSome s.rest
+        (λ _. OnTrue s.begun ((length s.separator.now ≡ 0) × (s.limit ≢ Some 0))) };
+}
+
+impl<'s, S: Storage> Separated<'s, S> {
+    /// All of a text, with at most so many parts.
+    #[inline(always)]
+    pub(super) fn new(text: StrInner<S>, separator: &'s str, limit: Option<usize>) -> Self
+        ensures { result ≡ record {
+          rest = Some text;
+          separator = separator.now;
+          limit = limit;
+          begun = false;
+        } }
+    {
+        Separated {
+            rest: Some(text),
+            separator,
+            limit,
+            begun: false,
+        }
+    }
+
+    /// The next part from an end.
+    #[inline(always)]
+    pub(super) fn next_from(&mut self, from: Direction) -> Option<Result<StrInner<S>, Reason>>
+        ensures step { IsStep (ArePartsToCome from) CutsNext self.old result self.new }
+        ensures fewer { OnSome result (most_parts self.new < most_parts self.old) }
+    {
+        if self.limit == Some(0) {
+            return None;
+        }
+        let text = self.rest.take()?;
+        match next_part(text, self.separator, self.limit, self.begun, from) {
+            Ok((part, rest)) => {
+                self.rest = rest;
+                self.limit = self.limit.map(|most| most.saturating_sub(1));
+                self.begun = self.separator.is_empty();
+                Some(Ok(part))
+            }
+            Err(reason) => Some(Err(reason)),
+        }
+    }
+}
