@@ -16,4 +16,5 @@ pub mod EachCharacter
 pub mod CharacterCut
 pub mod NextPart
 pub mod Results
+pub mod KeepingCut
 pub mod Cases

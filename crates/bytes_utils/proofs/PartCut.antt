@@ -19,7 +19,7 @@ left_to_cut rest sep limit = record { rest = rest; separator = sep; limit = limi
 
 module _ (text sep : List ℕ) (text_is : IsUtf8 text) (sep_is : IsUtf8 sep) (at i : ℕ) (at_is : at ≡ byte_place (chars text) i) (here : OccursAt (chars sep) (chars text) i) where
   -- the separator ends where its characters end
-  next_place : at + length sep ≡ byte_place (chars text) (i + length (chars sep))
+  pub next_place : at + length sep ≡ byte_place (chars text) (i + length (chars sep))
   next_place =
       let front = take i (chars text) in
       let through : take (i + length (chars sep)) (chars text) ≡ front ++ chars sep =

@@ -1,5 +1,6 @@
 -- The state of a splitter that keeps the separator at the ends of its parts, and what is still to come in it.
-use Rattle.std.specs.Prelude.{◌≡◌, ℕ, List, [], Option, MatchOption, IsSomeAnd}
+use Rattle.std.specs.Prelude.{◌≡◌, ℕ, List, [], length, Option, MatchOption, IsSomeAnd}
+use Rattle.std.specs.Option.{option_map_or}
 use Rattle.std.specs.Str.{chars}
 use Rattle.bytes_utils.specs.Occurrence.{Occurs}
 use Rattle.bytes_utils.specs.Parts.{AreInclusiveParts, EndsAtFirst}
@@ -17,3 +18,7 @@ AreInclusivePartsToCome s parts = MatchOption s.rest (parts ≡ []) (λ text. Ar
 abbrev pub CutsBehindNext : Keeping → Type 0
 CutsBehindNext s = IsSomeAnd s.rest
     (λ text. Occurs (chars s.separator) (chars text) × (¬ EndsAtFirst (chars s.separator) (chars text)))
+
+-- a bound on the parts to come, of which none is empty: the bytes left
+abbrev pub most_inclusive_parts : Keeping → ℕ
+most_inclusive_parts s = option_map_or (λ text. length text) s.rest 0

@@ -5,10 +5,12 @@ mod character;
 mod cut;
 mod direction;
 mod each_character;
+mod inclusive;
 mod search;
 mod separated;
 mod separator;
 
 pub use boundary::boundaries;
 pub use direction::Direction;
+pub use inclusive::SplitInclusiveBytes;
 pub use separator::{RSplitBytes, RSplitNBytes, SplitBytes, SplitNBytes};

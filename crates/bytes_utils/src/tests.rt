@@ -1,5 +1,6 @@
 //! What no clause says: that calls succeed with ample memory, printed text, and worked cases.
 mod errors;
+mod inclusive;
 mod parts;
 mod readme;
 mod refusing;

@@ -112,3 +112,29 @@ fn refuse_after_each(rt: HostRuntime) -> Result<(), Fail> {
     }
     Ok(())
 }
+
+#[test]
+fn refuse_inclusive(rt: HostRuntime) -> Result<(), Fail> {
+    let rows: [(usize, &[&str], bool); 2] = [(0, &[], true), (1, &["a,", "b,"], false)];
+    for (granted, wanted, is_refused) in rows {
+        let storage = Refusing {
+            bytes: Bytes::copy_from_slice(rt.alloc(), b"a,b,")?,
+            granted,
+            reason: Reason::OutOfMemory,
+        };
+        let text = StrInner::from_inner(storage).ok().ok_or("a text")?;
+        let mut parts = text.split_inclusive_bytes(",");
+        for want in wanted {
+            let part = parts.next().ok_or(*want)??;
+            assert_eq!(rt; part.as_str(), *want);
+        }
+        if is_refused {
+            let refused = parts.next().ok_or("an error")?;
+            assert_eq!(rt; refused.err(), Some(Reason::OutOfMemory));
+        }
+        for _ in 0..3 {
+            assert!(rt; parts.next().is_none());
+        }
+    }
+    Ok(())
+}

@@ -1,0 +1,99 @@
+//! A text cut behind each place where a separator occurs.
+ghost use Rattle.std.specs.Prelude.{◌≡◌, ◌<◌, ℕ, List, Some, length, IfOk, OnErr, IfSome};
+ghost use Rattle.std.specs.Iterator.{at_most};
+ghost use Rattle.std.specs.Str.{chars};
+ghost use Rattle.bytes_utils.specs.Keeping.{
+  AreInclusivePartsToCome,
+  CutsBehindNext,
+  most_inclusive_parts,
+};
+ghost use Rattle.bytes_utils.specs.Step.{GivesFirst, IsStep};
+
+use super::search::find;
+use crate::string::{Storage, StrInner};
+use bytes_utils_buf::Reason;
+use std::marker::Model;
+
+/// The part through the first separator and the text behind it, or the whole text where the
+/// separator ends it or there is none.
+#[inline(always)]
+fn first_part<S: Storage>(
+    text: StrInner<S>,
+    separator: &str,
+) -> Result<(StrInner<S>, Option<StrInner<S>>), Reason>
+    requires separator { 0 < length separator.now }
+    requires text { 0 < length text }
+    ensures gives { IfOk result (λ cut. GivesFirst AreInclusivePartsToCome
+        (record { rest = Some text; separator = separator.now }) (chars cut.0)
+        (record { rest = cut.1; separator = separator.now })) }
+    ensures shorter { IfOk result (λ cut. IfSome cut.1 (λ rest. length rest < length text)) }
+    ensures err { OnErr result
+        (CutsBehindNext (record { rest = Some text; separator = separator.now })) }
+{
+    let Some(at) = find(text.as_str(), separator) else {
+        return Ok((text, None));
+    };
+    let end = at + separator.len();
+    if end == text.as_str().len() {
+        return Ok((text, None));
+    }
+    let (part, rest) = text.split_at_bytes(end).map_err(|refused| refused.reason)?;
+    Ok((part, Some(rest)))
+}
+
+/// The parts of a text, each with the separator that ends it, as `str::split_inclusive` has them.
+/// A refused cut is its last item.
+#[derive(Drop)]
+pub struct SplitInclusiveBytes<'s, S: Storage> {
+    rest: Option<StrInner<S>>,
+    separator: &'s str,
+}
+
+impl<'s, S: Storage> Model for SplitInclusiveBytes<'s, S> {
+    ghost use Rattle.std.specs.Prelude.{◌<◌, length};
+    ghost use Rattle.bytes_utils.specs.Keeping.{Keeping};
+
+    ghost Value = { Keeping };
+
+    ghost view = { λ s. record { rest = s.rest; separator = s.separator.now } };
+
+    ghost invariant = { λ s. 0 < length s.separator.now };
+}
+
+impl<S: Storage> StrInner<S> {
+    /// The parts, each with the separator that ends it, as `str::split_inclusive` has them: none is
+    /// empty. `is_empty` of the separator tests the condition.
+    pub fn split_inclusive_bytes<'s>(self, separator: &'s str) -> SplitInclusiveBytes<'s, S>
+        requires { 0 < length separator.now }
+        ensures value { result ≡ record { rest = Some self; separator = separator.now } }
+        ensures coming { (parts : List (List ℕ)) × AreInclusivePartsToCome result parts }
+    {
+        SplitInclusiveBytes {
+            rest: Some(self),
+            separator,
+        }
+    }
+}
+
+impl<'s, S: Storage> Iterator for SplitInclusiveBytes<'s, S> {
+    type Item = Result<StrInner<S>, Reason>;
+
+    ghost next_gives = { λ s r t. (t.separator ≡ s.separator)
+        × IsStep AreInclusivePartsToCome CutsBehindNext s r t };
+
+    ghost remaining = { λ s. at_most (most_inclusive_parts s) };
+
+    fn next(&mut self) -> Option<Self::Item> {
+        let text = self.rest.take()?;
+        if text.as_str().is_empty() {
+            return None;
+        }
+        match first_part(text, self.separator) {
+            Ok((part, rest)) => {
+                self.rest = rest;
+                Some(Ok(part))
+            }
+            Err(reason) => Some(Err(reason)),
+        }
+    }
+}
