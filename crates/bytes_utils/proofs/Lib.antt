@@ -17,4 +17,5 @@ pub mod CharacterCut
 pub mod NextPart
 pub mod Results
 pub mod KeepingCut
+pub mod Lines
 pub mod Cases

@@ -1,6 +1,8 @@
 //! What no clause says: that calls succeed with ample memory, printed text, and worked cases.
+mod borrowed;
 mod errors;
 mod inclusive;
+mod lines;
 mod parts;
 mod readme;
 mod refusing;

@@ -1,0 +1,92 @@
+//! A text cut into its lines.
+ghost use Rattle.std.specs.Prelude.{◌≡◌, ◌<◌, ℕ, List, [], ◌∷◌, Some, MatchOption, length, take, drop, IsCharBoundary, IfOk, OnErr, IfSome};
+ghost use Rattle.std.specs.Iterator.{at_most};
+ghost use Rattle.std.specs.Option.{option_map_or};
+ghost use Rattle.std.specs.Str.{chars};
+ghost use Rattle.bytes_utils.specs.Lines.{AreLinesToCome, HoldsLineFeed, lines};
+ghost use Rattle.bytes_utils.specs.Step.{GivesFirst, IsStep};
+
+use super::cut::cut_out;
+use super::search::find;
+use crate::string::{Storage, StrInner};
+use bytes_utils_buf::Reason;
+use std::marker::Model;
+
+/// Where the first line ends, and where the text behind its line feed begins.
+fn line_place(text: &str) -> Option<(usize, usize)>
+    ensures order { IfSome result (λ place. place.0 < place.1) }
+    ensures end { IfSome result (λ place. IsCharBoundary text.now place.0) }
+    ensures next { IfSome result (λ place. IsCharBoundary text.now place.1) }
+    ensures feed { IfSome result (λ _. HoldsLineFeed (Some text.now)) }
+    ensures line { MatchOption result
+        (0 < length text.now → lines (chars text.now) ≡ chars text.now ∷ [])
+        (λ place. lines (chars text.now)
+        ≡ chars (take place.0 text.now) ∷ lines (chars (drop place.1 text.now))) }
+{
+    let at = find(text, "\n")?;
+    let line = &text[..at];
+    let end = line.strip_suffix('\r').unwrap_or(line).len();
+    Some((end, at + 1))
+}
+
+/// The first line and the text behind its line feed, or the whole text where there is none.
+#[inline(always)]
+fn first_line<S: Storage>(text: StrInner<S>) -> Result<(StrInner<S>, Option<StrInner<S>>), Reason>
+    requires { 0 < length text }
+    ensures gives { IfOk result (λ cut. GivesFirst AreLinesToCome (Some text) (chars cut.0) cut.1) }
+    ensures shorter { IfOk result (λ cut. IfSome cut.1 (λ rest. length rest < length text)) }
+    ensures err { OnErr result (HoldsLineFeed (Some text)) }
+{
+    let Some((end, next)) = line_place(text.as_str()) else {
+        return Ok((text, None));
+    };
+    let (line, rest) = cut_out(text, end, next)?;
+    Ok((line, Some(rest)))
+}
+
+/// The lines of a text, first to last, as `str::lines` has them. A refused cut is its last item.
+#[derive(Drop)]
+pub struct LinesBytes<S: Storage> {
+    rest: Option<StrInner<S>>,
+}
+
+impl<S: Storage> Model for LinesBytes<S> {
+    ghost use Rattle.std.specs.Prelude.{ℕ, List, Option};
+
+    ghost Value = { Option (List ℕ) };
+
+    ghost view = { λ s. s.rest };
+}
+
+impl<S: Storage> StrInner<S> {
+    /// The lines, without their line feeds and without one carriage return directly in front of
+    /// each, as `str::lines` has them.
+    pub fn lines_bytes(self) -> LinesBytes<S>
+        ensures value { result ≡ Some self }
+        ensures coming { (lines : List (List ℕ)) × AreLinesToCome result lines }
+    {
+        LinesBytes { rest: Some(self) }
+    }
+}
+
+impl<S: Storage> Iterator for LinesBytes<S> {
+    type Item = Result<StrInner<S>, Reason>;
+
+    ghost next_gives = { λ s r t. IsStep AreLinesToCome HoldsLineFeed s r t };
+
+    ghost remaining = { λ s. at_most (option_map_or length s 0) };
+
+    fn next(&mut self) -> Option<Self::Item> {
+        let text = self.rest.take()?;
+        if text.as_str().is_empty() {
+            return None;
+        }
+        match first_line(text) {
+            Ok((line, rest)) => {
+                self.rest = rest;
+                Some(Ok(line))
+            }
+            Err(reason) => Some(Err(reason)),
+        }
+    }
+}

@@ -1,0 +1,54 @@
+//! Splitters beside the methods of `str` of the same names, which lend their parts.
+use super::shared;
+use std::test::Fail;
+
+/// The texts of the worked cases, and mixes of line feeds and carriage returns.
+const TEXTS: [&str; 34] = [
+    "",
+    "a",
+    "ab",
+    "aaa",
+    "ababa",
+    "a,b",
+    "a,b,",
+    "a,b,,c",
+    "a,b,c",
+    ",,",
+    "αβα",
+    "ββαβ",
+    "😈😉",
+    "abcdef",
+    "αβγδεζ",
+    "aβ",
+    "😈 ",
+    " a\u{b}b\t😈 ",
+    " ",
+    " \t\n\r\u{c} ",
+    "a  b",
+    "α\u{3000}β\u{a0}",
+    "a\r\n\nb\n",
+    "a\r",
+    "\r\r\n",
+    "\n",
+    "\r",
+    "\r\n",
+    "a\rb\r\n",
+    "\n\n",
+    "\n\r",
+    "a\n\rb",
+    "\r\n\r\n",
+    "a\n\r\n\r",
+];
+
+#[test]
+fn lines(rt: HostRuntime) -> Result<(), Fail> {
+    for text in TEXTS {
+        let mut parts = shared(rt.alloc(), text)?.lines_bytes();
+        for want in text.lines() {
+            let part = parts.next().ok_or(want)??;
+            assert_eq!(rt; part.as_str(), want, "{text:?}");
+        }
+        assert!(rt; parts.next().is_none(), "{text:?}");
+    }
+    Ok(())
+}
