@@ -10,7 +10,7 @@ use Rattle.bytes_utils.specs.Text.{byte_place}
 use Rattle.bytes_utils.specs.Occurrence.{OccursAt, Occurs, OccursFirstAt}
 use Rattle.bytes_utils.specs.Lines.{lines, line_feed, carriage_return, first_led_by}
 use Rattle.bytes_utils.proofs.Boundaries.{OccursAt-fits}
-use Rattle.bytes_utils.proofs.Forward.{cut_whole}
+use Rattle.bytes_utils.proofs.Occurrences.{cut_whole}
 use Rattle.bytes_utils.proofs.Places.{boundary_at_place, chars-take_place, chars-drop_place}
 
 -- the line is t without one carriage return at its end, if it has one there
@@ -119,7 +119,7 @@ lines-none (b ∷ text) e = absurd (omega (arith, e))
 -- a text whose first line feed stands at this byte place
 module _ (text : List ℕ) (text_is : IsUtf8 text) (at : ℕ) (found : (i : ℕ) × (at ≡ byte_place (chars text) i) × OccursFirstAt (line_feed ∷ []) (chars text) i) where
   around : chars text ≡ take found.0 (chars text) ++ line_feed ∷ drop (found.0 + 1) (chars text)
-  around = sym (cut_whole (line_feed ∷ []) (chars text) found.0 (omega arith) found.2)
+  around = sym (cut_whole (line_feed ∷ []) (chars text) found.0 found.2.here)
 
   front_lacks : LacksFeed (take found.0 (chars text))
   front_lacks front back e =

@@ -1,5 +1,5 @@
 use Rattle.std.proofs.Common.{rules, arith, ap, ◌≡◌, ◌+◌, ◌≤◌, length, take, drop, inl, inr}
-use Rattle.bytes_utils.proofs.FirstCut.{next_boundary}
+use Rattle.bytes_utils.proofs.PartCut.{next_boundary}
 use Rattle.bytes_utils.proofs.KeepingCut.{gives_whole, gives_through, ends_text, cuts_behind}
 use Rattle.bytes_utils.proofs.split.inclusive.first_part.Goals as goal
 
@@ -12,7 +12,7 @@ returns-in_default-clause-gives g c =
 pub overflow_add-end : goal.overflow_add-end
 overflow_add-end g c =
     let fits : c.in-Some.at + length c.args.separator.now ≤ length c.as_str.result.now =
-    (next_boundary _ _ c.as_str.utf8 c.utf8.separator _ c.in-Some.ensures).0 in
+    (next_boundary _ _ c.as_str.utf8 c.utf8.separator _ _ c.in-Some.ensures.1 c.in-Some.ensures.2.here).0 in
     search rules
 
 pub returns-then-end-as_str-clause-gives : goal.returns-then-end-as_str-clause-gives
@@ -23,13 +23,13 @@ returns-then-end-as_str-clause-gives g c =
     gives_whole _ _ text_is c.requires.text (inl (ends_text _ _ text_is c.utf8.separator _ found c.requires.separator whole))
 
 pub split_at_bytes-requires : goal.split_at_bytes-requires
-split_at_bytes-requires g c = rw (← c.as_str.ensures.value) (next_boundary _ _ c.as_str.utf8 c.utf8.separator _ c.in-Some.ensures)
+split_at_bytes-requires g c = rw (← c.as_str.ensures.value) (next_boundary _ _ c.as_str.utf8 c.utf8.separator _ _ c.in-Some.ensures.1 c.in-Some.ensures.2.here)
 
 pub returns-in_err-part-clause-err : goal.returns-in_err-part-clause-err
 returns-in_err-part-clause-err g c =
     let text_is = rw c.as_str.ensures.value at c.as_str.utf8 in
     let found = rw c.as_str.ensures.value at c.in-Some.ensures in
-    let fits = next_boundary _ _ text_is c.utf8.separator _ found in
+    let fits = next_boundary _ _ text_is c.utf8.separator _ _ found.1 found.2.here in
     let cuts = cuts_behind _ _ text_is c.utf8.separator _ found c.requires.separator (omega (arith, fits.0, ap length c.as_str-2.ensures.value, c.if-end-as_str.false)) in
     search rules
 
@@ -37,7 +37,7 @@ pub returns-clause-gives : goal.returns-clause-gives
 returns-clause-gives g c =
     let text_is = rw c.as_str.ensures.value at c.as_str.utf8 in
     let found = rw c.as_str.ensures.value at c.in-Some.ensures in
-    let fits = next_boundary _ _ text_is c.utf8.separator _ found in
+    let fits = next_boundary _ _ text_is c.utf8.separator _ _ found.1 found.2.here in
     let part_is : c.in_ok-part.part ≡ take (c.in-Some.at + length c.args.separator.now) c.args.text = search rules in
     let rest_is : c.in_ok-part.rest ≡ drop (c.in-Some.at + length c.args.separator.now) c.args.text = search rules in
     gives_through _ _ text_is c.utf8.separator _ found c.requires.separator (omega (arith, fits.0, ap length c.as_str-2.ensures.value, c.if-end-as_str.false)) _ _ part_is rest_is
