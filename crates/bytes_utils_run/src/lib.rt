@@ -3,6 +3,7 @@
 
 mod cut;
 pub mod laws;
+pub mod odd;
 mod program;
 
 pub use cut::{How, Parts, cut_all};

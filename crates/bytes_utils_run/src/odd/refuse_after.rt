@@ -1,0 +1,98 @@
+//! A storage that grants a number of splits.
+ghost use Rattle.std.specs.Prelude.{◌≡◌, ◌-◌, ◌^◌, ◌≤◌, length, take, drop, [], IsErr, IfOk, IfErr};
+ghost use Rattle.bytes_utils_buf.specs.declared.refused.Reason.{Reason as WhyRefused};
+
+use bytes::{Bytes, BytesMut};
+use bytes_utils::string::Storage;
+use bytes_utils::{Reason, Refused};
+use std::alloc::{AllocFailed, Global};
+use std::marker::Model;
+
+/// Shared bytes that grant a number of splits, and refuse the next as if memory were short.
+///
+/// A split with none left is refused with [`Reason::OutOfMemory`]. Else the left piece may be split
+/// one time less, and the right piece two times less: a splitter that cuts a separator off by two
+/// splits a step then makes exactly as many splits as were granted.
+#[derive(Drop)]
+pub struct RefuseAfter {
+    bytes: Bytes,
+    splits: usize,
+}
+
+impl Model for RefuseAfter {
+    ghost use Rattle.bytes_utils_run.specs.Odd.{Granting};
+
+    ghost Value = { Granting };
+
+    ghost view = { λ s. record { stored = s.bytes; granted = s.splits } };
+}
+
+impl RefuseAfter {
+    /// A storage of these bytes that grants so many splits.
+    pub fn new(bytes: Bytes, splits: usize) -> RefuseAfter
+        ensures { result ≡ record { stored = bytes; granted = splits } }
+    {
+        RefuseAfter { bytes, splits }
+    }
+}
+
+/// What is made empty, or from a creator, grants the greatest number of splits.
+impl Storage for RefuseAfter {
+    type Creator = BytesMut;
+
+    ghost stored = { λ s. s.stored };
+
+    ghost created = { λ c. c.items };
+
+    fn empty(_alloc: Global) -> Result<Self, Reason>
+        ensures { IfOk result (λ s. s ≡ record { stored = []; granted = 2 ^ 64 - 1 }) }
+    {
+        Ok(RefuseAfter::new(Bytes::new(), usize::MAX))
+    }
+
+    fn as_bytes(&self) -> &[u8] {
+        self.bytes.as_slice()
+    }
+
+    fn from_creator(creator: BytesMut) -> Result<Self, Refused<BytesMut>>
+        ensures ok { IfOk result (λ s. s ≡ record { stored = creator.items; granted = 2 ^ 64 - 1 }) }
+        ensures err { IfErr result (λ e. e.back.items ≡ creator.items) }
+    {
+        match creator.freeze() {
+            Ok(bytes) => Ok(RefuseAfter::new(bytes, usize::MAX)),
+            Err(AllocFailed { value }) => Err(Refused {
+                reason: Reason::OutOfMemory,
+                back: value,
+            }),
+        }
+    }
+
+    fn split_at(mut self, at: usize) -> Result<(Self, Self), Refused<Self>>
+        requires { at ≤ length self.stored }
+        ensures left { IfOk result (λ pieces. pieces.0
+            ≡ record { stored = take at self.stored; granted = self.granted - 1 }) }
+        ensures right { IfOk result (λ pieces. pieces.1
+            ≡ record { stored = drop at self.stored; granted = self.granted - 2 }) }
+        ensures none_left { self.granted ≡ 0 → IsErr result }
+        ensures err { IfErr result (λ e. e.back ≡ self) }
+        ensures reason { IfErr result (λ e. e.reason ≡ WhyRefused.OutOfMemory) }
+    {
+        if self.splits == 0 {
+            return Err(Refused {
+                reason: Reason::OutOfMemory,
+                back: self,
+            });
+        }
+        match self.bytes.split_to(at) {
+            Ok(left) => {
+                let left = RefuseAfter::new(left, self.splits - 1);
+                let right = RefuseAfter::new(self.bytes, self.splits.saturating_sub(2));
+                Ok((left, right))
+            }
+            Err(_) => Err(Refused {
+                reason: Reason::OutOfMemory,
+                back: self,
+            }),
+        }
+    }
+}
