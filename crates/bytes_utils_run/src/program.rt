@@ -13,6 +13,7 @@ mod command;
 mod fakes;
 mod fault;
 mod input;
+mod number;
 mod output;
 #[cfg(test)]
 mod tests;
