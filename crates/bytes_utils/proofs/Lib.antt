@@ -18,4 +18,5 @@ pub mod NextPart
 pub mod Results
 pub mod KeepingCut
 pub mod Lines
+pub mod Words
 pub mod Cases

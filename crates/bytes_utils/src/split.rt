@@ -10,9 +10,11 @@ mod lines;
 mod search;
 mod separated;
 mod separator;
+mod words;
 
 pub use boundary::boundaries;
 pub use direction::Direction;
 pub use inclusive::SplitInclusiveBytes;
 pub use lines::LinesBytes;
 pub use separator::{RSplitBytes, RSplitNBytes, SplitBytes, SplitNBytes};
+pub use words::{SplitAsciiWhitespaceBytes, SplitWhitespaceBytes};

@@ -7,7 +7,9 @@ mod parts;
 mod readme;
 mod refusing;
 mod storages;
+mod sweep;
 mod texts;
+mod words;
 
 use crate::Str;
 use bytes::Bytes;

@@ -52,3 +52,29 @@ fn lines(rt: HostRuntime) -> Result<(), Fail> {
     }
     Ok(())
 }
+
+#[test]
+fn split_whitespace(rt: HostRuntime) -> Result<(), Fail> {
+    for text in TEXTS {
+        let mut parts = shared(rt.alloc(), text)?.split_whitespace_bytes();
+        for want in text.split_whitespace() {
+            let part = parts.next().ok_or(want)??;
+            assert_eq!(rt; part.as_str(), want, "{text:?}");
+        }
+        assert!(rt; parts.next().is_none(), "{text:?}");
+    }
+    Ok(())
+}
+
+#[test]
+fn split_ascii_whitespace(rt: HostRuntime) -> Result<(), Fail> {
+    for text in TEXTS {
+        let mut parts = shared(rt.alloc(), text)?.split_ascii_whitespace_bytes();
+        for want in text.split_ascii_whitespace() {
+            let part = parts.next().ok_or(want)??;
+            assert_eq!(rt; part.as_str(), want, "{text:?}");
+        }
+        assert!(rt; parts.next().is_none(), "{text:?}");
+    }
+    Ok(())
+}

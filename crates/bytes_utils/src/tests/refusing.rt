@@ -7,10 +7,24 @@ use std::test::Fail;
 
 /// Shared bytes that grant a number of splits, and then refuse for the reason that they were given.
 #[derive(Drop)]
-struct Refusing {
+pub(super) struct Refusing {
     bytes: Bytes,
     granted: usize,
     reason: Reason,
+}
+
+/// The text over a storage that grants a number of splits, and then refuses for want of memory.
+pub(super) fn granting(
+    alloc: Global,
+    text: &str,
+    granted: usize,
+) -> Result<StrInner<Refusing>, Fail> {
+    let storage = Refusing {
+        bytes: Bytes::copy_from_slice(alloc, text.as_bytes())?,
+        granted,
+        reason: Reason::OutOfMemory,
+    };
+    Ok(StrInner::from_inner(storage).ok().ok_or("a text")?)
 }
 
 impl Storage for Refusing {

@@ -1,0 +1,15 @@
+use Rattle.std.proofs.Common.{◌≡◌, ◌∙◌, sym, Some}
+use Rattle.bytes_utils.proofs.Words.{step-word, left-shorter}
+use Rattle.bytes_utils.proofs.split.words.next_word.Goals as goal
+
+pub returns-in-Ok-clause-step : goal.returns-in-Ok-clause-step
+returns-in-Ok-clause-step g c =
+    let rest_is : c.args.rest.now ≡ Some c.in_ok-text.text = sym c.take.ensures.value ∙ c.in_ok-text.was in
+    let first = rw c.as_str.ensures.value at c.in_ok-start.ensures.word in
+    rw rest_is (step-word g.W.WhiteSpace.is_space _ _ _ _ _ c.in-Ok.ensures.word c.in-Ok.ensures.rest first)
+
+pub returns-in-Ok-clause-shorter : goal.returns-in-Ok-clause-shorter
+returns-in-Ok-clause-shorter g c =
+    let rest_is : c.args.rest.now ≡ Some c.in_ok-text.text = sym c.take.ensures.value ∙ c.in_ok-text.was in
+    let fits = rw c.as_str.ensures.value at c.in_ok-start.ensures.end in
+    rw rest_is (left-shorter g.W.WhiteSpace.is_space _ _ _ _ _ c.in-Ok.ensures.word c.in-Ok.ensures.rest c.in_ok-start.ensures.order fits.0)

@@ -1,0 +1,217 @@
+//! A text cut into its words.
+ghost use Rattle.std.specs.Prelude.{◌≡◌, ◌<◌, ◌≤◌, ◌⊎◌, ℕ, Bool, List, [], ◌∷◌, Some, MatchOption, length, take, drop, IsCharBoundary, IfOk, OnErr, IfSome, OnSome};
+ghost use Rattle.std.specs.Char.{is_ascii_whitespace, is_whitespace};
+ghost use Rattle.std.specs.Iterator.{at_most};
+ghost use Rattle.std.specs.Option.{option_map_or};
+ghost use Rattle.std.specs.Str.{chars};
+ghost use Rattle.bytes_utils.specs.Step.{IsStep};
+ghost use Rattle.bytes_utils.specs.Words.{AreWordsToCome, HoldsSpace, words};
+
+use crate::string::{Storage, StrInner};
+use bytes_utils_buf::Reason;
+use std::marker::Model;
+
+/// What counts as white space.
+trait WhiteSpace {
+    // Which characters do.
+    ghost is_space: { ℕ → Bool };
+
+    /// Whether a character does.
+    fn has(c: char) -> bool
+        ensures { result ≡ is_space c };
+}
+
+/// The characters with Unicode's property White_Space.
+struct Unicode;
+
+impl WhiteSpace for Unicode {
+    ghost is_space = { is_whitespace };
+
+    fn has(c: char) -> bool {
+        c.is_whitespace()
+    }
+}
+
+/// U+0009, U+000A, U+000C, U+000D and U+0020.
+struct Ascii;
+
+impl WhiteSpace for Ascii {
+    ghost is_space = { is_ascii_whitespace };
+
+    fn has(c: char) -> bool {
+        c.is_ascii_whitespace()
+    }
+}
+
+/// Where the first word begins, and where it ends.
+fn word_place<W: WhiteSpace>(text: &str) -> Option<(usize, usize)>
+    ensures order { IfSome result (λ place. place.0 < place.1) }
+    ensures start { IfSome result (λ place. IsCharBoundary text.now place.0) }
+    ensures end { IfSome result (λ place. IsCharBoundary text.now place.1) }
+    ensures before { IfSome result (λ place. 0 < place.0
+        → HoldsSpace W.is_space (Some text.now)) }
+    ensures behind { IfSome result (λ place. place.1 < length text.now
+        → HoldsSpace W.is_space (Some text.now)) }
+    ensures word { MatchOption result (words W.is_space (chars text.now) ≡ [])
+        (λ place. words W.is_space (chars text.now)
+        ≡ chars (drop place.0 (take place.1 text.now))
+        ∷ words W.is_space (chars (drop place.1 text.now))) }
+{
+    let start = text.find(|c: char| !W::has(c))?;
+    let rest = &text[start..];
+    let length = rest.find(|c: char| W::has(c)).unwrap_or(rest.len());
+    Some((start, start + length))
+}
+
+/// The text before a byte place, and that from it on, if any: at the end no split is made.
+#[inline(always)]
+fn cut_behind<S: Storage>(
+    text: StrInner<S>,
+    end: usize,
+) -> Result<(StrInner<S>, Option<StrInner<S>>), Reason>
+    requires { IsCharBoundary text end }
+    ensures front { IfOk result (λ cut. cut.0 ≡ take end text) }
+    ensures rest { IfOk result (λ cut. MatchOption cut.1 (end ≡ length text)
+        (λ rest. rest ≡ drop end text)) }
+    ensures err { OnErr result (end < length text) }
+{
+    if end == text.as_str().len() {
+        return Ok((text, None));
+    }
+    let (front, rest) = text.split_at_bytes(end).map_err(|refused| refused.reason)?;
+    Ok((front, Some(rest)))
+}
+
+/// The text from a byte place on: from its start on no split is made.
+#[inline(always)]
+fn cut_before<S: Storage>(text: StrInner<S>, start: usize) -> Result<StrInner<S>, Reason>
+    requires { IsCharBoundary text start }
+    ensures rest { IfOk result (λ rest. rest ≡ drop start text) }
+    ensures err { OnErr result (0 < start) }
+{
+    if start == 0 {
+        return Ok(text);
+    }
+    let (_, rest) = text
+        .split_at_bytes(start)
+        .map_err(|refused| refused.reason)?;
+    Ok(rest)
+}
+
+/// The text between two byte places, and that behind the second, if any. The later place is split
+/// first.
+#[inline(always)]
+fn cut_word<S: Storage>(
+    text: StrInner<S>,
+    start: usize,
+    end: usize,
+) -> Result<(StrInner<S>, Option<StrInner<S>>), Reason>
+    requires order { start ≤ end }
+    requires start { IsCharBoundary text start }
+    requires end { IsCharBoundary text end }
+    ensures word { IfOk result (λ cut. cut.0 ≡ drop start (take end text)) }
+    ensures rest { IfOk result (λ cut. MatchOption cut.1 (end ≡ length text)
+        (λ rest. rest ≡ drop end text)) }
+    ensures err { OnErr result ((0 < start) ⊎ (end < length text)) }
+{
+    let (front, rest) = cut_behind(text, end)?;
+    let word = cut_before(front, start)?;
+    Ok((word, rest))
+}
+
+/// One step by words.
+#[inline(always)]
+fn next_word<W: WhiteSpace, S: Storage>(
+    rest: &mut Option<StrInner<S>>,
+) -> Option<Result<StrInner<S>, Reason>>
+    ensures step { IsStep (AreWordsToCome W.is_space) (HoldsSpace W.is_space)
+        rest.old result rest.new }
+    ensures shorter { OnSome result
+        (option_map_or length rest.new 0 < option_map_or length rest.old 0) }
+{
+    let text = rest.take()?;
+    let (start, end) = word_place::<W>(text.as_str())?;
+    match cut_word(text, start, end) {
+        Ok((word, behind)) => {
+            *rest = behind;
+            Some(Ok(word))
+        }
+        Err(reason) => Some(Err(reason)),
+    }
+}
+
+/// The words of a text between characters with Unicode's property White_Space, first to last, as
+/// `str::split_whitespace` has them. A refused cut is its last item.
+#[derive(Drop)]
+pub struct SplitWhitespaceBytes<S: Storage> {
+    rest: Option<StrInner<S>>,
+}
+
+impl<S: Storage> Model for SplitWhitespaceBytes<S> {
+    ghost use Rattle.std.specs.Prelude.{ℕ, List, Option};
+
+    ghost Value = { Option (List ℕ) };
+
+    ghost view = { λ s. s.rest };
+}
+
+/// The words of a text between ASCII white space, first to last, as `str::split_ascii_whitespace`
+/// has them. A refused cut is its last item.
+#[derive(Drop)]
+pub struct SplitAsciiWhitespaceBytes<S: Storage> {
+    rest: Option<StrInner<S>>,
+}
+
+impl<S: Storage> Model for SplitAsciiWhitespaceBytes<S> {
+    ghost use Rattle.std.specs.Prelude.{ℕ, List, Option};
+
+    ghost Value = { Option (List ℕ) };
+
+    ghost view = { λ s. s.rest };
+}
+
+impl<S: Storage> StrInner<S> {
+    /// The maximal runs of characters without Unicode's property White_Space, as
+    /// `str::split_whitespace` has them.
+    pub fn split_whitespace_bytes(self) -> SplitWhitespaceBytes<S>
+        ensures value { result ≡ Some self }
+        ensures coming { (parts : List (List ℕ)) × AreWordsToCome is_whitespace result parts }
+    {
+        SplitWhitespaceBytes { rest: Some(self) }
+    }
+
+    /// The maximal runs of characters other than U+0009, U+000A, U+000C, U+000D and U+0020, as
+    /// `str::split_ascii_whitespace` has them.
+    pub fn split_ascii_whitespace_bytes(self) -> SplitAsciiWhitespaceBytes<S>
+        ensures value { result ≡ Some self }
+        ensures coming { (parts : List (List ℕ)) × AreWordsToCome is_ascii_whitespace result parts }
+    {
+        SplitAsciiWhitespaceBytes { rest: Some(self) }
+    }
+}
+
+impl<S: Storage> Iterator for SplitWhitespaceBytes<S> {
+    type Item = Result<StrInner<S>, Reason>;
+
+    ghost next_gives = { λ s r t. IsStep (AreWordsToCome is_whitespace)
+        (HoldsSpace is_whitespace) s r t };
+
+    ghost remaining = { λ s. at_most (option_map_or length s 0) };
+
+    fn next(&mut self) -> Option<Self::Item> {
+        next_word::<Unicode, S>(&mut self.rest)
+    }
+}
+
+impl<S: Storage> Iterator for SplitAsciiWhitespaceBytes<S> {
+    type Item = Result<StrInner<S>, Reason>;
+
+    ghost next_gives = { λ s r t. IsStep (AreWordsToCome is_ascii_whitespace)
+        (HoldsSpace is_ascii_whitespace) s r t };
+
+    ghost remaining = { λ s. at_most (option_map_or length s 0) };
+
+    fn next(&mut self) -> Option<Self::Item> {
+        next_word::<Ascii, S>(&mut self.rest)
+    }
+}
