@@ -1,5 +1,5 @@
 -- The definitions of the program beside worked cases: inputs and what they ask for, what is printed, whole runs, and faults.
-use Rattle.std.proofs.Common.{◌≡◌, refl, sym, ap, subst, ◌∙◌, ℕ, ◌+◌, ◌<◌, List, [], ◌∷◌, ◌++◌, inl, inr, true, false, length, length-append, decimal, get_or, append-nil, Some, codes, arith, lit<}
+use Rattle.std.proofs.Common.{◌≡◌, refl, sym, ap, subst, ◌∙◌, ℕ, ◌+◌, ◌<◌, List, [], ◌∷◌, ◌++◌, inl, inr, true, false, length, length-append, decimal, get_or, append-nil, None, Some, codes, arith, lit<}
 use Rattle.std.proofs.lemmas.List.{append_cancel_left}
 use Rattle.std.proofs.lemmas.List.Concat.{flat_map-cons}
 use Rattle.std.proofs.lemmas.Str.{is_utf8-from_IsUtf8}
@@ -7,10 +7,10 @@ use Rattle.std.specs.Char.{encode_utf8}
 use Rattle.std.specs.Fmt.{digits}
 use Rattle.std.specs.Str.{chars, encode_utf8_all, is_utf8}
 use Rattle.bytes_utils.specs.Lines.{line_feed, carriage_return}
-use Rattle.bytes_utils.specs.Parts.{join}
+use Rattle.bytes_utils.specs.Parts.{AreForwardParts, join}
 use Rattle.bytes_utils.proofs.Cases.{all_parts, split-comma, empty_text}
 use Rattle.bytes_utils_run.specs.Command.{EndsLine, IsCommand, command_line, text_behind}
-use Rattle.bytes_utils_run.specs.Cutting.{Cutting, BySeparator, ArePartsBy}
+use Rattle.bytes_utils_run.specs.Cutting.{Cutting, ByWords, ByAsciiWords, ByLines, FromFront, FromBack, Keeping, ArePartsBy}
 use Rattle.bytes_utils_run.specs.Fault.{fault_text, status_of}
 use Rattle.bytes_utils_run.specs.Printed.{printed}
 use Rattle.bytes_utils_run.specs.Run.{AreAskedFor, ReadsText, PrintsParts, PrintsFirstParts, WritesBeginning, FindsNoCommand, FindsNotUtf8, printed_parts}
@@ -84,37 +84,38 @@ program-return-kept (inr ends) = ends.0 (lit< tt) refl
 
 -- Which lines are commands.
 
-pub split-comma-is : IsCommand (BySeparator (codes ",")) (codes "split ,")
-split-comma-is = (lit< tt, refl)
+pub split-comma-is : IsCommand (FromFront (codes ",") None) (codes "split ,")
+split-comma-is = refl
 
 -- a separator that holds a space
-pub split-space-is : IsCommand (BySeparator (codes " , ")) (codes "split  , ")
-split-space-is = (lit< tt, refl)
+pub split-space-is : IsCommand (FromFront (codes " , ") None) (codes "split  , ")
+split-space-is = refl
 
--- no other separator is read from the line
-pub split-comma-only : (p : List ℕ) → IsCommand (BySeparator p) (codes "split ,") → p ≡ codes ","
-split-comma-only p is = append_cancel_left (codes "split ") p (codes ",") (sym is.1)
+-- an empty separator
+pub split-empty-is : IsCommand (FromFront [] None) (codes "split ")
+split-empty-is = refl
 
--- its first character is no `s`
+-- no other way is read from the line
+pub split-comma-only : (way : Cutting) → IsCommand way (codes "split ,") → way ≡ FromFront (codes ",") None
+split-comma-only ByWords is = let first : 115 ≡ 119 = ap (λ line. get_or line 0 0) is in absurd (omega (arith, first))
+split-comma-only ByAsciiWords is = let first : 115 ≡ 97 = ap (λ line. get_or line 0 0) is in absurd (omega (arith, first))
+split-comma-only ByLines is = let first : 115 ≡ 108 = ap (λ line. get_or line 0 0) is in absurd (omega (arith, first))
+split-comma-only (FromFront p None) is = ap (λ separator. FromFront separator None) (append_cancel_left (codes "split ") p (codes ",") (sym is))
+split-comma-only (FromFront p (Some most)) is = let sixth : 32 ≡ 110 = ap (λ line. get_or line 5 0) is.2 in absurd (omega (arith, sixth))
+split-comma-only (FromBack p None) is = let first : 115 ≡ 114 = ap (λ line. get_or line 0 0) is in absurd (omega (arith, first))
+split-comma-only (FromBack p (Some most)) is = let first : 115 ≡ 114 = ap (λ line. get_or line 0 0) is.2 in absurd (omega (arith, first))
+split-comma-only (Keeping p) is = let first : 115 ≡ 105 = ap (λ line. get_or line 0 0) is.1 in absurd (omega (arith, first))
+
+-- the first character is that of no word
 pub nonsense-no-command : (way : Cutting) → ¬ IsCommand way (codes "nonsense")
-nonsense-no-command (BySeparator p) is = let first : 110 ≡ 115 = ap (λ line. get_or line 0 0) is.1 in omega (arith, first)
-
--- no space behind the word
-pub no-space-no-command : (way : Cutting) → ¬ IsCommand way (codes "split,")
-no-space-no-command (BySeparator p) is = let behind : 44 ≡ 32 = ap (λ line. get_or line 5 0) is.1 in omega (arith, behind)
-
--- a line that is a command has more characters than the word and the space
-no-more-no-command : (line : List ℕ) → length line < 7 → (way : Cutting) → ¬ IsCommand way line
-no-more-no-command line short (BySeparator p) is = omega (arith, short, is.0, ap length is.1, length-append (codes "split ") p)
-
-pub no-separator-no-command : (way : Cutting) → ¬ IsCommand way (codes "split ")
-no-separator-no-command = no-more-no-command (codes "split ") (lit< tt)
-
-pub word-alone-no-command : (way : Cutting) → ¬ IsCommand way (codes "split")
-word-alone-no-command = no-more-no-command (codes "split") (lit< tt)
-
-pub empty-line-no-command : (way : Cutting) → ¬ IsCommand way []
-empty-line-no-command = no-more-no-command [] (lit< tt)
+nonsense-no-command ByWords is = let first : 110 ≡ 119 = ap (λ line. get_or line 0 0) is in omega (arith, first)
+nonsense-no-command ByAsciiWords is = let first : 110 ≡ 97 = ap (λ line. get_or line 0 0) is in omega (arith, first)
+nonsense-no-command ByLines is = let first : 110 ≡ 108 = ap (λ line. get_or line 0 0) is in omega (arith, first)
+nonsense-no-command (FromFront p None) is = let first : 110 ≡ 115 = ap (λ line. get_or line 0 0) is in omega (arith, first)
+nonsense-no-command (FromFront p (Some most)) is = let first : 110 ≡ 115 = ap (λ line. get_or line 0 0) is.2 in omega (arith, first)
+nonsense-no-command (FromBack p None) is = let first : 110 ≡ 114 = ap (λ line. get_or line 0 0) is in omega (arith, first)
+nonsense-no-command (FromBack p (Some most)) is = let first : 110 ≡ 114 = ap (λ line. get_or line 0 0) is.2 in omega (arith, first)
+nonsense-no-command (Keeping p) is = let first : 110 ≡ 105 = ap (λ line. get_or line 0 0) is.1 in omega (arith, first)
 
 -- What is printed.
 
@@ -140,15 +141,15 @@ long-printed = refl
 -- What inputs ask for.
 
 pub program-split : AreAskedFor program-split-input four-parts
-program-split = record { way = BySeparator (codes ","); command = split-comma-is; right = split-comma }
+program-split = record { way = FromFront (codes ",") None; command = split-comma-is; right = split-comma }
 
 -- no text behind the command is an empty text, which is its own only part
 pub program-no-text : AreAskedFor (codes "split ,") ([] ∷ [])
-program-no-text = record { way = BySeparator (codes ","); command = split-comma-is; right = empty_text }
+program-no-text = record { way = FromFront (codes ",") None; command = split-comma-is; right = empty_text }
 
 -- the carriage return is none of the separator
 pub program-return : AreAskedFor program-return-input (codes "a" ∷ codes "b" ∷ [])
-program-return = record { way = BySeparator (codes ","); command = split-comma-is; right = all_parts _ _ _ (lit< tt) refl refl refl }
+program-return = record { way = FromFront (codes ",") None; command = split-comma-is; right = all_parts _ _ _ (lit< tt) refl refl refl }
 
 pub nonsense-asks-nothing : (parts : List (List ℕ)) → ¬ AreAskedFor (codes "nonsense") parts
 nonsense-asks-nothing parts asked = nonsense-no-command asked.way asked.command
@@ -158,8 +159,10 @@ pub last-part-dropped : ¬ AreAskedFor program-split-input (codes "a" ∷ codes 
 last-part-dropped asked = too_short asked.way asked.command asked.right
   where
     too_short : (way : Cutting) → IsCommand way (codes "split ,") → ArePartsBy way (codes "a,b,,c") (codes "a" ∷ codes "b" ∷ [] ∷ []) → ⊥
-    too_short (BySeparator p) is are =
-        let joined : 4 ≡ 6 = sym (ap (λ separator. length (join separator (codes "a" ∷ codes "b" ∷ [] ∷ []))) (split-comma-only p is)) ∙ ap length are.joined in
+    too_short way is are =
+        let parts : AreForwardParts (codes "a,b,,c") (codes ",") None (codes "a" ∷ codes "b" ∷ [] ∷ []) =
+        subst (λ w. ArePartsBy w (codes "a,b,,c") (codes "a" ∷ codes "b" ∷ [] ∷ [])) (split-comma-only way is) are in
+        let joined : 4 ≡ 6 = ap length parts.joined in
         omega (arith, joined)
 
 -- Whole runs, from the bytes read to those written behind what the writer held.
@@ -211,6 +214,17 @@ nonsense-run = record {
   unwritten = refl;
 }
 
+-- nor is an empty line a command
+empty-line-no-command : (way : Cutting) → ¬ IsCommand way []
+empty-line-no-command ByWords is = omega (arith, ap length is)
+empty-line-no-command ByAsciiWords is = omega (arith, ap length is)
+empty-line-no-command ByLines is = omega (arith, ap length is)
+empty-line-no-command (FromFront p None) is = omega (arith, ap length is)
+empty-line-no-command (FromFront p (Some most)) is = omega (arith, ap length is.2)
+empty-line-no-command (FromBack p None) is = omega (arith, ap length is)
+empty-line-no-command (FromBack p (Some most)) is = omega (arith, ap length is.2)
+empty-line-no-command (Keeping p) is = omega (arith, ap length is.1)
+
 pub no-input-run : FindsNoCommand (Some []) (Some []) (Some []) (Some [])
 unfolding chars encode_utf8
 no-input-run = record {
@@ -237,27 +251,11 @@ pub command-unknown : ¬ FindsNoCommand (Some program-split-input) (Some []) (So
 unfolding chars
 command-unknown run =
     let input : program-split-input ≡ run.input = run.read.whole.0 ∙ append-nil run.input in
-    run.none (BySeparator (codes ",")) (subst (λ bytes. IsCommand (BySeparator (codes ",")) (command_line (chars bytes))) input split-comma-is)
+    run.none (FromFront (codes ",") None) (subst (λ bytes. IsCommand (FromFront (codes ",") None) (command_line (chars bytes))) input split-comma-is)
 
 -- an input that isn't read to its end
 pub input-left : (input : List ℕ) → ¬ ReadsText (Some (codes "ab")) (Some (codes "b")) input
 input-left input read = let left : codes "b" ≡ [] = read.whole.1 in omega (arith, ap length left)
-
-printed-some : (part : List ℕ) → 0 < length (printed part)
-printed-some part =
-    let size : length (printed part) ≡ length (decimal (length part) ++ codes ":" ++ part) + 1 = length-append _ (codes "\n") in
-    omega (arith, size)
-
--- nothing written by a run that ended well, whatever was read
-pub nothing-written : (input held : List ℕ) → ¬ PrintsParts (Some input) (Some []) (Some held) (Some held)
-nothing-written input held run = some_printed run.asked.way run.parts run.asked.right run.written
-  where
-    some_printed : (way : Cutting) (parts : List (List ℕ)) → ArePartsBy way (text_behind (chars run.input)) parts → held ≡ held ++ printed_parts parts → ⊥
-    some_printed (BySeparator p) [] are same = omega (arith, are.some)
-    some_printed (BySeparator p) (part ∷ parts) are same =
-        let first = printed (encode_utf8_all part) in
-        let all = ap length (flat_map-cons (λ part. printed (encode_utf8_all part)) part parts) ∙ length-append first (printed_parts parts) in
-        omega (arith, printed-some (encode_utf8_all part), all, ap length same, length-append held (printed_parts (part ∷ parts)))
 
 -- Faults.
 

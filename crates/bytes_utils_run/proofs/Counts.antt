@@ -1,16 +1,17 @@
--- How many parts a text has.
-use Rattle.std.proofs.Common.{◌≡◌, refl, ap, ℕ, ◌+◌, ◌<◌, ◌≤◌, List, [], ◌∷◌, ◌++◌, Option, None, Some, length, arith, length-append}
-use Rattle.std.specs.Str.{chars}
-use Rattle.bytes_utils.specs.Occurrence.{Occurs}
+-- How many parts a text has, at most: two more than it has characters.
+use Rattle.std.proofs.Common.{◌≡◌, refl, sym, ap, ◌∙◌, ℕ, zero, suc, ◌+◌, ◌-◌, ◌<◌, ◌≤◌, Bool, true, false, List, [], ◌∷◌, ◌++◌, Option, None, Some, All, length, map, take, drop, reverse, arith, length-append, length-take, ◌⊎◌, inl, inr}
+use Rattle.std.specs.Char.{is_whitespace, is_ascii_whitespace}
+use Rattle.std.specs.List.{starts_with}
+use Rattle.std.specs.Prelude.{nat_lt, nat_eq, ◌==◌, ◌&&◌, if◌then◌else◌}
+use Rattle.std.proofs.lemmas.Bool.{cond_both, ltb-true}
+use Rattle.std.proofs.lemmas.List.{length-map, length-reverse}
+use Rattle.std.proofs.lemmas.List.Elements.{All-head, All-tail}
+use Rattle.bytes_utils.specs.EmptySeparator.{single, by_element, by_element_backward}
+use Rattle.bytes_utils.specs.Lines.{line_feed, carriage_return, lines, first_led_by}
 use Rattle.bytes_utils.specs.Outcome.{Outcome}
-use Rattle.bytes_utils.specs.Parts.{AreForwardParts, OfLast, join}
-use Rattle.bytes_utils.specs.Splitting.{Splitting, AreForwardPartsToCome}
-
--- the empty list occurs in every last part
-no_empty_separator : {X : Type 0} (parts : List (List X)) → 0 < length parts → OfLast (λ part. ¬ Occurs [] part) parts → ⊥
-no_empty_separator [] some last = omega (arith, some)
-no_empty_separator (part ∷ []) some last = last (0, refl)
-no_empty_separator (part ∷ next ∷ parts) some last = no_empty_separator (next ∷ parts) (omega arith) last
+use Rattle.bytes_utils.specs.Parts.{AreForwardParts, AreBackwardParts, AreInclusiveParts, ArePartsFromFront, ArePartsFromBack, join}
+use Rattle.bytes_utils.specs.Words.{words, ends_word}
+use Rattle.bytes_utils_run.specs.Cutting.{Cutting, ByWords, ByAsciiWords, ByLines, FromFront, FromBack, Keeping, ArePartsBy}
 
 -- each part but the last takes at least the length of the separator
 length-join : {X : Type 0} (p : List X) (parts : List (List X)) → 0 < length p → length parts ≤ length (join p parts) + 1
@@ -19,16 +20,82 @@ length-join p (part ∷ []) some = omega arith
 length-join p (part ∷ next ∷ parts) some =
     omega (arith, length-join p (next ∷ parts) some, length-append part (p ++ join p (next ∷ parts)), length-append p (join p (next ∷ parts)))
 
-length-forward : {X : Type 0} (p t : List X) (parts : List (List X)) → AreForwardParts t p None parts → length parts ≤ length t + 1
-length-forward [] t parts are = absurd (no_empty_separator parts are.some (are.last tt))
-length-forward (c ∷ p) t parts are = omega (arith, length-join (c ∷ p) parts (omega arith), ap length are.joined)
+-- parts that aren't empty take an element each
+length-join_nothing : {X : Type 0} (parts : List (List X)) → All (λ part. 0 < length part) parts → length parts ≤ length (join [] parts)
+length-join_nothing [] some = omega arith
+length-join_nothing (part ∷ []) some = omega (arith, All-head (λ p. 0 < length p) part [] some)
+length-join_nothing (part ∷ next ∷ parts) some =
+    omega (arith, All-head (λ p. 0 < length p) part (next ∷ parts) some,
+    length-join_nothing (next ∷ parts) (All-tail (λ p. 0 < length p) part (next ∷ parts) some), length-append part (join [] (next ∷ parts)))
 
--- of a text that is all still to be cut, at most one part more than it has characters
-pub length-outcome : {E : Type 0} (s : Splitting) (text : List ℕ) (given : List (List ℕ)) (refused : Option E) → s.rest ≡ Some text
-    → Outcome (AreForwardPartsToCome s) given refused → length given ≤ length (chars text) + 1
-length-outcome s text given None rest whole =
-    let are : AreForwardParts (chars text) (chars s.separator) None given = rw rest at whole in
-    length-forward (chars s.separator) (chars text) given are
-length-outcome s text given (Some reason) rest begun =
-    let are : AreForwardParts (chars text) (chars s.separator) None (given ++ begun.0) = rw rest at begun.2 in
-    omega (arith, length-forward (chars s.separator) (chars text) (given ++ begun.0) are, length-append given begun.0)
+length-single : {X : Type 0} (t : List X) → length (single t) ≡ length t + 2
+length-single {X} t = omega (arith, length-append (map (λ x. x ∷ []) t) ([] ∷ []), length-map t (λ (x : X). x ∷ []))
+
+-- the empty separator makes an empty part, the characters, and an empty part, or fewer parts
+length-by_element : {X : Type 0} (t : List X) (limit : Option ℕ) → length (by_element t limit) ≤ length t + 2
+length-by_element t None = omega (arith, length-single t)
+length-by_element t (Some most) =
+    cond_both (nat_lt most (length (single t))) (take (most - 1) (single t) ++ (drop (most - 2) t ∷ [])) (single t) (λ parts. length parts ≤ length t + 2)
+    (λ below. omega (arith, ltb-true most (length (single t)) below, length-single t, length-append (take (most - 1) (single t)) (drop (most - 2) t ∷ []), length-take (most - 1) (single t)))
+    (λ enough. omega (arith, length-single t))
+
+length-front : (t p : List ℕ) (limit : Option ℕ) (parts : List (List ℕ)) → ArePartsFromFront t p limit parts → length parts ≤ length t + 2
+length-front t [] None parts are = omega (arith, ap length are, length-by_element t None)
+length-front t [] (Some zero) parts are = omega (arith, ap length are)
+length-front t [] (Some (suc most)) parts are = omega (arith, ap length are, length-by_element t (Some (suc most)))
+length-front t (c ∷ p) None parts are = omega (arith, ap length are.joined, length-join (c ∷ p) parts (omega arith))
+length-front t (c ∷ p) (Some zero) parts are = omega (arith, ap length are)
+length-front t (c ∷ p) (Some (suc most)) parts are = omega (arith, ap length are.joined, length-join (c ∷ p) parts (omega arith))
+
+length-backward : (t : List ℕ) (limit : Option ℕ) → length (by_element_backward t limit) ≤ length t + 2
+length-backward t limit = omega (arith, length-map (by_element (reverse t) limit) reverse, length-by_element (reverse t) limit, length-reverse t)
+
+length-back : (t p : List ℕ) (limit : Option ℕ) (parts : List (List ℕ)) → ArePartsFromBack t p limit parts → length parts ≤ length t + 2
+length-back t [] None parts are = omega (arith, ap length are, length-backward t None)
+length-back t [] (Some zero) parts are = omega (arith, ap length are)
+length-back t [] (Some (suc most)) parts are = omega (arith, ap length are, length-backward t (Some (suc most)))
+length-back t (c ∷ p) None parts are = omega (arith, ap length are.joined, length-join (c ∷ p) (reverse parts) (omega arith), length-reverse parts)
+length-back t (c ∷ p) (Some zero) parts are = omega (arith, ap length are)
+length-back t (c ∷ p) (Some (suc most)) parts are = omega (arith, ap length are.joined, length-join (c ∷ p) (reverse parts) (omega arith), length-reverse parts)
+
+length-led : (c : ℕ) (parts : List (List ℕ)) → length (first_led_by c parts) ≤ length parts + 1
+length-led c [] = omega arith
+length-led c (part ∷ parts) = omega arith
+
+-- each line takes a character, and each word does
+length-lines : (t : List ℕ) → length (lines t) ≤ length t
+length-lines [] = omega arith
+length-lines (c ∷ t) =
+    let more = length-lines t in
+    let led = length-led c (lines t) in
+    cond_both (c == line_feed) ([] ∷ lines t) (otherwise c t) (λ parts. length parts ≤ length (c ∷ t)) (λ _. omega (arith, more))
+    (λ _. cond_both (c == carriage_return && starts_with nat_eq t (line_feed ∷ [])) (lines t) (first_led_by c (lines t)) (λ parts. length parts ≤ length (c ∷ t))
+    (λ _. omega (arith, more)) (λ _. omega (arith, more, led)))
+  where
+    otherwise : ℕ → List ℕ → List (List ℕ)
+    otherwise d r = if d == carriage_return && starts_with nat_eq r (line_feed ∷ []) then lines r else first_led_by d (lines r)
+
+length-words : (is_space : ℕ → Bool) (t : List ℕ) → length (words is_space t) ≤ length t
+length-words is_space [] = omega arith
+length-words is_space (c ∷ t) =
+    let more = length-words is_space t in
+    let led = length-led c (words is_space t) in
+    cond_both (is_space c) (words is_space t) (otherwise c t) (λ parts. length parts ≤ length (c ∷ t)) (λ _. omega (arith, more))
+    (λ _. cond_both (ends_word is_space t) ((c ∷ []) ∷ words is_space t) (first_led_by c (words is_space t)) (λ parts. length parts ≤ length (c ∷ t))
+    (λ _. omega (arith, more)) (λ _. omega (arith, more, led)))
+  where
+    otherwise : ℕ → List ℕ → List (List ℕ)
+    otherwise d r = if ends_word is_space r then (d ∷ []) ∷ words is_space r else first_led_by d (words is_space r)
+
+length-parts : (way : Cutting) (t : List ℕ) (parts : List (List ℕ)) → ArePartsBy way t parts → length parts ≤ length t + 2
+length-parts ByWords t parts are = omega (arith, ap length are, length-words is_whitespace t)
+length-parts ByAsciiWords t parts are = omega (arith, ap length are, length-words is_ascii_whitespace t)
+length-parts ByLines t parts are = omega (arith, ap length are, length-lines t)
+length-parts (FromFront p limit) t parts are = length-front t p limit parts are
+length-parts (FromBack p limit) t parts are = length-back t p limit parts are
+length-parts (Keeping p) t parts are = omega (arith, ap length are.joined, length-join_nothing parts are.none_empty)
+
+-- so many are given at most, all or a beginning of them
+pub length-outcome : {E : Type 0} (way : Cutting) (t : List ℕ) (given : List (List ℕ)) (refused : Option E) → Outcome (ArePartsBy way t) given refused → length given ≤ length t + 2
+length-outcome way t given None whole = length-parts way t given whole
+length-outcome way t given (Some reason) begun = omega (arith, length-parts way t (given ++ begun.0) begun.2, length-append given begun.0)

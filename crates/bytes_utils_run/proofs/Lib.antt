@@ -1,6 +1,7 @@
 pub mod Beginnings
 pub mod FirstLine
-pub mod Words
+pub mod CommandLine
+pub mod Asked
 pub mod Numbers
 pub mod Printing
 pub mod Counts

@@ -1,8 +1,9 @@
 -- The language of the program's input: a command line, and the text that follows it. Inputs and lines are lists of characters
 -- here; `EndsLine` alone speaks of bytes.
-use Rattle.std.specs.Prelude.{◌≡◌, ◌≢◌, ◌⊎◌, ℕ, ◌-◌, ◌<◌, List, [], ◌∷◌, ◌++◌, ◌==◌, length, codes, unwrap_or, slice_get, slice_index, if◌then◌else◌}
+use Rattle.std.specs.Prelude.{◌≡◌, ◌≢◌, ◌⊎◌, ℕ, ◌-◌, ◌<◌, List, [], ◌∷◌, ◌++◌, ◌==◌, length, codes, None, Some, unwrap_or, slice_get, slice_index, if◌then◌else◌}
 use Rattle.bytes_utils.specs.Lines.{carriage_return, line_feed, lines}
-use Rattle.bytes_utils_run.specs.Cutting.{Cutting, BySeparator}
+use Rattle.bytes_utils_run.specs.Cutting.{Cutting, ByWords, ByAsciiWords, ByLines, FromFront, FromBack, Keeping}
+use Rattle.bytes_utils_run.specs.Number.{IsNumber}
 
 -- the first line of the input. An input without a line has an empty one, which is no command
 abbrev pub command_line : List ℕ → List ℕ
@@ -20,6 +21,22 @@ EndsLine bytes at end =
     ((0 < at) × (slice_index bytes (at - 1) ≡ carriage_return) × (end ≡ at - 1))
     ⊎ ((0 < at → slice_index bytes (at - 1) ≢ carriage_return) × (end ≡ at))
 
--- the line is a command that asks for this way to cut: `split`, one space, and a separator that isn't empty
+-- the text is the digits of a number, one space, and then the rest
+abbrev pub IsCounted : List ℕ → ℕ → List ℕ → Type 0
+IsCounted text n rest = (digits : List ℕ) × IsNumber digits n × (text ≡ digits ++ (codes " " ++ rest))
+
+-- the line is a word and then such a text
+abbrev pub IsCountedBehind : List ℕ → List ℕ → ℕ → List ℕ → Type 0
+IsCountedBehind word line n rest = (counted : List ℕ) × IsCounted counted n rest × (line ≡ word ++ counted)
+
+-- The line is a command that asks for this way to cut. A word and what follows it have one space between them; a separator is all of the
+-- line behind its space.
 abbrev pub IsCommand : Cutting → List ℕ → Type 0
-IsCommand (BySeparator p) line = (0 < length p) × (line ≡ codes "split " ++ p)
+IsCommand ByWords line = line ≡ codes "words"
+IsCommand ByAsciiWords line = line ≡ codes "ascii"
+IsCommand ByLines line = line ≡ codes "lines"
+IsCommand (FromFront p None) line = line ≡ codes "split " ++ p
+IsCommand (FromFront p (Some most)) line = IsCountedBehind (codes "splitn ") line most p
+IsCommand (FromBack p None) line = line ≡ codes "rsplit " ++ p
+IsCommand (FromBack p (Some most)) line = IsCountedBehind (codes "rsplitn ") line most p
+IsCommand (Keeping p) line = (0 < length p) × (line ≡ codes "inclusive " ++ p)

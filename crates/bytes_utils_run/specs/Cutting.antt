@@ -1,22 +1,50 @@
 -- The ways to cut a text, and the list of parts that each gives.
-use Rattle.std.specs.Prelude.{ℕ, ◌<◌, List, length, None}
+use Rattle.std.specs.Prelude.{◌≡◌, ℕ, ◌<◌, List, length, Option, None, Some, ⊤}
+use Rattle.std.specs.Char.{is_whitespace, is_ascii_whitespace}
 use Rattle.std.specs.Str.{chars}
-use Rattle.bytes_utils.specs.Parts.{AreForwardParts}
+use Rattle.bytes_utils.specs.Lines.{lines}
+use Rattle.bytes_utils.specs.Parts.{ArePartsFromFront, ArePartsFromBack, AreInclusiveParts}
+use Rattle.bytes_utils.specs.Words.{words}
 use Rattle.bytes_utils_run.specs.declared.cut.How.{How}
-use Rattle.bytes_utils_run.specs.declared.cut.How.TheVariants.{Split}
+use Rattle.bytes_utils_run.specs.declared.cut.How.TheVariants.{Words, AsciiWords, Lines, Split, SplitN, RSplit, RSplitN, Inclusive}
 
--- a way to cut, with its separator as characters
+-- a way to cut: into words, words between ASCII white space, or lines; by a separator, as characters, from the front or the back, with a
+-- limit or without; or into parts that keep the separator
 pub data Cutting : Type 0 where
-  BySeparator : List ℕ → Cutting
+  ByWords : Cutting
+  ByAsciiWords : Cutting
+  ByLines : Cutting
+  FromFront : List ℕ → Option ℕ → Cutting
+  FromBack : List ℕ → Option ℕ → Cutting
+  Keeping : List ℕ → Cutting
 
 -- the parts of the text t that are right for this way to cut
 abbrev pub ArePartsBy : Cutting → List ℕ → List (List ℕ) → Type 0
-ArePartsBy (BySeparator p) t parts = AreForwardParts t p None parts
+ArePartsBy ByWords t parts = parts ≡ words is_whitespace t
+ArePartsBy ByAsciiWords t parts = parts ≡ words is_ascii_whitespace t
+ArePartsBy ByLines t parts = parts ≡ lines t
+ArePartsBy (FromFront p limit) t parts = ArePartsFromFront t p limit parts
+ArePartsBy (FromBack p limit) t parts = ArePartsFromBack t p limit parts
+ArePartsBy (Keeping p) t parts = AreInclusiveParts t p parts
 
 -- the way that a caller asks for
 abbrev pub cutting : How → Cutting
-cutting (Split separator) = BySeparator (chars separator.now)
+cutting Words = ByWords
+cutting AsciiWords = ByAsciiWords
+cutting Lines = ByLines
+cutting (Split separator) = FromFront (chars separator.now) None
+cutting (SplitN most separator) = FromFront (chars separator.now) (Some most)
+cutting (RSplit separator) = FromBack (chars separator.now) None
+cutting (RSplitN most separator) = FromBack (chars separator.now) (Some most)
+cutting (Inclusive separator) = Keeping (chars separator.now)
 
--- what a caller may ask for: a separator that isn't empty
+-- what a caller may ask for: parts that keep a separator want one that isn't empty
 abbrev pub IsAllowed : How → Type 0
-IsAllowed (Split separator) = 0 < length separator.now
+IsAllowed Words = ⊤
+IsAllowed AsciiWords = ⊤
+IsAllowed Lines = ⊤
+IsAllowed (Split separator) = ⊤
+IsAllowed (SplitN most separator) = ⊤
+IsAllowed (RSplit separator) = ⊤
+IsAllowed (RSplitN most separator) = ⊤
+IsAllowed (Inclusive separator) = 0 < length separator.now

@@ -1,12 +1,14 @@
 //! The command line of an input.
-ghost use Rattle.std.specs.Prelude.{◌≡◌, ◌<◌, ◌≤◌, ◌==◌, MatchOption, Option, length, take, drop, IsCharBoundary};
+ghost use Rattle.std.specs.Prelude.{◌≡◌, ◌≢◌, ◌<◌, ◌≤◌, ◌==◌, ℕ, List, ◌++◌, MatchOption, Option, None, Some, codes, length, take, drop, IsCharBoundary, IsUtf8, IfSome};
+ghost use Rattle.std.specs.Bool.{MatchBool};
 ghost use Rattle.std.specs.List.{position};
 ghost use Rattle.std.specs.Str.{chars};
 ghost use Rattle.bytes_utils.specs.Lines.{line_feed};
-ghost use Rattle.bytes_utils_run.specs.Command.{EndsLine, IsCommand, command_line, text_behind};
-ghost use Rattle.bytes_utils_run.specs.Cutting.{Cutting, IsAllowed, cutting};
+ghost use Rattle.bytes_utils_run.specs.Command.{EndsLine, IsCommand, IsCounted, IsCountedBehind, command_line, text_behind};
+ghost use Rattle.bytes_utils_run.specs.Cutting.{Cutting, FromFront, FromBack, Keeping, IsAllowed, cutting};
 
 use crate::How;
+use crate::program::number::number;
 
 /// The place of the first line feed.
 fn line_feed_place(bytes: &[u8]) -> Option<usize>
@@ -43,14 +45,102 @@ pub(super) fn first_line(input: &str) -> (usize, usize)
     }
 }
 
+/// Whether a line is a word.
+fn is_word(line: &str, word: &str) -> bool
+    ensures { MatchBool result (chars line.now ≡ chars word.now) (chars line.now ≢ chars word.now) }
+{
+    line == word
+}
+
+/// What follows a word at the beginning of a line.
+fn behind<'l>(line: &'l str, word: &str) -> Option<&'l str>
+    ensures value { MatchOption result ((rest : List ℕ) → chars line.now ≢ chars word.now ++ rest)
+        (λ rest. chars line.now ≡ chars word.now ++ chars rest.now) }
+    ensures utf8 { IfSome result (λ rest. IsUtf8 rest.now) }
+{
+    line.strip_prefix(word)
+}
+
+/// A number, one space, and what follows it.
+fn counted(text: &str) -> Option<(usize, &str)>
+    ensures { MatchOption result ((most : ℕ) (rest : List ℕ) → ¬ IsCounted (chars text.now) most rest)
+        (λ found. IsCounted (chars text.now) found.0 (chars found.1.now)) }
+{
+    let (digits, rest) = text.split_once(" ")?;
+    Some((number(digits)?, rest))
+}
+
+/// A number and what follows it, behind a word at the beginning of a line.
+fn counted_behind<'l>(line: &'l str, word: &str) -> Option<(usize, &'l str)>
+    ensures { MatchOption result ((most : ℕ) (rest : List ℕ) → ¬ IsCountedBehind (chars word.now) (chars line.now) most rest)
+        (λ found. IsCountedBehind (chars word.now) (chars line.now) found.0 (chars found.1.now)) }
+{
+    counted(behind(line, word)?)
+}
+
+/// The commands that are a word alone.
+fn plain(line: &str) -> Option<How<'_>>
+    ensures { MatchOption result
+        ((chars line.now ≢ codes "words") × (chars line.now ≢ codes "ascii") × (chars line.now ≢ codes "lines"))
+        (λ how. IsAllowed how × IsCommand (cutting how) (chars line.now)) }
+{
+    if is_word(line, "words") {
+        return Some(How::Words);
+    }
+    if is_word(line, "ascii") {
+        return Some(How::AsciiWords);
+    }
+    if is_word(line, "lines") {
+        return Some(How::Lines);
+    }
+    None
+}
+
+/// The commands of a word and a separator.
+fn by_separator(line: &str) -> Option<How<'_>>
+    ensures { MatchOption result
+        ((p : List ℕ) → (¬ IsCommand (FromFront p None) (chars line.now))
+        × (¬ IsCommand (FromBack p None) (chars line.now))
+        × (¬ IsCommand (Keeping p) (chars line.now)))
+        (λ how. IsAllowed how × IsCommand (cutting how) (chars line.now)) }
+{
+    if let Some(separator) = behind(line, "split ") {
+        return Some(How::Split(separator));
+    }
+    if let Some(separator) = behind(line, "rsplit ") {
+        return Some(How::RSplit(separator));
+    }
+    let separator = behind(line, "inclusive ")?;
+    if separator.is_empty() {
+        return None;
+    }
+    Some(How::Inclusive(separator))
+}
+
+/// The commands of a word, a number and a separator.
+fn by_limit(line: &str) -> Option<How<'_>>
+    ensures { MatchOption result
+        ((p : List ℕ) (most : ℕ) → (¬ IsCommand (FromFront p (Some most)) (chars line.now))
+        × (¬ IsCommand (FromBack p (Some most)) (chars line.now)))
+        (λ how. IsAllowed how × IsCommand (cutting how) (chars line.now)) }
+{
+    if let Some((most, separator)) = counted_behind(line, "splitn ") {
+        return Some(How::SplitN(most, separator));
+    }
+    let (most, separator) = counted_behind(line, "rsplitn ")?;
+    Some(How::RSplitN(most, separator))
+}
+
 /// What a command line asks for.
 pub(super) fn how(line: &str) -> Option<How<'_>>
     ensures { MatchOption result ((way : Cutting) → ¬ IsCommand way (chars line.now))
         (λ how. IsAllowed how × IsCommand (cutting how) (chars line.now)) }
 {
-    let separator = line.strip_prefix("split ")?;
-    if separator.is_empty() {
-        return None;
+    if let Some(how) = plain(line) {
+        return Some(how);
     }
-    Some(How::Split(separator))
+    if let Some(how) = by_separator(line) {
+        return Some(how);
+    }
+    by_limit(line)
 }
