@@ -55,15 +55,11 @@ module _ {X : Type 0} (p t : List X) (i : ℕ) (some : 0 < length p) (first : Oc
       subst (λ z. AreForwardParts z p limit (take i t ∷ parts)) (cut_whole p t i first.here)
       (AreForwardParts-led p (take i t) (drop (i + length p) t) limit room first_in_part parts are)
 
-few_one : (limit : Option ℕ) → IfSome limit (λ most. 0 < most) → IfSome limit (λ most. 1 ≤ most)
-few_one None positive = tt
-few_one (Some most) positive = omega arith
-
 -- a text in which p doesn't occur is its only part
 pub AreForwardParts-last : {X : Type 0} (p t : List X) (limit : Option ℕ) → IfSome limit (λ most. 0 < most) → (¬ Occurs p t) → AreForwardParts t p limit (t ∷ [])
 AreForwardParts-last p t limit positive lacks = record {
   some = omega arith;
-  few = few_one limit positive;
+  few = positive;
   joined = refl;
   cut_at_first = tt;
   last = λ _. lacks;
