@@ -19,4 +19,5 @@ pub mod Results
 pub mod KeepingCut
 pub mod Lines
 pub mod Words
+pub mod Chunks
 pub mod Cases

@@ -21,4 +21,4 @@ CutsBehindNext s = IsSomeAnd s.rest
 
 -- a bound on the parts to come, of which none is empty: the bytes left
 abbrev pub most_inclusive_parts : Keeping → ℕ
-most_inclusive_parts s = option_map_or (λ text. length text) s.rest 0
+most_inclusive_parts s = option_map_or length s.rest 0

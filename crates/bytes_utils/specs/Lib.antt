@@ -8,4 +8,5 @@ pub mod Outcome
 pub mod Step
 pub mod Splitting
 pub mod Keeping
+pub mod Walk
 pub mod Errors

@@ -2,6 +2,7 @@
 
 mod boundary;
 mod character;
+mod closure;
 mod cut;
 mod direction;
 mod each_character;
@@ -13,6 +14,7 @@ mod separator;
 mod words;
 
 pub use boundary::boundaries;
+pub use closure::BytesIter;
 pub use direction::Direction;
 pub use inclusive::SplitInclusiveBytes;
 pub use lines::LinesBytes;

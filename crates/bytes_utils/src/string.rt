@@ -5,6 +5,7 @@ mod storage;
 mod text;
 mod utf8_error;
 
+pub use crate::split::{BytesIter, Direction};
 use bytes::Bytes;
 pub use storage::Storage;
 pub use text::StrInner;

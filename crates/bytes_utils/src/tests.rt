@@ -1,5 +1,6 @@
 //! What no clause says: that calls succeed with ample memory, printed text, and worked cases.
 mod borrowed;
+mod closure;
 mod errors;
 mod inclusive;
 mod lines;

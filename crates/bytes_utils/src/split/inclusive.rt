@@ -2,11 +2,8 @@
 ghost use Rattle.std.specs.Prelude.{◌≡◌, ◌<◌, ℕ, List, Some, length, IfOk, OnErr, IfSome};
 ghost use Rattle.std.specs.Iterator.{at_most};
 ghost use Rattle.std.specs.Str.{chars};
-ghost use Rattle.bytes_utils.specs.Keeping.{
-  AreInclusivePartsToCome,
-  CutsBehindNext,
-  most_inclusive_parts,
-};
+ghost use Rattle.bytes_utils.specs.Keeping.{AreInclusivePartsToCome, CutsBehindNext};
+ghost use Rattle.bytes_utils.specs.Keeping.{most_inclusive_parts};
 ghost use Rattle.bytes_utils.specs.Step.{GivesFirst, IsStep};
 
 use super::search::find;

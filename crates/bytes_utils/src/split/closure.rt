@@ -1,0 +1,104 @@
+//! A text cut at the places that a closure of the caller's answers.
+ghost use Rattle.std.specs.Prelude.{◌≡◌, ◌<◌, Some, length, IfOk, IsUtf8};
+ghost use Rattle.std.specs.Iterator.{at_most};
+ghost use Rattle.std.specs.Str.{chars};
+ghost use Rattle.bytes_utils.specs.Walk.{IsLawfulCut, IsLawfulClosure, IsWalkStep};
+ghost use Rattle.bytes_utils.specs.Walk.{chunk_at, most_chunks, rest_at};
+
+use super::cut::cut_out;
+use super::direction::Direction;
+use crate::string::{Storage, StrInner};
+use bytes_utils_buf::Reason;
+use std::marker::Model;
+
+/// The chunk that a cut gives and the text that it leaves. The edges are a closure's answer.
+#[inline(always)]
+fn chunk_and_rest<S: Storage>(
+    text: StrInner<S>,
+    direction: Direction,
+    chunk_edge: usize,
+    separator_edge: usize,
+) -> Result<(StrInner<S>, StrInner<S>), Reason>
+    requires text { IsUtf8 text }
+    requires cut { IsLawfulCut direction text chunk_edge separator_edge }
+    ensures chunk { IfOk result
+        (λ pieces. pieces.0 ≡ chunk_at direction text chunk_edge separator_edge) }
+    ensures rest { IfOk result
+        (λ pieces. pieces.1 ≡ rest_at direction text chunk_edge separator_edge) }
+    ensures fewer { IfOk result (λ pieces. length (chars pieces.1) < length (chars text)) }
+{
+    match direction {
+        Direction::Forward => cut_out(text, chunk_edge, separator_edge),
+        Direction::Backward => {
+            let (rest, chunk) = cut_out(text, separator_edge, chunk_edge)?;
+            Ok((chunk, rest))
+        }
+    }
+}
+
+/// The chunks of a text, cut at the places that a closure answers. A refused cut is its last item.
+///
+/// It serves whoever wants cuts that no named splitter makes, as fields that a scanner ends, and
+/// still wants the chunks owned:
+///
+/// ```text
+/// let comma = |s: &str| s.find(',').map(|at| (at, at + 1));
+/// for field in BytesIter::new(text, Direction::Forward, comma) { .. }   // `a`, `b` of `a,b`
+/// ```
+#[derive(Drop)]
+pub struct BytesIter<S: Storage, F> {
+    rest: Option<StrInner<S>>,
+    direction: Direction,
+    closure: F,
+}
+
+impl<S: Storage, F> Model for BytesIter<S, F> {
+    ghost use Rattle.bytes_utils.specs.Walk.{Walk};
+
+    ghost Value = { Walk F };
+
+    ghost view = { λ s. record { rest = s.rest; direction = s.direction; closure = s.closure } };
+}
+
+impl<S: Storage, F: FnMut(&str) -> Option<(usize, usize)>> BytesIter<S, F> {
+    /// Cuts `s` at the places that `ext` answers on what is left of it.
+    ///
+    /// An answer is a pair of byte places. Forward they are the end of the next chunk and the end
+    /// of the separator behind it; backward they are the start of the next chunk and the start of
+    /// the separator in front of it. `None` makes all that is left the last chunk, which may be
+    /// empty. The closure is called once for each item.
+    pub fn new(s: StrInner<S>, direction: Direction, ext: F) -> Self
+        requires { IsLawfulClosure F.FnMut direction }
+        ensures { result ≡ record { rest = Some s; direction = direction; closure = ext } }
+    {
+        BytesIter {
+            rest: Some(s),
+            direction,
+            closure: ext,
+        }
+    }
+}
+
+impl<S: Storage, F: FnMut(&str) -> Option<(usize, usize)> + Drop> Iterator for BytesIter<S, F> {
+    type Item = Result<StrInner<S>, Reason>;
+
+    ghost can_next = { λ s. IsLawfulClosure F.FnMut s.direction };
+
+    ghost next_gives = { λ s r t. IsWalkStep F.FnMut s r t };
+
+    ghost remaining = { λ s. at_most (most_chunks s) };
+
+    fn next(&mut self) -> Option<Self::Item> {
+        let text = self.rest.take()?;
+        let Some((chunk_edge, separator_edge)) = (self.closure)(text.as_str()) else {
+            return Some(Ok(text));
+        };
+        match chunk_and_rest(text, self.direction, chunk_edge, separator_edge) {
+            Ok((chunk, rest)) => {
+                self.rest = Some(rest);
+                Some(Ok(chunk))
+            }
+            Err(reason) => Some(Err(reason)),
+        }
+    }
+}
