@@ -10,7 +10,7 @@ pub mod string;
 
 pub use bytes_utils_buf::{Reason, Refused, parts, segmented};
 pub use segmented::{SegmentedBuf, SegmentedSlice};
-pub use string::Str;
+pub use string::{Str, StrMut};
 
 #[cfg(test)]
 mod tests;

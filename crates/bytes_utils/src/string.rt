@@ -1,5 +1,6 @@
 //! Text over a storage whose bytes are UTF-8.
 
+mod build;
 mod convert;
 mod storage;
 mod text;
@@ -8,8 +9,13 @@ mod utf8_error;
 pub use crate::split::{BytesIter, Direction};
 use bytes::Bytes;
 pub use storage::Storage;
+use bytes::{Bytes, BytesMut};
+pub use storage::{Storage, StorageMut};
 pub use text::StrInner;
 pub use utf8_error::Utf8Error;
 
 /// Immutable text over shared bytes.
 pub type Str = StrInner<Bytes>;
+
+/// Text that grows, in bytes with one owner.
+pub type StrMut = StrInner<BytesMut>;

@@ -1,9 +1,12 @@
 //! What text is stored in.
-ghost use Rattle.std.specs.Prelude.{◌≡◌, ℕ, ◌≤◌, List, [], length, take, drop, IsOk, IfOk, IfErr};
+ghost use Rattle.std.specs.Prelude.{⊤, ◌≡◌, ℕ, ◌≤◌, List, [], ◌++◌, length, take, drop, IfOk, IfErr, OnOk, OnErr};
+ghost use Rattle.bytes_utils_buf.specs.declared.refused.Reason.{Reason};
 
-use bytes::{Bytes, BytesMut};
+mod owned;
+mod shared;
+
 use bytes_utils_buf::{Reason, Refused};
-use std::alloc::{AllocFailed, Global};
+use std::alloc::Global;
 
 /// A storage of bytes that can be cut into owned pieces.
 pub trait Storage: Sized + Drop {
@@ -16,9 +19,13 @@ pub trait Storage: Sized + Drop {
     // The bytes of a creator.
     ghost created: { Self.Creator → List ℕ };
 
+    // The reasons that it may refuse for.
+    ghost refuses: { Reason → Type 0 } = { λ _. ⊤ };
+
     /// A storage of no bytes.
     fn empty(alloc: Global) -> Result<Self, Reason>
-        ensures { IfOk result (λ s. stored s ≡ []) };
+        ensures ok { IfOk result (λ s. stored s ≡ []) }
+        ensures reason { IfErr result refuses };
 
     /// All of the bytes.
     fn as_bytes(&self) -> &[u8]
@@ -27,7 +34,8 @@ pub trait Storage: Sized + Drop {
     /// Takes over what was filled, or hands it back.
     fn from_creator(creator: Self::Creator) -> Result<Self, Refused<Self::Creator>>
         ensures ok { IfOk result (λ s. stored s ≡ created creator) }
-        ensures err { IfErr result (λ e. created e.back ≡ created creator) };
+        ensures err { IfErr result (λ e. created e.back ≡ created creator) }
+        ensures reason { IfErr result (λ e. refuses e.reason) };
 
     /// The bytes before `at` and those from `at` on, or the storage back. The length of `as_bytes`
     /// tests the condition.
@@ -35,47 +43,18 @@ pub trait Storage: Sized + Drop {
         requires { at ≤ length (stored self) }
         ensures left { IfOk result (λ pieces. stored pieces.0 ≡ take at (stored self)) }
         ensures right { IfOk result (λ pieces. stored pieces.1 ≡ drop at (stored self)) }
-        ensures err { IfErr result (λ e. stored e.back ≡ stored self) };
+        ensures err { IfErr result (λ e. stored e.back ≡ stored self) }
+        ensures reason { IfErr result (λ e. refuses e.reason) };
 }
 
-impl Storage for Bytes {
-    type Creator = BytesMut;
+/// A storage that text is built in.
+pub trait StorageMut: Storage {
+    /// What a text is kept in once it has been built.
+    type Immutable;
 
-    ghost stored = { λ s. s };
-
-    ghost created = { λ c. c.items };
-
-    fn empty(_alloc: Global) -> Result<Self, Reason>
-        ensures value { IfOk result (λ s. s ≡ []) }
-        // It takes no memory.
-        ensures succeeds { IsOk result }
-    {
-        Ok(Bytes::new())
-    }
-
-    #[inline]
-    fn as_bytes(&self) -> &[u8] {
-        self.as_slice()
-    }
-
-    fn from_creator(creator: BytesMut) -> Result<Self, Refused<BytesMut>> {
-        match creator.freeze() {
-            Ok(bytes) => Ok(bytes),
-            Err(AllocFailed { value }) => Err(Refused {
-                reason: Reason::OutOfMemory,
-                back: value,
-            }),
-        }
-    }
-
-    #[inline]
-    fn split_at(mut self, at: usize) -> Result<(Self, Self), Refused<Self>> {
-        match self.split_to(at) {
-            Ok(left) => Ok((left, self)),
-            Err(_) => Err(Refused {
-                reason: Reason::OutOfMemory,
-                back: self,
-            }),
-        }
-    }
+    /// Appends `s`.
+    fn push_slice(&mut self, s: &[u8]) -> Result<(), Reason>
+        ensures ok { OnOk result (Self.stored self.new ≡ Self.stored self.old ++ s.now) }
+        ensures err { OnErr result (Self.stored self.new ≡ Self.stored self.old) }
+        ensures reason { IfErr result Self.refuses };
 }

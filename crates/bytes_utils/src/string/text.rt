@@ -23,7 +23,7 @@ use std::str;
 /// A clause sees its bytes.
 #[derive(Drop)]
 pub struct StrInner<S: Storage> {
-    storage: S,
+    pub(super) storage: S,
 }
 
 impl<S: Storage> Model for StrInner<S> {
@@ -96,6 +96,7 @@ impl<S: Storage> StrInner<S> {
         ensures left { IfOk result (λ halves. halves.0 ≡ take at self) }
         ensures right { IfOk result (λ halves. halves.1 ≡ drop at self) }
         ensures err { IfErr result (λ e. e.back ≡ self) }
+        ensures reason { IfErr result (λ e. S.refuses e.reason) }
     {
         let StrInner { storage } = self;
         match storage.split_at(at) {

@@ -1,0 +1,68 @@
+//! Text that is built.
+ghost use Rattle.std.specs.Prelude.{◌≡◌, ◌++◌, [], map, encode_utf8, ◌⊎◌, IfOk, IfErr, OnOk, OnErr};
+ghost use Rattle.std.specs.Iterator.{IsFinite, Drains, YieldsThen};
+ghost use Rattle.std.specs.List.{concat};
+
+use crate::string::{Storage, StorageMut, StrInner};
+use bytes_utils_buf::{Reason, Refused};
+use std::alloc::Global;
+
+impl<S: Storage> StrInner<S> {
+    /// The empty text.
+    pub fn new(alloc: Global) -> Result<Self, Reason>
+        ensures ok { IfOk result (λ text. text ≡ []) }
+        ensures reason { IfErr result S.refuses }
+    {
+        let storage = S::empty(alloc)?;
+        Ok(StrInner { storage })
+    }
+}
+
+impl<S: StorageMut> StrInner<S> {
+    /// Puts `s` behind the text.
+    pub fn push_str(&mut self, s: &str) -> Result<(), Reason>
+        ensures ok { OnOk result (self.new ≡ self.old ++ s.now) }
+        ensures err { OnErr result (self.new ≡ self.old) }
+        ensures reason { IfErr result S.refuses }
+    {
+        self.storage.push_slice(s.as_bytes())?;
+        Ok(())
+    }
+
+    /// Puts the character `c` behind the text.
+    pub fn push(&mut self, c: char) -> Result<(), Reason>
+        ensures ok { OnOk result (self.new ≡ self.old ++ encode_utf8 c) }
+        ensures err { OnErr result (self.new ≡ self.old) }
+        ensures reason { IfErr result S.refuses }
+    {
+        let mut bytes = [0; 4];
+        self.push_str(c.encode_utf8(&mut bytes))
+    }
+}
+
+impl<S: Storage> StrInner<S>
+where
+    S::Creator: StorageMut,
+{
+    /// A copy of `s`.
+    pub fn from_str(alloc: Global, s: &str) -> Result<Self, Reason>
+        requires creator { (c : S.Creator) → S.created c ≡ S.Creator.stored c }
+        ensures ok { IfOk result (λ text. text ≡ s.now) }
+        ensures reason { IfErr result (λ reason. S.refuses reason ⊎ S.Creator.refuses reason) }
+    {
+        let mut text = StrInner::<S::Creator>::new(alloc)?;
+        text.push_str(s)?;
+        StrInner::from_built(text)
+    }
+
+    fn from_built(text: StrInner<S::Creator>) -> Result<Self, Reason>
+        requires creator { (c : S.Creator) → S.created c ≡ S.Creator.stored c }
+        ensures ok { IfOk result (λ made. made ≡ text) }
+        ensures reason { IfErr result S.refuses }
+    {
+        match S::from_creator(text.into_inner()) {
+            Ok(storage) => Ok(StrInner { storage }),
+            Err(refused) => Err(refused.reason),
+        }
+    }
+}

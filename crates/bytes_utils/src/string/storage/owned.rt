@@ -1,0 +1,62 @@
+//! Bytes with one owner as a storage.
+ghost use Rattle.std.specs.Prelude.{◌≡◌, [], IsOk, IfOk};
+ghost use Rattle.bytes_utils_buf.specs.declared.refused.Reason.TheVariants.{OutOfMemory};
+
+use crate::string::{Storage, StorageMut};
+use bytes::{Bytes, BytesMut};
+use bytes_utils_buf::{Reason, Refused};
+use std::alloc::{AllocError, Global};
+
+impl Storage for BytesMut {
+    type Creator = BytesMut;
+
+    ghost stored = { λ s. s.items };
+
+    ghost created = { λ c. c.items };
+
+    ghost refuses = { λ reason. reason ≡ OutOfMemory };
+
+    fn empty(alloc: Global) -> Result<Self, Reason>
+        ensures value { IfOk result (λ s. s.items ≡ []) }
+        // It takes no memory.
+        ensures succeeds { IsOk result }
+    {
+        Ok(BytesMut::new(alloc))
+    }
+
+    #[inline]
+    fn as_bytes(&self) -> &[u8] {
+        self.as_slice()
+    }
+
+    fn from_creator(creator: BytesMut) -> Result<Self, Refused<BytesMut>>
+        ensures value { IfOk result (λ s. s ≡ creator) }
+        // It takes no memory.
+        ensures succeeds { IsOk result }
+    {
+        Ok(creator)
+    }
+
+    #[inline]
+    fn split_at(mut self, at: usize) -> Result<(Self, Self), Refused<Self>> {
+        match self.split_to(at) {
+            Ok(left) => Ok((left, self)),
+            Err(_) => Err(Refused {
+                reason: Reason::OutOfMemory,
+                back: self,
+            }),
+        }
+    }
+}
+
+impl StorageMut for BytesMut {
+    type Immutable = Bytes;
+
+    #[inline]
+    fn push_slice(&mut self, s: &[u8]) -> Result<(), Reason> {
+        match self.extend_from_slice(s) {
+            Ok(()) => Ok(()),
+            Err(AllocError) => Err(Reason::OutOfMemory),
+        }
+    }
+}

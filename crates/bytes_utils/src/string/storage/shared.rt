@@ -1,0 +1,52 @@
+//! Shared bytes as a storage.
+ghost use Rattle.std.specs.Prelude.{◌≡◌, [], IsOk, IfOk};
+ghost use Rattle.bytes_utils_buf.specs.declared.refused.Reason.TheVariants.{OutOfMemory};
+
+use crate::string::Storage;
+use bytes::{Bytes, BytesMut};
+use bytes_utils_buf::{Reason, Refused};
+use std::alloc::{AllocFailed, Global};
+
+impl Storage for Bytes {
+    type Creator = BytesMut;
+
+    ghost stored = { λ s. s };
+
+    ghost created = { λ c. c.items };
+
+    ghost refuses = { λ reason. reason ≡ OutOfMemory };
+
+    fn empty(_alloc: Global) -> Result<Self, Reason>
+        ensures value { IfOk result (λ s. s ≡ []) }
+        // It takes no memory.
+        ensures succeeds { IsOk result }
+    {
+        Ok(Bytes::new())
+    }
+
+    #[inline]
+    fn as_bytes(&self) -> &[u8] {
+        self.as_slice()
+    }
+
+    fn from_creator(creator: BytesMut) -> Result<Self, Refused<BytesMut>> {
+        match creator.freeze() {
+            Ok(bytes) => Ok(bytes),
+            Err(AllocFailed { value }) => Err(Refused {
+                reason: Reason::OutOfMemory,
+                back: value,
+            }),
+        }
+    }
+
+    #[inline]
+    fn split_at(mut self, at: usize) -> Result<(Self, Self), Refused<Self>> {
+        match self.split_to(at) {
+            Ok(left) => Ok((left, self)),
+            Err(_) => Err(Refused {
+                reason: Reason::OutOfMemory,
+                back: self,
+            }),
+        }
+    }
+}
