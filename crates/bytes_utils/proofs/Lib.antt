@@ -21,3 +21,4 @@ pub mod Lines
 pub mod Words
 pub mod Chunks
 pub mod Cases
+pub mod Building

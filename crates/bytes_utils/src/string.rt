@@ -2,6 +2,7 @@
 
 mod build;
 mod convert;
+mod items;
 mod storage;
 mod text;
 mod utf8_error;

@@ -1,10 +1,8 @@
 //! Text that is built.
-ghost use Rattle.std.specs.Prelude.{◌≡◌, ◌++◌, [], map, encode_utf8, ◌⊎◌, IfOk, IfErr, OnOk, OnErr};
-ghost use Rattle.std.specs.Iterator.{IsFinite, Drains, YieldsThen};
-ghost use Rattle.std.specs.List.{concat};
+ghost use Rattle.std.specs.Prelude.{◌≡◌, ◌++◌, [], encode_utf8, ◌⊎◌, IfOk, IfErr, OnOk, OnErr};
 
 use crate::string::{Storage, StorageMut, StrInner};
-use bytes_utils_buf::{Reason, Refused};
+use bytes_utils_buf::Reason;
 use std::alloc::Global;
 
 impl<S: Storage> StrInner<S> {
@@ -55,7 +53,8 @@ where
         StrInner::from_built(text)
     }
 
-    fn from_built(text: StrInner<S::Creator>) -> Result<Self, Reason>
+    /// The text, in the storage that is made of what it was built in.
+    pub(super) fn from_built(text: StrInner<S::Creator>) -> Result<Self, Reason>
         requires creator { (c : S.Creator) → S.created c ≡ S.Creator.stored c }
         ensures ok { IfOk result (λ made. made ≡ text) }
         ensures reason { IfErr result S.refuses }
