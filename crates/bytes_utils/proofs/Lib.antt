@@ -22,3 +22,4 @@ pub mod Words
 pub mod Chunks
 pub mod Cases
 pub mod Building
+pub mod AsciiCase

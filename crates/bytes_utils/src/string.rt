@@ -1,8 +1,14 @@
 //! Text over a storage whose bytes are UTF-8.
 
 mod build;
+mod compare;
 mod convert;
+mod format;
+mod freeze;
 mod items;
+mod owned;
+mod show;
+mod slice;
 mod storage;
 mod text;
 mod utf8_error;

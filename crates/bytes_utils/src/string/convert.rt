@@ -2,8 +2,8 @@
 ghost use Rattle.std.specs.Prelude.{◌≡◌, ◌↔◌, IsUtf8, IsOk, IfOk, IfErr};
 ghost use Rattle.bytes_utils.specs.Errors.{refused_storage};
 
-use crate::string::{Str, Utf8Error};
-use bytes::Bytes;
+use crate::string::{Str, StrMut, Utf8Error};
+use bytes::{Bytes, BytesMut};
 
 /// As `Str::from_inner`.
 impl TryFrom<Bytes> for Str {
@@ -23,5 +23,26 @@ impl From<Str> for Bytes {
 
     fn from(text: Str) -> Bytes {
         text.into_inner()
+    }
+}
+
+/// As `StrMut::from_inner`.
+impl TryFrom<BytesMut> for StrMut {
+    type Error = Utf8Error<BytesMut>;
+
+    ghost try_from_gives = { λ bytes r. (IsOk r ↔ IsUtf8 bytes.items)
+        × IfOk r (λ text. text ≡ bytes.items) × IfErr r (λ e. refused_storage e ≡ bytes) };
+
+    fn try_from(value: BytesMut) -> Result<Self, Self::Error> {
+        StrMut::from_inner(value)
+    }
+}
+
+/// As `StrMut::into_inner`.
+impl From<StrMut> for BytesMut {
+    ghost from_gives = { λ text bytes. bytes.items ≡ text };
+
+    fn from(built: StrMut) -> BytesMut {
+        built.into_inner()
     }
 }

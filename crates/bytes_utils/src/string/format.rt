@@ -1,0 +1,59 @@
+//! Text that a format writes.
+ghost use Rattle.std.specs.Prelude.{◌≡◌, ◌++◌, IsOk, IfOk, IfSome, OnErr};
+
+use crate::string::{Storage, StorageMut, StrInner};
+use std::alloc::Global;
+use std::fmt;
+
+/// `write_str` appends all or nothing. Either refusal of the storage is an `fmt::Error`.
+impl<S: StorageMut> fmt::Write for StrInner<S> {
+    ghost write_str_gives = { λ text s after. after ≡ text ++ s };
+
+    fn write_str(&mut self, s: &str) -> fmt::Result
+        ensures ok { IsOk result → self.new ≡ self.old ++ s.now }
+        ensures err { OnErr result (self.new ≡ self.old) }
+    {
+        match self.push_str(s) {
+            Ok(()) => Ok(()),
+            Err(_) => Err(fmt::Error),
+        }
+    }
+}
+
+impl<S: Storage> StrInner<S>
+where
+    S::Creator: StorageMut,
+{
+    /// What the macros call. A refusal is an `fmt::Error` too.
+    pub fn format<D: fmt::Display + Drop>(alloc: Global, value: D) -> Result<Self, fmt::Error>
+        requires creator { (c : S.Creator) → S.created c ≡ S.Creator.stored c }
+        ensures ok { IfOk result (λ text. IfSome (D.output value) (λ written. text ≡ written)) }
+    {
+        let Ok(text) = StrInner::<S::Creator>::new(alloc) else {
+            return Err(fmt::Error);
+        };
+        let mut f = fmt::Formatter::new(text);
+        f.write(value)?;
+        match StrInner::from_built(f.into_inner()) {
+            Ok(text) => Ok(text),
+            Err(_) => Err(fmt::Error),
+        }
+    }
+}
+
+/// `format_bytes!(alloc; "..", ..)` is the `Str` that the format writes. Want of memory is an
+/// `fmt::Error`, and so is a fault of an argument's own.
+#[macro_export]
+macro_rules! format_bytes {
+    ($alloc:expr; $($arg:tt)+) => {
+        $crate::Str::format($alloc, format_args!($($arg)+))
+    };
+}
+
+/// As `format_bytes!`, giving a `StrMut`.
+#[macro_export]
+macro_rules! format_bytes_mut {
+    ($alloc:expr; $($arg:tt)+) => {
+        $crate::StrMut::format($alloc, format_args!($($arg)+))
+    };
+}

@@ -1,0 +1,68 @@
+//! Text that grows no more: what was built, and what is text already.
+ghost use Rattle.std.specs.Prelude.{◌≡◌, string_bytes, string_len, [], IsOk, IfOk, IfErr};
+
+use crate::string::{Storage, StorageMut, Str, StrInner, StrMut};
+use bytes::Bytes;
+use bytes_utils_buf::{Reason, Refused};
+use std::alloc::{AllocFailed, Global};
+
+impl<S: StorageMut> StrInner<S>
+where
+    S::Immutable: Storage<Creator = S>,
+{
+    /// The same text in the storage that this one's is made into.
+    pub fn freeze(self) -> Result<StrInner<S::Immutable>, Refused<Self>>
+        requires creator { (c : S) → S.Immutable.created c ≡ S.stored c }
+        ensures ok { IfOk result (λ frozen. frozen ≡ self) }
+        ensures err { IfErr result (λ e. e.back ≡ self) }
+        ensures reason { IfErr result (λ e. S.Immutable.refuses e.reason) }
+    {
+        let StrInner { storage } = self;
+        match S::Immutable::from_creator(storage) {
+            Ok(storage) => Ok(StrInner { storage }),
+            Err(Refused { reason, back }) => Err(Refused {
+                reason,
+                back: StrInner { storage: back },
+            }),
+        }
+    }
+}
+
+impl StrInner<Bytes> {
+    /// A text that lasts as long as the program. It takes no memory.
+    pub fn from_static(_alloc: Global, text: &'static str) -> Result<Str, Reason>
+        ensures ok { IfOk result (λ made. made ≡ text.now) }
+        ensures succeeds { IsOk result }
+    {
+        Ok(StrInner {
+            storage: Bytes::from_static(text.as_bytes()),
+        })
+    }
+
+    /// The text of a `String`, whose bytes aren't copied.
+    pub fn from_string(_alloc: Global, text: String) -> Result<Str, Refused<String>>
+        ensures ok { IfOk result (λ made. made ≡ string_bytes text) }
+        ensures err { IfErr result (λ e. string_bytes e.back ≡ string_bytes text) }
+        ensures empty { string_bytes text ≡ [] → IsOk result }
+        ensures reason { IfErr result (λ e. e.reason ≡ Reason.OutOfMemory) }
+    {
+        // Tells the proof that the bytes are UTF-8.
+        let _ = text.as_str();
+        match Bytes::from_vec(text.into_bytes()) {
+            Ok(storage) => Ok(StrInner { storage }),
+            Err(AllocFailed { value }) => Err(Refused {
+                reason: Reason::OutOfMemory,
+                back: unsafe { String::from_utf8_unchecked(value) },
+            }),
+        }
+    }
+
+    /// As `freeze`.
+    pub fn from_mut(text: StrMut) -> Result<Str, Refused<StrMut>>
+        ensures ok { IfOk result (λ frozen. frozen ≡ text) }
+        ensures err { IfErr result (λ e. e.back ≡ text) }
+        ensures reason { IfErr result (λ e. e.reason ≡ Reason.OutOfMemory) }
+    {
+        text.freeze()
+    }
+}

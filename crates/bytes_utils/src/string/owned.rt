@@ -1,0 +1,52 @@
+//! Calls of text that grows in bytes with one owner.
+ghost use Rattle.std.specs.Prelude.{◌≡◌, [], map, IsOk, IfOk, IfErr, OnOk, OnErr};
+ghost use Rattle.std.specs.Char.{to_ascii_uppercase, to_ascii_lowercase};
+
+use crate::string::{StrInner, StrMut};
+use bytes::BytesMut;
+use bytes_utils_buf::Reason;
+
+impl StrInner<BytesMut> {
+    /// All of the text that has been built. What is left here is empty.
+    pub fn split_built(&mut self) -> Result<StrMut, Reason>
+        ensures ok { IfOk result (λ built. built ≡ self.old) }
+        ensures rest { OnOk result (self.new ≡ []) }
+        ensures err { OnErr result (self.new ≡ self.old) }
+        ensures empty { self.old ≡ [] → IsOk result }
+        ensures reason { IfErr result (λ reason. reason ≡ Reason.OutOfMemory) }
+    {
+        match self.storage.split() {
+            Ok(storage) => Ok(StrInner { storage }),
+            Err(_) => Err(Reason::OutOfMemory),
+        }
+    }
+
+    /// A copy of the text.
+    pub fn try_clone(&self) -> Result<StrMut, Reason>
+        ensures ok { IfOk result (λ copy. copy ≡ self.now) }
+        ensures reason { IfErr result (λ reason. reason ≡ Reason.OutOfMemory) }
+    {
+        match self.storage.clone() {
+            Ok(storage) => Ok(StrInner { storage }),
+            Err(_) => Err(Reason::OutOfMemory),
+        }
+    }
+
+    /// Writes `A` to `Z` in place of `a` to `z`. It takes no memory.
+    pub fn make_ascii_uppercase(&mut self) -> Result<(), Reason>
+        ensures ok { self.new ≡ map to_ascii_uppercase self.old }
+        ensures succeeds { IsOk result }
+    {
+        self.storage.as_mut_slice().make_ascii_uppercase();
+        Ok(())
+    }
+
+    /// Writes `a` to `z` in place of `A` to `Z`. It takes no memory.
+    pub fn make_ascii_lowercase(&mut self) -> Result<(), Reason>
+        ensures ok { self.new ≡ map to_ascii_lowercase self.old }
+        ensures succeeds { IsOk result }
+    {
+        self.storage.as_mut_slice().make_ascii_lowercase();
+        Ok(())
+    }
+}

@@ -1,0 +1,58 @@
+//! Parts and copies of a text over shared bytes, which leave the text as it is.
+ghost use Rattle.std.specs.Prelude.{◌≡◌, ◌≤◌, length, take, drop, slice_range, IsCharBoundary, IsOk, IfOk, IfErr};
+
+use crate::string::{Str, StrInner, StrMut};
+use bytes::Bytes;
+use bytes_utils_buf::Reason;
+use std::ops::Range;
+
+impl StrInner<Bytes> {
+    /// The text from the byte place `range.start` to `range.end`, sharing the bytes.
+    /// `is_char_boundary` of `as_str` tests the conditions on places.
+    pub fn slice(&self, range: Range<usize>) -> Result<Str, Reason>
+        requires ordered { range.start ≤ range.end }
+        requires start { IsCharBoundary self.now range.start }
+        requires end { IsCharBoundary self.now range.end }
+        ensures ok { IfOk result (λ part. part ≡ slice_range self.now range.start range.end) }
+        ensures empty { range.start ≡ range.end → IsOk result }
+        ensures reason { IfErr result (λ reason. reason ≡ Reason.OutOfMemory) }
+    {
+        match self.storage.slice(range) {
+            Ok(storage) => Ok(StrInner { storage }),
+            Err(_) => Err(Reason::OutOfMemory),
+        }
+    }
+
+    /// The text from the byte place `start` on, as `slice`.
+    pub fn slice_from(&self, start: usize) -> Result<Str, Reason>
+        requires { IsCharBoundary self.now start }
+        ensures ok { IfOk result (λ part. part ≡ drop start self.now) }
+        ensures empty { start ≡ length self.now → IsOk result }
+        ensures reason { IfErr result (λ reason. reason ≡ Reason.OutOfMemory) }
+    {
+        self.slice(start..self.as_str().len())
+    }
+
+    /// The text before the byte place `end`, as `slice`.
+    pub fn slice_to(&self, end: usize) -> Result<Str, Reason>
+        requires { IsCharBoundary self.now end }
+        ensures ok { IfOk result (λ part. part ≡ take end self.now) }
+        ensures empty { end ≡ 0 → IsOk result }
+        ensures reason { IfErr result (λ reason. reason ≡ Reason.OutOfMemory) }
+    {
+        // Tells the proof that the bytes are UTF-8.
+        let _ = self.as_str();
+        self.slice(0..end)
+    }
+
+    /// The same text, sharing the bytes.
+    pub fn try_clone(&self) -> Result<Str, Reason>
+        ensures ok { IfOk result (λ copy. copy ≡ self.now) }
+        ensures reason { IfErr result (λ reason. reason ≡ Reason.OutOfMemory) }
+    {
+        match self.storage.clone() {
+            Ok(storage) => Ok(StrInner { storage }),
+            Err(_) => Err(Reason::OutOfMemory),
+        }
+    }
+}
