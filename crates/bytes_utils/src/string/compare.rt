@@ -36,7 +36,7 @@ impl<S: Storage> PartialEq for StrInner<S> {
     ghost laws = { partial_equiv_from_equiv nat_list_eq_equiv };
 
     fn eq(&self, other: &Self) -> bool {
-        self.as_str() == other.as_str()
+        self.eq_str(other.as_str())
     }
 }
 
@@ -64,7 +64,7 @@ impl<S: Storage> Ord for StrInner<S> {
     ghost matches_eq = { texts_ties };
 
     fn cmp(&self, other: &Self) -> Ordering {
-        self.as_str().cmp(other.as_str())
+        self.cmp_str(other.as_str())
     }
 }
 
