@@ -14,8 +14,6 @@ mod text;
 mod utf8_error;
 
 pub use crate::split::{BytesIter, Direction};
-use bytes::Bytes;
-pub use storage::Storage;
 use bytes::{Bytes, BytesMut};
 pub use storage::{Storage, StorageMut};
 pub use text::StrInner;
