@@ -1,4 +1,5 @@
 pub mod Boundaries
+pub mod JsonText
 pub mod Places
 pub mod Search
 pub mod Occurrences

@@ -10,3 +10,4 @@ pub mod Splitting
 pub mod Keeping
 pub mod Walk
 pub mod Errors
+pub mod Json
