@@ -1,5 +1,7 @@
 pub mod Boundaries
 pub mod JsonText
+pub mod JsonBytes
+pub mod JsonReading
 pub mod Places
 pub mod Search
 pub mod Occurrences

@@ -1,22 +1,77 @@
-//! Texts as JSON: written as a JSON string, and read from a string or a list of bytes.
-ghost use Rattle.std.specs.Prelude.{◌≡◌, Some, IfOk, IfErr, IsUtf8, string_bytes, encode_utf8_all};
+//! Texts as JSON: written as a JSON string, and read from a string or from a list of bytes.
+ghost use Rattle.std.specs.Prelude.{◌≡◌, ◌≢◌, ◌⊎◌, Ok, Err, ◌↔◌, ℕ, ◌<◌, List, All, map, Some, IfOk, IfErr, IfSome, IfNone, string_bytes, encode_utf8_all};
 ghost use Rattle.std.specs.Str.{chars};
-ghost use Rattle.serde_json.specs.Data.{string};
 ghost use Rattle.serde_json.specs.Read.{read};
-ghost use Rattle.bytes_utils.specs.Json.{json_string};
+ghost use Rattle.serde_json.specs.View.{view};
+ghost use Rattle.bytes_utils.specs.Json.{json_string, whole_number, StandsFor, IsRefusedFor, HoldsText, IsNotJson, HoldsNoBytes, HoldsOtherBytes};
 
-use crate::string::{Storage, StrInner};
+use crate::string::{Storage, StorageMut, StrInner};
 use bytes_utils_buf::Reason;
 use serde_json::Value;
 use std::alloc::{AllocError, Global};
+
+/// Why no text was read from JSON.
+#[derive(Clone, Copy, Debug, Eq, PartialEq)]
+pub enum JsonRefused {
+    /// A request for memory was refused, or the storage refused, for whatever reason.
+    OutOfMemory = 1,
+    /// What was to be read is no JSON: it has a fault, or goes on behind its value, or nests more
+    /// than 127 deep.
+    NotJson = 3,
+    /// It is JSON, and neither a string nor a list whose members are whole numbers from 0 to 255.
+    /// A number with a fraction or an exponent is none of these, whatever its value.
+    NotText = 4,
+    /// It is a list of such numbers, which as bytes aren't UTF-8.
+    NotUtf8 = 5,
+}
 
 /// The text as a JSON string.
 fn written(alloc: Global, text: &str) -> Result<String, AllocError>
     ensures table { IfOk result
         (λ json. string_bytes json ≡ encode_utf8_all (json_string (chars text.now))) }
-    ensures reads_back { IfOk result (λ json. read (string_bytes json) ≡ Some (string text.now)) }
+    ensures reads_back { IfOk result (λ json. HoldsText (string_bytes json) text.now) }
 {
     Value::try_from_str(alloc, text)?.to_string(alloc)
+}
+
+/// The value that a JSON text has.
+fn value_of(alloc: Global, json: &str) -> Result<Value, JsonRefused>
+    ensures ok { IfOk result (λ value. read json.now ≡ Some (view value)) }
+    ensures err { IfErr result
+        (λ e. (e ≡ JsonRefused.OutOfMemory) ⊎ ((e ≡ JsonRefused.NotJson) × IsNotJson json.now)) }
+{
+    match Value::from_str(alloc, json) {
+        Ok(value) => Ok(value),
+        Err(error) if error.is_memory() => Err(JsonRefused::OutOfMemory),
+        Err(_) => Err(JsonRefused::NotJson),
+    }
+}
+
+/// The byte that a member of a list is.
+fn byte_of(member: &Value) -> Option<u8>
+    ensures some { IfSome result (λ byte. view member.now ≡ whole_number byte) }
+    ensures in_range { IfSome result (λ byte. byte < 256) }
+    ensures none { IfNone result ((n : ℕ) → n < 256 → view member.now ≢ whole_number n) }
+{
+    u8::try_from(member.as_u64()?).ok()
+}
+
+/// The bytes that the members of a list are.
+fn bytes_of<S: StorageMut>(alloc: Global, members: &[Value]) -> Result<S, JsonRefused>
+    ensures ok { IfOk result (λ bytes. map view members.now ≡ map whole_number (S.stored bytes)) }
+    ensures in_range { IfOk result (λ bytes. All (λ b. b < 256) (S.stored bytes)) }
+    ensures err { IfErr result
+        (λ e. (e ≡ JsonRefused.OutOfMemory) ⊎ ((e ≡ JsonRefused.NotText)
+        × ((ns : List ℕ) → All (λ n. n < 256) ns → map view members.now ≢ map whole_number ns))) }
+{
+    let mut bytes = S::empty(alloc).map_err(|_| JsonRefused::OutOfMemory)?;
+    for member in members {
+        let byte = byte_of(member).ok_or(JsonRefused::NotText)?;
+        bytes
+            .push_slice(&[byte])
+            .map_err(|_| JsonRefused::OutOfMemory)?;
+    }
+    Ok(bytes)
 }
 
 impl<S: Storage> StrInner<S> {
@@ -24,9 +79,49 @@ impl<S: Storage> StrInner<S> {
     pub fn to_json(&self, alloc: Global) -> Result<String, Reason>
         ensures table { IfOk result
             (λ json. string_bytes json ≡ encode_utf8_all (json_string (chars self.now))) }
-        ensures reads_back { IfOk result (λ json. read (string_bytes json) ≡ Some (string self.now)) }
+        ensures reads_back { IfOk result (λ json. HoldsText (string_bytes json) self.now) }
         ensures err { IfErr result (λ e. e ≡ Reason.OutOfMemory) }
     {
         written(alloc, self.as_str()).map_err(|_| Reason::OutOfMemory)
+    }
+}
+
+impl<S: Storage> StrInner<S>
+where
+    S::Creator: StorageMut,
+{
+    /// The text that a JSON text holds, as a string or as a list of the bytes of its UTF-8: what
+    /// `serde_json` reads as one value over the whole text.
+    pub fn from_json(alloc: Global, json: &str) -> Result<Self, JsonRefused>
+        requires creator { (c : S.Creator) → S.created c ≡ S.Creator.stored c }
+        ensures ok { IfOk result (λ text. HoldsText json.now text) }
+        ensures text { (text : List ℕ) → HoldsText json.now text
+            → (result ≡ Ok text) ⊎ (result ≡ Err JsonRefused.OutOfMemory) }
+
+        // Want of memory aside, each refusal comes exactly where its cause is.
+        ensures not_json { result ≢ Err JsonRefused.OutOfMemory
+            → ((result ≡ Err JsonRefused.NotJson) ↔ IsNotJson json.now) }
+        ensures not_text { result ≢ Err JsonRefused.OutOfMemory
+            → ((result ≡ Err JsonRefused.NotText) ↔ HoldsNoBytes json.now) }
+        ensures not_utf8 { result ≢ Err JsonRefused.OutOfMemory
+            → ((result ≡ Err JsonRefused.NotUtf8) ↔ HoldsOtherBytes json.now) }
+    {
+        let value = value_of(alloc, json)?;
+        Self::from_value(alloc, &value)
+    }
+
+    /// The text that a JSON value stands for.
+    fn from_value(alloc: Global, value: &Value) -> Result<Self, JsonRefused>
+        requires creator { (c : S.Creator) → S.created c ≡ S.Creator.stored c }
+        ensures ok { IfOk result (λ text. StandsFor (view value.now) text) }
+        ensures err { IfErr result (λ e. IsRefusedFor (view value.now) e) }
+    {
+        if let Some(text) = value.as_str() {
+            return Self::from_str(alloc, text).map_err(|_| JsonRefused::OutOfMemory);
+        }
+        let members = value.as_array().ok_or(JsonRefused::NotText)?;
+        let bytes = bytes_of::<S::Creator>(alloc, members)?;
+        let storage = S::from_creator(bytes).map_err(|_| JsonRefused::OutOfMemory)?;
+        Self::from_inner(storage).map_err(|_| JsonRefused::NotUtf8)
     }
 }
