@@ -4,6 +4,7 @@ mod closure;
 mod errors;
 mod inclusive;
 mod lines;
+mod json;
 mod parts;
 mod readme;
 mod refusing;
