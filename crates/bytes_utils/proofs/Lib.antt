@@ -2,6 +2,7 @@ pub mod Boundaries
 pub mod JsonText
 pub mod JsonBytes
 pub mod JsonReading
+pub mod JsonCases
 pub mod Places
 pub mod Search
 pub mod Occurrences
