@@ -3,7 +3,12 @@
 //! A law is a function without parameters that does nothing. Its contract is a statement about the
 //! definitions that the contracts of the working functions cite, so a call of it lets a caller
 //! conclude more from those contracts. The type parameter is the type of the elements.
-ghost use Rattle.bytes_utils_run.specs.Laws.{UniqueForwardLaw, UniqueBackwardLaw, UniqueInclusiveLaw, MirrorLaw, AgreeLaw, ForwardLimitLaw, BackwardLimitLaw};
+ghost use Rattle.bytes_utils_run.specs.Laws.{UniqueForwardLaw, UniqueBackwardLaw};
+ghost use Rattle.bytes_utils_run.specs.Laws.{UniqueInclusiveLaw, MirrorLaw, AgreeLaw};
+ghost use Rattle.bytes_utils_run.specs.Laws.{ForwardLimitLaw, BackwardLimitLaw};
+
+#[cfg(test)]
+mod tests;
 
 /// Exactly one list of parts is cut from the front, with a limit of at least 1 or none. So two
 /// runs of `split` or `splitn` that aren't refused give the same parts, whoever wrote them, also
