@@ -142,7 +142,7 @@ module _ (text front back : List ℕ) (text_is : IsUtf8 text) (i j : ℕ) (finds
     chars front,
     is,
     ap chars whole ∙ chars-append front (codes " " ++ back) front_utf8
-    ∙ ap (λ z. chars front ++ z) (chars-append (codes " ") back space-utf8 ∙ ap (λ z. z ++ chars back) space-chars),
+        ∙ ap (λ z. chars front ++ z) (chars-append (codes " ") back space-utf8 ∙ ap (λ z. z ++ chars back) space-chars),
   )
 
   pub no-number : ((n : ℕ) → ¬ IsNumber (chars front) n) → (most : ℕ) (rest : List ℕ) → ¬ IsCounted (chars text) most rest
@@ -150,7 +150,7 @@ module _ (text front back : List ℕ) (text_is : IsUtf8 text) (i j : ℕ) (finds
       let all = is.1.digits.1 in
       let bytes = counted-bytes text is.0 rest text_is all is.2 in
       let lacks = (λ (k : ℕ) (l : k < length front) (more : List ℕ) (e : drop k (front ++ (codes " " ++ back)) ≡ codes " " ++ more).
-          finds.0 k (omega (arith, l, size)) more (ap (drop k) whole ∙ e)) in
+      finds.0 k (omega (arith, l, size)) more (ap (drop k) whole ∙ e)) in
       let same : front ≡ is.0 = front-is-digits front back is.0 (encodes rest) lacks all (sym whole ∙ bytes) in
       none most (subst (λ z. IsNumber z most) (sym (ap chars same ∙ chars-IsAscii is.0 (IsAscii-from_digits is.0 all))) is.1)
 

@@ -25,8 +25,12 @@ length-join_nothing : {X : Type 0} (parts : List (List X)) → All (λ part. 0 <
 length-join_nothing [] some = omega arith
 length-join_nothing (part ∷ []) some = omega (arith, All-head (λ p. 0 < length p) part [] some)
 length-join_nothing (part ∷ next ∷ parts) some =
-    omega (arith, All-head (λ p. 0 < length p) part (next ∷ parts) some,
-    length-join_nothing (next ∷ parts) (All-tail (λ p. 0 < length p) part (next ∷ parts) some), length-append part (join [] (next ∷ parts)))
+    omega (
+      arith,
+      All-head (λ p. 0 < length p) part (next ∷ parts) some,
+      length-join_nothing (next ∷ parts) (All-tail (λ p. 0 < length p) part (next ∷ parts) some),
+      length-append part (join [] (next ∷ parts)),
+    )
 
 length-single : {X : Type 0} (t : List X) → length (single t) ≡ length t + 2
 length-single {X} t = omega (arith, length-append (map (λ x. x ∷ []) t) ([] ∷ []), length-map t (λ (x : X). x ∷ []))

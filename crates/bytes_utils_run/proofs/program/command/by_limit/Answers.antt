@@ -9,9 +9,9 @@ returns-in-Some c =
 
 pub returns-in_err-most : goal.returns-in_err-most
 returns-in_err-most c = rw c.from_residual.ensures (λ p most. (
-    λ is. c.in_default.ensures most p (is.0, is.1, is.2 ∙ ap (λ z. z ++ is.0) (sym chars-splitn)),
-    λ is. c.in_err-most.ensures most p (is.0, is.1, is.2 ∙ ap (λ z. z ++ is.0) (sym chars-rsplitn)),
-  ))
+  λ is. c.in_default.ensures most p (is.0, is.1, is.2 ∙ ap (λ z. z ++ is.0) (sym chars-splitn)),
+  λ is. c.in_err-most.ensures most p (is.0, is.1, is.2 ∙ ap (λ z. z ++ is.0) (sym chars-rsplitn)),
+))
 
 pub returns : goal.returns
 returns c =

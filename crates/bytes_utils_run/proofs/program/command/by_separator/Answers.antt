@@ -14,21 +14,21 @@ returns-in-Some-behind c = (tt, c.in-Some-behind.ensures.value ∙ ap (λ z. z +
 
 pub returns-in_err-separator : goal.returns-in_err-separator
 returns-in_err-separator c = rw c.from_residual.ensures (λ p. (
-    λ e. c.in_default.ensures.value p (e ∙ ap (λ z. z ++ p) (sym chars-split)),
-    λ e. c.in_default-behind.ensures.value p (e ∙ ap (λ z. z ++ p) (sym chars-rsplit)),
-    λ is. c.in_err-separator.ensures.value p (is.1 ∙ ap (λ z. z ++ p) (sym chars-inclusive)),
-  ))
+  λ e. c.in_default.ensures.value p (e ∙ ap (λ z. z ++ p) (sym chars-split)),
+  λ e. c.in_default-behind.ensures.value p (e ∙ ap (λ z. z ++ p) (sym chars-rsplit)),
+  λ is. c.in_err-separator.ensures.value p (is.1 ∙ ap (λ z. z ++ p) (sym chars-inclusive)),
+))
 
 pub returns-then-is_empty : goal.returns-then-is_empty
 returns-then-is_empty c = λ p. (
-    λ e. c.in_default.ensures.value p (e ∙ ap (λ z. z ++ p) (sym chars-split)),
-    λ e. c.in_default-behind.ensures.value p (e ∙ ap (λ z. z ++ p) (sym chars-rsplit)),
-    λ is.
-        let empty : length c.in_ok-separator.separator.now ≡ 0 = search rules in
-        let same = append_cancel_left (codes "inclusive ") p (chars c.in_ok-separator.separator.now)
-        (sym is.1 ∙ c.in_ok-separator.ensures.value ∙ ap (λ z. z ++ chars c.in_ok-separator.separator.now) chars-inclusive) in
-        omega (arith, is.0, ap length (same ∙ no_chars _ empty)),
-  )
+  λ e. c.in_default.ensures.value p (e ∙ ap (λ z. z ++ p) (sym chars-split)),
+  λ e. c.in_default-behind.ensures.value p (e ∙ ap (λ z. z ++ p) (sym chars-rsplit)),
+  λ is.
+      let empty : length c.in_ok-separator.separator.now ≡ 0 = search rules in
+      let same = append_cancel_left (codes "inclusive ") p (chars c.in_ok-separator.separator.now)
+      (sym is.1 ∙ c.in_ok-separator.ensures.value ∙ ap (λ z. z ++ chars c.in_ok-separator.separator.now) chars-inclusive) in
+      omega (arith, is.0, ap length (same ∙ no_chars _ empty)),
+)
 
 pub returns : goal.returns
 returns c =
