@@ -40,6 +40,72 @@ const TEXTS: [&str; 34] = [
     "a\n\r\n\r",
 ];
 
+const SEPARATORS: [&str; 6] = ["", "a", "aa", "aba", ",", "β"];
+
+#[test]
+fn split(rt: HostRuntime) -> Result<(), Fail> {
+    for text in TEXTS {
+        for separator in SEPARATORS {
+            let mut parts = shared(rt.alloc(), text)?.split_bytes(separator);
+            for want in text.split(separator) {
+                let part = parts.next().ok_or(want)??;
+                assert_eq!(rt; part.as_str(), want, "{text:?} by {separator:?}");
+            }
+            assert!(rt; parts.next().is_none(), "{text:?} by {separator:?}");
+        }
+    }
+    Ok(())
+}
+
+#[test]
+fn rsplit(rt: HostRuntime) -> Result<(), Fail> {
+    for text in TEXTS {
+        for separator in SEPARATORS {
+            let mut parts = shared(rt.alloc(), text)?.rsplit_bytes(separator);
+            for want in text.rsplit(separator) {
+                let part = parts.next().ok_or(want)??;
+                assert_eq!(rt; part.as_str(), want, "{text:?} by {separator:?}");
+            }
+            assert!(rt; parts.next().is_none(), "{text:?} by {separator:?}");
+        }
+    }
+    Ok(())
+}
+
+#[test]
+fn split_n(rt: HostRuntime) -> Result<(), Fail> {
+    for text in TEXTS {
+        for separator in SEPARATORS {
+            for most in 0..5 {
+                let mut parts = shared(rt.alloc(), text)?.splitn_bytes(most, separator);
+                for want in text.splitn(most, separator) {
+                    let part = parts.next().ok_or(want)??;
+                    assert_eq!(rt; part.as_str(), want, "{text:?} by {separator:?}, {most}");
+                }
+                assert!(rt; parts.next().is_none(), "{text:?} by {separator:?}, {most}");
+            }
+        }
+    }
+    Ok(())
+}
+
+#[test]
+fn rsplit_n(rt: HostRuntime) -> Result<(), Fail> {
+    for text in TEXTS {
+        for separator in SEPARATORS {
+            for most in 0..5 {
+                let mut parts = shared(rt.alloc(), text)?.rsplitn_bytes(most, separator);
+                for want in text.rsplitn(most, separator) {
+                    let part = parts.next().ok_or(want)??;
+                    assert_eq!(rt; part.as_str(), want, "{text:?} by {separator:?}, {most}");
+                }
+                assert!(rt; parts.next().is_none(), "{text:?} by {separator:?}, {most}");
+            }
+        }
+    }
+    Ok(())
+}
+
 #[test]
 fn lines(rt: HostRuntime) -> Result<(), Fail> {
     for text in TEXTS {

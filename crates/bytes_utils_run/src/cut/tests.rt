@@ -1,16 +1,41 @@
 //! Worked cases of whole texts that are cut.
-use super::{How, cut_all};
+ghost use Rattle.bytes_utils_run.specs.Cutting.{IsAllowed};
+
+use super::{How, Parts, cut_all};
+use crate::odd::RefuseAfter;
 use bytes::{Bytes, BytesMut};
 use bytes_utils::string::{Storage, StrInner};
-use bytes_utils::{Reason, Refused, Str};
+use bytes_utils::{Reason, Refused, Str, StrMut};
 use std::alloc::{AllocFailed, Global};
 use std::test::Fail;
 
+/// Whether all was cut, and into these parts.
+fn gave<S: Storage>(parts: &Parts<S>, wanted: &[&str]) -> bool {
+    parts.refused.is_none()
+        && parts.given.len() == wanted.len()
+        && parts
+            .given
+            .iter()
+            .zip(wanted)
+            .all(|(part, want)| part.as_str() == *want)
+}
+
+/// Whether a text is cut into these parts, over both storages of the crate below.
+fn gives(alloc: Global, text: &str, how: How<'_>, wanted: &[&str]) -> Result<bool, Fail>
+    requires { IsAllowed how }
+{
+    let shared = cut_all(alloc, Str::from_str(alloc, text)?, how);
+    let owned = cut_all(alloc, StrMut::from_str(alloc, text)?, how);
+    Ok(gave(&shared, wanted) && gave(&owned, wanted))
+}
+
 #[test]
 fn splits_forward(rt: HostRuntime) -> Result<(), Fail> {
-    let rows: [(&str, &str, &[&str]); 7] = [
+    let rows: [(&str, &str, &[&str]); 9] = [
         ("a,b,,c", ",", &["a", "b", "", "c"]),
         ("a", "a", &["", ""]),
+        ("a", "", &["", "a", ""]),
+        ("", "", &["", ""]),
         ("aaa", "aa", &["", "a"]),
         ("ababa", "aba", &["", "ba"]),
         ("αβα", "β", &["α", "α"]),
@@ -18,14 +43,154 @@ fn splits_forward(rt: HostRuntime) -> Result<(), Fail> {
         ("😈😉", "😉", &["😈", ""]),
     ];
     for (text, separator, wanted) in rows {
+        assert!(rt;
+            gives(rt.alloc(), text, How::Split(separator), wanted)?,
+            "{text} by {separator}"
+        );
+    }
+    Ok(())
+}
+
+#[test]
+fn splits_forward_with_a_limit(rt: HostRuntime) -> Result<(), Fail> {
+    let rows: [(&str, usize, &str, &[&str]); 6] = [
+        ("a,b,c", 2, ",", &["a", "b,c"]),
+        ("ab", 0, "", &[]),
+        ("ab", 1, "", &["ab"]),
+        ("ab", 2, "", &["", "ab"]),
+        ("ab", 3, "", &["", "a", "b"]),
+        ("ab", 4, "", &["", "a", "b", ""]),
+    ];
+    for (text, most, separator, wanted) in rows {
+        assert!(rt;
+            gives(rt.alloc(), text, How::SplitN(most, separator), wanted)?,
+            "{text} by {separator}, {most}"
+        );
+    }
+    Ok(())
+}
+
+#[test]
+fn splits_backward(rt: HostRuntime) -> Result<(), Fail> {
+    let rows: [(&str, &str, &[&str]); 4] = [
+        ("aaa", "aa", &["", "a"]),
+        ("ababa", "aba", &["", "ab"]),
+        ("ββαβ", "β", &["", "α", "", ""]),
+        ("a,b,,c", ",", &["c", "", "b", "a"]),
+    ];
+    for (text, separator, wanted) in rows {
+        assert!(rt;
+            gives(rt.alloc(), text, How::RSplit(separator), wanted)?,
+            "{text} by {separator}"
+        );
+    }
+    Ok(())
+}
+
+#[test]
+fn splits_backward_with_a_limit(rt: HostRuntime) -> Result<(), Fail> {
+    let rows: [(&str, usize, &str, &[&str]); 3] = [
+        ("a,b,c", 2, ",", &["c", "a,b"]),
+        ("ab", 3, "", &["", "b", "a"]),
+        ("a", 0, ",", &[]),
+    ];
+    for (text, most, separator, wanted) in rows {
+        assert!(rt;
+            gives(rt.alloc(), text, How::RSplitN(most, separator), wanted)?,
+            "{text} by {separator}, {most}"
+        );
+    }
+    Ok(())
+}
+
+#[test]
+fn splits_into_words(rt: HostRuntime) -> Result<(), Fail> {
+    let text = " a\u{b}b\t😈 ";
+    let words: &[&str] = &["a", "b", "😈"];
+    let ascii_words: &[&str] = &["a\u{b}b", "😈"];
+    assert!(rt; gives(rt.alloc(), text, How::Words, words)?);
+    assert!(rt; gives(rt.alloc(), text, How::AsciiWords, ascii_words)?);
+    assert!(rt; gives(rt.alloc(), "😈 ", How::Words, &["😈"])?);
+    Ok(())
+}
+
+#[test]
+fn splits_into_lines(rt: HostRuntime) -> Result<(), Fail> {
+    let rows: [(&str, &[&str]); 6] = [
+        ("a\r\n\nb\n", &["a", "", "b"]),
+        ("a\r", &["a\r"]),
+        ("\r\r\n", &["\r"]),
+        ("\n", &[""]),
+        ("", &[]),
+        ("a\rb\r\n", &["a\rb"]),
+    ];
+    for (text, wanted) in rows {
+        assert!(rt; gives(rt.alloc(), text, How::Lines, wanted)?, "{text:?}");
+    }
+    Ok(())
+}
+
+#[test]
+fn keeps_separators(rt: HostRuntime) -> Result<(), Fail> {
+    let rows: [(&str, &str, &[&str]); 6] = [
+        ("a,b,", ",", &["a,", "b,"]),
+        ("a,b", ",", &["a,", "b"]),
+        ("", ",", &[]),
+        ("aaa", "aa", &["aa", "a"]),
+        ("ababa", "aba", &["aba", "ba"]),
+        (",,", ",", &[",", ","]),
+    ];
+    for (text, separator, wanted) in rows {
         assert!(rt; !separator.is_empty());
-        let bytes = Bytes::copy_from_slice(rt.alloc(), text.as_bytes())?;
-        let parts = cut_all(rt.alloc(), Str::from_inner(bytes)?, How::Split(separator));
-        assert_eq!(rt; parts.refused, None, "{text} by {separator}");
-        assert_eq!(rt; parts.given.len(), wanted.len(), "{text} by {separator}");
-        for (part, want) in parts.given.iter().zip(wanted) {
-            assert_eq!(rt; part.as_str(), *want, "{text} by {separator}");
-        }
+        assert!(rt;
+            gives(rt.alloc(), text, How::Inclusive(separator), wanted)?,
+            "{text} by {separator}"
+        );
+    }
+    Ok(())
+}
+
+/// What comes of a text over a storage that grants a number of splits: how many parts, and whether
+/// the cutting was refused.
+fn granted(
+    alloc: Global,
+    splits: usize,
+    text: &str,
+    how: How<'_>,
+) -> Result<(usize, Option<Reason>), Fail>
+    requires { IsAllowed how }
+{
+    let bytes = Bytes::copy_from_slice(alloc, text.as_bytes())?;
+    let text = StrInner::from_inner(RefuseAfter::new(bytes, splits)).ok();
+    let parts = cut_all(alloc, text.ok_or("not UTF-8")?, how);
+    Ok((parts.given.len(), parts.refused))
+}
+
+// Each part but the last takes two splits.
+#[test]
+fn refused_after_each_split(rt: HostRuntime) -> Result<(), Fail> {
+    let refused = Some(Reason::OutOfMemory);
+    for (splits, wanted) in [
+        (0, (0, refused)),
+        (1, (0, refused)),
+        (2, (1, refused)),
+        (3, (1, refused)),
+        (4, (3, None)),
+    ] {
+        let forward = granted(rt.alloc(), splits, "a,b,c", How::Split(","))?;
+        assert_eq!(rt; forward, wanted, "{splits} forward");
+        let backward = granted(rt.alloc(), splits, "a,b,c", How::RSplit(","))?;
+        assert_eq!(rt; backward, wanted, "{splits} backward");
+    }
+    Ok(())
+}
+
+// Each part but the last takes one split.
+#[test]
+fn refused_behind_a_separator(rt: HostRuntime) -> Result<(), Fail> {
+    for (splits, wanted) in [(0, (0, Some(Reason::OutOfMemory))), (1, (2, None))] {
+        let kept = granted(rt.alloc(), splits, "a,b,", How::Inclusive(","))?;
+        assert_eq!(rt; kept, wanted, "{splits}");
     }
     Ok(())
 }
