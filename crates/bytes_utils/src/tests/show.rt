@@ -1,0 +1,56 @@
+//! Printed texts, against what their `str` writes, and texts that a format writes.
+use super::{growing, shared};
+use crate::{Str, StrMut, format_bytes, format_bytes_mut};
+use std::alloc::{AllocError, Global};
+use std::fmt;
+use std::test::Fail;
+
+const TEXTS: [&str; 5] = ["", "a", "aβ\n\"", "😈😉 \0", "longer than it"];
+
+/// The value as each form of a hole writes it.
+fn shown<T: fmt::Display + fmt::Debug>(alloc: Global, value: &T) -> Result<String, AllocError> {
+    format!(in alloc;
+        "{value}|{value:8}|{value:<8}|{value:>8}|{value:^8}|{value:*^9}|{value:.2}|{value:é>5.1}|\
+         {value:?}|{value:12?}|{value:#?}"
+    )
+}
+
+#[test]
+fn shows_as_str(rt: HostRuntime) -> Result<(), Fail> {
+    let alloc = rt.alloc();
+    for text in TEXTS {
+        let want = shown(alloc, &text)?;
+        assert_eq!(rt;
+            shown(alloc, &shared(alloc, text)?)?.as_str(),
+            want.as_str()
+        );
+        assert_eq!(rt;
+            shown(alloc, &growing(alloc, text)?)?.as_str(),
+            want.as_str()
+        );
+    }
+    Ok(())
+}
+
+/// An argument that can't be shown.
+struct Faulty;
+
+impl fmt::Display for Faulty {
+    fn fmt<W: fmt::Write>(&self, _f: &mut fmt::Formatter<W>) -> fmt::Result {
+        Err(fmt::Error)
+    }
+}
+
+#[test]
+fn format(rt: HostRuntime) -> Result<(), Fail> {
+    let alloc = rt.alloc();
+    let text: Str = format_bytes!(alloc; "Hello {}", "world")?;
+    assert_eq!(rt; text.as_str(), "Hello world");
+    let mut text: StrMut = format_bytes_mut!(alloc; "{text}, {0:>4}", 12)?;
+    text.push('!')?;
+    assert_eq!(rt; text.as_str(), "Hello world,   12!");
+    assert_eq!(rt; format_bytes!(alloc; "")?.as_str(), "");
+    assert!(rt; format_bytes!(alloc; "before {}", Faulty).is_err());
+    assert!(rt; format_bytes_mut!(alloc; "before {}", Faulty).is_err());
+    Ok(())
+}
