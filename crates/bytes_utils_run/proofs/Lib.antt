@@ -4,5 +4,7 @@ pub mod CommandLine
 pub mod Asked
 pub mod Numbers
 pub mod Printing
+pub mod Runs
+pub mod Slices
 pub mod Counts
 pub mod Cases

@@ -1,10 +1,12 @@
 //! Texts cut whole, and a program that does it.
 #![tactic(auto)]
 
+mod calls;
 mod cut;
 pub mod laws;
 pub mod odd;
 mod program;
 
+pub use calls::{Call, ReadCall, Replies, Reply, drive, read_calls};
 pub use cut::{How, Parts, cut_all};
 pub use program::{Fault, script};

@@ -1,6 +1,12 @@
 //! Lawful but odd parts, for tests of what rests on a trait's laws alone.
+mod asked;
+mod drip;
 mod refuse_after;
 #[cfg(test)]
 mod tests;
+mod zeros;
 
+pub use asked::Asked;
+pub use drip::Drip;
 pub use refuse_after::RefuseAfter;
+pub use zeros::Zeros;

@@ -1,0 +1,9 @@
+use Rattle.std.proofs.Common.{◌-◌, ◌≤◌, replicate}
+use Rattle.bytes_utils_buf.specs.Parts.{FillsTable}
+use Rattle.bytes_utils_run.proofs.odd.zeros.ZerosBufParts.chunks_into.Given as goal
+
+abbrev pub invariant-loop-shown : goal.invariant-loop-shown
+invariant-loop-shown l = (l.shown ≤ l.self-inside.left) × FillsTable l.filled l.fn.dst l.dst (replicate l.shown 0)
+
+abbrev pub decreases-loop-shown : goal.decreases-loop-shown
+decreases-loop-shown l = l.self-inside.left - l.shown

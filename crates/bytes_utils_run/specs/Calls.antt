@@ -1,0 +1,69 @@
+-- Lists of calls on a buffer, and the replies to them. The lists of bytes below are the unread lists of what the buffer holds, front
+-- first; those of a buffer that isn't segmented are one list, or none where it is empty.
+use Rattle.std.specs.Prelude.{◌≡◌, ℕ, ◌+◌, ◌^◌, ◌<◌, ◌≤◌, List, [], ◌∷◌, length, map, take}
+use Rattle.std.specs.List.{concat}
+use Rattle.bytes.specs.Unread.{IsChunkOf}
+use Rattle.bytes_utils_buf.specs.Segments.{Held, NoneEmpty, Skips, after_accepting, front_of, without_empty}
+use Rattle.bytes_utils_buf.specs.Tally.{CountsCopy}
+use Rattle.bytes_utils_run.specs.declared.calls.Call.{Call}
+use Rattle.bytes_utils_run.specs.declared.calls.Call.TheVariants.{Push, Segments, Read}
+use Rattle.bytes_utils_run.specs.declared.calls.ReadCall.{ReadCall}
+use Rattle.bytes_utils_run.specs.declared.calls.ReadCall.TheVariants.{Remaining, Chunk, Advance, CopyOut, Chunks}
+use Rattle.bytes_utils_run.specs.declared.calls.Reply.{Reply}
+use Rattle.bytes_utils_run.specs.declared.calls.Reply.TheVariants.{Done, PastEnd, TooLong, NoMemory, CopyStopped, Number, Piece, Shown, Slices}
+
+-- the lists of a buffer that has these unread bytes
+abbrev pub lists_of : List ℕ → List (List ℕ)
+lists_of unread = without_empty (unread ∷ [])
+
+-- at most n slices of the unread bytes: none is empty, joined they are the first of these bytes, and fewer than n are all of them
+pub record AreSlices (n : ℕ) (slices : List (List ℕ)) (unread : List ℕ) : Type 0 where
+  pub count : length slices ≤ n
+  pub some : NoneEmpty slices
+  pub front : concat slices ≡ take (length (concat slices)) unread
+  pub whole : length slices < n → concat slices ≡ unread
+
+-- what a read replies to, and leaves of, these lists
+abbrev pub IsRead : ReadCall → List (List ℕ) → Reply → List (List ℕ) → Type 0
+IsRead Remaining old (Number n) new = (n ≡ length (concat old)) × (new ≡ old)
+IsRead Chunk old (Shown chunk) new = IsChunkOf chunk.items (concat old) × (new ≡ old)
+IsRead Chunk old NoMemory new = new ≡ old
+IsRead (Advance n) old Done new = (n ≤ length (concat old)) × Skips n old new
+IsRead (Advance n) old PastEnd new = (length (concat old) < n) × (new ≡ old)
+IsRead (CopyOut n) old (Piece piece) new = (n ≤ length (concat old)) × (piece ≡ take n (concat old)) × Skips n old new
+IsRead (CopyOut n) old (CopyStopped taken) new = (n ≤ length (concat old)) × (taken ≤ n) × Skips taken old new
+IsRead (CopyOut n) old PastEnd new = (length (concat old) < n) × (new ≡ old)
+IsRead (Chunks n) old (Slices slices) new = AreSlices n (map (λ s. s.items) slices.items) (concat old) × (new ≡ old)
+IsRead (Chunks n) old NoMemory new = new ≡ old
+IsRead call old reply new = ⊥
+
+-- a copy that took so many bytes counts as a call, and as one more for each advance that it made, which is none where the first list
+-- alone holds the n bytes that were asked for
+abbrev pub CountsCopyOf : ℕ → ℕ → Held → Held → Type 0
+CountsCopyOf n taken old new =
+    CountsCopy taken old.tally new.tally
+    × (n ≤ length (front_of old.segments) → new.tally.calls ≡ old.tally.calls + 1)
+
+-- what a read adds to the tally: an advance counts as a call, a copy as it says, and nothing else counts
+abbrev pub CountsRead : ReadCall → Held → Reply → Held → Type 0
+CountsRead (Advance n) old Done new = (new.tally.given ≡ old.tally.given) × (new.tally.calls ≡ old.tally.calls + 1)
+CountsRead (CopyOut n) old (Piece piece) new = CountsCopyOf n n old new
+CountsRead (CopyOut n) old (CopyStopped taken) new = CountsCopyOf n taken old new
+CountsRead call old reply new = new.tally ≡ old.tally
+
+-- what a call on a `SegmentedBuf` replies, and leaves of it
+abbrev pub IsCall : {B : Type 0} → (B → List ℕ) → Call B → Held → Reply → Held → Type 0
+IsCall unread (Push buf) old Done new =
+    (length (concat old.segments) + length (unread buf) < 2 ^ 64) × (new ≡ after_accepting old (unread buf ∷ []))
+IsCall unread (Push buf) old TooLong new = (2 ^ 64 ≤ length (concat old.segments) + length (unread buf)) × (new ≡ old)
+IsCall unread (Push buf) old NoMemory new =
+    (length (concat old.segments) + length (unread buf) < 2 ^ 64) × (0 < length (unread buf)) × (new ≡ old)
+IsCall unread Segments old (Number n) new = (n ≡ length old.segments) × (new ≡ old)
+IsCall unread (Read call) old reply new = IsRead call old.segments reply new.segments × CountsRead call old reply new
+IsCall unread call old reply new = ⊥
+
+-- a run of calls, one after another, each with its reply, which leads from the first state to the last
+abbrev pub IsRun : {C S : Type 0} → (C → S → Reply → S → Type 0) → List C → S → List Reply → S → Type 0
+IsRun Is [] old [] new = new ≡ old
+IsRun {C} {S} Is (call ∷ calls) old (reply ∷ replies) new = (next : S) × Is call old reply next × IsRun Is calls next replies new
+IsRun Is calls old replies new = ⊥

@@ -1,0 +1,79 @@
+//! One call on a `SegmentedBuf`.
+ghost use Rattle.bytes_utils_buf.specs.Tally.{IsPaid};
+ghost use Rattle.bytes_utils_run.specs.Calls.{CountsRead, IsCall, IsRead};
+
+use super::show::{chunk, slices};
+use super::{Call, ReadCall, Reply};
+use bytes::Buf;
+use bytes_utils::SegmentedBuf;
+use bytes_utils::parts::BufParts;
+use std::alloc::Global;
+
+/// Makes this call.
+pub(super) fn make<B: BufParts + Drop>(
+    alloc: Global,
+    buf: &mut SegmentedBuf<B>,
+    call: Call<B>,
+) -> Reply
+    ensures reply { IsCall B.unread call buf.old result buf.new }
+    ensures paid { IsPaid buf.old.segments buf.old.tally buf.new.segments buf.new.tally }
+{
+    match call {
+        Call::Push(part) => push(buf, part),
+        Call::Segments => Reply::Number(buf.segments()),
+        Call::Read(call) => read(alloc, buf, call),
+    }
+}
+
+fn push<B: Buf + Drop>(buf: &mut SegmentedBuf<B>, part: B) -> Reply
+    ensures reply { IsCall B.unread (Call.Push part) buf.old result buf.new }
+    ensures paid { IsPaid buf.old.segments buf.old.tally buf.new.segments buf.new.tally }
+{
+    if !buf.fits(part.remaining()) {
+        return Reply::TooLong;
+    }
+    match buf.push(part) {
+        Ok(()) => Reply::Done,
+        Err(_) => Reply::NoMemory,
+    }
+}
+
+fn read<B: BufParts + Drop>(alloc: Global, buf: &mut SegmentedBuf<B>, call: ReadCall) -> Reply
+    ensures reply { IsRead call buf.old.segments result buf.new.segments }
+    ensures counts { CountsRead call buf.old result buf.new }
+    ensures paid { IsPaid buf.old.segments buf.old.tally buf.new.segments buf.new.tally }
+{
+    match call {
+        ReadCall::Remaining => Reply::Number(buf.remaining()),
+        ReadCall::Chunk => chunk(alloc, buf),
+        ReadCall::Advance(cnt) => advance(buf, cnt),
+        ReadCall::CopyOut(len) => copy(alloc, buf, len),
+        ReadCall::Chunks(places) => slices(alloc, buf, places),
+    }
+}
+
+fn advance<B: Buf + Drop>(buf: &mut SegmentedBuf<B>, cnt: usize) -> Reply
+    ensures reply { IsRead (ReadCall.Advance cnt) buf.old.segments result buf.new.segments }
+    ensures counts { CountsRead (ReadCall.Advance cnt) buf.old result buf.new }
+    ensures paid { IsPaid buf.old.segments buf.old.tally buf.new.segments buf.new.tally }
+{
+    if cnt > buf.remaining() {
+        return Reply::PastEnd;
+    }
+    buf.advance(cnt);
+    Reply::Done
+}
+
+fn copy<B: BufParts + Drop>(alloc: Global, buf: &mut SegmentedBuf<B>, len: usize) -> Reply
+    ensures reply { IsRead (ReadCall.CopyOut len) buf.old.segments result buf.new.segments }
+    ensures counts { CountsRead (ReadCall.CopyOut len) buf.old result buf.new }
+    ensures paid { IsPaid buf.old.segments buf.old.tally buf.new.segments buf.new.tally }
+{
+    if len > buf.remaining() {
+        return Reply::PastEnd;
+    }
+    match buf.copy_to_bytes(alloc, len) {
+        Ok(piece) => Reply::Piece(piece),
+        Err(refused) => Reply::CopyStopped(refused.taken),
+    }
+}

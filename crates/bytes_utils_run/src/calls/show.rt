@@ -1,0 +1,57 @@
+//! Copies of what a buffer shows.
+ghost use Rattle.std.specs.Prelude.{◌≡◌, List, ℕ, map, IfOk};
+ghost use Rattle.std.specs.List.{concat};
+ghost use Rattle.bytes_utils_run.specs.Calls.{AreSlices, IsRead};
+ghost use Rattle.bytes_utils_run.specs.declared.calls.ReadCall.{ReadCall as Reading};
+
+use super::Reply;
+use bytes::Buf;
+use bytes_utils::parts::BufParts;
+use std::alloc::{AllocError, Global};
+
+/// A copy of the chunk in front.
+pub(super) fn chunk<B: Buf>(alloc: Global, buf: &B) -> Reply
+    ensures { (lists : List (List ℕ)) → concat lists ≡ B.unread buf.now
+        → IsRead Reading.Chunk lists result lists }
+{
+    match buf.chunk().to_vec(alloc) {
+        Ok(copy) => Reply::Shown(copy),
+        Err(_) => Reply::NoMemory,
+    }
+}
+
+/// Copies of the slices in a table of so many places.
+pub(super) fn slices<B: BufParts>(alloc: Global, buf: &B, places: usize) -> Reply
+    ensures { (lists : List (List ℕ)) → concat lists ≡ B.unread buf.now
+        → IsRead (Reading.Chunks places) lists result lists }
+{
+    match copies_of_slices(alloc, buf, places) {
+        Ok(slices) => Reply::Slices(slices),
+        Err(_) => Reply::NoMemory,
+    }
+}
+
+/// The table has no more places than there are bytes, since each slice has one at least.
+fn copies_of_slices<B: BufParts>(
+    alloc: Global,
+    buf: &B,
+    places: usize,
+) -> Result<Vec<Vec<u8>>, AllocError>
+    ensures { IfOk result
+        (λ slices. AreSlices places (map (λ s. s.items) slices.items) (B.unread buf.now)) }
+{
+    let empty: &[u8] = &[];
+    let mut table = vec![in alloc; empty; places.min(buf.remaining())]?;
+    let filled = buf.chunks_into(&mut table);
+    copies(alloc, &table[..filled])
+}
+
+fn copies(alloc: Global, slices: &[&[u8]]) -> Result<Vec<Vec<u8>>, AllocError>
+    ensures { IfOk result (λ all. map (λ s. s.items) all.items ≡ map (λ s. s.now) slices.now) }
+{
+    let mut all = Vec::with_capacity(alloc, slices.len())?;
+    for slice in slices {
+        all.push(slice.to_vec(alloc)?)?;
+    }
+    Ok(all)
+}

@@ -1,0 +1,69 @@
+//! A buffer that counts what it is asked.
+ghost use Rattle.std.specs.Prelude.{◌≡◌};
+
+use bytes::{Buf, Bytes};
+use std::cell::Cell;
+use std::marker::Model;
+
+/// Bytes that count how often they are advanced and how often they are looked at, so that a test
+/// sees whether they are walked again. A count that has reached `usize::MAX` stays.
+#[derive(Debug, Drop)]
+pub struct Asked {
+    bytes: Bytes,
+    advances: usize,
+    looks: Cell<usize>,
+}
+
+impl Model for Asked {
+    ghost use Rattle.std.specs.Prelude.{ℕ, List};
+
+    ghost Value = { List ℕ };
+
+    ghost view = { λ a. a.bytes };
+}
+
+impl Asked {
+    /// A buffer of these bytes, which was asked nothing yet.
+    pub fn new(bytes: Bytes) -> Asked
+        ensures { result ≡ bytes }
+    {
+        Asked {
+            bytes,
+            advances: 0,
+            looks: Cell::new(0),
+        }
+    }
+
+    /// How often `advance` was called.
+    pub fn asked(&self) -> usize {
+        self.advances
+    }
+
+    /// How often `remaining` or `chunk` was called.
+    pub fn looked(&self) -> usize {
+        self.looks.get()
+    }
+
+    fn look(&self) {
+        self.looks.set(self.looks.get().saturating_add(1));
+    }
+}
+
+impl Buf for Asked {
+    ghost unread = { λ a. a };
+
+    fn remaining(&self) -> usize {
+        self.look();
+        self.bytes.len()
+    }
+
+    fn chunk(&self) -> &[u8] {
+        self.look();
+        self.bytes.chunk()
+    }
+
+    fn advance(&mut self, cnt: usize) {
+        self.advances = self.advances.saturating_add(1);
+        self.bytes.advance(cnt);
+    }
+}

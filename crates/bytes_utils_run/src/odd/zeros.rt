@@ -1,0 +1,79 @@
+//! A buffer of any number of zero bytes.
+ghost use Rattle.std.specs.Prelude.{◌≡◌, replicate, IfOk};
+
+use bytes::{Buf, Bytes};
+use bytes_utils::parts::{BufParts, CopyRefused};
+use std::alloc::{AllocError, Global};
+use std::marker::Model;
+
+/// What a chunk shows the beginning of.
+static EIGHT: [u8; 8] = [0; 8];
+
+/// So many zero bytes, of which at most 8 lie together. It holds none of them, so there may be as
+/// many as `usize::MAX`.
+#[derive(Debug, Drop)]
+pub struct Zeros {
+    left: usize,
+}
+
+impl Model for Zeros {
+    ghost use Rattle.std.specs.Prelude.{ℕ, List, replicate};
+
+    ghost Value = { List ℕ };
+
+    ghost view = { λ z. replicate z.left 0 };
+}
+
+impl Zeros {
+    /// A buffer of so many zero bytes.
+    pub fn new(left: usize) -> Zeros
+        ensures { result ≡ replicate left 0 }
+    {
+        Zeros { left }
+    }
+}
+
+fn zero_bytes(alloc: Global, count: usize) -> Result<Bytes, AllocError>
+    ensures { IfOk result (λ bytes. bytes ≡ replicate count 0) }
+{
+    Ok(Bytes::from_vec(vec![in alloc; 0; count]?)?)
+}
+
+impl Buf for Zeros {
+    ghost unread = { λ z. z };
+
+    fn remaining(&self) -> usize {
+        self.left
+    }
+
+    fn chunk(&self) -> &[u8] {
+        &EIGHT[..self.left.min(8)]
+    }
+
+    fn advance(&mut self, cnt: usize) {
+        self.left -= cnt;
+    }
+}
+
+/// A table has a place for each chunk. A refused copy has taken nothing.
+impl BufParts for Zeros {
+    fn copy_out(&mut self, alloc: Global, len: usize) -> Result<Bytes, CopyRefused> {
+        let Ok(copy) = zero_bytes(alloc, len) else {
+            return Err(CopyRefused { taken: 0 });
+        };
+        self.left -= len;
+        Ok(copy)
+    }
+
+    fn chunks_into<'s>(&'s self, dst: &mut [&'s [u8]]) -> usize {
+        let mut shown = 0;
+        let mut filled = 0;
+        while shown < self.left && filled < dst.len() {
+            let size = (self.left - shown).min(8);
+            dst[filled] = &EIGHT[..size];
+            shown += size;
+            filled += 1;
+        }
+        filled
+    }
+}
