@@ -55,7 +55,8 @@ impl Storage for RefuseAfter {
     }
 
     fn from_creator(creator: BytesMut) -> Result<Self, Refused<BytesMut>>
-        ensures ok { IfOk result (λ s. s ≡ record { stored = creator.items; granted = 2 ^ 64 - 1 }) }
+        ensures ok { IfOk result
+            (λ s. s ≡ record { stored = creator.items; granted = 2 ^ 64 - 1 }) }
         ensures err { IfErr result (λ e. e.back.items ≡ creator.items) }
     {
         match creator.freeze() {
