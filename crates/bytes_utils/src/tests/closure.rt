@@ -2,7 +2,7 @@
 ghost use Rattle.std.specs.Prelude.{◌≤◌, length, IsSome, IfSome, IfOk};
 ghost use Rattle.std.specs.Iterator.{IsFinite};
 ghost use Rattle.bytes_utils.specs.Walk.{IsLawfulCut};
-ghost use Rattle.bytes_utils.specs.declared.split.closure.Direction.TheVariants.{Forward};
+ghost use Rattle.bytes_utils.specs.declared.split.direction.Direction.TheVariants.{Forward};
 
 use super::shared;
 use crate::string::{BytesIter, Direction};

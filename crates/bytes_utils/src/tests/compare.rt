@@ -48,17 +48,11 @@ fn compares_as_str(rt: HostRuntime) -> Result<(), Fail> {
                 one < other,
             );
             let both = (shared(alloc, one)?, shared(alloc, other)?);
-            assert!(rt; compared(&both.0, &both.1) == want, "{one} and {other}");
-            assert!(rt;
-                compared_with(&both.0, other) == (want.0, want.1),
-                "{one} and {other}"
-            );
+            assert!(rt; compared(&both.0, &both.1) == want);
+            assert!(rt; compared_with(&both.0, other) == (want.0, want.1));
             let both = (growing(alloc, one)?, growing(alloc, other)?);
-            assert!(rt; compared(&both.0, &both.1) == want, "{one} and {other}");
-            assert!(rt;
-                compared_with(&both.0, other) == (want.0, want.1),
-                "{one} and {other}"
-            );
+            assert!(rt; compared(&both.0, &both.1) == want);
+            assert!(rt; compared_with(&both.0, other) == (want.0, want.1));
         }
     }
     Ok(())
@@ -69,8 +63,8 @@ fn hashes_as_str(rt: HostRuntime) -> Result<(), Fail> {
     let alloc = rt.alloc();
     for text in TEXTS {
         let want = hash_of(&text);
-        assert_eq!(rt; hash_of(&shared(alloc, text)?), want, "{text}");
-        assert_eq!(rt; hash_of(&growing(alloc, text)?), want, "{text}");
+        assert_eq!(rt; hash_of(&shared(alloc, text)?), want);
+        assert_eq!(rt; hash_of(&growing(alloc, text)?), want);
     }
     Ok(())
 }

@@ -29,6 +29,7 @@ fn slices(rt: HostRuntime) -> Result<(), Fail> {
 #[test]
 fn slice_empty(rt: HostRuntime) -> Result<(), Fail> {
     let text = shared(rt.alloc(), "hello")?;
+    assert!(rt; text.as_str().is_char_boundary(0));
     assert!(rt; text.as_str().is_char_boundary(1) && text.as_str().is_char_boundary(5));
     assert_eq!(rt; text.slice(1..1)?.as_str(), "");
     assert_eq!(rt; text.slice_from(5)?.as_str(), "");
