@@ -1,17 +1,47 @@
--- What an input asks for, by way of the command that was read from it.
-use Rattle.std.proofs.Common.{◌≡◌, refl, ap, subst, ℕ, zero, suc, ◌≤◌, List, [], ◌∷◌, ◌++◌, Option, None, Some, take, arith}
+-- What an input asks for, by way of the request that was read from it.
+use Rattle.std.proofs.Common.{◌≡◌, ◌≢◌, refl, sym, ap, subst, ℕ, zero, suc, ◌≤◌, List, [], ◌∷◌, ◌++◌, Option, None, Some, length, map, take, codes, arith}
+use Rattle.std.proofs.lemmas.List.{map-append, length-map}
+use Rattle.std.proofs.lemmas.List.Folds.{concat-append}
+use Rattle.std.specs.List.{concat}
+use Rattle.std.specs.Str.{chars}
 use Rattle.bytes_utils.specs.Outcome.{Outcome}
-use Rattle.bytes_utils_run.specs.Command.{IsCommand, command_line, text_behind}
-use Rattle.bytes_utils_run.specs.Cutting.{Cutting, ArePartsBy}
-use Rattle.bytes_utils_run.specs.Run.{AreAskedFor}
+use Rattle.bytes_utils.specs.Lines.{lines}
+use Rattle.bytes_utils_run.specs.CallLine.{AreCallLines}
+use Rattle.bytes_utils_run.specs.Command.{IsCommand}
+use Rattle.bytes_utils_run.specs.Cutting.{Cutting, ByWords, ByAsciiWords, ByLines, FromFront, FromBack, Keeping, ArePartsBy}
+use Rattle.bytes_utils_run.specs.Moves.{AppendsBeginning}
+use Rattle.bytes_utils_run.specs.Printed.{printed_part, printed_reply}
+use Rattle.bytes_utils_run.specs.Request.{AreAskedFor, AreReplies, ForParts, ForReplies, IsRequest, Request}
+use Rattle.bytes_utils_run.proofs.Beginnings.{AppendsBeginning-more}
+use Rattle.bytes_utils_run.specs.declared.calls.Call.{Call}
+use Rattle.bytes_utils_run.specs.declared.calls.Reply.{Reply}
 
--- what came of a text's parts is what came of those that are asked for
-pub Outcome-asked : {E : Type 0} (way : Cutting) (input text : List ℕ) → IsCommand way (command_line input) → text ≡ text_behind input
-    → (given : List (List ℕ)) (refused : Option E) → Outcome (ArePartsBy way text) given refused → Outcome (AreAskedFor input) given refused
-Outcome-asked way input text command same given None are =
-    record { way = way; command = command; right = subst (λ t. ArePartsBy way t given) same are }
-Outcome-asked way input text command same given (Some e) begun =
-    (begun.0, begun.1, record { way = way; command = command; right = subst (λ t. ArePartsBy way t (given ++ begun.0)) same begun.2 })
+-- an outcome for one list is an outcome for what it becomes, element by element
+pub Outcome-map : {X Y E : Type 0} (f : X → Y) (Is : List X → Type 0) (Are : List Y → Type 0) → ((all : List X) → Is all → Are (map f all))
+    → (given : List X) (refused : Option E) → Outcome Is given refused → Outcome Are (map f given) refused
+Outcome-map f Is Are into given None is = into given is
+Outcome-map f Is Are into given (Some e) begun = (
+  map f begun.0,
+  omega (arith, begun.1, length-map begun.0 f),
+  subst Are (map-append f given begun.0) (into (given ++ begun.0) begun.2),
+)
+
+pub Outcome-parts : {E : Type 0} (way : Cutting) (line text : List ℕ) → IsCommand way line
+    → (given : List (List ℕ)) (refused : Option E) → Outcome (ArePartsBy way text) (map chars given) refused
+    → Outcome (AreAskedFor line text) (map (λ part. printed_part (chars part)) given) refused
+Outcome-parts way line text command given refused are =
+    subst (λ entries. Outcome (AreAskedFor line text) entries refused) (map_map given)
+    (Outcome-map printed_part _ (AreAskedFor line text) (λ all is. record { request = ForParts way; is = command; right = (all, is, refl) }) (map chars given) refused are)
+  where
+    map_map : (parts : List (List ℕ)) → map printed_part (map chars parts) ≡ map (λ part. printed_part (chars part)) parts
+    map_map [] = refl
+    map_map (part ∷ parts) = ap (λ z. printed_part (chars part) ∷ z) (map_map parts)
+
+pub Outcome-replies : {E : Type 0} (calls : List (Call (List ℕ))) (line text : List ℕ) → IsRequest (ForReplies calls) line text
+    → (given : List Reply) (refused : Option E) → Outcome (AreReplies calls) given refused
+    → Outcome (AreAskedFor line text) (map printed_reply given) refused
+Outcome-replies calls line text asked given refused are =
+    Outcome-map printed_reply (AreReplies calls) (AreAskedFor line text) (λ all is. record { request = ForReplies calls; is = asked; right = (all, is, refl) }) given refused are
 
 -- the first n of the first m are the first n
 pub take_front : {X : Type 0} (n m : ℕ) (xs : List X) → n ≤ m → take n (take m xs) ≡ take n xs
@@ -19,3 +49,31 @@ take_front zero m xs le = refl
 take_front (suc n) zero xs le = absurd (omega (arith, le))
 take_front (suc n) (suc m) [] le = refl
 take_front (suc n) (suc m) (x ∷ xs) le = ap (λ z. x ∷ z) (take_front n m xs (omega (arith, le)))
+
+-- a beginning of what was given is one of what is right for the whole
+pub begun-asked : {E : Type 0} (Is : List (List ℕ) → Type 0) (given : List (List ℕ)) (refused : Option E) → Outcome Is given refused
+    → (a b : Option (List ℕ)) → AppendsBeginning a b (concat given) → (all : List (List ℕ)) × Is all × AppendsBeginning a b (concat all)
+begun-asked Is given None is a b begun = (given, is, begun)
+begun-asked Is given (Some e) more a b begun =
+    (given ++ more.0, more.2, subst (AppendsBeginning a b) (sym (concat-append given more.0)) (AppendsBeginning-more a b (concat given) (concat more.0) begun))
+
+-- no way to cut is asked for by `buf`
+pub buf-cuts-nothing : (way : Cutting) → ¬ IsCommand way (codes "buf")
+buf-cuts-nothing ByWords is = omega (arith, ap length is)
+buf-cuts-nothing ByAsciiWords is = omega (arith, ap length is)
+buf-cuts-nothing ByLines is = omega (arith, ap length is)
+buf-cuts-nothing (FromFront p None) is = omega (arith, ap length is)
+buf-cuts-nothing (FromFront p (Some most)) is = omega (arith, ap length is.2)
+buf-cuts-nothing (FromBack p None) is = omega (arith, ap length is)
+buf-cuts-nothing (FromBack p (Some most)) is = omega (arith, ap length is.2)
+buf-cuts-nothing (Keeping p) is = omega (arith, ap length is.1)
+
+-- `buf` with lines that aren't all calls asks for nothing
+pub no-calls : (line text : List ℕ) → line ≡ codes "buf" → ((calls : List (Call (List ℕ))) → ¬ AreCallLines calls (lines text)) → (request : Request) → ¬ IsRequest request line text
+no-calls line text buf none (ForParts way) is = buf-cuts-nothing way (subst (IsCommand way) buf is)
+no-calls line text buf none (ForReplies calls) is = none calls is.1
+
+-- nor does a line that is neither `buf` nor another command
+pub no-request : (line text : List ℕ) → (line ≢ codes "buf") → ((way : Cutting) → ¬ IsCommand way line) → (request : Request) → ¬ IsRequest request line text
+no-request line text other none (ForParts way) is = none way is
+no-request line text other none (ForReplies calls) is = other is.0

@@ -1,19 +1,29 @@
 -- The definitions of the program beside worked cases: inputs and what they ask for, what is printed, whole runs, and faults.
-use Rattle.std.proofs.Common.{◌≡◌, refl, sym, ap, subst, ◌∙◌, ℕ, ◌+◌, ◌<◌, List, [], ◌∷◌, ◌++◌, inl, inr, true, false, length, length-append, decimal, get_or, append-nil, None, Some, codes, arith, lit<}
-use Rattle.std.proofs.lemmas.List.{append_cancel_left}
-use Rattle.std.proofs.lemmas.List.Concat.{flat_map-cons}
+use Rattle.std.proofs.Common.{◌≡◌, refl, sym, ap, subst, ◌∙◌, ℕ, List, [], ◌∷◌, ◌++◌, inl, inr, true, false, length, map, get_or, append-nil, None, Some, codes, arith, lit<}
+use Rattle.std.proofs.lemmas.List.{append_cancel_left, length-map}
 use Rattle.std.proofs.lemmas.Str.{is_utf8-from_IsUtf8}
+use Rattle.std.proofs.lemmas.List.Elements.{All-nil}
 use Rattle.std.specs.Char.{encode_utf8}
 use Rattle.std.specs.Fmt.{digits}
-use Rattle.std.specs.Str.{chars, encode_utf8_all, is_utf8}
+use Rattle.std.specs.List.{concat}
+use Rattle.std.specs.Str.{chars, is_utf8}
 use Rattle.bytes_utils.specs.Lines.{line_feed, carriage_return}
-use Rattle.bytes_utils.specs.Parts.{AreForwardParts, join}
+use Rattle.bytes_utils.specs.Parts.{AreForwardParts}
+use Rattle.bytes_utils.proofs.Unique.{forward_same}
 use Rattle.bytes_utils.proofs.Cases.{all_parts, split-comma, empty_text}
+use Rattle.bytes_utils_buf.specs.Segments.{nothing_held}
+use Rattle.bytes_utils_run.specs.CallLine.{IsCallLine}
 use Rattle.bytes_utils_run.specs.Command.{EndsLine, IsCommand, command_line, text_behind}
 use Rattle.bytes_utils_run.specs.Cutting.{Cutting, ByWords, ByAsciiWords, ByLines, FromFront, FromBack, Keeping, ArePartsBy}
 use Rattle.bytes_utils_run.specs.Fault.{fault_text, status_of}
-use Rattle.bytes_utils_run.specs.Printed.{printed}
-use Rattle.bytes_utils_run.specs.Run.{AreAskedFor, ReadsText, PrintsParts, PrintsFirstParts, WritesBeginning, FindsNoCommand, FindsNotUtf8, printed_parts}
+use Rattle.bytes_utils_run.specs.Number.{IsNumber}
+use Rattle.bytes_utils_run.specs.Printed.{printed, printed_part, printed_reply}
+use Rattle.bytes_utils_run.specs.Request.{AreEntries, ForParts, ForReplies, IsRequest, Request, is_refused}
+use Rattle.bytes_utils_run.specs.Run.{AsksFor, ReadsText, PrintsAll, PrintsFirst, WritesBeginning, FindsNoRequest, FindsNotUtf8}
+use Rattle.bytes_utils_run.specs.declared.calls.Call.{Call}
+use Rattle.bytes_utils_run.specs.declared.calls.Call.TheVariants.{Push, Segments, Read}
+use Rattle.bytes_utils_run.specs.declared.calls.ReadCall.TheVariants.{Remaining, Chunk, Advance, CopyOut, Chunks}
+use Rattle.bytes_utils_run.specs.declared.calls.Reply.TheVariants.{Done, PastEnd, TooLong, Number, Piece}
 use Rattle.bytes_utils_run.specs.declared.program.fault.Fault.TheVariants.{UnknownCommand, NotUtf8, OutOfMemory, Io}
 
 -- Inputs: the command line, and the text behind it.
@@ -122,15 +132,19 @@ nonsense-no-command (Keeping p) is = let first : 110 ≡ 105 = ap (λ line. get_
 abbrev four-parts : List (List ℕ)
 four-parts = codes "a" ∷ codes "b" ∷ [] ∷ codes "c" ∷ []
 
-pub four-parts-printed : printed_parts four-parts ≡ codes "1:a\n1:b\n0:\n1:c\n"
+-- parts as they are printed
+abbrev entries : List (List ℕ) → List (List ℕ)
+entries = map printed_part
+
+pub four-parts-printed : concat (entries four-parts) ≡ codes "1:a\n1:b\n0:\n1:c\n"
 unfolding lib.Utf8.encode digits
 four-parts-printed = refl
 
-pub no-parts-printed : printed_parts [] ≡ []
+pub no-parts-printed : concat (entries []) ≡ []
 no-parts-printed = refl
 
 -- lengths count bytes, not characters, and are decimal
-pub greek-printed : printed_parts (codes "αβ" ∷ []) ≡ codes "4:" ++ 0xce ∷ 0xb1 ∷ 0xce ∷ 0xb2 ∷ codes "\n"
+pub greek-printed : concat (entries (codes "αβ" ∷ [])) ≡ codes "4:" ++ 0xce ∷ 0xb1 ∷ 0xce ∷ 0xb2 ∷ codes "\n"
 unfolding lib.Utf8.encode digits
 greek-printed = refl
 
@@ -140,30 +154,72 @@ long-printed = refl
 
 -- What inputs ask for.
 
-pub program-split : AreAskedFor program-split-input four-parts
-program-split = record { way = FromFront (codes ",") None; command = split-comma-is; right = split-comma }
+pub program-split : AsksFor program-split-input (entries four-parts)
+program-split = record { request = ForParts (FromFront (codes ",") None); is = split-comma-is; right = (four-parts, split-comma, refl) }
 
 -- no text behind the command is an empty text, which is its own only part
-pub program-no-text : AreAskedFor (codes "split ,") ([] ∷ [])
-program-no-text = record { way = FromFront (codes ",") None; command = split-comma-is; right = empty_text }
+pub program-no-text : AsksFor (codes "split ,") (entries ([] ∷ []))
+program-no-text = record { request = ForParts (FromFront (codes ",") None); is = split-comma-is; right = ([] ∷ [], empty_text, refl) }
 
 -- the carriage return is none of the separator
-pub program-return : AreAskedFor program-return-input (codes "a" ∷ codes "b" ∷ [])
-program-return = record { way = FromFront (codes ",") None; command = split-comma-is; right = all_parts _ _ _ (lit< tt) refl refl refl }
+pub program-return : AsksFor program-return-input (entries (codes "a" ∷ codes "b" ∷ []))
+program-return = record { request = ForParts (FromFront (codes ",") None); is = split-comma-is; right = (codes "a" ∷ codes "b" ∷ [], all_parts _ _ _ (lit< tt) refl refl refl, refl) }
 
-pub nonsense-asks-nothing : (parts : List (List ℕ)) → ¬ AreAskedFor (codes "nonsense") parts
-nonsense-asks-nothing parts asked = nonsense-no-command asked.way asked.command
+nonsense-no-request : (text : List ℕ) (request : Request) → ¬ IsRequest request (codes "nonsense") text
+nonsense-no-request text (ForParts way) is = nonsense-no-command way is
+nonsense-no-request text (ForReplies calls) is = omega (arith, ap length is.0)
+
+pub nonsense-asks-nothing : (entries : List (List ℕ)) → ¬ AsksFor (codes "nonsense") entries
+nonsense-asks-nothing entries asked = nonsense-no-request [] asked.request asked.is
 
 -- a list without the last part isn't asked for
-pub last-part-dropped : ¬ AreAskedFor program-split-input (codes "a" ∷ codes "b" ∷ [] ∷ [])
-last-part-dropped asked = too_short asked.way asked.command asked.right
+pub last-part-dropped : ¬ AsksFor program-split-input (entries (codes "a" ∷ codes "b" ∷ [] ∷ []))
+last-part-dropped asked = too_short asked.request asked.is asked.right
   where
-    too_short : (way : Cutting) → IsCommand way (codes "split ,") → ArePartsBy way (codes "a,b,,c") (codes "a" ∷ codes "b" ∷ [] ∷ []) → ⊥
-    too_short way is are =
-        let parts : AreForwardParts (codes "a,b,,c") (codes ",") None (codes "a" ∷ codes "b" ∷ [] ∷ []) =
-        subst (λ w. ArePartsBy w (codes "a,b,,c") (codes "a" ∷ codes "b" ∷ [] ∷ [])) (split-comma-only way is) are in
-        let joined : 4 ≡ 6 = ap length parts.joined in
-        omega (arith, joined)
+    too_short : (request : Request) → IsRequest request (codes "split ,") (codes "a,b,,c") → AreEntries request (codes "a,b,,c") (entries (codes "a" ∷ codes "b" ∷ [] ∷ [])) → ⊥
+    too_short (ForParts way) is are =
+        let parts : AreForwardParts (codes "a,b,,c") (codes ",") None are.0 = subst (λ w. ArePartsBy w (codes "a,b,,c") are.0) (split-comma-only way is) are.1 in
+        let four = forward_same (codes ",") (lit< tt) (codes "a,b,,c") None are.0 four-parts parts split-comma in
+        let count : 3 ≡ length are.0 = ap length are.2 ∙ length-map are.0 printed_part in
+        omega (arith, count, ap length four)
+    too_short (ForReplies calls) is are = omega (arith, ap length is.0)
+
+-- Call lines, and what is printed of replies.
+
+pub push-a-space : IsCallLine (Push (codes " ")) (codes "push  ")
+unfolding lib.Utf8.encode
+push-a-space = (codes " ", refl, refl)
+
+pub push-nothing : IsCallLine (Push []) (codes "push ")
+push-nothing = ([], refl, refl)
+
+pub copy-a-number : (digits : List ℕ) (n : ℕ) → IsNumber digits n → IsCallLine (Read (CopyOut n)) (codes "copy " ++ digits)
+copy-a-number digits n is = (digits, is, refl)
+
+-- without its space it pushes nothing, and is no call
+pub push-alone : (call : Call (List ℕ)) → ¬ IsCallLine call (codes "push")
+push-alone (Push bytes) is = omega (arith, ap length is.2)
+push-alone Segments is = omega (arith, ap length is)
+push-alone (Read Remaining) is = omega (arith, ap length is)
+push-alone (Read Chunk) is = omega (arith, ap length is)
+push-alone (Read (Advance n)) is = omega (arith, ap length is.2)
+push-alone (Read (CopyOut n)) is = omega (arith, ap length is.2)
+push-alone (Read (Chunks n)) is = omega (arith, ap length is.2)
+
+pub words-printed : (printed_reply Done ≡ codes "ok\n") × (printed_reply PastEnd ≡ codes "past end\n") × (printed_reply TooLong ≡ codes "too long\n")
+words-printed = (refl, refl, refl)
+
+pub number-printed : printed_reply (Number 120) ≡ codes "120\n"
+unfolding digits
+number-printed = refl
+
+pub piece-printed : printed_reply (Piece (codes "Hello Wo")) ≡ codes "8:Hello Wo\n"
+unfolding digits
+piece-printed = refl
+
+-- `buf` alone asks for no calls, and nothing is printed
+pub buf-alone : AsksFor (codes "buf") []
+buf-alone = record { request = ForReplies []; is = (refl, tt); right = ([], record { left = nothing_held; run = refl; whole = All-nil (λ reply. is_refused reply ≡ false) }, refl) }
 
 -- Whole runs, from the bytes read to those written behind what the writer held.
 
@@ -171,23 +227,23 @@ program-split-read : ReadsText (Some program-split-input) (Some []) program-spli
 unfolding encode_utf8
 program-split-read = record { whole = (refl, refl); utf8 = (program-split-input, (refl, refl)) }
 
-pub program-split-run : PrintsParts (Some program-split-input) (Some []) (Some (codes "held ")) (Some (codes "held 1:a\n1:b\n0:\n1:c\n"))
+pub program-split-run : PrintsAll (Some program-split-input) (Some []) (Some (codes "held ")) (Some (codes "held 1:a\n1:b\n0:\n1:c\n"))
 unfolding chars lib.Utf8.encode digits
 program-split-run = record {
   input = program-split-input;
-  parts = four-parts;
+  entries = entries four-parts;
   read = program-split-read;
   asked = program-split;
   written = refl;
 }
 
 -- memory refused the third part
-pub two-parts-run : PrintsFirstParts (Some program-split-input) (Some []) (Some []) (Some (codes "1:a\n1:b\n"))
+pub two-parts-run : PrintsFirst (Some program-split-input) (Some []) (Some []) (Some (codes "1:a\n1:b\n"))
 unfolding chars lib.Utf8.encode digits
 two-parts-run = record {
   input = program-split-input;
-  given = codes "a" ∷ codes "b" ∷ [];
-  others = [] ∷ codes "c" ∷ [];
+  given = entries (codes "a" ∷ codes "b" ∷ []);
+  others = entries ([] ∷ codes "c" ∷ []);
   some = lit< tt;
   read = program-split-read;
   asked = program-split;
@@ -199,18 +255,18 @@ pub writer-fails-run : WritesBeginning (Some program-split-input) (Some []) (Som
 unfolding chars lib.Utf8.encode digits
 writer-fails-run = record {
   input = program-split-input;
-  parts = four-parts;
+  entries = entries four-parts;
   read = program-split-read;
   asked = program-split;
   written = (3, omega arith, refl);
 }
 
-pub nonsense-run : FindsNoCommand (Some (codes "nonsense")) (Some []) (Some []) (Some [])
+pub nonsense-run : FindsNoRequest (Some (codes "nonsense")) (Some []) (Some []) (Some [])
 unfolding chars encode_utf8
 nonsense-run = record {
   input = codes "nonsense";
   read = record { whole = (refl, refl); utf8 = (codes "nonsense", (refl, refl)) };
-  none = nonsense-no-command;
+  none = nonsense-no-request [];
   unwritten = refl;
 }
 
@@ -225,12 +281,16 @@ empty-line-no-command (FromBack p None) is = omega (arith, ap length is)
 empty-line-no-command (FromBack p (Some most)) is = omega (arith, ap length is.2)
 empty-line-no-command (Keeping p) is = omega (arith, ap length is.1)
 
-pub no-input-run : FindsNoCommand (Some []) (Some []) (Some []) (Some [])
+empty-line-no-request : (request : Request) → ¬ IsRequest request [] []
+empty-line-no-request (ForParts way) is = empty-line-no-command way is
+empty-line-no-request (ForReplies calls) is = omega (arith, ap length is.0)
+
+pub no-input-run : FindsNoRequest (Some []) (Some []) (Some []) (Some [])
 unfolding chars encode_utf8
 no-input-run = record {
   input = [];
   read = record { whole = (refl, refl); utf8 = ([], (refl, refl)) };
-  none = empty-line-no-command;
+  none = empty-line-no-request;
   unwritten = refl;
 }
 
@@ -247,11 +307,11 @@ byte-255-run = record {
 -- Wrong runs are refused.
 
 -- a known command told as an unknown one
-pub command-unknown : ¬ FindsNoCommand (Some program-split-input) (Some []) (Some []) (Some [])
+pub command-unknown : ¬ FindsNoRequest (Some program-split-input) (Some []) (Some []) (Some [])
 unfolding chars
 command-unknown run =
     let input : program-split-input ≡ run.input = run.read.whole.0 ∙ append-nil run.input in
-    run.none (FromFront (codes ",") None) (subst (λ bytes. IsCommand (FromFront (codes ",") None) (command_line (chars bytes))) input split-comma-is)
+    run.none (ForParts (FromFront (codes ",") None)) (subst (λ bytes. IsCommand (FromFront (codes ",") None) (command_line (chars bytes))) input split-comma-is)
 
 -- an input that isn't read to its end
 pub input-left : (input : List ℕ) → ¬ ReadsText (Some (codes "ab")) (Some (codes "b")) input

@@ -1,5 +1,5 @@
 -- Commands read from a line, in bytes and in characters.
-use Rattle.std.proofs.Common.{◌≡◌, ◌≢◌, refl, sym, ap, subst, ◌∙◌, ℕ, zero, suc, ◌+◌, ◌<◌, ◌≤◌, List, [], ◌∷◌, ◌++◌, Bool, true, false, Option, None, Some, MatchOption, Bor, length, take, drop, take-append-drop, length-append, get_or, codes, arith, IsUtf8, IsCharBoundary}
+use Rattle.std.proofs.Common.{◌≡◌, ◌≢◌, refl, sym, ap, subst, ◌∙◌, ℕ, suc, ◌+◌, ◌<◌, List, [], ◌∷◌, ◌++◌, Bool, true, false, Option, None, Some, MatchOption, Bor, length, take, drop, take-append-drop, length-append, get_or, codes, arith, IsUtf8, IsCharBoundary}
 use Rattle.std.proofs.lemmas.Fmt.{IsAscii-from_digits}
 use Rattle.std.proofs.lemmas.List.{append_cancel_left, drop_at}
 use Rattle.std.proofs.lemmas.Str.{chars-append, encodes-chars, encodes-append, encodes-IsAscii, chars-IsAscii, IsUtf8-take, IsUtf8-drop, IsUtf8-append, IsCharBoundary-at_seam}
@@ -11,6 +11,7 @@ use Rattle.std.proofs.lemmas.Slice.Eq.{bytes_eq-Decides}
 use Rattle.std.specs.Str.Pattern.{LacksTextAt, FindsText, FindsTextPrefix}
 use Rattle.std.specs.Str.{chars, encode_utf8_all as encodes}
 use Rattle.std.specs.Char.{encode_utf8, digit_value}
+use Rattle.bytes_utils_run.specs.CallLine.{IsNumbered}
 use Rattle.bytes_utils_run.specs.Command.{IsCommand, IsCounted, IsCountedBehind}
 use Rattle.bytes_utils_run.specs.Cutting.{Cutting, ByWords, ByAsciiWords, ByLines, FromFront, FromBack, Keeping, IsAllowed, cutting}
 use Rattle.bytes_utils_run.specs.declared.cut.How.{How}
@@ -70,6 +71,38 @@ chars-splitn = refl
 pub chars-rsplitn : chars (codes "rsplitn ") ≡ codes "rsplitn "
 unfolding chars
 chars-rsplitn = refl
+
+pub chars-buf : chars (codes "buf") ≡ codes "buf"
+unfolding chars
+chars-buf = refl
+
+pub chars-segments : chars (codes "segments") ≡ codes "segments"
+unfolding chars
+chars-segments = refl
+
+pub chars-remaining : chars (codes "remaining") ≡ codes "remaining"
+unfolding chars
+chars-remaining = refl
+
+pub chars-chunk : chars (codes "chunk") ≡ codes "chunk"
+unfolding chars
+chars-chunk = refl
+
+pub chars-push : chars (codes "push ") ≡ codes "push "
+unfolding chars
+chars-push = refl
+
+pub chars-advance : chars (codes "advance ") ≡ codes "advance "
+unfolding chars
+chars-advance = refl
+
+pub chars-copy : chars (codes "copy ") ≡ codes "copy "
+unfolding chars
+chars-copy = refl
+
+pub chars-chunks : chars (codes "chunks ") ≡ codes "chunks "
+unfolding chars
+chars-chunks = refl
 
 space-bytes : encodes (codes " ") ≡ codes " "
 unfolding encode_utf8
@@ -184,3 +217,10 @@ pub how-is : (line : List ℕ) → (line ≢ codes "words") × (line ≢ codes "
     → MatchOption r ((way : Cutting) → ¬ IsCommand way line) (λ how. IsAllowed how × IsCommand (cutting how) line)
 how-is line plain separator None limit = no-way line plain separator limit
 how-is line plain separator (Some how) is = is
+
+-- a number behind a word, where the rest of the line is one or isn't
+pub numbered-is : (line word rest : List ℕ) → chars line ≡ chars word ++ chars rest → (r : Option ℕ)
+    → MatchOption r ((n : ℕ) → ¬ IsNumber (chars rest) n) (λ n. IsNumber (chars rest) n)
+    → MatchOption r ((n : ℕ) → ¬ IsNumbered (chars word) n (chars line)) (λ n. IsNumbered (chars word) n (chars line))
+numbered-is line word rest e None none = λ n is. none n (subst (λ z. IsNumber z n) (append_cancel_left (chars word) is.0 (chars rest) (sym is.2 ∙ e)) is.1)
+numbered-is line word rest e (Some n) is = (chars rest, is, e)

@@ -1,5 +1,5 @@
 -- How many parts a text has, at most: two more than it has characters.
-use Rattle.std.proofs.Common.{◌≡◌, refl, sym, ap, ◌∙◌, ℕ, zero, suc, ◌+◌, ◌-◌, ◌<◌, ◌≤◌, Bool, true, false, List, [], ◌∷◌, ◌++◌, Option, None, Some, All, length, map, take, drop, reverse, arith, length-append, length-take, ◌⊎◌, inl, inr}
+use Rattle.std.proofs.Common.{◌≡◌, ap, ℕ, zero, suc, ◌+◌, ◌-◌, ◌<◌, ◌≤◌, Bool, List, [], ◌∷◌, ◌++◌, Option, None, Some, All, length, map, take, drop, reverse, arith, length-append, length-take}
 use Rattle.std.specs.Char.{is_whitespace, is_ascii_whitespace}
 use Rattle.std.specs.List.{starts_with}
 use Rattle.std.specs.Prelude.{nat_lt, nat_eq, ◌==◌, ◌&&◌, if◌then◌else◌}
@@ -9,7 +9,7 @@ use Rattle.std.proofs.lemmas.List.Elements.{All-head, All-tail}
 use Rattle.bytes_utils.specs.EmptySeparator.{single, by_element, by_element_backward}
 use Rattle.bytes_utils.specs.Lines.{line_feed, carriage_return, lines, first_led_by}
 use Rattle.bytes_utils.specs.Outcome.{Outcome}
-use Rattle.bytes_utils.specs.Parts.{AreForwardParts, AreBackwardParts, AreInclusiveParts, ArePartsFromFront, ArePartsFromBack, join}
+use Rattle.bytes_utils.specs.Parts.{ArePartsFromFront, ArePartsFromBack, join}
 use Rattle.bytes_utils.specs.Words.{words, ends_word}
 use Rattle.bytes_utils_run.specs.Cutting.{Cutting, ByWords, ByAsciiWords, ByLines, FromFront, FromBack, Keeping, ArePartsBy}
 

@@ -2,9 +2,13 @@ pub mod Beginnings
 pub mod FirstLine
 pub mod CommandLine
 pub mod Asked
+pub mod CallLines
 pub mod Numbers
 pub mod Printing
 pub mod Runs
 pub mod Slices
 pub mod Counts
+pub mod Fitting
+pub mod Ample
+pub mod Replying
 pub mod Cases

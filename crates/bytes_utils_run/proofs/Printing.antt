@@ -1,50 +1,34 @@
--- Parts printed one after another.
-use Rattle.std.proofs.Common.{◌≡◌, sym, ap, subst, ◌∙◌, refl, ℕ, ◌+◌, ◌<◌, List, [], ◌∷◌, ◌++◌, Option, length, map, take, get_or, append-nil, IsUtf8}
+-- Entries printed one after another.
+use Rattle.std.proofs.Common.{◌≡◌, sym, ap, subst, ◌∙◌, refl, ℕ, ◌+◌, ◌<◌, List, [], ◌∷◌, ◌++◌, Option, length, map, take, get_or, append-nil}
 use Rattle.std.proofs.KnownBytes.{Appends-trans}
 use Rattle.std.proofs.lemmas.List.{take_more}
 use Rattle.std.proofs.lemmas.List.Concat.{flat_map-append, flat_map-cons}
-use Rattle.std.proofs.lemmas.Str.{encodes-chars}
 use Rattle.std.specs.Io.KnownBytes.{Appends}
-use Rattle.std.specs.List.{flat_map}
-use Rattle.std.specs.Str.{chars, encode_utf8_all as encodes}
+use Rattle.std.specs.List.{concat, flat_map}
 use Rattle.bytes_utils_run.specs.Moves.{AppendsBeginning}
-use Rattle.bytes_utils_run.specs.Printed.{printed}
-use Rattle.bytes_utils_run.specs.Run.{printed_parts}
 use Rattle.bytes_utils_run.proofs.Beginnings.{AppendsBeginning-pieces}
 
--- a part's bytes as they are printed, by way of its characters
-abbrev print_chars : List ℕ → List ℕ
-print_chars bytes = printed (encodes (chars bytes))
+module _ {X : Type 0} (f : X → List ℕ) where
+  concat-map : (xs : List X) → concat (map f xs) ≡ flat_map f xs
+  concat-map [] = refl
+  concat-map (x ∷ xs) = ap (λ z. f x ++ z) (concat-map xs) ∙ sym (flat_map-cons f x xs)
 
-printed_parts-chars : (xs : List (List ℕ)) → printed_parts (map chars xs) ≡ flat_map print_chars xs
-printed_parts-chars [] = refl
-printed_parts-chars (x ∷ xs) =
-    flat_map-cons (λ part. printed (encodes part)) (chars x) (map chars xs)
-    ∙ ap (λ z. print_chars x ++ z) (printed_parts-chars xs) ∙ sym (flat_map-cons print_chars x xs)
+  flat_map_one : (x : X) → flat_map f (x ∷ []) ≡ f x
+  flat_map_one x = flat_map-cons f x [] ∙ append-nil (f x)
 
-flat_map_one : (x : List ℕ) → flat_map print_chars (x ∷ []) ≡ print_chars x
-flat_map_one x = flat_map-cons print_chars x [] ∙ append-nil (print_chars x)
+  module _ (xs : List X) (i : ℕ) (x : X) (within : i < length xs) (is : x ≡ get_or xs i x) where
+    -- one entry more was printed
+    pub print_more : (a b c : Option (List ℕ)) → Appends a b (concat (map f (take i xs))) → Appends b c (f x) → Appends a c (concat (map f (take (i + 1) xs)))
+    print_more a b c before one =
+        let more : flat_map f (take (i + 1) xs) ≡ flat_map f (take i xs) ++ f x =
+        ap (flat_map f) (take_more xs i x within ∙ ap (λ z. take i xs ++ z ∷ []) (sym is))
+        ∙ flat_map-append f (take i xs) (x ∷ []) ∙ ap (λ z. flat_map f (take i xs) ++ z) (flat_map_one x) in
+        let all : concat (map f (take (i + 1) xs)) ≡ concat (map f (take i xs)) ++ f x =
+        concat-map (take (i + 1) xs) ∙ more ∙ ap (λ z. z ++ f x) (sym (concat-map (take i xs))) in
+        subst (Appends a c) (sym all) (Appends-trans a b c _ _ before one)
 
-module _ (xs : List (List ℕ)) (i : ℕ) (x bytes : List ℕ) (within : i < length xs) (is : x ≡ get_or xs i x) (bytes_is : IsUtf8 bytes) (same : bytes ≡ x) where
-  part_bytes : printed bytes ≡ print_chars x
-  part_bytes = sym (ap printed (encodes-chars bytes bytes_is)) ∙ ap print_chars same
-
-  -- one part more was printed
-  pub print_more : (a b c : Option (List ℕ)) → Appends a b (printed_parts (map chars (take i xs))) → Appends b c (printed bytes)
-      → Appends a c (printed_parts (map chars (take (i + 1) xs)))
-  print_more a b c before one =
-      let more : flat_map print_chars (take (i + 1) xs) ≡ flat_map print_chars (take i xs) ++ print_chars x =
-      ap (flat_map print_chars) (take_more xs i x within ∙ ap (λ z. take i xs ++ z ∷ []) (sym is))
-      ∙ flat_map-append print_chars (take i xs) (x ∷ []) ∙ ap (λ z. flat_map print_chars (take i xs) ++ z) (flat_map_one x) in
-      let all : printed_parts (map chars (take (i + 1) xs)) ≡ printed_parts (map chars (take i xs)) ++ printed bytes =
-      printed_parts-chars (take (i + 1) xs) ∙ more
-      ∙ (λ j. sym (printed_parts-chars (take i xs)) j ++ sym part_bytes j) in
-      subst (Appends a c) (sym all) (Appends-trans a b c _ _ before one)
-
-  -- the next was begun
-  pub print_begun : (a b c : Option (List ℕ)) → Appends a b (printed_parts (map chars (take i xs))) → AppendsBeginning b c (printed bytes)
-      → AppendsBeginning a c (printed_parts (map chars xs))
-  print_begun a b c before begun =
-      subst (AppendsBeginning a c) (sym (printed_parts-chars xs))
-      (AppendsBeginning-pieces print_chars xs i x a b c within is (subst (Appends a b) (printed_parts-chars (take i xs)) before)
-      (subst (AppendsBeginning b c) part_bytes begun))
+    -- the next was begun
+    pub print_begun : (a b c : Option (List ℕ)) → Appends a b (concat (map f (take i xs))) → AppendsBeginning b c (f x) → AppendsBeginning a c (concat (map f xs))
+    print_begun a b c before begun =
+        subst (AppendsBeginning a c) (sym (concat-map xs))
+        (AppendsBeginning-pieces f xs i x a b c within is (subst (Appends a b) (concat-map (take i xs)) before) begun)

@@ -1,6 +1,30 @@
 -- How the program prints.
-use Rattle.std.specs.Prelude.{ℕ, List, ◌++◌, length, codes, decimal}
+use Rattle.std.specs.Prelude.{ℕ, List, [], ◌++◌, length, map, codes, decimal}
+use Rattle.std.specs.List.{concat}
+use Rattle.std.specs.Str.{encode_utf8_all}
+use Rattle.bytes_utils_run.specs.declared.calls.Reply.{Reply}
+use Rattle.bytes_utils_run.specs.declared.calls.Reply.TheVariants.{Done, PastEnd, TooLong, NoMemory, CopyStopped, Number, Piece, Shown, Slices}
 
--- a part: its length in bytes, a colon, its bytes, a line feed
+-- bytes that were cut out or are shown: their length, a colon, they themselves, a line feed
 abbrev pub printed : List ℕ → List ℕ
-printed part = decimal (length part) ++ codes ":" ++ part ++ codes "\n"
+printed bytes = decimal (length bytes) ++ codes ":" ++ bytes ++ codes "\n"
+
+-- a part, given as its characters
+abbrev pub printed_part : List ℕ → List ℕ
+printed_part part = printed (encode_utf8_all part)
+
+-- a number, on a line of its own
+abbrev pub printed_number : ℕ → List ℕ
+printed_number n = decimal n ++ codes "\n"
+
+-- a reply. Nothing is printed where memory refused it.
+abbrev pub printed_reply : Reply → List ℕ
+printed_reply Done = codes "ok\n"
+printed_reply PastEnd = codes "past end\n"
+printed_reply TooLong = codes "too long\n"
+printed_reply NoMemory = []
+printed_reply (CopyStopped taken) = []
+printed_reply (Number n) = printed_number n
+printed_reply (Piece piece) = printed piece
+printed_reply (Shown chunk) = printed chunk.items
+printed_reply (Slices slices) = printed_number (length slices.items) ++ concat (map (λ slice. printed slice.items) slices.items)

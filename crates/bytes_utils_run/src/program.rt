@@ -1,14 +1,15 @@
 //! The program: it reads a command and a text, and prints what the command makes of the text.
-ghost use Rattle.std.specs.Prelude.{◌≡◌, ◌⊎◌, None, OnOk, IsSome, IfOk, IfErr, IsErrOf, IsUtf8, map};
+ghost use Rattle.std.specs.Prelude.{◌≡◌, ◌⊎◌, None, OnOk, IsSome, IfOk, IfErr, IsErrOf, IsUtf8, map, Option};
 ghost use Rattle.std.specs.Io.KnownBytes.{Appends, Keeps};
-ghost use Rattle.std.specs.Str.{chars};
-ghost use Rattle.bytes_utils.specs.Outcome.{Outcome};
-ghost use Rattle.bytes_utils_run.specs.Command.{IsCommand, command_line};
-ghost use Rattle.bytes_utils_run.specs.Cutting.{Cutting};
+ghost use Rattle.std.specs.List.{concat};
+ghost use Rattle.bytes_utils_run.specs.Answer.{entries_of, refusal_of};
 ghost use Rattle.bytes_utils_run.specs.Moves.{AppendsBeginning};
-ghost use Rattle.bytes_utils_run.specs.Run.{AreAskedFor, FindsNoCommand, FindsNotUtf8, PrintsFirstParts, PrintsParts, WritesBeginning, printed_parts};
+ghost use Rattle.bytes_utils_run.specs.Run.{FindsNoRequest, FindsNotUtf8, PrintsAll, PrintsFirst, WritesBeginning};
 
+mod answer;
+mod call_line;
 mod command;
+mod entry;
 #[cfg(test)]
 mod fakes;
 mod fault;
@@ -18,14 +19,13 @@ mod output;
 #[cfg(test)]
 mod tests;
 
-use crate::{Parts, cut_all};
+use answer::{Answer, answer_to};
 use bytes::Bytes;
-use bytes_utils::Str;
-use bytes_utils::string::Storage;
-use command::{first_line, how};
+use bytes_utils::{Reason, Str};
+use entry::{Entry, print_all};
 pub use fault::Fault;
 use input::read_all;
-use output::{flush_out, print_parts};
+use output::flush_out;
 use std::alloc::Global;
 use std::io::{Read, Write};
 
@@ -45,44 +45,47 @@ fn text_of(input: Vec<u8>) -> Result<Str, Fault>
     }
 }
 
-/// The parts that the input asks for.
-fn parts_of(alloc: Global, input: Str) -> Result<Parts<Bytes>, Fault>
-    ensures ok { IfOk result
-        (λ parts. Outcome (AreAskedFor (chars input)) (map chars parts.given.items) parts.refused) }
-    ensures unknown { IsErrOf result Fault.UnknownCommand
-        → (way : Cutting) → ¬ IsCommand way (command_line (chars input)) }
-    ensures fault { IfErr result
-        (λ fault. (fault ≡ Fault.UnknownCommand) ⊎ (fault ≡ Fault.OutOfMemory)) }
-{
-    let (end, next) = first_line(input.as_str());
-    let (head, text) = match input.split_at_bytes(next) {
-        Ok(halves) => halves,
-        Err(_) => return Err(Fault::OutOfMemory),
-    };
-    let Some(how) = how(&head.as_str()[..end]) else {
-        return Err(Fault::UnknownCommand);
-    };
-    Ok(cut_all(alloc, text, how))
-}
-
-/// Prints the parts that were given and flushes, and tells whether others were refused.
-fn print_outcome<S: Storage, W: Write>(writer: &mut W, parts: &Parts<S>) -> Result<(), Fault>
-    ensures whole { OnOk result (parts.now.refused ≡ None) }
+/// Prints entries and flushes, and tells whether others were refused.
+fn print_given<E: Entry, W: Write>(
+    writer: &mut W,
+    given: &[E],
+    refused: Option<Reason>,
+) -> Result<(), Fault>
+    ensures whole { OnOk result (refused ≡ None) }
     ensures ok { OnOk result (Appends (W.contents writer.old) (W.contents writer.new)
-        (printed_parts (map chars parts.now.given.items))) }
-    ensures out_of_memory { IsErrOf result Fault.OutOfMemory → IsSome parts.now.refused
+        (concat (map E.printed given.now))) }
+    ensures out_of_memory { IsErrOf result Fault.OutOfMemory → IsSome refused
         × Appends (W.contents writer.old) (W.contents writer.new)
-        (printed_parts (map chars parts.now.given.items)) }
+        (concat (map E.printed given.now)) }
     ensures io { IsErrOf result Fault.Io
         → AppendsBeginning (W.contents writer.old) (W.contents writer.new)
-        (printed_parts (map chars parts.now.given.items)) }
+        (concat (map E.printed given.now)) }
     ensures fault { IfErr result (λ fault. (fault ≡ Fault.OutOfMemory) ⊎ (fault ≡ Fault.Io)) }
 {
-    print_parts(writer, &parts.given)?;
+    print_all(writer, given)?;
     flush_out(writer)?;
-    match parts.refused {
+    match refused {
         None => Ok(()),
         Some(_) => Err(Fault::OutOfMemory),
+    }
+}
+
+/// Prints what was given of an answer and flushes, and tells whether more was refused.
+fn print_answer<W: Write>(writer: &mut W, answer: &Answer) -> Result<(), Fault>
+    ensures whole { OnOk result (refusal_of answer.now ≡ None) }
+    ensures ok { OnOk result (Appends (W.contents writer.old) (W.contents writer.new)
+        (concat (entries_of answer.now))) }
+    ensures out_of_memory { IsErrOf result Fault.OutOfMemory → IsSome (refusal_of answer.now)
+        × Appends (W.contents writer.old) (W.contents writer.new)
+        (concat (entries_of answer.now)) }
+    ensures io { IsErrOf result Fault.Io
+        → AppendsBeginning (W.contents writer.old) (W.contents writer.new)
+        (concat (entries_of answer.now)) }
+    ensures fault { IfErr result (λ fault. (fault ≡ Fault.OutOfMemory) ⊎ (fault ≡ Fault.Io)) }
+{
+    match answer {
+        Answer::Parts(parts) => print_given(writer, &parts.given, parts.refused),
+        Answer::Replies(replies) => print_given(writer, &replies.given, replies.refused),
     }
 }
 
@@ -92,17 +95,17 @@ fn print_outcome<S: Storage, W: Write>(writer: &mut W, parts: &Parts<S>) -> Resu
 /// The input is read by at most 1,048,576 calls of `read`; a reader that hasn't ended by then
 /// counts as one that failed.
 pub fn script<R: Read, W: Write>(alloc: Global, reader: &mut R, writer: &mut W) -> Result<(), Fault>
-    ensures ok { OnOk result (PrintsParts (R.remaining reader.old) (R.remaining reader.new)
+    ensures ok { OnOk result (PrintsAll (R.remaining reader.old) (R.remaining reader.new)
         (W.contents writer.old) (W.contents writer.new)) }
     ensures unknown_command { IsErrOf result Fault.UnknownCommand
-        → FindsNoCommand (R.remaining reader.old) (R.remaining reader.new)
+        → FindsNoRequest (R.remaining reader.old) (R.remaining reader.new)
         (W.contents writer.old) (W.contents writer.new) }
     ensures not_utf8 { IsErrOf result Fault.NotUtf8
         → FindsNotUtf8 (R.remaining reader.old) (R.remaining reader.new)
         (W.contents writer.old) (W.contents writer.new) }
     ensures out_of_memory { IsErrOf result Fault.OutOfMemory
         → Keeps (W.contents writer.old) (W.contents writer.new)
-        ⊎ PrintsFirstParts (R.remaining reader.old) (R.remaining reader.new)
+        ⊎ PrintsFirst (R.remaining reader.old) (R.remaining reader.new)
         (W.contents writer.old) (W.contents writer.new) }
     ensures io { IsErrOf result Fault.Io
         → Keeps (W.contents writer.old) (W.contents writer.new)
@@ -111,6 +114,6 @@ pub fn script<R: Read, W: Write>(alloc: Global, reader: &mut R, writer: &mut W) 
 {
     let input = read_all(alloc, reader)?;
     let text = text_of(input)?;
-    let parts = parts_of(alloc, text)?;
-    print_outcome(writer, &parts)
+    let answer = answer_to(alloc, text)?;
+    print_answer(writer, &answer)
 }

@@ -46,16 +46,17 @@ pub(super) fn first_line(input: &str) -> (usize, usize)
 }
 
 /// Whether a line is a word.
-fn is_word(line: &str, word: &str) -> bool
+pub(super) fn is_word(line: &str, word: &str) -> bool
     ensures { MatchBool result (chars line.now ≡ chars word.now) (chars line.now ≢ chars word.now) }
 {
     line == word
 }
 
 /// What follows a word at the beginning of a line.
-fn behind<'l>(line: &'l str, word: &str) -> Option<&'l str>
+pub(super) fn behind<'l>(line: &'l str, word: &str) -> Option<&'l str>
     ensures value { MatchOption result ((rest : List ℕ) → chars line.now ≢ chars word.now ++ rest)
         (λ rest. chars line.now ≡ chars word.now ++ chars rest.now) }
+    ensures bytes { IfSome result (λ rest. line.now ≡ word.now ++ rest.now) }
     ensures utf8 { IfSome result (λ rest. IsUtf8 rest.now) }
 {
     line.strip_prefix(word)

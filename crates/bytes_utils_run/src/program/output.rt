@@ -1,13 +1,10 @@
 //! Writing the output, which takes no memory.
-ghost use Rattle.std.specs.Prelude.{OnOk, OnErr, IsOkUnless, map};
+ghost use Rattle.std.specs.Prelude.{OnOk, OnErr, IsOkUnless};
 ghost use Rattle.std.specs.Io.KnownBytes.{Appends, Keeps};
 ghost use Rattle.bytes_utils_run.specs.Moves.{AppendsBeginning};
-ghost use Rattle.bytes_utils_run.specs.Printed.{printed};
-ghost use Rattle.bytes_utils_run.specs.Run.{printed_parts};
-ghost use Rattle.std.specs.Str.{chars};
+ghost use Rattle.bytes_utils_run.specs.Printed.{printed, printed_number};
 
 use crate::program::Fault;
-use bytes_utils::string::{Storage, StrInner};
 use itoa::Buffer;
 use std::io::Write;
 
@@ -29,36 +26,32 @@ pub(super) fn write_out<W: Write>(writer: &mut W, bytes: &[u8]) -> Result<(), Fa
     Ok(())
 }
 
-/// Prints a part: its length in bytes, a colon, its bytes, a line feed.
-pub(super) fn print_part<W: Write>(writer: &mut W, part: &[u8]) -> Result<(), Fault>
+/// Prints bytes: how many they are, a colon, they themselves, a line feed.
+pub(super) fn print_bytes<W: Write>(writer: &mut W, bytes: &[u8]) -> Result<(), Fault>
     ensures ok { OnOk result
-        (Appends (W.contents writer.old) (W.contents writer.new) (printed part.now)) }
+        (Appends (W.contents writer.old) (W.contents writer.new) (printed bytes.now)) }
     ensures err { OnErr result
-        (AppendsBeginning (W.contents writer.old) (W.contents writer.new) (printed part.now)) }
+        (AppendsBeginning (W.contents writer.old) (W.contents writer.new) (printed bytes.now)) }
     ensures fault { IsOkUnless result Fault.Io }
 {
     let mut digits = Buffer::new();
-    write_out(writer, digits.format(part.len()).as_bytes())?;
+    write_out(writer, digits.format(bytes.len()).as_bytes())?;
     write_out(writer, b":")?;
-    write_out(writer, part)?;
+    write_out(writer, bytes)?;
     write_out(writer, b"\n")
 }
 
-/// Prints parts in order.
-pub(super) fn print_parts<S: Storage, W: Write>(
-    writer: &mut W,
-    parts: &[StrInner<S>],
-) -> Result<(), Fault>
-    ensures ok { OnOk result (Appends (W.contents writer.old) (W.contents writer.new)
-        (printed_parts (map chars parts.now))) }
-    ensures err { OnErr result (AppendsBeginning (W.contents writer.old) (W.contents writer.new)
-        (printed_parts (map chars parts.now))) }
+/// Prints a number on a line of its own.
+pub(super) fn print_number<W: Write>(writer: &mut W, number: usize) -> Result<(), Fault>
+    ensures ok { OnOk result
+        (Appends (W.contents writer.old) (W.contents writer.new) (printed_number number)) }
+    ensures err { OnErr result
+        (AppendsBeginning (W.contents writer.old) (W.contents writer.new) (printed_number number)) }
     ensures fault { IsOkUnless result Fault.Io }
 {
-    for part in parts {
-        print_part(writer, part.as_str().as_bytes())?;
-    }
-    Ok(())
+    let mut digits = Buffer::new();
+    write_out(writer, digits.format(number).as_bytes())?;
+    write_out(writer, b"\n")
 }
 
 /// Flushes the writer.

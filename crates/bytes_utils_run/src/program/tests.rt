@@ -1,6 +1,6 @@
 use crate::program::fakes::{EndlessReader, SlowReader, SlowWriter, StuckWriter, UnflushedWriter};
 use crate::program::input::read_all;
-use crate::program::output::{flush_out, print_part, write_out};
+use crate::program::output::{flush_out, print_bytes, write_out};
 use crate::program::{Fault, script};
 use std::io::Write;
 use std::test::Fail;
@@ -11,7 +11,7 @@ const PRINTED: &str = "1:a\n1:b\n0:\n1:c\n";
 
 fn print_four(writer: &mut impl Write) -> Result<(), Fault> {
     for part in ["a", "b", "", "c"] {
-        print_part(writer, part.as_bytes())?;
+        print_bytes(writer, part.as_bytes())?;
     }
     flush_out(writer)
 }
@@ -191,7 +191,7 @@ fn writes_all(rt: HostRuntime) -> Result<(), Fail> {
 #[test]
 fn prints_lengths_in_decimal(rt: HostRuntime) -> Result<(), Fail> {
     let mut writer = Vec::new(rt.alloc());
-    print_part(&mut writer, "Hello, βeta!".as_bytes())?;
+    print_bytes(&mut writer, "Hello, βeta!".as_bytes())?;
     assert_eq!(rt; writer.as_slice(), "13:Hello, βeta!\n".as_bytes());
     Ok(())
 }

@@ -1,4 +1,3 @@
-use Rattle.std.proofs.Common.{Option, None, Some, MatchOption}
 use Rattle.bytes_utils_run.proofs.CommandLine.{how-is}
 use Rattle.bytes_utils_run.proofs.program.command.how.Goals as goal
 

@@ -1,5 +1,3 @@
-use Rattle.std.proofs.Common.{◌≡◌, ap}
-use Rattle.std.specs.Str.{chars}
 use Rattle.bytes_utils_run.proofs.CommandLine.{tells-word}
 use Rattle.bytes_utils_run.proofs.program.command.is_word.Goals as goal
 

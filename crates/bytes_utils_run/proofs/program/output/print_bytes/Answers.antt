@@ -1,12 +1,12 @@
 use Rattle.std.proofs.Common.{◌++◌, codes, decimal, length}
 use Rattle.std.proofs.KnownBytes.{Appends-trans}
 use Rattle.bytes_utils_run.proofs.Beginnings.{AppendsBeginning-after, AppendsBeginning-more, OnErr-always, OnErr-map}
-use Rattle.bytes_utils_run.proofs.program.output.print_part.Goals as goal
+use Rattle.bytes_utils_run.proofs.program.output.print_bytes.Goals as goal
 
 -- the length was written, and a beginning of the colon
 pub returns-in_err-write_out-2-clause-err : goal.returns-in_err-write_out-2-clause-err
 returns-in_err-write_out-2-clause-err g c =
-    let part = c.args.part.now in
+    let part = c.args.bytes.now in
     let size = rw (c.as_bytes.ensures.value, c.format.ensures.text) at c.in_ok-write_out.ensures.ok in
     OnErr-always _ _
     (AppendsBeginning-more _ _ (decimal (length part) ++ codes ":" ++ part) (codes "\n")
@@ -16,7 +16,7 @@ returns-in_err-write_out-2-clause-err g c =
 -- the length and the colon were written, and a beginning of the part
 pub returns-in_err-write_out-3-clause-err : goal.returns-in_err-write_out-3-clause-err
 returns-in_err-write_out-3-clause-err g c =
-    let part = c.args.part.now in
+    let part = c.args.bytes.now in
     let size = rw (c.as_bytes.ensures.value, c.format.ensures.text) at c.in_ok-write_out.ensures.ok in
     let head = Appends-trans _ _ _ (decimal (length part)) (codes ":") size c.in_ok-write_out-2.ensures.ok in
     OnErr-always _ _
@@ -26,7 +26,7 @@ returns-in_err-write_out-3-clause-err g c =
 -- all but the line feed was written, and a beginning of that
 pub returns-clause-err : goal.returns-clause-err
 returns-clause-err g c =
-    let part = c.args.part.now in
+    let part = c.args.bytes.now in
     let size = rw (c.as_bytes.ensures.value, c.format.ensures.text) at c.in_ok-write_out.ensures.ok in
     let head = Appends-trans _ _ _ (decimal (length part)) (codes ":") size c.in_ok-write_out-2.ensures.ok in
     let body = Appends-trans _ _ _ (decimal (length part) ++ codes ":") part head c.in_ok-write_out-3.ensures.ok in

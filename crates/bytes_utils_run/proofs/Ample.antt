@@ -1,0 +1,196 @@
+-- Replies that are right for a call, whatever the buffer holds, and that memory didn't refuse.
+use Rattle.std.proofs.Common.{◌≡◌, inl, inr, refl, sym, ap, subst, ◌∙◌, ℕ, zero, suc, ◌+◌, ◌-◌, ◌*◌, ◌<◌, ◌≤◌, ◌^◌, List, [], ◌∷◌, ◌++◌, length, take, drop, get_or, map, false, length-append, length-take, length-drop, take-append-drop, take_at, append_assoc, append-nil, arith, All}
+use Rattle.std.specs.Global.{Vec}
+use Rattle.std.specs.List.{concat}
+use Rattle.std.proofs.lemmas.Bool.{cases_lt}
+use Rattle.std.proofs.lemmas.List.{length-map}
+use Rattle.std.proofs.lemmas.List.Elements.{All-cons, All-head, All-nil, All-tail}
+use Rattle.bytes.specs.Unread.{IsChunkOf}
+use Rattle.bytes_utils_buf.specs.Segments.{Held, NoneEmpty, Skips, after_accepting, cut_front}
+use Rattle.bytes_utils_buf.specs.Tally.{CountsCopy}
+use Rattle.bytes_utils_buf.proofs.Lists.{Skips-from_count}
+use Rattle.bytes_utils_run.proofs.Fitting.{Fits, fits-accepting, fits-call, fits-skip}
+use Rattle.bytes_utils_run.specs.Calls.{AreSlices, IsCall, IsRun}
+use Rattle.bytes_utils_run.specs.Request.{is_refused}
+use Rattle.bytes_utils_run.specs.declared.calls.Call.{Call}
+use Rattle.bytes_utils_run.specs.declared.calls.Call.TheVariants.{Push, Segments, Read}
+use Rattle.bytes_utils_run.specs.declared.calls.ReadCall.TheVariants.{Remaining, Chunk, Advance, CopyOut, Chunks}
+use Rattle.bytes_utils_run.specs.declared.calls.Reply.{Reply}
+use Rattle.bytes_utils_run.specs.declared.calls.Reply.TheVariants.{Done, PastEnd, TooLong, Number, Piece, Shown, Slices}
+
+-- a vector of these elements, of the kind of another
+abbrev vec_of : {X Y : Type 0} (like : Vec Y) (xs : List X) → length xs < 2 ^ 63 → Vec X
+vec_of like xs fits = record { ptr = like.ptr; len = length xs; cap = length xs; alloc = like.alloc; items = xs; ok = (refl, omega arith); small = fits }
+
+-- Slices of any bytes: at most n, each of at most four bytes, and all of the bytes where they are fewer than n.
+pieces : ℕ → List ℕ → List (List ℕ)
+pieces zero xs = []
+pieces (suc n) [] = []
+pieces (suc n) (x ∷ xs) = take 4 (x ∷ xs) ∷ pieces n (drop 3 xs)
+
+pieces-count : (n : ℕ) (xs : List ℕ) → length (pieces n xs) ≤ n
+unfolding pieces
+pieces-count zero xs = omega arith
+pieces-count (suc n) [] = omega arith
+pieces-count (suc n) (x ∷ xs) = let more = pieces-count n (drop 3 xs) in omega (arith, more)
+
+pieces-some : (n : ℕ) (xs : List ℕ) → NoneEmpty (pieces n xs)
+unfolding pieces
+pieces-some zero xs = All-nil (λ s. 0 < length s)
+pieces-some (suc n) [] = All-nil (λ s. 0 < length s)
+pieces-some (suc n) (x ∷ xs) = All-cons (λ s. 0 < length s) (take 4 (x ∷ xs)) (pieces n (drop 3 xs)) (omega arith) (pieces-some n (drop 3 xs))
+
+pieces-size : (n : ℕ) (xs : List ℕ) → 4 * length (pieces n xs) ≤ length xs + 3
+unfolding pieces
+pieces-size zero xs = omega arith
+pieces-size (suc n) [] = omega arith
+pieces-size (suc n) (x ∷ xs) = let more = pieces-size n (drop 3 xs) in omega (arith, more, length-drop 3 xs)
+
+-- what no slice has, which is nothing where there are fewer slices than n
+pieces-rest : (n : ℕ) (xs : List ℕ) → (rest : List ℕ) × (concat (pieces n xs) ++ rest ≡ xs) × (length (pieces n xs) < n → rest ≡ [])
+unfolding pieces
+pieces-rest zero xs = (xs, refl, λ few. absurd (omega (arith, few)))
+pieces-rest (suc n) [] = ([], refl, λ few. refl)
+pieces-rest (suc n) (x ∷ xs) =
+    let more = pieces-rest n (drop 3 xs) in (
+      more.0,
+      append_assoc (take 4 (x ∷ xs)) (concat (pieces n (drop 3 xs))) more.0 ∙ ap (λ z. take 4 (x ∷ xs) ++ z) more.1 ∙ take-append-drop 4 (x ∷ xs),
+      λ few. more.2 (omega (arith, few)),
+    )
+
+AreSlices-pieces : (n : ℕ) (xs : List ℕ) → AreSlices n (pieces n xs) xs
+AreSlices-pieces n xs =
+    let rest = pieces-rest n xs in
+    let all = concat (pieces n xs) in
+    record {
+      count = pieces-count n xs;
+      some = pieces-some n xs;
+      front = sym (take_at all rest.0 (length all) refl) ∙ ap (take (length all)) rest.1;
+      whole = λ few. sym (append-nil all) ∙ ap (λ z. all ++ z) (sym (rest.2 few)) ∙ rest.1;
+    }
+
+-- where a skip of m bytes comes to: how many lists are passed, and how many bytes of the next one
+place : (lists : List (List ℕ)) (m : ℕ) → m ≤ length (concat lists)
+    → (p : ℕ) × (n : ℕ) × (p ≤ length lists) × (length (concat (take p lists)) + n ≡ m) × (p < length lists → n < length (get_or lists p []))
+place [] m le = (0, m, omega arith, omega arith, λ l. absurd (omega (arith, l)))
+place (list ∷ lists) m le = elim (cases_lt m (length list)) [
+  | inl inside ↦ (0, m, omega arith, omega arith, λ l. inside)
+  | inr behind ↦ (let found = place lists (m - length list) (omega (arith, behind, le, length-append list (concat lists))) in (
+      suc found.0,
+      found.1,
+      omega (arith, found.2),
+      omega (arith, found.3, behind, length-append list (concat (take found.0 lists))),
+      λ l. found.4 (omega (arith, l)),
+    ))
+]
+
+skip : (lists : List (List ℕ)) (m : ℕ) → m ≤ length (concat lists) → (left : List (List ℕ)) × Skips m lists left
+skip lists m le =
+    let found = place lists m le in
+    (cut_front found.1 (drop found.0 lists), Skips-from_count lists _ found.0 found.1 m found.2 found.3 le found.4 refl)
+
+abbrev IsWhole : Reply → Type 0
+IsWhole reply = is_refused reply ≡ false
+
+-- a reply that is right for the call, not for want of memory, and what it leaves
+record Ample (call : Call (List ℕ)) (old : Held) : Type 0 where
+  reply : Reply
+  next : Held
+  is : IsCall (λ bytes. bytes) call old reply next
+  whole : IsWhole reply
+  fits : Fits next.segments
+
+-- one call counted
+abbrev counted : Held → List (List ℕ) → Held
+counted old segments = record { segments = segments; tally = record { given = old.tally.given; calls = old.tally.calls + 1; turns = old.tally.turns } }
+
+CountsCopy-once : (n : ℕ) (old : Held) (segments : List (List ℕ)) → CountsCopy n old.tally (counted old segments).tally
+CountsCopy-once n old segments = record { given = refl; least = omega arith; most = omega arith }
+
+module _ {Y : Type 0} (like : Vec Y) where
+  slices : (n : ℕ) (xs : List ℕ) → (all : List (Vec ℕ)) × (map (λ s. s.items) all ≡ pieces n xs)
+  unfolding pieces
+  slices zero xs = ([], refl)
+  slices (suc n) [] = ([], refl)
+  slices (suc n) (x ∷ xs) =
+      let more = slices n (drop 3 xs) in
+      (vec_of like (take 4 (x ∷ xs)) (omega (arith, length-take 4 (x ∷ xs))) ∷ more.0, (λ k. take 4 (x ∷ xs) ∷ more.1 k))
+
+  ample : (call : Call (List ℕ)) (old : Held) → Fits old.segments → Ample call old
+  ample (Push bytes) old fits = elim (cases_lt (length (concat old.segments) + length bytes) (2 ^ 64)) [
+    | inl room ↦ record { reply = Done; next = after_accepting old (bytes ∷ []); is = (room, refl); whole = refl; fits = fits-accepting old bytes room }
+    | inr full ↦ record { reply = TooLong; next = old; is = (full, refl); whole = refl; fits = fits }
+  ]
+  ample Segments old fits = record { reply = Number (length old.segments); next = old; is = (refl, refl); whole = refl; fits = fits }
+  ample (Read Remaining) old fits = record { reply = Number (length (concat old.segments)); next = old; is = ((refl, refl), refl); whole = refl; fits = fits }
+  ample (Read Chunk) old fits =
+      let unread = concat old.segments in
+      let size = length-take 1 unread in
+      record {
+        reply = Shown (vec_of like (take 1 unread) (omega (arith, size)));
+        next = old;
+        is = ((first unread, refl), refl);
+        whole = refl;
+        fits = fits;
+      }
+    where
+      first : (xs : List ℕ) → IsChunkOf (take 1 xs) xs
+      first [] = record { front = refl; fits = omega arith; some = λ some. absurd (omega (arith, some)) }
+      first (x ∷ xs) = record { front = refl; fits = omega arith; some = λ some. omega arith }
+  ample (Read (Advance n)) old fits = elim (cases_lt (length (concat old.segments)) n) [
+    | inl past ↦ record { reply = PastEnd; next = old; is = ((past, refl), refl); whole = refl; fits = fits }
+    | inr within ↦ (let left = skip old.segments n within in
+        record { reply = Done; next = counted old left.0; is = ((within, left.1), (refl, refl)); whole = refl; fits = fits-skip n _ _ left.1 fits })
+  ]
+  ample (Read (CopyOut n)) old fits = elim (cases_lt (length (concat old.segments)) n) [
+    | inl past ↦ record { reply = PastEnd; next = old; is = ((past, refl), refl); whole = refl; fits = fits }
+    | inr within ↦ (let left = skip old.segments n within in
+        record {
+          reply = Piece (take n (concat old.segments));
+          next = counted old left.0;
+          is = ((within, refl, left.1), (CountsCopy-once n old left.0, λ front. refl));
+          whole = refl;
+          fits = fits-skip n _ _ left.1 fits;
+        })
+  ]
+  ample (Read (Chunks n)) old fits =
+      let unread = concat old.segments in
+      let all = slices n unread in
+      let many = sym (length-map all.0 (λ (s : Vec ℕ). s.items)) ∙ ap length all.1 in
+      record {
+        reply = Slices (vec_of like all.0 (omega (arith, fits, many, pieces-size n unread)));
+        next = old;
+        is = ((subst (λ lists. AreSlices n lists unread) (sym all.1) (AreSlices-pieces n unread), refl), refl);
+        whole = refl;
+        fits = fits;
+      }
+
+  -- a run of calls whose replies are all right and not for want of memory
+  ample-run : (calls : List (Call (List ℕ))) (old : Held) → Fits old.segments
+      → (replies : List Reply) × (left : Held) × IsRun (IsCall (λ bytes. bytes)) calls old replies left × All IsWhole replies × (length replies ≡ length calls)
+  ample-run [] old fits = ([], old, refl, All-nil IsWhole, refl)
+  ample-run (call ∷ calls) old fits =
+      let one = ample call old fits in
+      let more = ample-run calls one.next one.fits in
+      (one.reply ∷ more.0, more.1, (one.next, one.is, more.2), All-cons IsWhole one.reply more.0 one.whole more.3, ap suc more.4)
+
+  -- A run whose first replies, up to some place, aren't for want of memory: with others behind those it's a whole run without any such.
+  pub stopped : (calls : List (Call (List ℕ))) (old : Held) (replies : List Reply) (left : Held) → IsRun (IsCall (λ bytes. bytes)) calls old replies left
+      → Fits old.segments → (count : ℕ) → count < length replies → All IsWhole (take count replies)
+      → (others : List Reply) × (0 < length others) × (end : Held) × IsRun (IsCall (λ bytes. bytes)) calls old (take count replies ++ others) end
+      × All IsWhole (take count replies ++ others)
+  stopped [] old [] left run fits count within whole = absurd (omega (arith, within))
+  stopped [] old (reply ∷ replies) left run fits count within whole = absurd run
+  stopped (call ∷ calls) old [] left run fits count within whole = absurd run
+  stopped (call ∷ calls) old (reply ∷ replies) left run fits zero within whole =
+      let all = ample-run (call ∷ calls) old fits in
+      (all.0, omega (arith, all.4), all.1, all.2, all.3)
+  stopped (call ∷ calls) old (reply ∷ replies) left run fits (suc count) within whole =
+      let more = stopped calls run.0 replies left run.2 (fits-call call old reply run.0 run.1 fits) count (omega (arith, within))
+      (All-tail IsWhole reply (take count replies) whole) in (
+        more.0,
+        more.1,
+        more.2,
+        (run.0, run.1, more.3),
+        All-cons IsWhole reply (take count replies ++ more.0) (All-head IsWhole reply (take count replies) whole) more.4,
+      )

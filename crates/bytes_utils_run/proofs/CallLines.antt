@@ -1,0 +1,63 @@
+-- Call lines read one after the other.
+use Rattle.std.proofs.Common.{◌≡◌, sym, ap, subst, ◌∙◌, ℕ, ◌-◌, List, [], ◌∷◌, ◌++◌, length, length-append, drop, codes, IsUtf8, IsCharBoundary, Option, Result, Ok, MatchResult, arith}
+use Rattle.std.proofs.lemmas.Str.{IsCharBoundary-at_seam, encodes-chars}
+use Rattle.std.specs.Str.{chars}
+use Rattle.bytes_utils.specs.Lines.{AreLinesToCome, HoldsLineFeed}
+use Rattle.bytes_utils.specs.Step.{GivesFirst}
+use Rattle.bytes_utils_run.specs.CallLine.{AreCallLines, IsCallLine}
+use Rattle.bytes_utils_run.proofs.CommandLine.{chars-push}
+use Rattle.bytes_utils_run.specs.declared.calls.Call.{Call}
+use Rattle.bytes_utils_run.specs.declared.calls.Call.TheVariants.{Push, Segments, Read}
+use Rattle.bytes_utils_run.specs.declared.calls.ReadCall.TheVariants.{Remaining, Chunk, Advance, CopyOut, Chunks}
+
+-- one more line asks for one more call
+pub AreCallLines-push : (calls : List (Call (List ℕ))) (lines : List (List ℕ)) (call : Call (List ℕ)) (line : List ℕ)
+    → AreCallLines calls lines → IsCallLine call line → AreCallLines (calls ++ call ∷ []) (lines ++ line ∷ [])
+AreCallLines-push [] [] call line are is = (is, tt)
+AreCallLines-push [] (other ∷ lines) call line are is = absurd are
+AreCallLines-push (other ∷ calls) [] call line are is = absurd are
+AreCallLines-push (other ∷ calls) (first ∷ lines) call line are is = (are.0, AreCallLines-push calls lines call line are.1 is)
+
+-- a line that asks for no call is none of these
+pub no-call : (calls : List (Call (List ℕ))) (lines : List (List ℕ)) (line : List ℕ) (more : List (List ℕ)) → ((call : Call (List ℕ)) → ¬ IsCallLine call line)
+    → ¬ AreCallLines calls (lines ++ line ∷ more)
+no-call [] [] line more none are = are
+no-call [] (other ∷ lines) line more none are = are
+no-call (call ∷ calls) [] line more none are = none call are.0
+no-call (call ∷ calls) (other ∷ lines) line more none are = no-call calls lines line more none are.1
+
+-- a line that asks for none of the kinds of calls asks for none
+pub no-kind : (line : List ℕ)
+    → (¬ IsCallLine Segments line) × (¬ IsCallLine (Read Remaining) line) × (¬ IsCallLine (Read Chunk) line)
+    → ((n : ℕ) → (¬ IsCallLine (Read (Advance n)) line) × (¬ IsCallLine (Read (CopyOut n)) line) × (¬ IsCallLine (Read (Chunks n)) line))
+    → ((bytes : List ℕ) → ¬ IsCallLine (Push bytes) line)
+    → (call : Call (List ℕ)) → ¬ IsCallLine call line
+no-kind line plain numbered pushed (Push bytes) = pushed bytes
+no-kind line plain numbered pushed Segments = plain.0
+no-kind line plain numbered pushed (Read Remaining) = plain.1
+no-kind line plain numbered pushed (Read Chunk) = plain.2
+no-kind line plain numbered pushed (Read (Advance n)) = (numbered n).0
+no-kind line plain numbered pushed (Read (CopyOut n)) = (numbered n).1
+no-kind line plain numbered pushed (Read (Chunks n)) = (numbered n).2
+
+-- What stands behind the word of a call that pushes.
+module _ (line text : List ℕ) (behind : line ≡ codes "push " ++ text) (text_is : IsUtf8 text) where
+  -- its place
+  pub pushed-place : (at : ℕ) → at ≡ length line - length text → (at ≡ 5) × IsCharBoundary line at
+  pushed-place at is =
+      let five : at ≡ 5 = omega (arith, is, ap length behind, length-append (codes "push ") text) in
+      (five, subst (IsCharBoundary line) (sym five) (IsCharBoundary-at_seam line (codes "push ") text behind text_is))
+
+  -- its bytes are pushed
+  pub pushed-is : (bytes : List ℕ) (at : ℕ) → at ≡ length line - length text → bytes ≡ drop at line → chars line ≡ chars (codes "push ") ++ chars text
+      → IsCallLine (Push bytes) (chars line)
+  pushed-is bytes at place is e =
+      let same : bytes ≡ text = is ∙ ap (λ k. drop k line) (pushed-place at place).0 ∙ ap (drop 5) behind in
+      (chars text, same ∙ sym (encodes-chars text text_is), e ∙ ap (λ z. z ++ chars text) chars-push)
+
+-- the line that a step gave is the first of those to come
+pub line-given : {E : Type 0} (s t : Option (List ℕ)) (item : Result (List ℕ) E) (line : List ℕ) → item ≡ Ok line
+    → (¬ AreLinesToCome s []) × MatchResult item (λ part. GivesFirst AreLinesToCome s (chars part) t) (λ _. HoldsLineFeed s × AreLinesToCome t [])
+    → GivesFirst AreLinesToCome s (chars line) t
+line-given s t item line is step =
+    subst (λ i. MatchResult i (λ part. GivesFirst AreLinesToCome s (chars part) t) (λ _. HoldsLineFeed s × AreLinesToCome t [])) is step.1

@@ -1,0 +1,28 @@
+-- The lines of the program's input that ask for calls on a buffer. A line is a list of characters here, and what is pushed is bytes.
+use Rattle.std.specs.Prelude.{◌≡◌, ℕ, List, [], ◌∷◌, ◌++◌, codes, ⊤}
+use Rattle.std.specs.Str.{encode_utf8_all}
+use Rattle.bytes_utils_run.specs.Number.{IsNumber}
+use Rattle.bytes_utils_run.specs.declared.calls.Call.{Call}
+use Rattle.bytes_utils_run.specs.declared.calls.Call.TheVariants.{Push, Segments, Read}
+use Rattle.bytes_utils_run.specs.declared.calls.ReadCall.TheVariants.{Remaining, Chunk, Advance, CopyOut, Chunks}
+
+-- the line is a word and then a number
+abbrev pub IsNumbered : List ℕ → ℕ → List ℕ → Type 0
+IsNumbered word n line = (digits : List ℕ) × IsNumber digits n × (line ≡ word ++ digits)
+
+-- the line asks for this call. A word and what follows it have one space between them; the text to push is all of the line behind its
+-- space.
+abbrev pub IsCallLine : Call (List ℕ) → List ℕ → Type 0
+IsCallLine (Push bytes) line = (text : List ℕ) × (bytes ≡ encode_utf8_all text) × (line ≡ codes "push " ++ text)
+IsCallLine Segments line = line ≡ codes "segments"
+IsCallLine (Read Remaining) line = line ≡ codes "remaining"
+IsCallLine (Read Chunk) line = line ≡ codes "chunk"
+IsCallLine (Read (Advance n)) line = IsNumbered (codes "advance ") n line
+IsCallLine (Read (CopyOut n)) line = IsNumbered (codes "copy ") n line
+IsCallLine (Read (Chunks n)) line = IsNumbered (codes "chunks ") n line
+
+-- the lines ask for these calls, each for one
+abbrev pub AreCallLines : List (Call (List ℕ)) → List (List ℕ) → Type 0
+AreCallLines [] [] = ⊤
+AreCallLines (call ∷ calls) (line ∷ lines) = IsCallLine call line × AreCallLines calls lines
+AreCallLines calls lines = ⊥

@@ -1,0 +1,45 @@
+-- What an input asks for, and what is right to print for it. Command lines and texts are lists of characters here.
+use Rattle.std.specs.Prelude.{◌≡◌, ℕ, List, Bool, true, false, All, map, codes}
+use Rattle.bytes_utils.specs.Lines.{lines}
+use Rattle.bytes_utils_buf.specs.Segments.{Held, nothing_held}
+use Rattle.bytes_utils_run.specs.CallLine.{AreCallLines}
+use Rattle.bytes_utils_run.specs.Calls.{IsCall, IsRun}
+use Rattle.bytes_utils_run.specs.Command.{IsCommand}
+use Rattle.bytes_utils_run.specs.Cutting.{Cutting, ArePartsBy}
+use Rattle.bytes_utils_run.specs.Printed.{printed_part, printed_reply}
+use Rattle.bytes_utils_run.specs.declared.calls.Call.{Call}
+use Rattle.bytes_utils_run.specs.declared.calls.Reply.{Reply}
+use Rattle.bytes_utils_run.specs.declared.calls.Reply.TheVariants.{NoMemory, CopyStopped}
+
+-- the parts of a text by one way to cut, or the replies to calls on a new buffer
+pub data Request : Type 0 where
+  ForParts : Cutting → Request
+  ForReplies : List (Call (List ℕ)) → Request
+
+-- a command line and the text behind it ask for this; the lines of the text are the calls
+abbrev pub IsRequest : Request → List ℕ → List ℕ → Type 0
+IsRequest (ForParts way) line text = IsCommand way line
+IsRequest (ForReplies calls) line text = (line ≡ codes "buf") × AreCallLines calls (lines text)
+
+-- a reply for want of memory
+abbrev pub is_refused : Reply → Bool
+is_refused NoMemory = true
+is_refused (CopyStopped taken) = true
+is_refused reply = false
+
+-- the replies are right for these calls on a new buffer, and none is for want of memory
+pub record AreReplies (calls : List (Call (List ℕ))) (replies : List Reply) : Type 0 where
+  pub left : Held
+  pub run : IsRun (IsCall (λ bytes. bytes)) calls nothing_held replies left
+  pub whole : All (λ reply. is_refused reply ≡ false) replies
+
+-- these entries, parts or replies as they are printed, are right for this request on this text
+abbrev pub AreEntries : Request → List ℕ → List (List ℕ) → Type 0
+AreEntries (ForParts way) text entries = (parts : List (List ℕ)) × ArePartsBy way text parts × (entries ≡ map printed_part parts)
+AreEntries (ForReplies calls) text entries = (replies : List Reply) × AreReplies calls replies × (entries ≡ map printed_reply replies)
+
+-- the line asks for something, and these entries are right for it
+pub record AreAskedFor (line text : List ℕ) (entries : List (List ℕ)) : Type 0 where
+  pub request : Request
+  pub is : IsRequest request line text
+  pub right : AreEntries request text entries

@@ -1,0 +1,118 @@
+//! The lines of an input that ask for calls on a buffer.
+ghost use Rattle.std.specs.Prelude.{◌≡◌, ◌⊎◌, ℕ, List, MatchOption, IfOk, IfErr, IsErrOf};
+ghost use Rattle.std.specs.Str.{chars};
+ghost use Rattle.bytes_utils.specs.Lines.{lines};
+ghost use Rattle.bytes_utils_run.specs.CallLine.{AreCallLines, IsCallLine, IsNumbered};
+ghost use Rattle.bytes_utils_run.specs.declared.calls.Call.{Call as Asked};
+ghost use Rattle.bytes_utils_run.specs.declared.calls.Call.TheVariants.{Push as Pushing, Segments as Counting, Read as Reading};
+ghost use Rattle.bytes_utils_run.specs.declared.calls.ReadCall.{ReadCall as AskedRead};
+ghost use Rattle.bytes_utils_run.specs.declared.calls.ReadCall.TheVariants.{Advance as Advancing, CopyOut as Copying, Chunks as Showing};
+
+use crate::program::Fault;
+use crate::program::command::{behind, is_word};
+use crate::program::number::number;
+use crate::{Call, ReadCall};
+use bytes::Bytes;
+use bytes_utils::Str;
+use std::alloc::Global;
+
+/// The number behind a word.
+fn numbered(line: &str, word: &str) -> Option<usize>
+    ensures { MatchOption result ((n : ℕ) → ¬ IsNumbered (chars word.now) n (chars line.now))
+        (λ n. IsNumbered (chars word.now) n (chars line.now)) }
+{
+    number(behind(line, word)?)
+}
+
+/// The calls that are a word alone.
+fn plain(line: &str) -> Option<Call<Bytes>>
+    ensures { MatchOption result
+        ((¬ IsCallLine Counting (chars line.now))
+        × (¬ IsCallLine (Reading AskedRead.Remaining) (chars line.now))
+        × (¬ IsCallLine (Reading AskedRead.Chunk) (chars line.now)))
+        (λ call. IsCallLine call (chars line.now)) }
+{
+    if is_word(line, "segments") {
+        return Some(Call::Segments);
+    }
+    if is_word(line, "remaining") {
+        return Some(Call::Read(ReadCall::Remaining));
+    }
+    if is_word(line, "chunk") {
+        return Some(Call::Read(ReadCall::Chunk));
+    }
+    None
+}
+
+/// The calls of a word and a number.
+fn with_number(line: &str) -> Option<Call<Bytes>>
+    ensures { MatchOption result
+        ((n : ℕ) → (¬ IsCallLine (Reading (Advancing n)) (chars line.now))
+        × (¬ IsCallLine (Reading (Copying n)) (chars line.now))
+        × (¬ IsCallLine (Reading (Showing n)) (chars line.now)))
+        (λ call. IsCallLine call (chars line.now)) }
+{
+    if let Some(cnt) = numbered(line, "advance ") {
+        return Some(Call::Read(ReadCall::Advance(cnt)));
+    }
+    if let Some(len) = numbered(line, "copy ") {
+        return Some(Call::Read(ReadCall::CopyOut(len)));
+    }
+    let places = numbered(line, "chunks ")?;
+    Some(Call::Read(ReadCall::Chunks(places)))
+}
+
+/// What is behind the word and the space of a call that pushes.
+fn pushed(line: &Str) -> Result<Bytes, Fault>
+    ensures ok { IfOk result (λ bytes. IsCallLine (Pushing bytes) (chars line.now)) }
+    ensures unknown { IsErrOf result Fault.UnknownCommand
+        → (bytes : List ℕ) → ¬ IsCallLine (Pushing bytes) (chars line.now) }
+    ensures fault { IfErr result
+        (λ fault. (fault ≡ Fault.UnknownCommand) ⊎ (fault ≡ Fault.OutOfMemory)) }
+{
+    let Some(text) = behind(line.as_str(), "push ") else {
+        return Err(Fault::UnknownCommand);
+    };
+    match line.slice_from(line.as_str().len() - text.len()) {
+        Ok(text) => Ok(text.into_inner()),
+        Err(_) => Err(Fault::OutOfMemory),
+    }
+}
+
+/// The call that a line asks for.
+fn call_of(line: &Str) -> Result<Call<Bytes>, Fault>
+    ensures ok { IfOk result (λ call. IsCallLine call (chars line.now)) }
+    ensures unknown { IsErrOf result Fault.UnknownCommand
+        → (call : Asked (List ℕ)) → ¬ IsCallLine call (chars line.now) }
+    ensures fault { IfErr result
+        (λ fault. (fault ≡ Fault.UnknownCommand) ⊎ (fault ≡ Fault.OutOfMemory)) }
+{
+    if let Some(call) = plain(line.as_str()) {
+        return Ok(call);
+    }
+    if let Some(call) = with_number(line.as_str()) {
+        return Ok(call);
+    }
+    Ok(Call::Push(pushed(line)?))
+}
+
+/// The calls that the lines of a text ask for, read one line after the other.
+pub(super) fn calls_of(alloc: Global, text: Str) -> Result<Vec<Call<Bytes>>, Fault>
+    ensures ok { IfOk result (λ calls. AreCallLines calls.items (lines (chars text))) }
+    ensures unknown { IsErrOf result Fault.UnknownCommand
+        → (calls : List (Asked (List ℕ))) → ¬ AreCallLines calls (lines (chars text)) }
+    ensures fault { IfErr result
+        (λ fault. (fault ≡ Fault.UnknownCommand) ⊎ (fault ≡ Fault.OutOfMemory)) }
+{
+    let mut calls = Vec::new(alloc);
+    for line in text.lines_bytes() {
+        let Ok(line) = line else {
+            return Err(Fault::OutOfMemory);
+        };
+        let call = call_of(&line)?;
+        if calls.push(call).is_err() {
+            return Err(Fault::OutOfMemory);
+        }
+    }
+    Ok(calls)
+}

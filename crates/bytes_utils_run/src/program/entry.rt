@@ -1,0 +1,87 @@
+//! What is printed entry by entry: parts, and replies.
+ghost use Rattle.std.specs.Prelude.{ℕ, List, OnOk, OnErr, IsOkUnless, map, length, ◌++◌};
+ghost use Rattle.std.specs.Io.KnownBytes.{Appends};
+ghost use Rattle.std.specs.List.{concat};
+ghost use Rattle.std.specs.Str.{chars};
+ghost use Rattle.bytes_utils_run.specs.Moves.{AppendsBeginning};
+ghost use Rattle.bytes_utils_run.specs.Printed.{printed as printed_bytes, printed_number, printed_part, printed_reply};
+
+use crate::Reply;
+use crate::program::Fault;
+use crate::program::output::{print_bytes, print_number, write_out};
+use bytes_utils::string::{Storage, StrInner};
+use std::io::Write;
+
+/// What is printed as one.
+pub(super) trait Entry {
+    // As it's printed.
+    ghost printed: { Self → List ℕ };
+
+    /// Prints it.
+    fn print<W: Write>(&self, writer: &mut W) -> Result<(), Fault>
+        ensures ok { OnOk result
+            (Appends (W.contents writer.old) (W.contents writer.new) (Self.printed self.now)) }
+        ensures err { OnErr result (AppendsBeginning (W.contents writer.old) (W.contents writer.new)
+            (Self.printed self.now)) }
+        ensures fault { IsOkUnless result Fault.Io };
+}
+
+impl<S: Storage> Entry for StrInner<S> {
+    ghost printed = { λ part. printed_part (chars part) };
+
+    fn print<W: Write>(&self, writer: &mut W) -> Result<(), Fault> {
+        print_bytes(writer, self.as_str().as_bytes())
+    }
+}
+
+impl Entry for Vec<u8> {
+    ghost printed = { λ bytes. printed_bytes bytes.items };
+
+    fn print<W: Write>(&self, writer: &mut W) -> Result<(), Fault> {
+        print_bytes(writer, self)
+    }
+}
+
+impl Entry for Reply {
+    ghost printed = { printed_reply };
+
+    /// A reply for want of memory has nothing to print.
+    fn print<W: Write>(&self, writer: &mut W) -> Result<(), Fault> {
+        match self {
+            Reply::Done => write_out(writer, b"ok\n"),
+            Reply::PastEnd => write_out(writer, b"past end\n"),
+            Reply::TooLong => write_out(writer, b"too long\n"),
+            Reply::NoMemory | Reply::CopyStopped(_) => Ok(()),
+            Reply::Number(number) => print_number(writer, *number),
+            Reply::Piece(piece) => print_bytes(writer, piece),
+            Reply::Shown(chunk) => print_bytes(writer, chunk),
+            Reply::Slices(slices) => print_slices(writer, slices),
+        }
+    }
+}
+
+/// Prints how many slices there are, and then each.
+fn print_slices<W: Write>(writer: &mut W, slices: &[Vec<u8>]) -> Result<(), Fault>
+    ensures ok { OnOk result (Appends (W.contents writer.old) (W.contents writer.new)
+        (printed_number (length slices.now) ++ concat (map (λ slice. printed_bytes slice.items) slices.now))) }
+    ensures err { OnErr result (AppendsBeginning (W.contents writer.old) (W.contents writer.new)
+        (printed_number (length slices.now) ++ concat (map (λ slice. printed_bytes slice.items) slices.now))) }
+    ensures fault { IsOkUnless result Fault.Io }
+{
+    print_number(writer, slices.len())?;
+    print_all(writer, slices)
+}
+
+/// Prints entries in order.
+pub(super) fn print_all<E: Entry, W: Write>(writer: &mut W, entries: &[E]) -> Result<(), Fault>
+    ensures ok { OnOk result (Appends (W.contents writer.old) (W.contents writer.new)
+        (concat (map E.printed entries.now))) }
+    ensures err { OnErr result (AppendsBeginning (W.contents writer.old) (W.contents writer.new)
+        (concat (map E.printed entries.now))) }
+    ensures fault { IsOkUnless result Fault.Io }
+{
+    for entry in entries {
+        entry.print(writer)?;
+    }
+    Ok(())
+}
