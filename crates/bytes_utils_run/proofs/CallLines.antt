@@ -1,8 +1,8 @@
 -- Call lines read one after the other.
-use Rattle.std.proofs.Common.{◌≡◌, sym, ap, subst, ◌∙◌, ℕ, ◌-◌, List, [], ◌∷◌, ◌++◌, length, length-append, drop, codes, IsUtf8, IsCharBoundary, Option, Result, Ok, MatchResult, arith}
+use Rattle.std.proofs.Common.{◌≡◌, refl, sym, ap, subst, ◌∙◌, ℕ, ◌-◌, List, [], ◌∷◌, ◌++◌, length, length-append, drop, codes, IsUtf8, IsCharBoundary, Option, Some, Result, Ok, MatchResult, append_assoc, arith}
 use Rattle.std.proofs.lemmas.Str.{IsCharBoundary-at_seam, encodes-chars}
 use Rattle.std.specs.Str.{chars}
-use Rattle.bytes_utils.specs.Lines.{AreLinesToCome, HoldsLineFeed}
+use Rattle.bytes_utils.specs.Lines.{AreLinesToCome, HoldsLineFeed, lines}
 use Rattle.bytes_utils.specs.Step.{GivesFirst}
 use Rattle.bytes_utils_run.specs.CallLine.{AreCallLines, IsCallLine}
 use Rattle.bytes_utils_run.proofs.CommandLine.{chars-push}
@@ -11,7 +11,7 @@ use Rattle.bytes_utils_run.specs.declared.calls.Call.TheVariants.{Push, Segments
 use Rattle.bytes_utils_run.specs.declared.calls.ReadCall.TheVariants.{Remaining, Chunk, Advance, CopyOut, Chunks}
 
 -- one more line asks for one more call
-pub AreCallLines-push : (calls : List (Call (List ℕ))) (lines : List (List ℕ)) (call : Call (List ℕ)) (line : List ℕ)
+AreCallLines-push : (calls : List (Call (List ℕ))) (lines : List (List ℕ)) (call : Call (List ℕ)) (line : List ℕ)
     → AreCallLines calls lines → IsCallLine call line → AreCallLines (calls ++ call ∷ []) (lines ++ line ∷ [])
 AreCallLines-push [] [] call line are is = (is, tt)
 AreCallLines-push [] (other ∷ lines) call line are is = absurd are
@@ -19,7 +19,7 @@ AreCallLines-push (other ∷ calls) [] call line are is = absurd are
 AreCallLines-push (other ∷ calls) (first ∷ lines) call line are is = (are.0, AreCallLines-push calls lines call line are.1 is)
 
 -- a line that asks for no call is none of these
-pub no-call : (calls : List (Call (List ℕ))) (lines : List (List ℕ)) (line : List ℕ) (more : List (List ℕ)) → ((call : Call (List ℕ)) → ¬ IsCallLine call line)
+no-call : (calls : List (Call (List ℕ))) (lines : List (List ℕ)) (line : List ℕ) (more : List (List ℕ)) → ((call : Call (List ℕ)) → ¬ IsCallLine call line)
     → ¬ AreCallLines calls (lines ++ line ∷ more)
 no-call [] [] line more none are = are
 no-call [] (other ∷ lines) line more none are = are
@@ -61,3 +61,36 @@ pub line-given : {E : Type 0} (s t : Option (List ℕ)) (item : Result (List ℕ
     → GivesFirst AreLinesToCome s (chars line) t
 line-given s t item line is step =
     subst (λ i. MatchResult i (λ part. GivesFirst AreLinesToCome s (chars part) t) (λ _. HoldsLineFeed s × AreLinesToCome t [])) is step.1
+
+-- Calls read from a text so far, in a splitter's state: they are asked for by lines, behind which the other lines of the text are to come.
+pub record HasRead (text : List ℕ) (calls : List (Call (List ℕ))) (state : Option (List ℕ)) : Type 0 where
+  pub read : List (List ℕ)
+  pub asked : AreCallLines calls read
+  pub some : (more : List (List ℕ)) × AreLinesToCome state more
+  pub each : (more : List (List ℕ)) → AreLinesToCome state more → lines (chars text) ≡ read ++ more
+
+-- none yet
+pub HasRead-none : (text : List ℕ) (calls : List (Call (List ℕ))) (state : Option (List ℕ)) → calls ≡ [] → state ≡ Some text → HasRead text calls state
+HasRead-none text calls state none is = record {
+  read = [];
+  asked = subst (λ cs. AreCallLines cs []) (sym none) tt;
+  some = (lines (chars text), subst (λ rest. AreLinesToCome rest (lines (chars text))) (sym is) refl);
+  each = λ more come. sym (subst (λ rest. AreLinesToCome rest more) is come);
+}
+
+-- one more
+pub HasRead-more : (text : List ℕ) (calls new : List (Call (List ℕ))) (state next : Option (List ℕ)) (call : Call (List ℕ)) (line : List ℕ)
+    → HasRead text calls state → GivesFirst AreLinesToCome state line next → IsCallLine call line → new ≡ calls ++ call ∷ [] → HasRead text new next
+HasRead-more text calls new state next call line old gives is pushed = record {
+  read = old.read ++ line ∷ [];
+  asked = subst (λ cs. AreCallLines cs (old.read ++ line ∷ [])) (sym pushed) (AreCallLines-push calls old.read call line old.asked is);
+  some = gives.some;
+  each = λ more come. old.each (line ∷ more) (gives.each more come) ∙ sym (append_assoc old.read (line ∷ []) more);
+}
+
+-- where the next line asks for no call, the lines of the text aren't all call lines
+pub no-calls-read : (text : List ℕ) (calls : List (Call (List ℕ))) (state next : Option (List ℕ)) (line : List ℕ)
+    → HasRead text calls state → GivesFirst AreLinesToCome state line next → ((call : Call (List ℕ)) → ¬ IsCallLine call line)
+    → (all : List (Call (List ℕ))) → ¬ AreCallLines all (lines (chars text))
+no-calls-read text calls state next line old gives none all are =
+    no-call all old.read line gives.some.0 none (subst (AreCallLines all) (old.each (line ∷ gives.some.0) (gives.each gives.some.0 gives.some.1)) are)
