@@ -76,12 +76,12 @@ place [] m le = (0, m, omega arith, omega arith, λ l. absurd (omega (arith, l))
 place (list ∷ lists) m le = elim (cases_lt m (length list)) [
   | inl inside ↦ (0, m, omega arith, omega arith, λ l. inside)
   | inr behind ↦ (let found = place lists (m - length list) (omega (arith, behind, le, length-append list (concat lists))) in (
-      suc found.0,
-      found.1,
-      omega (arith, found.2),
-      omega (arith, found.3, behind, length-append list (concat (take found.0 lists))),
-      λ l. found.4 (omega (arith, l)),
-    ))
+    suc found.0,
+    found.1,
+    omega (arith, found.2),
+    omega (arith, found.3, behind, length-append list (concat (take found.0 lists))),
+    λ l. found.4 (omega (arith, l)),
+  ))
 ]
 
 skip : (lists : List (List ℕ)) (m : ℕ) → m ≤ length (concat lists) → (left : List (List ℕ)) × Skips m lists left

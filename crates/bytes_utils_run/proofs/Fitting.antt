@@ -72,10 +72,11 @@ fits-read (Chunks n) old (Slices slices) new is = fits-same old new is.1
 pub fits-accepting : (old : Held) (bytes : List ℕ) → length (concat old.segments) + length bytes < 2 ^ 64 → Fits (after_accepting old (bytes ∷ [])).segments
 fits-accepting old bytes room =
     omega (
-      arith, room,
+      arith,
+      room,
       ap length (concat-append old.segments (without_empty (bytes ∷ []))),
       length-append (concat old.segments) (concat (without_empty (bytes ∷ []))),
-      ap length (concat-without_empty (bytes ∷ []) ∙ append-nil bytes)
+      ap length (concat-without_empty (bytes ∷ []) ∙ append-nil bytes),
     )
 
 pub fits-call : (call : Call (List ℕ)) (old : Held) (reply : Reply) (new : Held) → IsCall (λ bytes. bytes) call old reply new → Fits old.segments → Fits new.segments

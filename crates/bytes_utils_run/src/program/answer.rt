@@ -29,9 +29,7 @@ pub(super) enum Answer {
 fn first_refused(replies: &[Reply]) -> Option<usize>
     ensures { result ≡ position is_refused replies.now }
 {
-    replies
-        .iter()
-        .position(|reply| matches!(reply, Reply::NoMemory | Reply::CopyStopped(_)))
+    replies.iter().position(|reply| matches!(reply, Reply::NoMemory | Reply::CopyStopped(_)))
 }
 
 /// Makes calls on a new buffer. The replies from the first that was refused on are left out.

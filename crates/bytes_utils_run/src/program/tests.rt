@@ -1,8 +1,14 @@
+//! Runs of the program, and what it's made of where no clause says enough.
+mod buffers;
+mod commands;
+
 use crate::program::fakes::{EndlessReader, SlowReader, SlowWriter, StuckWriter, UnflushedWriter};
 use crate::program::input::read_all;
 use crate::program::output::{flush_out, print_bytes, write_out};
 use crate::program::{Fault, script};
+use std::alloc::Global;
 use std::io::Write;
+use std::process::Abort;
 use std::test::Fail;
 
 const INPUT: &str = "split ,\na,b,,c";
@@ -30,96 +36,19 @@ fn faults_are_told(rt: HostRuntime) -> Result<(), Fail> {
     Ok(())
 }
 
-#[test]
-fn runs_of_the_program(rt: HostRuntime) -> Result<(), Fail> {
-    for (name, input, result, output) in [
-        ("program-split", INPUT.as_bytes(), Ok(()), PRINTED),
-        ("program-return", b"split ,\r\na,b", Ok(()), "1:a\n1:b\n"),
-        ("program-no-text", b"split ,", Ok(()), "0:\n"),
-        (
-            "program-faults",
-            b"nonsense",
-            Err(Fault::UnknownCommand),
-            "",
-        ),
-        ("program-faults", b"\xff", Err(Fault::NotUtf8), ""),
-        ("program-faults", b"", Err(Fault::UnknownCommand), ""),
-        ("program-faults", b"splitn 0 ,\na,b", Ok(()), ""),
-        (
-            "program-empty-separator",
-            b"split,",
-            Err(Fault::UnknownCommand),
-            "",
-        ),
-        (
-            "program-empty-separator",
-            b"split \nab",
-            Ok(()),
-            "0:\n1:a\n1:b\n0:\n",
-        ),
-        ("program-empty-separator", b"split ", Ok(()), "0:\n0:\n"),
-        (
-            "program-rsplitn",
-            b"rsplitn 2 ,\na,b,c",
-            Ok(()),
-            "1:c\n3:a,b\n",
-        ),
-        ("program-rsplitn", b"rsplitn 0 ,\na", Ok(()), ""),
-        ("rsplit", b"rsplit ,\r\na,b", Ok(()), "1:b\n1:a\n"),
-        (
-            "program-digits",
-            b"splitn 00000000000000000001 ,\na,b",
-            Ok(()),
-            "3:a,b\n",
-        ),
-        (
-            "program-digits",
-            b"splitn 000000000000000000001 ,\na,b",
-            Err(Fault::UnknownCommand),
-            "",
-        ),
-        (
-            "program-digits",
-            b"splitn 99999999999999999999 ,\na,b",
-            Err(Fault::UnknownCommand),
-            "",
-        ),
-        ("no digit", b"splitn x ,\na", Err(Fault::UnknownCommand), ""),
-        ("no space", b"splitn 1,\na", Err(Fault::UnknownCommand), ""),
-        (
-            "program-lines",
-            b"lines\na\r\n\nb\n",
-            Ok(()),
-            "1:a\n0:\n1:b\n",
-        ),
-        ("program-lines", b"words\n   ", Ok(()), ""),
-        ("words", "words\nα  β\n".as_bytes(), Ok(()), "2:α\n2:β\n"),
-        ("ascii", b"ascii\na\x0bb c", Ok(()), "3:a\x0bb\n1:c\n"),
-        ("more", b"words \na", Err(Fault::UnknownCommand), ""),
-        (
-            "program-inclusive",
-            b"inclusive ,\na,b,",
-            Ok(()),
-            "2:a,\n2:b,\n",
-        ),
-        (
-            "program-inclusive",
-            b"inclusive \na",
-            Err(Fault::UnknownCommand),
-            "",
-        ),
-    ] {
-        let mut reader = input;
-        let mut writer = Vec::new(rt.alloc());
-        assert_eq!(rt;
-            script(rt.alloc(), &mut reader, &mut writer),
-            result,
-            "{name}"
-        );
-        assert_eq!(rt; writer.as_slice(), output.as_bytes(), "{name}");
+/// What an input is for, the input, and what comes of it.
+type Run<'r> = (&'r str, &'r [u8], Result<(), Fault>, &'r [u8]);
+
+/// Asserts that each of these runs reads all of its input, and writes and answers this.
+fn assert_runs(rt: &impl Abort, alloc: Global, runs: &[Run<'_>]) {
+    for (name, input, result, output) in runs {
+        let mut reader = *input;
+        let mut writer = Vec::new(alloc);
+        let answer = script(alloc, &mut reader, &mut writer);
+        assert_eq!(rt; answer, *result, "{name}");
+        assert_eq!(rt; writer.as_slice(), *output, "{name}");
         assert!(rt; reader.is_empty(), "{name}");
     }
-    Ok(())
 }
 
 #[test]
@@ -254,6 +183,22 @@ fn refused_memory(rt: HostRuntime) -> Result<(), Fail> {
     match read_all(rt.alloc(), &mut reader) {
         Ok(bytes) => assert_eq!(rt; bytes.as_slice(), input.as_slice()),
         Err(fault) => assert_eq!(rt; fault, Fault::OutOfMemory),
+    }
+
+    // What is written is whole replies, the first of those that are right.
+    let mut reader = buffers::CALLS;
+    let mut place = [0; 80];
+    let mut writer = place.as_mut_slice();
+    let answer = script(rt.alloc(), &mut reader, &mut writer);
+    let left = writer.len();
+    let written = &place[..place.len() - left.min(place.len())];
+    match answer {
+        Ok(()) => assert_eq!(rt; written, buffers::REPLIES),
+        Err(fault) => {
+            assert_eq!(rt; fault, Fault::OutOfMemory);
+            assert!(rt; buffers::REPLIES.starts_with(written));
+            assert!(rt; written.is_empty() || written.ends_with(b"\n"));
+        }
     }
 
     // Printing takes none.
