@@ -11,7 +11,7 @@ use Rattle.bytes_utils_buf.specs.Tally.{CountsCopy}
 use Rattle.bytes_utils_buf.proofs.Lists.{Skips-from_count}
 use Rattle.bytes_utils_run.proofs.Fitting.{Fits, fits-accepting, fits-call, fits-skip}
 use Rattle.bytes_utils_run.specs.Calls.{AreSlices, IsCall, IsRun}
-use Rattle.bytes_utils_run.specs.Request.{is_refused}
+use Rattle.bytes_utils_run.specs.Request.{lacks_memory}
 use Rattle.bytes_utils_run.specs.declared.calls.Call.{Call}
 use Rattle.bytes_utils_run.specs.declared.calls.Call.TheVariants.{Push, Segments, Read}
 use Rattle.bytes_utils_run.specs.declared.calls.ReadCall.TheVariants.{Remaining, Chunk, Advance, CopyOut, Chunks}
@@ -90,7 +90,7 @@ skip lists m le =
     (cut_front found.1 (drop found.0 lists), Skips-from_count lists _ found.0 found.1 m found.2 found.3 le found.4 refl)
 
 abbrev IsWhole : Reply → Type 0
-IsWhole reply = is_refused reply ≡ false
+IsWhole reply = lacks_memory reply ≡ false
 
 -- a reply that is right for the call, not for want of memory, and what it leaves
 record Ample (call : Call (List ℕ)) (old : Held) : Type 0 where

@@ -7,11 +7,12 @@ use Rattle.std.specs.Str.{chars}
 use Rattle.bytes_utils.specs.Outcome.{Outcome}
 use Rattle.bytes_utils.specs.Lines.{lines}
 use Rattle.bytes_utils_run.specs.CallLine.{AreCallLines}
-use Rattle.bytes_utils_run.specs.Command.{IsCommand}
+use Rattle.bytes_utils_run.specs.Command.{IsCommand, command_line, text_behind}
 use Rattle.bytes_utils_run.specs.Cutting.{Cutting, ByWords, ByAsciiWords, ByLines, FromFront, FromBack, Keeping, ArePartsBy}
 use Rattle.bytes_utils_run.specs.Moves.{AppendsBeginning}
 use Rattle.bytes_utils_run.specs.Printed.{printed_part, printed_reply}
 use Rattle.bytes_utils_run.specs.Request.{AreAskedFor, AreReplies, ForParts, ForReplies, IsRequest, Request}
+use Rattle.bytes_utils_run.specs.Run.{AsksFor}
 use Rattle.bytes_utils_run.proofs.Beginnings.{AppendsBeginning-more}
 use Rattle.bytes_utils_run.specs.declared.calls.Call.{Call}
 use Rattle.bytes_utils_run.specs.declared.calls.Reply.{Reply}
@@ -49,6 +50,13 @@ take_front zero m xs le = refl
 take_front (suc n) zero xs le = absurd (omega (arith, le))
 take_front (suc n) (suc m) [] le = refl
 take_front (suc n) (suc m) (x ∷ xs) le = ap (λ z. x ∷ z) (take_front n m xs (omega (arith, le)))
+
+-- what came of a line and a text is what came of the input that has them
+pub Outcome-input : {E : Type 0} (input line text : List ℕ) → line ≡ command_line input → text ≡ text_behind input
+    → (entries : List (List ℕ)) (refused : Option E) → Outcome (AreAskedFor line text) entries refused → Outcome (AsksFor input) entries refused
+Outcome-input input line text line_is text_is entries refused are =
+    subst (λ l. Outcome (AreAskedFor l (text_behind input)) entries refused) line_is
+    (subst (λ t. Outcome (AreAskedFor line t) entries refused) text_is are)
 
 -- a beginning of what was given is one of what is right for the whole
 pub begun-asked : {E : Type 0} (Is : List (List ℕ) → Type 0) (given : List (List ℕ)) (refused : Option E) → Outcome Is given refused

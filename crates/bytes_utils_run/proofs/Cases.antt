@@ -18,7 +18,7 @@ use Rattle.bytes_utils_run.specs.Cutting.{Cutting, ByWords, ByAsciiWords, ByLine
 use Rattle.bytes_utils_run.specs.Fault.{fault_text, status_of}
 use Rattle.bytes_utils_run.specs.Number.{IsNumber}
 use Rattle.bytes_utils_run.specs.Printed.{printed, printed_part, printed_reply}
-use Rattle.bytes_utils_run.specs.Request.{AreEntries, ForParts, ForReplies, IsRequest, Request, is_refused}
+use Rattle.bytes_utils_run.specs.Request.{AreEntries, ForParts, ForReplies, IsRequest, Request, lacks_memory}
 use Rattle.bytes_utils_run.specs.Run.{AsksFor, ReadsText, PrintsAll, PrintsFirst, WritesBeginning, FindsNoRequest, FindsNotUtf8}
 use Rattle.bytes_utils_run.specs.declared.calls.Call.{Call}
 use Rattle.bytes_utils_run.specs.declared.calls.Call.TheVariants.{Push, Segments, Read}
@@ -219,7 +219,7 @@ piece-printed = refl
 
 -- `buf` alone asks for no calls, and nothing is printed
 pub buf-alone : AsksFor (codes "buf") []
-buf-alone = record { request = ForReplies []; is = (refl, tt); right = ([], record { left = nothing_held; run = refl; whole = All-nil (λ reply. is_refused reply ≡ false) }, refl) }
+buf-alone = record { request = ForReplies []; is = (refl, tt); right = ([], record { left = nothing_held; run = refl; whole = All-nil (λ reply. lacks_memory reply ≡ false) }, refl) }
 
 -- Whole runs, from the bytes read to those written behind what the writer held.
 

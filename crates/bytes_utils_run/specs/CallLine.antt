@@ -6,7 +6,7 @@ use Rattle.bytes_utils_run.specs.declared.calls.Call.{Call}
 use Rattle.bytes_utils_run.specs.declared.calls.Call.TheVariants.{Push, Segments, Read}
 use Rattle.bytes_utils_run.specs.declared.calls.ReadCall.TheVariants.{Remaining, Chunk, Advance, CopyOut, Chunks}
 
--- the line is a word and then a number
+-- the line is a word with its space, and then a number
 abbrev pub IsNumbered : List ℕ → ℕ → List ℕ → Type 0
 IsNumbered word n line = (digits : List ℕ) × IsNumber digits n × (line ≡ word ++ digits)
 

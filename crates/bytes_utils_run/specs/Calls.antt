@@ -1,5 +1,5 @@
--- Lists of calls on a buffer, and the replies to them. The lists of bytes below are the unread lists of what the buffer holds, front
--- first; those of a buffer that isn't segmented are one list, or none where it is empty.
+-- Lists of calls on a buffer, and the replies to them. The lists of bytes below are the unread lists of what a `SegmentedBuf` holds,
+-- front first. To `read_calls` every buffer, segmented or not, is one list, or none where it is empty.
 use Rattle.std.specs.Prelude.{◌≡◌, ℕ, ◌+◌, ◌^◌, ◌<◌, ◌≤◌, List, [], ◌∷◌, length, map, take}
 use Rattle.std.specs.List.{concat}
 use Rattle.bytes.specs.Unread.{IsChunkOf}
@@ -12,18 +12,19 @@ use Rattle.bytes_utils_run.specs.declared.calls.ReadCall.TheVariants.{Remaining,
 use Rattle.bytes_utils_run.specs.declared.calls.Reply.{Reply}
 use Rattle.bytes_utils_run.specs.declared.calls.Reply.TheVariants.{Done, PastEnd, TooLong, NoMemory, CopyStopped, Number, Piece, Shown, Slices}
 
--- the lists of a buffer that has these unread bytes
+-- a buffer with these unread bytes, seen as one list
 abbrev pub lists_of : List ℕ → List (List ℕ)
 lists_of unread = without_empty (unread ∷ [])
 
--- at most n slices of the unread bytes: none is empty, joined they are the first of these bytes, and fewer than n are all of them
+-- at most n slices of the unread bytes: none is empty, joined they are the first of these bytes, and all of them where they are fewer
+-- than n
 pub record AreSlices (n : ℕ) (slices : List (List ℕ)) (unread : List ℕ) : Type 0 where
   pub count : length slices ≤ n
   pub some : NoneEmpty slices
   pub front : concat slices ≡ take (length (concat slices)) unread
   pub whole : length slices < n → concat slices ≡ unread
 
--- what a read replies to, and leaves of, these lists
+-- what a read of these lists replies, and what it leaves of them
 abbrev pub IsRead : ReadCall → List (List ℕ) → Reply → List (List ℕ) → Type 0
 IsRead Remaining old (Number n) new = (n ≡ length (concat old)) × (new ≡ old)
 IsRead Chunk old (Shown chunk) new = IsChunkOf chunk.items (concat old) × (new ≡ old)
@@ -44,7 +45,8 @@ CountsCopyOf n taken old new =
     CountsCopy taken old.tally new.tally
     × (n ≤ length (front_of old.segments) → new.tally.calls ≡ old.tally.calls + 1)
 
--- what a read adds to the tally: an advance counts as a call, a copy as it says, and nothing else counts
+-- what a read adds to the tally: an advance that was done counts as a call, a copy that was made or stopped as `CountsCopyOf` says, and
+-- nothing else counts. Of the turns a whole run says how many they may be.
 abbrev pub CountsRead : ReadCall → Held → Reply → Held → Type 0
 CountsRead (Advance n) old Done new = (new.tally.given ≡ old.tally.given) × (new.tally.calls ≡ old.tally.calls + 1)
 CountsRead (CopyOut n) old (Piece piece) new = CountsCopyOf n n old new

@@ -1,5 +1,5 @@
--- The language of the program's input: a command line, and the text that follows it. Inputs and lines are lists of characters
--- here; `EndsLine` alone speaks of bytes.
+-- The language of the program's input: a command line, the text that follows it, and the commands that cut that text (`Request` has the
+-- other one). Inputs and lines are lists of characters here; `EndsLine` alone speaks of bytes.
 use Rattle.std.specs.Prelude.{◌≡◌, ◌≢◌, ◌⊎◌, ℕ, ◌-◌, ◌<◌, List, [], ◌∷◌, ◌++◌, ◌==◌, length, codes, None, Some, unwrap_or, slice_get, slice_index, if◌then◌else◌}
 use Rattle.bytes_utils.specs.Lines.{carriage_return, line_feed, lines}
 use Rattle.bytes_utils_run.specs.Cutting.{Cutting, ByWords, ByAsciiWords, ByLines, FromFront, FromBack, Keeping}
@@ -25,7 +25,7 @@ EndsLine bytes at end =
 abbrev pub IsCounted : List ℕ → ℕ → List ℕ → Type 0
 IsCounted text n rest = (digits : List ℕ) × IsNumber digits n × (text ≡ digits ++ (codes " " ++ rest))
 
--- the line is a word and then such a text
+-- the line is a word with its space, and then such a text
 abbrev pub IsCountedBehind : List ℕ → List ℕ → ℕ → List ℕ → Type 0
 IsCountedBehind word line n rest = (counted : List ℕ) × IsCounted counted n rest × (line ≡ word ++ counted)
 

@@ -22,16 +22,16 @@ IsRequest (ForParts way) line text = IsCommand way line
 IsRequest (ForReplies calls) line text = (line ≡ codes "buf") × AreCallLines calls (lines text)
 
 -- a reply for want of memory
-abbrev pub is_refused : Reply → Bool
-is_refused NoMemory = true
-is_refused (CopyStopped taken) = true
-is_refused reply = false
+abbrev pub lacks_memory : Reply → Bool
+lacks_memory NoMemory = true
+lacks_memory (CopyStopped taken) = true
+lacks_memory reply = false
 
 -- the replies are right for these calls on a new buffer, and none is for want of memory
 pub record AreReplies (calls : List (Call (List ℕ))) (replies : List Reply) : Type 0 where
   pub left : Held
   pub run : IsRun (IsCall (λ bytes. bytes)) calls nothing_held replies left
-  pub whole : All (λ reply. is_refused reply ≡ false) replies
+  pub whole : All (λ reply. lacks_memory reply ≡ false) replies
 
 -- these entries, parts or replies as they are printed, are right for this request on this text
 abbrev pub AreEntries : Request → List ℕ → List (List ℕ) → Type 0

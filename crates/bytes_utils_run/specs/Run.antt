@@ -8,7 +8,7 @@ use Rattle.bytes_utils_run.specs.Command.{command_line, text_behind}
 use Rattle.bytes_utils_run.specs.Moves.{AppendsBeginning, ReadsWhole}
 use Rattle.bytes_utils_run.specs.Request.{AreAskedFor, IsRequest, Request}
 
--- the input, given as its characters, asks for these entries: by its first line, of the text behind that
+-- these entries are right for the input, given as its characters: for its first line and the text behind that
 abbrev pub AsksFor : List ℕ → List (List ℕ) → Type 0
 AsksFor input entries = AreAskedFor (command_line input) (text_behind input) entries
 
@@ -17,7 +17,7 @@ pub record ReadsText (unread unread' : Option (List ℕ)) (input : List ℕ) : T
   pub whole : ReadsWhole unread unread' input
   pub utf8 : IsUtf8 input
 
--- the entries that the input asks for were printed
+-- entries that are right for the input were printed, all of them
 pub record PrintsAll (unread unread' held held' : Option (List ℕ)) : Type 0 where
   pub input : List ℕ
   pub entries : List (List ℕ)
@@ -25,7 +25,7 @@ pub record PrintsAll (unread unread' held held' : Option (List ℕ)) : Type 0 wh
   pub asked : AsksFor (chars input) entries
   pub written : Appends held held' (concat entries)
 
--- the first of the entries that the input asks for were printed, and others weren't
+-- a beginning, perhaps empty but never the whole, of entries that are right for the input was printed
 pub record PrintsFirst (unread unread' held held' : Option (List ℕ)) : Type 0 where
   pub input : List ℕ
   pub given : List (List ℕ)
@@ -35,7 +35,7 @@ pub record PrintsFirst (unread unread' held held' : Option (List ℕ)) : Type 0 
   pub asked : AsksFor (chars input) (given ++ others)
   pub written : Appends held held' (concat given)
 
--- a beginning of what the input asks for was written: none of it, some of it, or all
+-- a beginning of entries that are right for the input was written, byte by byte: none of it, some of it, or all
 pub record WritesBeginning (unread unread' held held' : Option (List ℕ)) : Type 0 where
   pub input : List ℕ
   pub entries : List (List ℕ)

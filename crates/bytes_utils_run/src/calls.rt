@@ -22,7 +22,7 @@ use std::alloc::Global;
 pub enum ReadCall {
     /// How many bytes are unread.
     Remaining,
-    /// A copy of the bytes that lie together in front.
+    /// A copy of the chunk in front, which is empty only where nothing is unread.
     Chunk,
     /// Takes so many bytes off.
     Advance(usize),
@@ -106,7 +106,7 @@ pub fn drive<B: BufParts + Drop>(
     ensures paid { IsPaid buf.old.segments buf.old.tally buf.new.segments buf.new.tally }
     ensures covered { IsCovered buf.new.segments buf.new.tally }
 {
-    // None of them is empty.
+    // No segment is empty, so there are no more segments than bytes.
     prove!(buf.segments() <= buf.remaining());
 
     let Ok(mut given) = Vec::with_capacity(alloc, calls.len()) else {

@@ -1,4 +1,4 @@
-//! Texts cut whole, and a program that does it.
+//! Texts cut whole, lists of calls on buffers, and a program that does both.
 #![tactic(auto)]
 
 mod calls;

@@ -85,7 +85,7 @@ fn print_answer<W: Write>(writer: &mut W, answer: &Answer) -> Result<(), Fault>
 {
     match answer {
         Answer::Parts(parts) => print_given(writer, &parts.given, parts.refused),
-        Answer::Replies(replies) => print_given(writer, &replies.given, replies.refused),
+        Answer::Replies(given, refused) => print_given(writer, given, *refused),
     }
 }
 
@@ -114,6 +114,6 @@ pub fn script<R: Read, W: Write>(alloc: Global, reader: &mut R, writer: &mut W) 
 {
     let input = read_all(alloc, reader)?;
     let text = text_of(input)?;
-    let answer = answer_to(alloc, text)?;
+    let answer = answer_to(alloc, &text)?;
     print_answer(writer, &answer)
 }

@@ -4,6 +4,7 @@ ghost use Rattle.std.specs.Bool.{MatchBool};
 ghost use Rattle.std.specs.List.{position};
 ghost use Rattle.std.specs.Str.{chars};
 ghost use Rattle.bytes_utils.specs.Lines.{line_feed};
+ghost use Rattle.bytes_utils_run.specs.Answer.{IsReadFrom};
 ghost use Rattle.bytes_utils_run.specs.Command.{EndsLine, IsCommand, IsCounted, IsCountedBehind, command_line, text_behind};
 ghost use Rattle.bytes_utils_run.specs.Cutting.{Cutting, FromFront, FromBack, Keeping, IsAllowed, cutting};
 
@@ -79,7 +80,7 @@ fn counted_behind<'l>(line: &'l str, word: &str) -> Option<(usize, &'l str)>
     counted(behind(line, word)?)
 }
 
-/// The commands that are a word alone.
+/// The ways to cut that are a word alone.
 fn plain(line: &str) -> Option<How<'_>>
     ensures { MatchOption result
         ((chars line.now ≢ codes "words") × (chars line.now ≢ codes "ascii") × (chars line.now ≢ codes "lines"))
@@ -97,7 +98,7 @@ fn plain(line: &str) -> Option<How<'_>>
     None
 }
 
-/// The commands of a word and a separator.
+/// The ways to cut of a word and a separator.
 fn by_separator(line: &str) -> Option<How<'_>>
     ensures { MatchOption result
         ((p : List ℕ) → (¬ IsCommand (FromFront p None) (chars line.now))
@@ -118,7 +119,7 @@ fn by_separator(line: &str) -> Option<How<'_>>
     Some(How::Inclusive(separator))
 }
 
-/// The commands of a word, a number and a separator.
+/// The ways to cut of a word, a number and a separator.
 fn by_limit(line: &str) -> Option<How<'_>>
     ensures { MatchOption result
         ((p : List ℕ) (most : ℕ) → (¬ IsCommand (FromFront p (Some most)) (chars line.now))
@@ -132,8 +133,8 @@ fn by_limit(line: &str) -> Option<How<'_>>
     Some(How::RSplitN(most, separator))
 }
 
-/// What a command line asks for.
-pub(super) fn how(line: &str) -> Option<How<'_>>
+/// How a command line asks to cut the text, if it does.
+fn how(line: &str) -> Option<How<'_>>
     ensures { MatchOption result ((way : Cutting) → ¬ IsCommand way (chars line.now))
         (λ how. IsAllowed how × IsCommand (cutting how) (chars line.now)) }
 {
@@ -144,4 +145,25 @@ pub(super) fn how(line: &str) -> Option<How<'_>>
         return Some(how);
     }
     by_limit(line)
+}
+
+/// What a command line asks for.
+#[derive(Clone, Copy)]
+pub(super) enum Command<'l> {
+    /// To cut the text.
+    Cut(How<'l>),
+    /// To make the calls that the lines of the text ask for.
+    Buf,
+}
+
+/// What a command line asks for, if it's a command.
+pub(super) fn read_command(line: &str) -> Option<Command<'_>>
+    ensures { MatchOption result
+        ((chars line.now ≢ codes "buf") × ((way : Cutting) → ¬ IsCommand way (chars line.now)))
+        (λ command. IsReadFrom (chars line.now) command) }
+{
+    if is_word(line, "buf") {
+        return Some(Command::Buf);
+    }
+    Some(Command::Cut(how(line)?))
 }

@@ -1,4 +1,4 @@
-//! What is printed entry by entry: parts, and replies.
+//! What is printed one by one: parts, replies, and the slices in a reply.
 ghost use Rattle.std.specs.Prelude.{ℕ, List, OnOk, OnErr, IsOkUnless, map, length, ◌++◌};
 ghost use Rattle.std.specs.Io.KnownBytes.{Appends};
 ghost use Rattle.std.specs.List.{concat};

@@ -6,7 +6,7 @@ use std::fmt;
 /// Why a run of the program ended early.
 #[derive(Clone, Copy, Debug, Eq, PartialEq)]
 pub enum Fault {
-    /// The input begins with no command.
+    /// The input begins with no command, or a line behind `buf` is no call.
     UnknownCommand,
     /// The input isn't UTF-8.
     NotUtf8,
