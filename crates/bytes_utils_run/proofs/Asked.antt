@@ -1,17 +1,15 @@
 -- What an input asks for, by way of the request that was read from it.
-use Rattle.std.proofs.Common.{◌≡◌, ◌≢◌, refl, sym, ap, subst, ℕ, zero, suc, ◌≤◌, List, [], ◌∷◌, ◌++◌, Option, None, Some, length, map, take, codes, arith}
+use Rattle.std.proofs.Common.{◌≡◌, refl, sym, ap, subst, ℕ, List, [], ◌∷◌, ◌++◌, Option, None, Some, map, arith}
 use Rattle.std.proofs.lemmas.List.{map-append, length-map}
 use Rattle.std.proofs.lemmas.List.Folds.{concat-append}
 use Rattle.std.specs.List.{concat}
 use Rattle.std.specs.Str.{chars}
 use Rattle.bytes_utils.specs.Outcome.{Outcome}
-use Rattle.bytes_utils.specs.Lines.{lines}
-use Rattle.bytes_utils_run.specs.CallLine.{AreCallLines}
 use Rattle.bytes_utils_run.specs.Command.{IsCommand, command_line, text_behind}
-use Rattle.bytes_utils_run.specs.Cutting.{Cutting, ByWords, ByAsciiWords, ByLines, FromFront, FromBack, Keeping, ArePartsBy}
+use Rattle.bytes_utils_run.specs.Cutting.{Cutting, ArePartsBy}
 use Rattle.bytes_utils_run.specs.Moves.{AppendsBeginning}
 use Rattle.bytes_utils_run.specs.Printed.{printed_part, printed_reply}
-use Rattle.bytes_utils_run.specs.Request.{AreAskedFor, AreReplies, ForParts, ForReplies, IsRequest, Request}
+use Rattle.bytes_utils_run.specs.Request.{AreAskedFor, AreReplies, ForParts, ForReplies, IsRequest}
 use Rattle.bytes_utils_run.specs.Run.{AsksFor}
 use Rattle.bytes_utils_run.proofs.Beginnings.{AppendsBeginning-more}
 use Rattle.bytes_utils_run.specs.declared.calls.Call.{Call}
@@ -44,13 +42,6 @@ pub Outcome-replies : {E : Type 0} (calls : List (Call (List ℕ))) (line text :
 Outcome-replies calls line text asked given refused are =
     Outcome-map printed_reply (AreReplies calls) (AreAskedFor line text) (λ all is. record { request = ForReplies calls; is = asked; right = (all, is, refl) }) given refused are
 
--- the first n of the first m are the first n
-pub take_front : {X : Type 0} (n m : ℕ) (xs : List X) → n ≤ m → take n (take m xs) ≡ take n xs
-take_front zero m xs le = refl
-take_front (suc n) zero xs le = absurd (omega (arith, le))
-take_front (suc n) (suc m) [] le = refl
-take_front (suc n) (suc m) (x ∷ xs) le = ap (λ z. x ∷ z) (take_front n m xs (omega (arith, le)))
-
 -- what came of a line and a text is what came of the input that has them
 pub Outcome-input : {E : Type 0} (input line text : List ℕ) → line ≡ command_line input → text ≡ text_behind input
     → (entries : List (List ℕ)) (refused : Option E) → Outcome (AreAskedFor line text) entries refused → Outcome (AsksFor input) entries refused
@@ -64,24 +55,3 @@ pub begun-asked : {E : Type 0} (Is : List (List ℕ) → Type 0) (given : List (
 begun-asked Is given None is a b begun = (given, is, begun)
 begun-asked Is given (Some e) more a b begun =
     (given ++ more.0, more.2, subst (AppendsBeginning a b) (sym (concat-append given more.0)) (AppendsBeginning-more a b (concat given) (concat more.0) begun))
-
--- no way to cut is asked for by `buf`
-pub buf-cuts-nothing : (way : Cutting) → ¬ IsCommand way (codes "buf")
-buf-cuts-nothing ByWords is = omega (arith, ap length is)
-buf-cuts-nothing ByAsciiWords is = omega (arith, ap length is)
-buf-cuts-nothing ByLines is = omega (arith, ap length is)
-buf-cuts-nothing (FromFront p None) is = omega (arith, ap length is)
-buf-cuts-nothing (FromFront p (Some most)) is = omega (arith, ap length is.2)
-buf-cuts-nothing (FromBack p None) is = omega (arith, ap length is)
-buf-cuts-nothing (FromBack p (Some most)) is = omega (arith, ap length is.2)
-buf-cuts-nothing (Keeping p) is = omega (arith, ap length is.1)
-
--- `buf` with lines that aren't all calls asks for nothing
-pub no-calls : (line text : List ℕ) → line ≡ codes "buf" → ((calls : List (Call (List ℕ))) → ¬ AreCallLines calls (lines text)) → (request : Request) → ¬ IsRequest request line text
-no-calls line text buf none (ForParts way) is = buf-cuts-nothing way (subst (IsCommand way) buf is)
-no-calls line text buf none (ForReplies calls) is = none calls is.1
-
--- nor does a line that is neither `buf` nor another command
-pub no-request : (line text : List ℕ) → (line ≢ codes "buf") → ((way : Cutting) → ¬ IsCommand way line) → (request : Request) → ¬ IsRequest request line text
-no-request line text other none (ForParts way) is = none way is
-no-request line text other none (ForReplies calls) is = other is.0
