@@ -1,4 +1,6 @@
-//! What no clause says of the odd parts: that calls succeed, worked cases, and what is counted.
+//! What no clause says of the odd parts: that calls succeed, worked cases, what is counted, and what
+//! the splitters give over a storage that refuses.
 mod buffers;
 mod storages;
+mod sweep;
 mod walks;
