@@ -1,5 +1,5 @@
 //! A storage that grants a number of splits.
-ghost use Rattle.std.specs.Prelude.{◌≡◌, ◌-◌, ◌^◌, ◌≤◌, length, take, drop, [], IsErr, IfOk, IfErr};
+ghost use Rattle.std.specs.Prelude.{◌≡◌, ◌-◌, ◌^◌, ◌≤◌, length, take, drop, [], IsErr, IsOkAnd, IfOk, IfErr};
 ghost use Rattle.bytes_utils_buf.specs.declared.refused.Reason.{Reason as WhyRefused};
 
 use bytes::{Bytes, BytesMut};
@@ -45,7 +45,7 @@ impl Storage for RefuseAfter {
     ghost created = { λ c. c.items };
 
     fn empty(_alloc: Global) -> Result<Self, Reason>
-        ensures { IfOk result (λ s. s ≡ record { stored = []; granted = 2 ^ 64 - 1 }) }
+        ensures { IsOkAnd result (λ s. s ≡ record { stored = []; granted = 2 ^ 64 - 1 }) }
     {
         Ok(RefuseAfter::new(Bytes::new(), usize::MAX))
     }
