@@ -2,6 +2,7 @@
 //! asked.
 mod buf;
 mod caller;
+mod memory;
 mod odd;
 mod parts;
 mod slice;

@@ -239,3 +239,33 @@ fn refused_memory(rt: HostRuntime) -> Result<(), Fail> {
     assert!(rt; is_wanted(&replies.given[5], &Want::Number(buf.remaining())));
     Ok(())
 }
+
+#[test]
+fn reads_with_refused_memory(rt: HostRuntime) {
+    let mut bufs = [Bytes::from_static(b"Hello"), Bytes::from_static(b" World")];
+    assert!(rt; SegmentedSlice::total(&bufs).is_some());
+    let mut all = SegmentedSlice::new(&mut bufs);
+    let calls = [
+        ReadCall::CopyOut(8),
+        ReadCall::Chunk,
+        ReadCall::Chunks(3),
+        ReadCall::Remaining,
+    ];
+    let Ok(calls) = calls.to_vec(rt.alloc()) else {
+        return;
+    };
+    let replies = read_calls(rt.alloc(), &mut all, calls);
+    if replies.given.is_empty() {
+        assert_eq!(rt; replies.refused, Some(Reason::OutOfMemory));
+        assert_eq!(rt; all.remaining(), 11);
+        return;
+    }
+    assert_eq!(rt; replies.refused, None);
+    assert_eq!(rt; replies.given.len(), 4);
+    let taken = match replies.given[0] {
+        Reply::CopyStopped(taken) => taken,
+        _ => 8,
+    };
+    assert_eq!(rt; all.remaining(), 11_usize.saturating_sub(taken));
+    assert!(rt; is_wanted(&replies.given[3], &Want::Number(all.remaining())));
+}

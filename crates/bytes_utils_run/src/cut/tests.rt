@@ -1,6 +1,8 @@
 //! Worked cases of whole texts that are cut.
 ghost use Rattle.bytes_utils_run.specs.Cutting.{IsAllowed};
 
+mod memory;
+
 use super::{How, Parts, cut_all};
 use crate::odd::RefuseAfter;
 use bytes::{Bytes, BytesMut};

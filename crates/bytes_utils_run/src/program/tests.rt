@@ -185,22 +185,6 @@ fn refused_memory(rt: HostRuntime) -> Result<(), Fail> {
         Err(fault) => assert_eq!(rt; fault, Fault::OutOfMemory),
     }
 
-    // What is written is whole replies, the first of those that are right.
-    let mut reader = buffers::CALLS;
-    let mut place = [0; 80];
-    let mut writer = place.as_mut_slice();
-    let answer = script(rt.alloc(), &mut reader, &mut writer);
-    let left = writer.len();
-    let written = &place[..place.len() - left.min(place.len())];
-    match answer {
-        Ok(()) => assert_eq!(rt; written, buffers::REPLIES),
-        Err(fault) => {
-            assert_eq!(rt; fault, Fault::OutOfMemory);
-            assert!(rt; buffers::REPLIES.starts_with(written));
-            assert!(rt; written.is_empty() || written.ends_with(b"\n"));
-        }
-    }
-
     // Printing takes none.
     let mut place = [0; 15];
     let mut writer = place.as_mut_slice();
@@ -208,4 +192,33 @@ fn refused_memory(rt: HostRuntime) -> Result<(), Fail> {
     assert!(rt; writer.is_empty());
     assert_eq!(rt; place.as_slice(), PRINTED.as_bytes());
     Ok(())
+}
+
+/// Asserts that the program prints all of this, or whole lines from its front and then tells want of
+/// memory.
+fn assert_prints(rt: &impl Abort, alloc: Global, input: &[u8], output: &[u8]) {
+    let mut reader = input;
+    let mut place = [0; 80];
+    let mut writer = place.as_mut_slice();
+    let answer = script(alloc, &mut reader, &mut writer);
+    let left = writer.len();
+    let written = &place[..place.len() - left.min(place.len())];
+    match answer {
+        Ok(()) => assert_eq!(rt; written, output),
+        Err(fault) => {
+            assert_eq!(rt; fault, Fault::OutOfMemory);
+            assert!(rt; output.starts_with(written));
+            assert!(rt; written.is_empty() || written.ends_with(b"\n"));
+        }
+    }
+}
+
+#[test]
+fn refused_memory_of_parts(rt: HostRuntime) {
+    assert_prints(&rt, rt.alloc(), INPUT.as_bytes(), PRINTED.as_bytes());
+}
+
+#[test]
+fn refused_memory_of_replies(rt: HostRuntime) {
+    assert_prints(&rt, rt.alloc(), buffers::CALLS, buffers::REPLIES);
 }
