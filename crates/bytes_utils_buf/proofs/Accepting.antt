@@ -1,9 +1,10 @@
 -- Buffers that are accepted, and what that pays.
 use Rattle.std.proofs.Common.{◌≡◌, ℕ, ◌+◌, List, [], ◌∷◌, ◌++◌, length, arith}
 use Rattle.std.proofs.lemmas.List.{length_push}
+use Rattle.std.specs.List.{concat}
 use Rattle.bytes_utils_buf.specs.Segments.{Held, without_empty, after_accepting}
 use Rattle.bytes_utils_buf.specs.Tally.{IsPaid}
-use Rattle.bytes_utils_buf.proofs.Lists.{accepted_more, length-accepted}
+use Rattle.bytes_utils_buf.proofs.Lists.{accepted_more, concat-accepted, length-accepted}
 
 -- one buffer, accepted by no call of its own
 abbrev pub with_one : Held → List ℕ → Held
@@ -25,3 +26,7 @@ with_one-accepting held ys y =
 pub IsPaid-accepting : (held : Held) (ys : List (List ℕ))
     → IsPaid held.segments held.tally (after_accepting held ys).segments (after_accepting held ys).tally
 IsPaid-accepting held ys = omega (arith, length-accepted held.segments ys)
+
+-- the bytes to read have those of the accepted lists behind them
+pub concat-accepting : (held : Held) (ys : List (List ℕ)) → concat (after_accepting held ys).segments ≡ concat held.segments ++ concat ys
+concat-accepting held ys = concat-accepted held.segments ys

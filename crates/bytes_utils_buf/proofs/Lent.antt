@@ -15,6 +15,11 @@ use Rattle.bytes_utils_buf.proofs.Lists.{length-concat-take_more, read_at, conca
 pub drop_read_out : (p : ℕ) (xs : List (List ℕ)) → drop p (replicate p [] ++ xs) ≡ xs
 drop_read_out p xs = drop_at (replicate p []) xs p (length-replicate p [])
 
+-- the bytes of all lists are those to read
+pub concat-read_out : (place : ℕ) (segments : List (List ℕ)) → concat (replicate place [] ++ segments) ≡ concat segments
+concat-read_out zero segments = refl
+concat-read_out (suc place) segments = concat-read_out place segments
+
 -- in lists of which the first k are read out
 pub take_read_out : (k : ℕ) (now : List (List ℕ)) → now ≡ replicate k [] ++ drop k now → take k now ≡ replicate k []
 take_read_out k now e = ap (take k) e ∙ take_at (replicate k []) (drop k now) k (length-replicate k [])

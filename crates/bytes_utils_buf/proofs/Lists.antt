@@ -1,10 +1,10 @@
 -- Lists of lists, seen from the front.
-use Rattle.std.proofs.Common.{◌≡◌, nat_lt, lt-ltb, cond, true, ◌⊎◌, inl, inr, ℕ, ◌+◌, ◌<◌, ◌≤◌, List, [], ◌∷◌, ◌++◌, zero, suc, length, take, drop, map, get_or, set, replicate, ap, ◌∙◌, sym, refl, arith, length-append, append_assoc, length-drop}
+use Rattle.std.proofs.Common.{◌≡◌, nat_lt, lt-ltb, cond, true, ◌⊎◌, inl, inr, ℕ, ◌+◌, ◌-◌, ◌<◌, ◌≤◌, List, [], ◌∷◌, ◌++◌, zero, suc, length, take, drop, map, get_or, set, replicate, ap, ◌∙◌, sym, refl, arith, length-append, append_assoc, length-drop}
 use Rattle.std.proofs.lemmas.List.{take_more, drop-append-le, drop-drop, take-append-drop, drop_all, nil_from_length}
 use Rattle.std.proofs.lemmas.List.Elements.{All-nil, All-cons, All-head, All-tail, All-same, All-drop, All-append}
 use Rattle.std.specs.List.{concat, filter, AllZip}
 use Rattle.bytes.proofs.Chunks.{concat_push}
-use Rattle.bytes_utils_buf.specs.Segments.{cut_front, cut_at, front_of, without_empty, NoneEmpty, FrontUnread, Skips}
+use Rattle.bytes_utils_buf.specs.Segments.{cut_front, cut_at, count_unread, front_of, without_empty, NoneEmpty, FrontUnread, Skips}
 
 -- ---- joined bytes
 
@@ -158,9 +158,11 @@ length-without_empty ((b ∷ x) ∷ xs) = omega (arith, length-without_empty xs)
 pub NoneEmpty-accepted : (xs ys : List (List ℕ)) → NoneEmpty xs → NoneEmpty (xs ++ without_empty ys)
 NoneEmpty-accepted xs ys all = All-append (λ s. 0 < length s) xs (without_empty ys) all (NoneEmpty-without_empty ys)
 
+pub concat-accepted : (xs ys : List (List ℕ)) → concat (xs ++ without_empty ys) ≡ concat xs ++ concat ys
+concat-accepted xs ys = concat-append xs (without_empty ys) ∙ ap (λ l. concat xs ++ l) (concat-without_empty ys)
+
 pub length-concat-accepted : (xs ys : List (List ℕ)) → length (concat (xs ++ without_empty ys)) ≡ length (concat xs) + length (concat ys)
-length-concat-accepted xs ys =
-    ap length (concat-append xs (without_empty ys) ∙ ap (λ l. concat xs ++ l) (concat-without_empty ys)) ∙ length-append (concat xs) (concat ys)
+length-concat-accepted xs ys = ap length (concat-accepted xs ys) ∙ length-append (concat xs) (concat ys)
 
 pub length-accepted : (xs ys : List (List ℕ)) → length (xs ++ without_empty ys) ≤ length xs + length ys
 length-accepted xs ys = omega (arith, length-append xs (without_empty ys), length-without_empty ys)
@@ -250,6 +252,68 @@ Skips-drop_front (x ∷ xs) some none all =
       bytes = sym (ap (λ l. l ++ concat xs) (nil_from_length x none));
       front = FrontUnread-from_none_empty xs all;
     }
+
+-- ---- how many lists have bytes to read
+
+count_unread-more : (x : List ℕ) (xs : List (List ℕ)) → count_unread (x ∷ xs) ≤ 1 + count_unread xs
+count_unread-more [] xs = omega arith
+count_unread-more (b ∷ x) xs = omega arith
+
+count_unread-behind : (x : List ℕ) (xs : List (List ℕ)) → count_unread xs ≤ count_unread (x ∷ xs)
+count_unread-behind [] xs = omega arith
+count_unread-behind (b ∷ x) xs = omega arith
+
+count_unread-some : (x : List ℕ) (xs : List (List ℕ)) → 0 < length x → count_unread (x ∷ xs) ≡ 1 + count_unread xs
+count_unread-some [] xs some = absurd (omega arith)
+count_unread-some (b ∷ x) xs some = omega arith
+
+length-concat-cut_le : (xs : List (List ℕ)) (p k : ℕ) → length (concat (cut_front k (drop p xs))) ≤ length (concat xs)
+length-concat-cut_le [] zero k = omega arith
+length-concat-cut_le [] (suc p) k = omega arith
+length-concat-cut_le (x ∷ xs) zero k =
+    omega (arith, length-append x (concat xs), length-append (drop k x) (concat xs), length-drop k x)
+length-concat-cut_le (x ∷ xs) (suc p) k = omega (arith, length-append x (concat xs), length-concat-cut_le xs p k)
+
+-- no more lists lose their last byte than bytes are lost
+count_unread-cut : (xs : List (List ℕ)) (p k n : ℕ) → length (concat xs) ≤ length (concat (cut_front k (drop p xs))) + n
+    → count_unread xs ≤ count_unread (cut_front k (drop p xs)) + n
+count_unread-cut [] zero k n few = omega arith
+count_unread-cut [] (suc p) k n few = omega arith
+count_unread-cut ([] ∷ xs) zero k n few = omega (arith, count_unread-behind (drop k []) xs)
+count_unread-cut ((b ∷ x) ∷ xs) zero k n few = elim (cases_zero n) [
+  | inl none ↦ (let some : 0 < length (drop k (b ∷ x)) =
+      omega (arith, none, few, length-append (b ∷ x) (concat xs), length-append (drop k (b ∷ x)) (concat xs)) in
+      omega (arith, count_unread-some (drop k (b ∷ x)) xs some))
+  | inr some ↦ omega (arith, some, count_unread-behind (drop k (b ∷ x)) xs)
+]
+count_unread-cut ([] ∷ xs) (suc p) k n few = count_unread-cut xs p k n few
+count_unread-cut ((b ∷ x) ∷ xs) (suc p) k n few =
+    let size = length-append (b ∷ x) (concat xs) in
+    let least = length-concat-cut_le xs p k in
+    let rest : count_unread xs ≤ count_unread (cut_front k (drop p xs)) + (n - length (b ∷ x)) =
+    count_unread-cut xs p k (n - length (b ∷ x)) (omega (arith, few, size, least)) in
+    omega (arith, rest, few, size, least)
+
+pub count_unread-Skips : (n : ℕ) (xs ys : List (List ℕ)) → Skips n xs ys → count_unread xs ≤ count_unread ys + n
+count_unread-Skips n xs ys s =
+    let left = cut_front s.cut (drop s.passed xs) in
+    let few : length (concat xs) ≤ length (concat left) + n =
+    omega (arith, ap (λ l. length (concat l)) s.rest, ap length s.bytes, length-drop n (concat xs)) in
+    omega (arith, count_unread-cut xs s.passed s.cut n few, ap count_unread s.rest)
+
+-- bytes of the first list alone are the last ones of no other
+pub count_unread-Skips_front : (n : ℕ) (xs ys : List (List ℕ)) → n ≤ length (front_of xs) → Skips n xs ys → count_unread xs ≤ count_unread ys + 1
+count_unread-Skips_front n [] ys within s = omega arith
+count_unread-Skips_front n (x ∷ xs) ys within s = by s.passed s.rest
+  where
+    left : length (concat xs) ≤ length (concat ys)
+    left = omega (arith, within, ap length s.bytes, length-drop n (x ++ concat xs), length-append x (concat xs))
+
+    by : (p : ℕ) → ys ≡ cut_front s.cut (drop p (x ∷ xs)) → count_unread (x ∷ xs) ≤ count_unread ys + 1
+    by zero rest = omega (arith, count_unread-more x xs, count_unread-behind (drop s.cut x) xs, ap count_unread rest)
+    by (suc p) rest =
+        let same : length (concat ys) ≡ length (concat (cut_front s.cut (drop p xs))) = ap (λ l. length (concat l)) rest in
+        omega (arith, count_unread-more x xs, count_unread-cut xs p s.cut 0 (omega (arith, left, same)), ap count_unread rest)
 
 -- ---- elements and their unread lists
 

@@ -3,3 +3,4 @@ pub mod Parts
 pub mod Segments
 pub mod Tally
 pub mod Lent
+pub mod Copies

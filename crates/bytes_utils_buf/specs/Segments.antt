@@ -18,6 +18,10 @@ without_empty [] = []
 without_empty ([] ∷ segments) = without_empty segments
 without_empty ((b ∷ s) ∷ segments) = (b ∷ s) ∷ without_empty segments
 
+-- how many lists have bytes to read
+abbrev pub count_unread : List (List ℕ) → ℕ
+count_unread segments = length (without_empty segments)
+
 -- the first list, and no bytes where there is none
 abbrev pub front_of : List (List ℕ) → List ℕ
 front_of [] = []

@@ -27,9 +27,3 @@ IsCovered segments tally = cost_of segments tally ≤ pay_of tally
 abbrev pub IsPaid : List (List ℕ) → Tallied → List (List ℕ) → Tallied → Type 0
 IsPaid old_segments old new_segments new =
     cost_of new_segments new + pay_of old ≤ cost_of old_segments old + pay_of new
-
--- a copy that took so many bytes counts as one call, and as one more for each of its advances, which took a byte at least
-pub record CountsCopy (taken : ℕ) (old new : Tallied) : Type 0 where
-  pub given : new.given ≡ old.given
-  pub least : old.calls + 1 ≤ new.calls
-  pub most : new.calls ≤ old.calls + 1 + taken

@@ -1,5 +1,5 @@
 //! Buffers that hand out their unread bytes in parts.
-ghost use Rattle.std.specs.Prelude.{◌≡◌, ◌≤◌, length, take, drop, IfOk};
+ghost use Rattle.std.specs.Prelude.{◌≡◌, ◌≤◌, length, take, drop, IfOk, IfErr, OnErr};
 ghost use Rattle.bytes_utils_buf.specs.Parts.{taken_by, FillsTable};
 
 use bytes::{Buf, Bytes};
@@ -34,7 +34,14 @@ pub trait BufParts: Buf {
 
 /// `copy_out` shares the bytes. A refusal has taken none.
 impl BufParts for Bytes {
-    fn copy_out(&mut self, _alloc: Global, len: usize) -> Result<Bytes, CopyRefused> {
+    fn copy_out(&mut self, _alloc: Global, len: usize) -> Result<Bytes, CopyRefused>
+        requires { len ≤ length self.old }
+        ensures value { IfOk result (λ copy. copy ≡ take len self.old) }
+        ensures taken { taken_by len result ≤ len }
+        ensures rest { self.new ≡ drop (taken_by len result) self.old }
+        ensures refused { IfErr result (λ e. e.taken ≡ 0) }
+        ensures same { OnErr result (self.new ≡ self.old) }
+    {
         self.split_to(len).map_err(|_| CopyRefused { taken: 0 })
     }
 
@@ -49,7 +56,14 @@ impl BufParts for Bytes {
 
 /// `copy_out` copies the bytes. A refusal has taken none.
 impl BufParts for &[u8] {
-    fn copy_out(&mut self, alloc: Global, len: usize) -> Result<Bytes, CopyRefused> {
+    fn copy_out(&mut self, alloc: Global, len: usize) -> Result<Bytes, CopyRefused>
+        requires { len ≤ length self.old.now }
+        ensures value { IfOk result (λ copy. copy ≡ take len self.old.now) }
+        ensures taken { taken_by len result ≤ len }
+        ensures rest { self.new.now ≡ drop (taken_by len result) self.old.now }
+        ensures refused { IfErr result (λ e. e.taken ≡ 0) }
+        ensures same { OnErr result (self.new.now ≡ self.old.now) }
+    {
         let all: &[u8] = *self;
         let copy = Bytes::copy_from_slice(alloc, &all[..len]).map_err(|_| CopyRefused {
             taken: 0,

@@ -6,11 +6,11 @@ use Rattle.std.proofs.lemmas.Bool.{cases_lt}
 use Rattle.std.proofs.lemmas.List.{length-map}
 use Rattle.std.proofs.lemmas.List.Elements.{All-cons, All-head, All-nil, All-tail}
 use Rattle.bytes.specs.Unread.{IsChunkOf}
-use Rattle.bytes_utils_buf.specs.Segments.{Held, NoneEmpty, Skips, after_accepting, cut_front}
-use Rattle.bytes_utils_buf.specs.Tally.{CountsCopy}
-use Rattle.bytes_utils_buf.proofs.Lists.{Skips-from_count}
+use Rattle.bytes_utils_buf.specs.Segments.{Held, NoneEmpty, Skips, after_accepting, count_unread, cut_front, front_of}
+use Rattle.bytes_utils_buf.specs.Tally.{cost_of}
+use Rattle.bytes_utils_buf.proofs.Lists.{Skips-from_count, count_unread-Skips, length-Skips}
 use Rattle.bytes_utils_run.proofs.Fitting.{Fits, fits-accepting, fits-call, fits-skip}
-use Rattle.bytes_utils_run.specs.Calls.{AreSlices, IsCall, IsRun}
+use Rattle.bytes_utils_run.specs.Calls.{AreSlices, CountsCopyOf, IsCall, IsRun}
 use Rattle.bytes_utils_run.specs.Request.{lacks_memory}
 use Rattle.bytes_utils_run.specs.declared.calls.Call.{Call}
 use Rattle.bytes_utils_run.specs.declared.calls.Call.TheVariants.{Push, Segments, Read}
@@ -100,12 +100,48 @@ record Ample (call : Call (List ℕ)) (old : Held) : Type 0 where
   whole : IsWhole reply
   fits : Fits next.segments
 
--- one call counted
-abbrev counted : Held → List (List ℕ) → Held
-counted old segments = record { segments = segments; tally = record { given = old.tally.given; calls = old.tally.calls + 1; turns = old.tally.turns } }
+-- one call counted, and so many advances in it, with the turns of those that left these segments
+abbrev counted : ℕ → Held → List (List ℕ) → Held
+counted advances old segments =
+    record {
+      segments = segments;
+      tally = record {
+        given = old.tally.given;
+        calls = old.tally.calls + 1 + advances;
+        turns = old.tally.turns + 2 * (length old.segments - length segments);
+      };
+    }
 
-CountsCopy-once : (n : ℕ) (old : Held) (segments : List (List ℕ)) → CountsCopy n old.tally (counted old segments).tally
-CountsCopy-once n old segments = record { given = refl; least = omega arith; most = omega arith }
+cost-counted : (n advances : ℕ) (old : Held) (segments : List (List ℕ)) → Skips n old.segments segments
+    → cost_of segments (counted advances old segments).tally ≡ cost_of old.segments old.tally
+cost-counted n advances old segments skips = omega (arith, length-Skips n old.segments segments skips)
+
+-- how many advances a copy of n bytes may be counted with
+copies : (n : ℕ) (old : Held) (segments : List (List ℕ)) → Skips n old.segments segments → (advances : ℕ) × CountsCopyOf n n old (counted advances old segments)
+copies n old segments skips = elim (cases_lt (length (front_of old.segments)) n) [
+  | inl across ↦ (
+    count_unread old.segments - count_unread segments,
+    record {
+      given = refl;
+      least = omega arith;
+      most = omega (arith, count_unread-Skips n old.segments segments skips);
+      alone = λ front. absurd (omega (arith, front, across));
+      across = λ _. omega arith;
+      turns = λ _. cost-counted n (count_unread old.segments - count_unread segments) old segments skips;
+    },
+  )
+  | inr alone ↦ (
+    0,
+    record {
+      given = refl;
+      least = omega arith;
+      most = omega arith;
+      alone = λ _. omega arith;
+      across = λ past. absurd (omega (arith, past, alone));
+      turns = λ past. absurd (omega (arith, past, alone));
+    },
+  )
+]
 
 module _ {Y : Type 0} (like : Vec Y) where
   slices : (n : ℕ) (xs : List ℕ) → (all : List (Vec ℕ)) × (map (λ s. s.items) all ≡ pieces n xs)
@@ -140,15 +176,22 @@ module _ {Y : Type 0} (like : Vec Y) where
   ample (Read (Advance n)) old fits = elim (cases_lt (length (concat old.segments)) n) [
     | inl past ↦ record { reply = PastEnd; next = old; is = ((past, refl), refl); whole = refl; fits = fits }
     | inr within ↦ (let left = skip old.segments n within in
-        record { reply = Done; next = counted old left.0; is = ((within, left.1), (refl, refl)); whole = refl; fits = fits-skip n _ _ left.1 fits })
+        record {
+          reply = Done;
+          next = counted 0 old left.0;
+          is = ((within, left.1), (refl, omega arith, cost-counted n 0 old left.0 left.1));
+          whole = refl;
+          fits = fits-skip n _ _ left.1 fits;
+        })
   ]
   ample (Read (CopyOut n)) old fits = elim (cases_lt (length (concat old.segments)) n) [
     | inl past ↦ record { reply = PastEnd; next = old; is = ((past, refl), refl); whole = refl; fits = fits }
     | inr within ↦ (let left = skip old.segments n within in
+        let count = copies n old left.0 left.1 in
         record {
           reply = Piece (take n (concat old.segments));
-          next = counted old left.0;
-          is = ((within, refl, left.1), (CountsCopy-once n old left.0, λ front. refl));
+          next = counted count.0 old left.0;
+          is = ((within, refl, left.1), count.1);
           whole = refl;
           fits = fits-skip n _ _ left.1 fits;
         })

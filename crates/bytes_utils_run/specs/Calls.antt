@@ -3,8 +3,9 @@
 use Rattle.std.specs.Prelude.{◌≡◌, ℕ, ◌+◌, ◌^◌, ◌<◌, ◌≤◌, List, [], ◌∷◌, length, map, take}
 use Rattle.std.specs.List.{concat}
 use Rattle.bytes.specs.Unread.{IsChunkOf}
-use Rattle.bytes_utils_buf.specs.Segments.{Held, NoneEmpty, Skips, after_accepting, front_of, without_empty}
-use Rattle.bytes_utils_buf.specs.Tally.{CountsCopy}
+use Rattle.bytes_utils_buf.specs.Copies.{CountsCopy}
+use Rattle.bytes_utils_buf.specs.Segments.{Held, NoneEmpty, Skips, after_accepting, without_empty}
+use Rattle.bytes_utils_buf.specs.Tally.{cost_of}
 use Rattle.bytes_utils_run.specs.declared.calls.Call.{Call}
 use Rattle.bytes_utils_run.specs.declared.calls.Call.TheVariants.{Push, Segments, Read}
 use Rattle.bytes_utils_run.specs.declared.calls.ReadCall.{ReadCall}
@@ -38,17 +39,17 @@ IsRead (Chunks n) old (Slices slices) new = AreSlices n (map (λ s. s.items) sli
 IsRead (Chunks n) old NoMemory new = new ≡ old
 IsRead call old reply new = ⊥
 
--- a copy that took so many bytes counts as a call, and as one more for each advance that it made, which is none where the first list
--- alone holds the n bytes that were asked for
+-- a copy of n bytes that took so many counts as a call, and as one more for each advance that it made, within the bounds of `CountsCopy`
 abbrev pub CountsCopyOf : ℕ → ℕ → Held → Held → Type 0
-CountsCopyOf n taken old new =
-    CountsCopy taken old.tally new.tally
-    × (n ≤ length (front_of old.segments) → new.tally.calls ≡ old.tally.calls + 1)
+CountsCopyOf n taken old new = CountsCopy n taken old.segments old.tally new.segments new.tally
 
--- what a read adds to the tally: an advance that was done counts as a call, a copy that was made or stopped as `CountsCopyOf` says, and
--- nothing else counts. Of the turns a whole run says how many they may be.
+-- what a read adds to the tally: an advance that was done counts as a call, and turns twice for each segment that it passed, a copy that
+-- was made or stopped counts as `CountsCopyOf` says, and nothing else counts
 abbrev pub CountsRead : ReadCall → Held → Reply → Held → Type 0
-CountsRead (Advance n) old Done new = (new.tally.given ≡ old.tally.given) × (new.tally.calls ≡ old.tally.calls + 1)
+CountsRead (Advance n) old Done new =
+    (new.tally.given ≡ old.tally.given)
+    × (new.tally.calls ≡ old.tally.calls + 1)
+    × (cost_of new.segments new.tally ≡ cost_of old.segments old.tally)
 CountsRead (CopyOut n) old (Piece piece) new = CountsCopyOf n n old new
 CountsRead (CopyOut n) old (CopyStopped taken) new = CountsCopyOf n taken old new
 CountsRead call old reply new = new.tally ≡ old.tally

@@ -1,8 +1,9 @@
 //! Held buffers that read as one.
-ghost use Rattle.std.specs.Prelude.{◌≡◌, ◌+◌, ◌^◌, ◌<◌, ◌≤◌, [], ◌∷◌, length, map, IsTrue, ◌↔◌, IfOk, IfErr};
+ghost use Rattle.std.specs.Prelude.{◌≡◌, ◌+◌, ◌^◌, ◌<◌, ◌≤◌, [], ◌∷◌, length, map, drop, IsTrue, ◌↔◌, IfOk, IfErr};
 ghost use Rattle.std.specs.List.{concat};
-ghost use Rattle.bytes_utils_buf.specs.Segments.{NoneEmpty, nothing_held, Skips};
-ghost use Rattle.bytes_utils_buf.specs.Tally.{IsCovered, IsPaid};
+ghost use Rattle.bytes.specs.Unread.{IsChunkOf};
+ghost use Rattle.bytes_utils_buf.specs.Segments.{NoneEmpty, front_of, nothing_held, Skips};
+ghost use Rattle.bytes_utils_buf.specs.Tally.{IsCovered, IsPaid, cost_of};
 
 mod accept;
 mod hand_out;
@@ -116,6 +117,11 @@ impl<B: Buf + Drop> SegmentedBuf<B> {
     pub fn advance(&mut self, cnt: usize)
         requires { cnt ≤ length (concat self.old.segments) }
         ensures skips { Skips cnt self.old.segments self.new.segments }
+        ensures bytes { concat self.new.segments ≡ drop cnt (concat self.old.segments) }
+
+        // Each segment that is passed turns twice, on this value's own tally.
+        ensures turns { cost_of self.new.segments self.new.tally
+            ≡ cost_of self.old.segments self.old.tally }
         ensures given { self.new.tally.given ≡ self.old.tally.given }
         ensures calls { self.new.tally.calls ≡ self.old.tally.calls + 1 }
         ensures paid { IsPaid self.old.segments self.old.tally self.new.segments self.new.tally }
@@ -123,6 +129,17 @@ impl<B: Buf + Drop> SegmentedBuf<B> {
         self.tally.call();
         skip_held(&mut self.segments, &mut self.tally, cnt);
         self.remaining -= cnt;
+    }
+
+    /// The chunk of the first segment.
+    fn front_chunk(&self) -> &[u8]
+        ensures bytes { IsChunkOf result.now (concat self.now.segments) }
+        ensures front { IsChunkOf result.now (front_of self.now.segments) }
+    {
+        match self.segments.front() {
+            Some(front) => front.chunk(),
+            None => &[],
+        }
     }
 }
 
@@ -168,10 +185,7 @@ impl<B: Buf + Drop> Buf for SegmentedBuf<B> {
     }
 
     fn chunk(&self) -> &[u8] {
-        match self.segments.front() {
-            Some(front) => front.chunk(),
-            None => &[],
-        }
+        self.front_chunk()
     }
 
     fn advance(&mut self, cnt: usize) {

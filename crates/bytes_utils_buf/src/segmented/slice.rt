@@ -1,10 +1,11 @@
 //! Lent buffers that read as one.
-ghost use Rattle.std.specs.Prelude.{◌≡◌, ◌+◌, ◌^◌, ◌<◌, ◌≤◌, [], ◌∷◌, length, map};
+ghost use Rattle.std.specs.Prelude.{◌≡◌, ◌+◌, ◌^◌, ◌<◌, ◌≤◌, [], ◌∷◌, length, map, drop};
 ghost use Rattle.std.specs.List.{concat};
 ghost use Rattle.std.specs.Option.{SomeIff};
+ghost use Rattle.bytes.specs.Unread.{IsChunkOf};
 ghost use Rattle.bytes_utils_buf.specs.Lent.{lists_of, IsReading, SkipsLent};
-ghost use Rattle.bytes_utils_buf.specs.Segments.{Skips};
-ghost use Rattle.bytes_utils_buf.specs.Tally.{IsCovered, IsPaid};
+ghost use Rattle.bytes_utils_buf.specs.Segments.{front_of, Skips};
+ghost use Rattle.bytes_utils_buf.specs.Tally.{IsCovered, IsPaid, cost_of};
 
 mod hand_out;
 
@@ -82,6 +83,7 @@ impl<'a, B: Buf> SegmentedSlice<'a, B> {
         ensures handed_in { result.handed_in ≡ map B.unread bufs.old }
         ensures name { result.name ≡ bufs.entry.ghost_name }
         ensures skips { Skips 0 (map B.unread bufs.old) result.segments }
+        ensures bytes { concat result.segments ≡ concat (map B.unread bufs.old) }
         ensures place { result.place + length result.segments ≡ length bufs.old }
 
         // The walk to the first buffer that isn't empty turns once for each that it passes.
@@ -111,6 +113,7 @@ impl<'a, B: Buf> SegmentedSlice<'a, B> {
     /// holds what is left of it, and the others are as they were.
     pub fn into_lent(self) -> &'a mut [B]
         ensures lists { map B.unread result.now ≡ lists_of self.entry }
+        ensures bytes { concat (map B.unread result.now) ≡ concat self.entry.segments }
         ensures reading { IsReading self.entry }
         ensures name { result.ghost_name ≡ self.entry.name }
     {
@@ -129,6 +132,11 @@ impl<'a, B: Buf> SegmentedSlice<'a, B> {
     pub fn advance(&mut self, cnt: usize)
         requires { cnt ≤ length (concat self.old.segments) }
         ensures skips { SkipsLent cnt self.old self.new }
+        ensures bytes { concat self.new.segments ≡ drop cnt (concat self.old.segments) }
+
+        // Each buffer that is passed turns twice, on this value's own tally.
+        ensures turns { cost_of self.new.segments self.new.tally
+            ≡ cost_of self.old.segments self.old.tally }
         ensures given { self.new.tally.given ≡ self.old.tally.given }
         ensures calls { self.new.tally.calls ≡ self.old.tally.calls + 1 }
         ensures paid { IsPaid self.old.segments self.old.tally self.new.segments self.new.tally }
@@ -139,6 +147,19 @@ impl<'a, B: Buf> SegmentedSlice<'a, B> {
         let passed = skip_lent(&mut bufs[place..], &mut self.tally, cnt);
         self.place += passed;
         self.remaining -= cnt;
+    }
+
+    /// The chunk of the buffer at the reading place.
+    fn front_chunk(&self) -> &[u8]
+        ensures bytes { IsChunkOf result.now (concat self.now.segments) }
+        ensures front { IsChunkOf result.now (front_of self.now.segments) }
+    {
+        let bufs = &*self.bufs;
+        if self.place < bufs.len() {
+            bufs[self.place].chunk()
+        } else {
+            &[]
+        }
     }
 }
 
@@ -168,12 +189,7 @@ impl<B: Buf> Buf for SegmentedSlice<'_, B> {
     }
 
     fn chunk(&self) -> &[u8] {
-        let bufs = &*self.bufs;
-        if self.place < bufs.len() {
-            bufs[self.place].chunk()
-        } else {
-            &[]
-        }
+        self.front_chunk()
     }
 
     fn advance(&mut self, cnt: usize) {

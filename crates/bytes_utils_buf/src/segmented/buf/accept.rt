@@ -19,6 +19,8 @@ impl<B: Buf + Drop> SegmentedBuf<B> {
     pub fn push(&mut self, buf: B) -> Result<(), Refused<B>>
         requires { length (concat self.old.segments) + length (B.unread buf) < 2 ^ 64 }
         ensures ok { OnOk result (self.new ≡ after_accepting self.old (B.unread buf ∷ [])) }
+        ensures bytes { OnOk result
+            (concat self.new.segments ≡ concat self.old.segments ++ B.unread buf) }
         ensures err { OnErr result (self.new ≡ self.old) }
         ensures back { IfErr result (λ e. e.back ≡ buf) }
         ensures reason { IfErr result (λ e. e.reason ≡ Reason.OutOfMemory) }
@@ -45,6 +47,13 @@ impl<B: Buf + Drop> SegmentedBuf<B> {
         ensures err { IfErr result (λ e. (items : List B) × (rest : I)
             × YieldsThen I.next_gives iter items (Some e.back) rest
             × (self.new ≡ after_accepting self.old (map B.unread items))) }
+
+        // The bytes to read have those of the items behind them.
+        ensures bytes { OnOk result ((items : List B) × Drains I.next_gives iter items
+            × (concat self.new.segments ≡ concat self.old.segments ++ concat (map B.unread items))) }
+        ensures bytes_before { IfErr result (λ e. (items : List B) × (rest : I)
+            × YieldsThen I.next_gives iter items (Some e.back) rest
+            × (concat self.new.segments ≡ concat self.old.segments ++ concat (map B.unread items))) }
 
         // Which refusal it is, and that an empty item meets none.
         ensures too_long { IfErr result (λ e. (e.reason ≡ Reason.TooLong)
@@ -89,6 +98,7 @@ impl<B: Buf + Drop> SegmentedBuf<B> {
     pub fn from_vec(_alloc: Global, bufs: Vec<B>) -> Result<SegmentedBuf<B>, Refused<Vec<B>>>
         ensures too_long { IsErr result ↔ (2 ^ 64 ≤ length (concat (map B.unread bufs.items))) }
         ensures ok { IfOk result (λ all. all ≡ after_accepting nothing_held (map B.unread bufs.items)) }
+        ensures bytes { IfOk result (λ all. concat all.segments ≡ concat (map B.unread bufs.items)) }
         ensures back { IfErr result (λ e. e.back.items ≡ bufs.items) }
         ensures reason { IfErr result (λ e. e.reason ≡ Reason.TooLong) }
     {
@@ -102,6 +112,7 @@ impl<B: Buf + Drop> SegmentedBuf<B> {
     pub fn from_deque(mut bufs: VecDeque<B>) -> Result<SegmentedBuf<B>, Refused<VecDeque<B>>>
         ensures too_long { IsErr result ↔ (2 ^ 64 ≤ length (concat (map B.unread bufs.items))) }
         ensures ok { IfOk result (λ all. all ≡ after_accepting nothing_held (map B.unread bufs.items)) }
+        ensures bytes { IfOk result (λ all. concat all.segments ≡ concat (map B.unread bufs.items)) }
         ensures back { IfErr result (λ e. e.back.items ≡ bufs.items) }
         ensures reason { IfErr result (λ e. e.reason ≡ Reason.TooLong) }
     {
@@ -131,6 +142,8 @@ impl<B: Buf + Drop> SegmentedBuf<B> {
         requires ends { IsFinite (I.remaining iter) }
         ensures ok { IfOk result (λ all. (items : List B) × Drains I.next_gives iter items
             × (all ≡ after_accepting nothing_held (map B.unread items))) }
+        ensures bytes { IfOk result (λ all. (items : List B) × Drains I.next_gives iter items
+            × (concat all.segments ≡ concat (map B.unread items))) }
 
         // The item that comes back is the first that passes `usize`, or one for which memory was
         // refused before that.

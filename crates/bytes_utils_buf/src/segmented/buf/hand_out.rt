@@ -1,9 +1,10 @@
 //! Bytes that go out in parts: copies and tables of slices.
-ghost use Rattle.std.specs.Prelude.{◌≡◌, ◌+◌, ◌<◌, ◌≤◌, length, map, take, drop, IfOk};
+ghost use Rattle.std.specs.Prelude.{◌≡◌, ◌+◌, ◌<◌, ◌≤◌, length, map, take, drop, IfOk, IfErr, ◌⊎◌};
 ghost use Rattle.std.specs.List.{concat};
+ghost use Rattle.bytes_utils_buf.specs.Copies.{CountsCopy};
 ghost use Rattle.bytes_utils_buf.specs.Parts.{taken_by, FillsTable};
-ghost use Rattle.bytes_utils_buf.specs.Segments.{NoneEmpty, front_of, Skips};
-ghost use Rattle.bytes_utils_buf.specs.Tally.{IsPaid, CountsCopy};
+ghost use Rattle.bytes_utils_buf.specs.Segments.{NoneEmpty, count_unread, front_of, Skips};
+ghost use Rattle.bytes_utils_buf.specs.Tally.{IsPaid, cost_of};
 
 use super::SegmentedBuf;
 use crate::parts::{BufParts, CopyRefused};
@@ -23,9 +24,14 @@ impl<B: BufParts + Drop> SegmentedBuf<B> {
         ensures value { IfOk result (λ copy. copy ≡ take len (concat self.old.segments)) }
         ensures taken { taken_by len result ≤ len }
         ensures skips { Skips (taken_by len result) self.old.segments self.new.segments }
-        ensures counts { CountsCopy (taken_by len result) self.old.tally self.new.tally }
-        ensures alone { len ≤ length (front_of self.old.segments)
-            → self.new.tally.calls ≡ self.old.tally.calls + 1 }
+        ensures bytes { concat self.new.segments
+            ≡ drop (taken_by len result) (concat self.old.segments) }
+
+        // What a refusal across segments took is nothing or all.
+        ensures refused { length (front_of self.old.segments) < len
+            → IfErr result (λ e. (e.taken ≡ 0) ⊎ (e.taken ≡ len)) }
+        ensures counts { CountsCopy len (taken_by len result) self.old.segments self.old.tally
+            self.new.segments self.new.tally }
         ensures paid { IsPaid self.old.segments self.old.tally self.new.segments self.new.tally }
     {
         self.tally.call();
@@ -66,15 +72,20 @@ impl<B: BufParts + Drop> SegmentedBuf<B> {
         ensures taken { taken_by len result ≤ len }
         ensures skips { Skips (taken_by len result) self.old.segments self.new.segments }
         ensures given { self.new.tally.given ≡ self.old.tally.given }
+        ensures refused { IfErr result (λ e. (e.taken ≡ 0) ⊎ (e.taken ≡ len)) }
         ensures least { self.old.tally.calls ≤ self.new.tally.calls }
         ensures most { self.new.tally.calls ≤ self.old.tally.calls + taken_by len result }
+        ensures each { self.old.tally.calls + count_unread self.old.segments
+            ≤ self.new.tally.calls + count_unread self.new.segments }
+        ensures turns { cost_of self.new.segments self.new.tally
+            ≡ cost_of self.old.segments self.old.tally }
         ensures paid { IsPaid self.old.segments self.old.tally self.new.segments self.new.tally }
     {
         let Ok(mut copy) = Vec::with_capacity(alloc, len) else {
             return Err(CopyRefused { taken: 0 });
         };
         while copy.len() < len {
-            let count = append_chunk(&mut copy, self.chunk(), len);
+            let count = append_chunk(&mut copy, self.front_chunk(), len);
             self.advance(count);
         }
         Bytes::from_vec(copy).map_err(|_| CopyRefused { taken: len })

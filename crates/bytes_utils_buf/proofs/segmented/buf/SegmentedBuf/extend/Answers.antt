@@ -1,7 +1,9 @@
-use Rattle.std.proofs.Common.{map, ap, ◌∙◌, sym}
+use Rattle.std.proofs.Common.{rules, map, ap, ◌∙◌, sym}
 use Rattle.std.proofs.lemmas.List.{map_push}
+use Rattle.std.proofs.lemmas.Result.{err_from_is_err_and}
+use Rattle.std.specs.List.{concat}
 use Rattle.bytes_utils_buf.specs.Segments.{after_accepting}
-use Rattle.bytes_utils_buf.proofs.Accepting.{with_one, with_one-accepting, IsPaid-accepting}
+use Rattle.bytes_utils_buf.proofs.Accepting.{with_one, with_one-accepting, concat-accepting, IsPaid-accepting}
 use Rattle.bytes_utils_buf.proofs.segmented.buf.SegmentedBuf.extend.Goals as goal
 
 pub loop-buf-preserved : goal.loop-buf-preserved
@@ -19,3 +21,17 @@ returns-in_err-accept-clause-paid g c =
 pub returns-clause-paid : goal.returns-clause-paid
 returns-clause-paid g c =
     rw c.loop-buf.invariant (IsPaid-accepting c.args.self.now (map g.B.Buf.unread c.loop-buf.yielded))
+
+pub returns-clause-bytes : goal.returns-clause-bytes
+returns-clause-bytes g c =
+    let old = c.args.self.now in
+    let lists = map g.B.Buf.unread c.loop-buf.yielded in
+    (c.loop-buf.yielded, search rules, ap (λ q. concat q.segments) c.loop-buf.invariant ∙ concat-accepting old lists)
+
+pub returns-in_err-accept-clause-bytes_before : goal.returns-in_err-accept-clause-bytes_before
+returns-in_err-accept-clause-bytes_before g c =
+    let old = c.args.self.now in
+    let lists = map g.B.Buf.unread c.loop-buf.yielded in
+    let refused = err_from_is_err_and c.from_residual.result c.from_residual.ensures.1 in
+    let bytes = ap (λ q. concat q.segments) (c.in_err-accept.ensures.err ∙ c.loop-buf.invariant) ∙ concat-accepting old lists in
+    rw (refused.1, refused.2) (c.loop-buf.yielded, c.next.new.self, search rules, bytes)

@@ -33,3 +33,7 @@ returns-clause-ok g c =
     let given : 0 + c.len.result ≡ 0 + length lists = omega (arith, size, length-map items f) in
     rw (c.call.ensures, c.give.ensures, c.new-tally.ensures)
     (λ i. record { segments = held i; tally = record { given = given i; calls = 1; turns = 0 } })
+
+pub returns-clause-bytes : goal.returns-clause-bytes
+returns-clause-bytes g c =
+    ap (λ q. concat q.segments) (returns-clause-ok g c) ∙ concat-without_empty (map g.B.Buf.unread c.args.bufs.items)

@@ -21,3 +21,8 @@ returns-in_err-extend-clause-err g c =
       omega (arith, small, bytes, ap (λ q. length (concat q.segments)) c.all.view_is),
       ((λ e. omega (arith, h.too_long.0 e, bytes)), (λ l. h.too_long.1 (omega (arith, l, bytes)))),
     )
+
+pub returns-clause-bytes : goal.returns-clause-bytes
+returns-clause-bytes g c =
+    let h = c.in_ok-extend.ensures.bytes in
+    (h.0, h.1, h.2 ∙ ap (λ q. concat q.segments ++ concat (map g.B.Buf.unread h.0)) c.new-all.ensures)

@@ -43,3 +43,6 @@ returns-clause-skips g c =
     rw (← c.self.view_is)
     (SkipsLent-part f xs now.bufs c.args.cnt s.place c.skip_lent-passed.result handed_in s.tally now.tally s.bufs.ghost_name in_all before e.passed c.skip_lent-passed.auto.bufs
     e.read_out e.skips)
+
+pub returns-clause-bytes : goal.returns-clause-bytes
+returns-clause-bytes g c = (returns-clause-skips g c).segments.bytes

@@ -1,32 +1,37 @@
 use Rattle.std.proofs.Common.{◌≡◌, ◌+◌, ◌<◌, ◌≤◌, length, take, ap, ◌∙◌, sym, arith, length-append, length-drop, length-take-le}
 use Rattle.std.specs.List.{concat}
+use Rattle.bytes_utils_buf.specs.Segments.{front_of}
+use Rattle.bytes_utils_buf.proofs.Lists.{count_unread-Skips_front}
 use Rattle.bytes_utils_buf.proofs.Lent.{SkipsLent-more, copy_more}
 use Rattle.bytes_utils_buf.proofs.segmented.slice.SegmentedSlice.collect.Goals as goal
 
-pub loop-self-preserved : goal.loop-self-preserved
-loop-self-preserved g c =
+pub loop-copy-preserved : goal.loop-copy-preserved
+loop-copy-preserved g c =
     let old = c.args.self.now in
-    let before = c.loop-self.self in
-    let kept = c.loop-self.invariant in
-    let chunk = c.chunk.result.now in
+    let before = c.loop-copy.self in
+    let kept = c.loop-copy.invariant in
+    let chunk = c.front_chunk.result.now in
     let appended = c.append_chunk-count.ensures in
-    let taken = length c.loop-self.copy.items in
+    let taken = length c.loop-copy.copy.items in
     let count = c.append_chunk-count.result in
     let left = kept.skips.segments.bytes in
     let within : count ≤ length chunk = omega (arith, appended.count) in
-    let some : 0 < length chunk = c.chunk.ensures.some (omega (arith, ap length left, length-drop taken (concat old.segments), c.loop-self-test.true, c.requires.fits)) in
+    let some : 0 < length chunk = c.front_chunk.ensures.bytes.some (omega (arith, ap length left, length-drop taken (concat old.segments), c.loop-copy-test.true, c.requires.fits)) in
     let long : length c.append_chunk-count.new.copy.items ≡ taken + count =
-    omega (arith, ap length appended.bytes, length-append c.loop-self.copy.items (take count chunk), length-take-le count chunk within) in
+    omega (arith, ap length appended.bytes, length-append c.loop-copy.copy.items (take count chunk), length-take-le count chunk within) in
     let advanced = c.advance.ensures in
+    let first : count ≤ length (front_of before.segments) = omega (arith, within, c.front_chunk.ensures.front.fits) in
     record {
       fits = omega (arith, long, appended.count, kept.fits);
       room = omega (arith, kept.room, appended.room);
       bytes = appended.bytes
-          ∙ copy_more taken count (concat old.segments) (concat before.segments) c.loop-self.copy.items chunk kept.bytes left c.chunk.ensures within
+          ∙ copy_more taken count (concat old.segments) (concat before.segments) c.loop-copy.copy.items chunk kept.bytes left c.front_chunk.ensures.bytes within
           ∙ ap (λ n. take n (concat old.segments)) (sym long);
       skips = rw long (SkipsLent-more taken count old before c.advance.new.self kept.skips advanced.skips);
       given = advanced.given ∙ kept.given;
       least = omega (arith, kept.least, advanced.calls);
-      most = omega (arith, kept.most, advanced.calls, long, appended.count, some, c.loop-self-test.true);
+      most = omega (arith, kept.most, advanced.calls, long, appended.count, some, c.loop-copy-test.true);
+      each = omega (arith, kept.each, advanced.calls, count_unread-Skips_front count before.segments c.advance.new.self.segments first advanced.skips.segments);
+      turns = advanced.turns ∙ kept.turns;
       paid = omega (arith, kept.paid, advanced.paid);
     }

@@ -1,11 +1,12 @@
 use Rattle.std.proofs.Common.{◌≡◌, ◌+◌, ◌-◌, ◌≤◌, length, take, vec_capacity}
 use Rattle.std.specs.List.{concat}
 use Rattle.bytes_utils_buf.specs.Lent.{SkipsLent}
-use Rattle.bytes_utils_buf.specs.Tally.{IsPaid}
+use Rattle.bytes_utils_buf.specs.Segments.{count_unread}
+use Rattle.bytes_utils_buf.specs.Tally.{IsPaid, cost_of}
 use Rattle.bytes_utils_buf.proofs.segmented.slice.SegmentedSlice.collect.Given as goal
 
-abbrev pub invariant-loop-self : goal.invariant-loop-self
-invariant-loop-self g l =
+abbrev pub invariant-loop-copy : goal.invariant-loop-copy
+invariant-loop-copy g l =
     let old = l.fn.self in
     let taken = length l.copy.items in
     record {
@@ -16,8 +17,10 @@ invariant-loop-self g l =
       given : l.self.tally.given ≡ old.tally.given;
       least : old.tally.calls ≤ l.self.tally.calls;
       most : l.self.tally.calls ≤ old.tally.calls + taken;
+      each : old.tally.calls + count_unread old.segments ≤ l.self.tally.calls + count_unread l.self.segments;
+      turns : cost_of l.self.segments l.self.tally ≡ cost_of old.segments old.tally;
       paid : IsPaid old.segments old.tally l.self.segments l.self.tally;
     }
 
-abbrev pub decreases-loop-self : goal.decreases-loop-self
-decreases-loop-self g l = l.len - length l.copy.items
+abbrev pub decreases-loop-copy : goal.decreases-loop-copy
+decreases-loop-copy g l = l.len - length l.copy.items

@@ -34,3 +34,6 @@ returns-clause-place g c =
     let xs = c.args.bufs.now in
     let p = c.count_lent-place.result.0 in
     omega (arith, length-drop p (map f xs), length-map xs f, c.count_lent-place.ensures.passed)
+
+pub returns-clause-bytes : goal.returns-clause-bytes
+returns-clause-bytes g c = (returns-clause-skips g c).bytes
