@@ -32,6 +32,8 @@ impl<B: BufParts + Drop> SegmentedBuf<B> {
             → IfErr result (λ e. (e.taken ≡ 0) ⊎ (e.taken ≡ len)) }
         ensures counts { CountsCopy len (taken_by len result) self.old.segments self.old.tally
             self.new.segments self.new.tally }
+        ensures no_walk { len ≤ length (front_of self.old.segments)
+            → self.new.tally.turns ≡ self.old.tally.turns }
         ensures paid { IsPaid self.old.segments self.old.tally self.new.segments self.new.tally }
     {
         self.tally.call();

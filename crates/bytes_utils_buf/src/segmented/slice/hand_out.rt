@@ -32,6 +32,11 @@ impl<B: BufParts> SegmentedSlice<'_, B> {
             → IfErr result (λ e. (e.taken ≡ 0) ⊎ (e.taken ≡ len)) }
         ensures counts { CountsCopy len (taken_by len result) self.old.segments self.old.tally
             self.new.segments self.new.tally }
+
+        // Behind a copy by the front alone, each buffer that is passed turns once.
+        ensures trims { len ≤ length (front_of self.old.segments)
+            → self.new.tally.turns + length self.new.segments
+            ≡ self.old.tally.turns + length self.old.segments }
         ensures paid { IsPaid self.old.segments self.old.tally self.new.segments self.new.tally }
     {
         self.tally.call();
@@ -68,6 +73,8 @@ impl<B: BufParts> SegmentedSlice<'_, B> {
         ensures skips { SkipsLent (taken_by len result) self.old self.new }
         ensures given { self.new.tally.given ≡ self.old.tally.given }
         ensures calls { self.new.tally.calls ≡ self.old.tally.calls }
+        ensures turns { self.new.tally.turns + length self.new.segments
+            ≡ self.old.tally.turns + length self.old.segments }
         ensures paid { IsPaid self.old.segments self.old.tally self.new.segments self.new.tally }
     {
         let place = self.place;

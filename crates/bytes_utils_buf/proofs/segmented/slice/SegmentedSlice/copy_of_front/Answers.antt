@@ -51,3 +51,9 @@ returns-clause-skips g c =
     rw (← c.self.view_is)
     (SkipsLent-part f xs now.bufs taken s.place c.copy_of_first-passed.result.0 handed_in s.tally now.tally s.bufs.ghost_name in_all before e.passed
     c.copy_of_first-passed.auto.bufs e.read_out e.skips)
+
+pub returns-clause-turns : goal.returns-clause-turns
+returns-clause-turns g c =
+    let old = c.self.view_is in
+    rw c.copy_of_first-passed.ensures.turns
+    (omega (arith, (returns-clause-skips g c).place, ap (λ q. q.place) old, ap (λ q. q.tally.turns) old, ap (λ q. length q.segments) old))
