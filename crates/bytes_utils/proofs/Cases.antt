@@ -1,5 +1,5 @@
 -- The definitions beside worked cases, on lists of characters: each row is settled by tests that compute.
-use Rattle.std.proofs.Common.{◌≡◌, refl, ℕ, zero, suc, ◌<◌, ◌≤◌, Bool, true, false, not, ◌&&◌, List, [], ◌∷◌, ◌++◌, length, take, Option, None, Some, Result, Ok, Err, codes, encode_utf8, encode_utf8_all, arith, lit<, lt_irrefl, suc-le-suc, zero-le, not-suc-le-zero, bytes_eq}
+use Rattle.std.proofs.Common.{◌≡◌, refl, subst, ℕ, zero, suc, ◌<◌, ◌≤◌, Bool, true, false, not, ◌&&◌, List, [], ◌∷◌, ◌++◌, length, take, Option, None, Some, Result, Ok, Err, codes, encode_utf8, encode_utf8_all, arith, lit<, lt_irrefl, suc-le-suc, zero-le, not-suc-le-zero, bytes_eq}
 use Rattle.std.specs.Str.{chars}
 use Rattle.std.proofs.lemmas.Slice.Eq.{bytes_eq-Decides}
 use Rattle.bytes_utils.specs.Occurrence.{Occurs, OccursAt, OccursFirstAt}
@@ -177,33 +177,33 @@ lines-inner_return = refl
 abbrev by_comma : Option (List ℕ) → Splitting
 by_comma rest = record { rest = rest; separator = codes ","; limit = None; begun = false }
 
--- a step of it
+-- a step of it, over a storage that refuses for the reason 1 alone
 abbrev IsStepByComma : Option (List ℕ) → Option (Result (List ℕ) ℕ) → Option (List ℕ) → Type 0
-IsStepByComma rest answer left = IsStep AreForwardPartsToCome CutsNext (by_comma rest) answer (by_comma left)
+IsStepByComma rest answer left = IsStep AreForwardPartsToCome CutsNext (λ reason. reason ≡ 1) (by_comma rest) answer (by_comma left)
 
 pub step-part : IsStepByComma (Some (codes "a,b,c")) (Some (Ok (codes "a"))) (Some (codes "b,c"))
 unfolding chars
-step-part = (
-  λ nothing. not-suc-le-zero nothing.some,
-  record {
+step-part = record {
+  some = λ nothing. not-suc-le-zero nothing.some;
+  gives = record {
     some = (codes "b" ∷ codes "c" ∷ [], all_parts _ _ _ (lit< tt) refl refl refl);
     each = λ others are. AreForwardParts-more (codes ",") (codes "a,b,c") 1 (lit< tt) (OccursFirstAt-from_test (codes ",") (codes "a,b,c") 1 refl) None tt others are;
-  },
-)
+  };
+}
 
 pub step-refused : IsStepByComma (Some (codes "b,c")) (Some (Err 1)) None
 unfolding chars
-step-refused = (λ nothing. not-suc-le-zero nothing.some, ((tt, ((1, refl), tt)), refl))
+step-refused = record { some = λ nothing. not-suc-le-zero nothing.some; gives = ((tt, ((1, refl), tt)), refl, refl) }
 
 pub step-last : IsStepByComma (Some (codes "c")) (Some (Ok (codes "c"))) None
 unfolding chars
-step-last = (
-  λ nothing. not-suc-le-zero nothing.some,
-  record {
+step-last = record {
+  some = λ nothing. not-suc-le-zero nothing.some;
+  gives = record {
     some = ([], refl);
     each = λ others none. rw none (all_parts (codes "c") (codes ",") (codes "c" ∷ []) (lit< tt) refl refl refl);
-  },
-)
+  };
+}
 
 pub step-end : IsStepByComma None None None
 step-end = (refl, refl)
@@ -213,12 +213,16 @@ step-end = (refl, refl)
 -- an error where nothing has to be cut
 pub last_part_fails : ¬ IsStepByComma (Some (codes "c")) (Some (Err 1)) None
 unfolding chars
-last_part_fails step = lacks-Occurs _ _ refl step.1.0.1.0.0 step.1.0.1.0.1
+last_part_fails step = lacks-Occurs _ _ refl step.gives.0.1.0.0 step.gives.0.1.0.1
 
 -- an error after which parts still come
 pub goes_on_after_error : ¬ IsStepByComma (Some (codes "b,c")) (Some (Err 1)) (Some (codes "c"))
 unfolding chars
-goes_on_after_error step = not-suc-le-zero step.1.1.some
+goes_on_after_error step = not-suc-le-zero step.gives.2.some
+
+-- a reason that the storage doesn't refuse for
+pub tells_another_reason : ¬ IsStepByComma (Some (codes "b,c")) (Some (Err 2)) None
+tells_another_reason step = lt_irrefl 1 (subst (λ (n : ℕ). 1 < n) step.gives.1 (lit< tt))
 
 -- the end, where a part is to come
 pub ends_early : ¬ IsStepByComma (Some (codes "c")) None None
@@ -227,7 +231,7 @@ ends_early step = not-suc-le-zero step.0.some
 
 -- a part after the end
 pub part_after_end : ¬ IsStepByComma None (Some (Ok [])) None
-part_after_end step = step.0 refl
+part_after_end step = step.some refl
 
 -- Wrong lists are refused.
 

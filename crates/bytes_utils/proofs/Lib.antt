@@ -20,6 +20,7 @@ pub mod EachCharacter
 pub mod CharacterCut
 pub mod NextPart
 pub mod Results
+pub mod Steps
 pub mod KeepingCut
 pub mod Lines
 pub mod Words

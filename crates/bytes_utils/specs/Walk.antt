@@ -29,11 +29,12 @@ rest_at Forward text a b = drop b text
 rest_at Backward text a b = take b text
 
 -- What an answer of the closure on a text leads to: on `None` the whole text is given and nothing is left; on a cut its chunk is given and
--- its rest is left, or a refusal is given and nothing is left.
-abbrev pub FollowsAnswer : {E : Type 0} → Direction → List ℕ → Option (ℕ × ℕ) → Result (List ℕ) E → Option (List ℕ) → Type 0
-FollowsAnswer direction text None item rest = (item ≡ Ok text) × (rest ≡ None)
-FollowsAnswer direction text (Some (a, b)) item rest =
-    MatchResult item (λ chunk. (chunk ≡ chunk_at direction text a b) × (rest ≡ Some (rest_at direction text a b))) (λ _. rest ≡ None)
+-- its rest is left, or a refusal is given, for a reason that the storage refuses for, and nothing is left.
+abbrev pub FollowsAnswer : {E : Type 0} → (E → Type 0) → Direction → List ℕ → Option (ℕ × ℕ) → Result (List ℕ) E → Option (List ℕ) → Type 0
+FollowsAnswer refuses direction text None item rest = (item ≡ Ok text) × (rest ≡ None)
+FollowsAnswer refuses direction text (Some (a, b)) item rest =
+    MatchResult item (λ chunk. (chunk ≡ chunk_at direction text a b) × (rest ≡ Some (rest_at direction text a b)))
+    (λ reason. refuses reason × (rest ≡ None))
 
 -- The state of such a splitter: what is still to be cut, if anything, from which end, and the closure's state.
 pub record Walk (F : Type 0) : Type 0 where
@@ -42,9 +43,9 @@ pub record Walk (F : Type 0) : Type 0 where
   pub closure : F
 
 -- A step from s to t that answers r: `None` where nothing is left, else the closure is called once, on what is left, and the rest follows.
-abbrev pub IsWalkStep : {F E : Type 0} → Mut F (Bor (List ℕ) × Unit {0}) (Option (ℕ × ℕ)) → Walk F → Option (Result (List ℕ) E) → Walk F → Type 0
-IsWalkStep f s r t = (t.direction ≡ s.direction) × MatchOption s.rest ((r ≡ None) × (t.rest ≡ None) × (t.closure ≡ s.closure))
-    (λ text. (answer : Option (ℕ × ℕ)) × CalledAt f s.closure text answer t.closure × IsSomeAnd r (λ item. FollowsAnswer s.direction text answer item t.rest))
+abbrev pub IsWalkStep : {F E : Type 0} → Mut F (Bor (List ℕ) × Unit {0}) (Option (ℕ × ℕ)) → (E → Type 0) → Walk F → Option (Result (List ℕ) E) → Walk F → Type 0
+IsWalkStep f refuses s r t = (t.direction ≡ s.direction) × MatchOption s.rest ((r ≡ None) × (t.rest ≡ None) × (t.closure ≡ s.closure))
+    (λ text. (answer : Option (ℕ × ℕ)) × CalledAt f s.closure text answer t.closure × IsSomeAnd r (λ item. FollowsAnswer refuses s.direction text answer item t.rest))
 
 -- a bound on the items to come: one more than the characters left
 abbrev pub most_chunks : {F : Type 0} → Walk F → ℕ

@@ -1,8 +1,8 @@
 -- Call lines read one after the other.
-use Rattle.std.proofs.Common.{◌≡◌, refl, sym, ap, subst, ◌∙◌, ℕ, ◌-◌, List, [], ◌∷◌, ◌++◌, length, length-append, drop, codes, IsUtf8, IsCharBoundary, Option, Some, Result, Ok, MatchResult, append_assoc, arith}
+use Rattle.std.proofs.Common.{◌≡◌, refl, sym, ap, subst, ◌∙◌, ℕ, ◌-◌, List, [], ◌∷◌, ◌++◌, length, length-append, drop, codes, IsUtf8, IsCharBoundary, Option, Some, append_assoc, arith}
 use Rattle.std.proofs.lemmas.Str.{IsCharBoundary-at_seam, encodes-chars}
 use Rattle.std.specs.Str.{chars}
-use Rattle.bytes_utils.specs.Lines.{AreLinesToCome, HoldsLineFeed, lines}
+use Rattle.bytes_utils.specs.Lines.{AreLinesToCome, lines}
 use Rattle.bytes_utils.specs.Step.{GivesFirst}
 use Rattle.bytes_utils_run.specs.CallLine.{AreCallLines, IsCallLine}
 use Rattle.bytes_utils_run.proofs.CommandLine.{chars-push}
@@ -54,13 +54,6 @@ module _ (line text : List ℕ) (behind : line ≡ codes "push " ++ text) (text_
   pushed-is bytes at place is e =
       let same : bytes ≡ text = is ∙ ap (λ k. drop k line) (pushed-place at place).0 ∙ ap (drop 5) behind in
       (chars text, same ∙ sym (encodes-chars text text_is), e ∙ ap (λ z. z ++ chars text) chars-push)
-
--- the line that a step gave is the first of those to come
-pub line-given : {E : Type 0} (s t : Option (List ℕ)) (item : Result (List ℕ) E) (line : List ℕ) → item ≡ Ok line
-    → (¬ AreLinesToCome s []) × MatchResult item (λ part. GivesFirst AreLinesToCome s (chars part) t) (λ _. HoldsLineFeed s × AreLinesToCome t [])
-    → GivesFirst AreLinesToCome s (chars line) t
-line-given s t item line is step =
-    subst (λ i. MatchResult i (λ part. GivesFirst AreLinesToCome s (chars part) t) (λ _. HoldsLineFeed s × AreLinesToCome t [])) is step.1
 
 -- Calls read from a text so far, in a splitter's state: they are asked for by lines, behind which the other lines of the text are to come.
 pub record HasRead (text : List ℕ) (calls : List (Call (List ℕ))) (state : Option (List ℕ)) : Type 0 where

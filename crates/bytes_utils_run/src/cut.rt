@@ -1,5 +1,5 @@
 //! A text cut into all of its parts.
-ghost use Rattle.std.specs.Prelude.{◌+◌, ◌≤◌, ℕ, List, Option, Result, length, map};
+ghost use Rattle.std.specs.Prelude.{◌≡◌, ◌+◌, ◌≤◌, ◌⊎◌, ℕ, List, Option, Result, IfSome, length, map};
 ghost use Rattle.std.specs.Char.{is_whitespace, is_ascii_whitespace};
 ghost use Rattle.std.specs.Iterator.{IsFinite};
 ghost use Rattle.std.specs.Str.{chars};
@@ -63,7 +63,7 @@ trait Splitter<S: Storage>: Iterator<Item = Result<StrInner<S>, Reason>> {
 
     // Each step gives the first of them and leaves the others.
     ghost steps: { (s : Self) (r : Option (Result (List ℕ) WhyRefused)) (t : Self)
-        → Self.next_gives s r t → IsStep coming cuts s r t };
+        → Self.next_gives s r t → IsStep coming cuts S.refuses s r t };
 }
 
 impl<S: Storage> Splitter<S> for SplitWhitespaceBytes<S> {
@@ -135,7 +135,9 @@ fn gather<S: Storage, I: Splitter<S> + Drop>(alloc: Global, splitter: I) -> Part
     requires can { I.can_next splitter }
     requires ends { IsFinite (I.remaining splitter) }
     requires some { (parts : List (List ℕ)) × I.coming splitter parts }
-    ensures { Outcome (I.coming splitter) (map chars result.given.items) result.refused }
+    ensures outcome { Outcome (I.coming splitter) (map chars result.given.items) result.refused }
+    ensures reason { IfSome result.refused
+        (λ reason. S.refuses reason ⊎ (reason ≡ Reason.OutOfMemory)) }
 {
     let mut given = Vec::new(alloc);
     for item in splitter {
@@ -164,8 +166,10 @@ fn gather<S: Storage, I: Splitter<S> + Drop>(alloc: Global, splitter: I) -> Part
 /// The parts that a way to cut makes of a text.
 fn parts_by<S: Storage>(alloc: Global, text: StrInner<S>, how: How<'_>) -> Parts<S>
     requires { IsAllowed how }
-    ensures { Outcome (ArePartsBy (cutting how.entry) (chars text))
+    ensures outcome { Outcome (ArePartsBy (cutting how.entry) (chars text))
         (map chars result.given.items) result.refused }
+    ensures reason { IfSome result.refused
+        (λ reason. S.refuses reason ⊎ (reason ≡ Reason.OutOfMemory)) }
 {
     match how {
         How::Words => gather(alloc, text.split_whitespace_bytes()),
@@ -186,6 +190,9 @@ pub fn cut_all<S: Storage>(alloc: Global, text: StrInner<S>, how: How<'_>) -> Pa
     ensures outcome { Outcome (ArePartsBy (cutting how.entry) (chars text))
         (map chars result.given.items) result.refused }
     ensures few { length result.given.items ≤ length (chars text) + 2 }
+    // The storage refused a cut, or memory refused the place for the next part.
+    ensures reason { IfSome result.refused
+        (λ reason. S.refuses reason ⊎ (reason ≡ Reason.OutOfMemory)) }
 {
     parts_by(alloc, text, how)
 }

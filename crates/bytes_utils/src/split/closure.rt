@@ -1,5 +1,5 @@
 //! A text cut at the places that a closure of the caller's answers.
-ghost use Rattle.std.specs.Prelude.{◌≡◌, ◌<◌, Some, length, IfOk, IsUtf8};
+ghost use Rattle.std.specs.Prelude.{◌≡◌, ◌<◌, Some, length, IfOk, IfErr, IsUtf8};
 ghost use Rattle.std.specs.Iterator.{at_most};
 ghost use Rattle.std.specs.Str.{chars};
 ghost use Rattle.bytes_utils.specs.Walk.{IsLawfulCut, IsLawfulClosure, IsWalkStep};
@@ -26,6 +26,7 @@ fn chunk_and_rest<S: Storage>(
     ensures rest { IfOk result
         (λ pieces. pieces.1 ≡ rest_at direction text chunk_edge separator_edge) }
     ensures fewer { IfOk result (λ pieces. length (chars pieces.1) < length (chars text)) }
+    ensures reason { IfErr result S.refuses }
 {
     match direction {
         Direction::Forward => cut_out(text, chunk_edge, separator_edge),
@@ -84,7 +85,7 @@ impl<S: Storage, F: FnMut(&str) -> Option<(usize, usize)> + Drop> Iterator for B
 
     ghost can_next = { λ s. IsLawfulClosure F.FnMut s.direction };
 
-    ghost next_gives = { λ s r t. IsWalkStep F.FnMut s r t };
+    ghost next_gives = { λ s r t. IsWalkStep F.FnMut S.refuses s r t };
 
     ghost remaining = { λ s. at_most (most_chunks s) };
 

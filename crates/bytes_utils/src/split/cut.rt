@@ -1,5 +1,5 @@
 //! The one step that cuts a text in two and leaves out what is between.
-ghost use Rattle.std.specs.Prelude.{◌≡◌, ◌≤◌, take, drop, IsCharBoundary, IfOk};
+ghost use Rattle.std.specs.Prelude.{◌≡◌, ◌≤◌, take, drop, IsCharBoundary, IfOk, IfErr};
 
 use crate::string::{Storage, StrInner};
 use bytes_utils_buf::Reason;
@@ -16,6 +16,7 @@ pub(super) fn cut_at<S: Storage>(
     requires { IsCharBoundary text at }
     ensures before { IfOk result (λ pieces. pieces.0 ≡ take at text) }
     ensures after { IfOk result (λ pieces. pieces.1 ≡ drop at text) }
+    ensures reason { IfErr result S.refuses }
 {
     text.split_at_bytes(at).map_err(|refused| refused.reason)
 }
@@ -33,6 +34,7 @@ pub(super) fn cut_out<S: Storage>(
     requires next { IsCharBoundary text next }
     ensures before { IfOk result (λ pieces. pieces.0 ≡ take end text) }
     ensures after { IfOk result (λ pieces. pieces.1 ≡ drop next text) }
+    ensures reason { IfErr result S.refuses }
 {
     let (front, after) = cut_at(text, next)?;
     let (before, _) = cut_at(front, end)?;

@@ -1,5 +1,5 @@
 //! A text cut by the empty separator: an empty part, each character, an empty part.
-ghost use Rattle.std.specs.Prelude.{◌≡◌, ◌<◌, ℕ, [], Option, None, Some, length, true, false, IfOk, OnErr, IfSome};
+ghost use Rattle.std.specs.Prelude.{◌≡◌, ◌<◌, ℕ, [], Option, None, Some, length, true, false, IfOk, IfErr, OnErr, IfSome};
 ghost use Rattle.std.specs.Bool.{OnTrue};
 ghost use Rattle.std.specs.Str.{chars};
 ghost use Rattle.bytes_utils.specs.Splitting.{ArePartsToCome, AreForwardPartsToCome, AreBackwardPartsToCome, LeavesMore, one_less, most_parts};
@@ -20,6 +20,7 @@ fn empty_part<S: Storage>(text: StrInner<S>, from: Direction) -> Result<Cut<S>, 
         (chars cut.0)
         (record { rest = cut.1; separator = []; limit = one_less limit; begun = true })) }
     ensures rest { IfOk result (λ cut. cut.1 ≡ Some text) }
+    ensures reason { IfErr result S.refuses }
 {
     let end = text.as_str().len();
     match from {
@@ -44,6 +45,7 @@ fn first_character<S: Storage>(text: StrInner<S>) -> Result<Cut<S>, Reason>
         (record { rest = cut.1; separator = []; limit = one_less limit; begun = true })) }
     ensures shorter { IfOk result (λ cut. IfSome cut.1 (λ rest. length rest < length text)) }
     ensures err { OnErr result (0 < length text) }
+    ensures reason { IfErr result S.refuses }
 {
     let Some(end) = first_end(text.as_str()) else {
         return Ok((text, None));
@@ -62,6 +64,7 @@ fn last_character<S: Storage>(text: StrInner<S>) -> Result<Cut<S>, Reason>
         (record { rest = cut.1; separator = []; limit = one_less limit; begun = true })) }
     ensures shorter { IfOk result (λ cut. IfSome cut.1 (λ rest. length rest < length text)) }
     ensures err { OnErr result (0 < length text) }
+    ensures reason { IfErr result S.refuses }
 {
     let Some(start) = last_start(text.as_str()) else {
         return Ok((text, None));
@@ -87,6 +90,7 @@ pub(super) fn cut_character<S: Storage>(
         (record { rest = cut.1; separator = []; limit = None; begun = true })
         < most_parts (record { rest = Some text; separator = []; limit = None; begun = begun })) }
     ensures err { OnErr result (OnTrue begun (0 < length text)) }
+    ensures reason { IfErr result S.refuses }
 {
     if !begun {
         return empty_part(text, from);

@@ -1,5 +1,5 @@
 //! A text cut behind each place where a separator occurs.
-ghost use Rattle.std.specs.Prelude.{◌≡◌, ◌<◌, ℕ, List, Some, length, IfOk, OnErr, IfSome};
+ghost use Rattle.std.specs.Prelude.{◌≡◌, ◌<◌, ℕ, List, Some, length, IfOk, IfErr, OnErr, IfSome};
 ghost use Rattle.std.specs.Iterator.{at_most};
 ghost use Rattle.std.specs.Str.{chars};
 ghost use Rattle.bytes_utils.specs.Keeping.{AreInclusivePartsToCome, CutsBehindNext};
@@ -26,6 +26,7 @@ fn first_part<S: Storage>(
     ensures shorter { IfOk result (λ cut. IfSome cut.1 (λ rest. length rest < length text)) }
     ensures err { OnErr result
         (CutsBehindNext (record { rest = Some text; separator = separator.now })) }
+    ensures reason { IfErr result S.refuses }
 {
     let Some(at) = find(text.as_str(), separator) else {
         return Ok((text, None));
@@ -76,7 +77,7 @@ impl<'s, S: Storage> Iterator for SplitInclusiveBytes<'s, S> {
     type Item = Result<StrInner<S>, Reason>;
 
     ghost next_gives = { λ s r t. (t.separator ≡ s.separator)
-        × IsStep AreInclusivePartsToCome CutsBehindNext s r t };
+        × IsStep AreInclusivePartsToCome CutsBehindNext S.refuses s r t };
 
     ghost remaining = { λ s. at_most (most_inclusive_parts s) };
 

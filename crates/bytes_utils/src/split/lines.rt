@@ -1,5 +1,5 @@
 //! A text cut into its lines.
-ghost use Rattle.std.specs.Prelude.{◌≡◌, ◌<◌, ℕ, List, [], ◌∷◌, Some, MatchOption, length, take, drop, IsCharBoundary, IfOk, OnErr, IfSome};
+ghost use Rattle.std.specs.Prelude.{◌≡◌, ◌<◌, ℕ, List, [], ◌∷◌, Some, MatchOption, length, take, drop, IsCharBoundary, IfOk, IfErr, OnErr, IfSome};
 ghost use Rattle.std.specs.Iterator.{at_most};
 ghost use Rattle.std.specs.Option.{option_map_or};
 ghost use Rattle.std.specs.Str.{chars};
@@ -36,6 +36,7 @@ fn first_line<S: Storage>(text: StrInner<S>) -> Result<(StrInner<S>, Option<StrI
     ensures gives { IfOk result (λ cut. GivesFirst AreLinesToCome (Some text) (chars cut.0) cut.1) }
     ensures shorter { IfOk result (λ cut. IfSome cut.1 (λ rest. length rest < length text)) }
     ensures err { OnErr result (HoldsLineFeed (Some text)) }
+    ensures reason { IfErr result S.refuses }
 {
     let Some((end, next)) = line_place(text.as_str()) else {
         return Ok((text, None));
@@ -72,7 +73,7 @@ impl<S: Storage> StrInner<S> {
 impl<S: Storage> Iterator for LinesBytes<S> {
     type Item = Result<StrInner<S>, Reason>;
 
-    ghost next_gives = { λ s r t. IsStep AreLinesToCome HoldsLineFeed s r t };
+    ghost next_gives = { λ s r t. IsStep AreLinesToCome HoldsLineFeed S.refuses s r t };
 
     ghost remaining = { λ s. at_most (option_map_or length s 0) };
 

@@ -1,5 +1,5 @@
 //! A text that is cut by a separator, from either end.
-ghost use Rattle.std.specs.Prelude.{◌≡◌, ◌≢◌, ◌<◌, ◌==◌, ℕ, Option, Some, length, false, None, IfOk, OnErr, OnSome, IfSome};
+ghost use Rattle.std.specs.Prelude.{◌≡◌, ◌≢◌, ◌<◌, ◌==◌, ℕ, Option, Some, length, false, None, IfOk, IfErr, OnErr, OnSome, IfSome};
 ghost use Rattle.std.specs.Bool.{OnTrue};
 ghost use Rattle.std.specs.Str.{chars};
 ghost use Rattle.bytes_utils.specs.Occurrence.{Occurs};
@@ -31,6 +31,7 @@ fn first_part<S: Storage>(text: StrInner<S>, separator: &str) -> Result<Cut<S>, 
         })) }
     ensures shorter { IfOk result (λ cut. IfSome cut.1 (λ rest. length rest < length text)) }
     ensures err { OnErr result (Occurs (chars separator.now) (chars text)) }
+    ensures reason { IfErr result S.refuses }
 {
     let Some(at) = find(text.as_str(), separator) else {
         return Ok((text, None));
@@ -56,6 +57,7 @@ fn last_part<S: Storage>(text: StrInner<S>, separator: &str) -> Result<Cut<S>, R
         })) }
     ensures shorter { IfOk result (λ cut. IfSome cut.1 (λ rest. length rest < length text)) }
     ensures err { OnErr result (Occurs (chars separator.now) (chars text)) }
+    ensures reason { IfErr result S.refuses }
 {
     let Some(at) = rfind(text.as_str(), separator) else {
         return Ok((text, None));
@@ -99,6 +101,7 @@ fn cut_next<S: Storage>(
         })) }
     ensures holds { OnErr result (Occurs (chars separator.now) (chars text)) }
     ensures more { OnErr result (OnTrue begun (0 < length text)) }
+    ensures reason { IfErr result S.refuses }
 {
     if separator.is_empty() {
         return cut_character(text, begun, from);
@@ -145,6 +148,7 @@ fn next_part<S: Storage>(
     ensures left { IfOk result (λ cut. IfSome cut.1 (λ _. LeavesMore limit)) }
     ensures holds { OnErr result (Occurs (chars separator.now) (chars text)) }
     ensures more { OnErr result (OnTrue begun (0 < length text)) }
+    ensures reason { IfErr result S.refuses }
     ensures limit { OnErr result (LeavesMore limit) }
 {
     if limit == Some(1) {
@@ -203,7 +207,7 @@ impl<'s, S: Storage> Separated<'s, S> {
     /// The next part from an end.
     #[inline(always)]
     pub(super) fn next_from(&mut self, from: Direction) -> Option<Result<StrInner<S>, Reason>>
-        ensures step { IsStep (ArePartsToCome from) CutsNext self.old result self.new }
+        ensures step { IsStep (ArePartsToCome from) CutsNext S.refuses self.old result self.new }
         ensures fewer { OnSome result (most_parts self.new < most_parts self.old) }
     {
         if self.limit == Some(0) {

@@ -1,5 +1,5 @@
 //! A text cut into its words.
-ghost use Rattle.std.specs.Prelude.{◌≡◌, ◌<◌, ◌≤◌, ◌⊎◌, ℕ, Bool, List, [], ◌∷◌, Some, MatchOption, length, take, drop, IsCharBoundary, IfOk, OnErr, IfSome, OnSome};
+ghost use Rattle.std.specs.Prelude.{◌≡◌, ◌<◌, ◌≤◌, ◌⊎◌, ℕ, Bool, List, [], ◌∷◌, Some, MatchOption, length, take, drop, IsCharBoundary, IfOk, IfErr, OnErr, IfSome, OnSome};
 ghost use Rattle.std.specs.Char.{is_ascii_whitespace, is_whitespace};
 ghost use Rattle.std.specs.Iterator.{at_most};
 ghost use Rattle.std.specs.Option.{option_map_or};
@@ -74,6 +74,7 @@ fn cut_behind<S: Storage>(
     ensures rest { IfOk result (λ cut. MatchOption cut.1 (end ≡ length text)
         (λ rest. rest ≡ drop end text)) }
     ensures err { OnErr result (end < length text) }
+    ensures reason { IfErr result S.refuses }
 {
     if end == text.as_str().len() {
         return Ok((text, None));
@@ -88,6 +89,7 @@ fn cut_before<S: Storage>(text: StrInner<S>, start: usize) -> Result<StrInner<S>
     requires { IsCharBoundary text start }
     ensures rest { IfOk result (λ rest. rest ≡ drop start text) }
     ensures err { OnErr result (0 < start) }
+    ensures reason { IfErr result S.refuses }
 {
     if start == 0 {
         return Ok(text);
@@ -113,6 +115,7 @@ fn cut_word<S: Storage>(
     ensures rest { IfOk result (λ cut. MatchOption cut.1 (end ≡ length text)
         (λ rest. rest ≡ drop end text)) }
     ensures err { OnErr result ((0 < start) ⊎ (end < length text)) }
+    ensures reason { IfErr result S.refuses }
 {
     let (front, rest) = cut_behind(text, end)?;
     let word = cut_before(front, start)?;
@@ -125,7 +128,7 @@ fn next_word<W: WhiteSpace, S: Storage>(
     rest: &mut Option<StrInner<S>>,
 ) -> Option<Result<StrInner<S>, Reason>>
     ensures step { IsStep (AreWordsToCome W.is_space) (HoldsSpace W.is_space)
-        rest.old result rest.new }
+        S.refuses rest.old result rest.new }
     ensures shorter { OnSome result
         (option_map_or length rest.new 0 < option_map_or length rest.old 0) }
 {
@@ -194,7 +197,7 @@ impl<S: Storage> Iterator for SplitWhitespaceBytes<S> {
     type Item = Result<StrInner<S>, Reason>;
 
     ghost next_gives = { λ s r t. IsStep (AreWordsToCome is_whitespace)
-        (HoldsSpace is_whitespace) s r t };
+        (HoldsSpace is_whitespace) S.refuses s r t };
 
     ghost remaining = { λ s. at_most (option_map_or length s 0) };
 
@@ -207,7 +210,7 @@ impl<S: Storage> Iterator for SplitAsciiWhitespaceBytes<S> {
     type Item = Result<StrInner<S>, Reason>;
 
     ghost next_gives = { λ s r t. IsStep (AreWordsToCome is_ascii_whitespace)
-        (HoldsSpace is_ascii_whitespace) s r t };
+        (HoldsSpace is_ascii_whitespace) S.refuses s r t };
 
     ghost remaining = { λ s. at_most (option_map_or length s 0) };
 

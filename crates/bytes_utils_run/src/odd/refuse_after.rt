@@ -1,6 +1,6 @@
 //! A storage that grants a number of splits.
 ghost use Rattle.std.specs.Prelude.{◌≡◌, ◌-◌, ◌^◌, ◌≤◌, length, take, drop, [], IsErr, IsOkAnd, IfOk, IfErr};
-ghost use Rattle.bytes_utils_buf.specs.declared.refused.Reason.{Reason as WhyRefused};
+ghost use Rattle.bytes_utils_buf.specs.declared.refused.Reason.TheVariants.{OutOfMemory};
 
 use bytes::{Bytes, BytesMut};
 use bytes_utils::string::Storage;
@@ -44,8 +44,11 @@ impl Storage for RefuseAfter {
 
     ghost created = { λ c. c.items };
 
+    ghost refuses = { λ reason. reason ≡ OutOfMemory };
+
     fn empty(_alloc: Global) -> Result<Self, Reason>
-        ensures { IsOkAnd result (λ s. s ≡ record { stored = []; granted = 2 ^ 64 - 1 }) }
+        ensures value { IsOkAnd result (λ s. s ≡ record { stored = []; granted = 2 ^ 64 - 1 }) }
+        ensures reason { IfErr result (λ reason. reason ≡ OutOfMemory) }
     {
         Ok(RefuseAfter::new(Bytes::new(), usize::MAX))
     }
@@ -58,6 +61,7 @@ impl Storage for RefuseAfter {
         ensures ok { IfOk result
             (λ s. s ≡ record { stored = creator.items; granted = 2 ^ 64 - 1 }) }
         ensures err { IfErr result (λ e. e.back.items ≡ creator.items) }
+        ensures reason { IfErr result (λ e. e.reason ≡ OutOfMemory) }
     {
         match creator.freeze() {
             Ok(bytes) => Ok(RefuseAfter::new(bytes, usize::MAX)),
@@ -76,7 +80,7 @@ impl Storage for RefuseAfter {
             ≡ record { stored = drop at self.stored; granted = self.granted - 2 }) }
         ensures none_left { self.granted ≡ 0 → IsErr result }
         ensures err { IfErr result (λ e. e.back ≡ self) }
-        ensures reason { IfErr result (λ e. e.reason ≡ WhyRefused.OutOfMemory) }
+        ensures reason { IfErr result (λ e. e.reason ≡ OutOfMemory) }
     {
         if self.splits == 0 {
             return Err(Refused {

@@ -46,7 +46,7 @@ impl<S: Storage> StrInner<S> {
 impl<'s, S: Storage> Iterator for SplitNBytes<'s, S> {
     type Item = Result<StrInner<S>, Reason>;
 
-    ghost next_gives = { IsStep AreForwardPartsToCome CutsNext };
+    ghost next_gives = { IsStep AreForwardPartsToCome CutsNext S.refuses };
 
     ghost remaining = { λ s. at_most (most_parts s) };
 

@@ -6,4 +6,4 @@ use Rattle.bytes_utils_run.proofs.cut.cut_all.Goals as goal
 
 pub returns-clause-few : goal.returns-clause-few
 returns-clause-few g c =
-    omega (arith, length-outcome _ _ _ _ c.parts_by.ensures, length-map c.parts_by.result.given.items chars)
+    omega (arith, length-outcome _ _ _ _ c.parts_by.ensures.outcome, length-map c.parts_by.result.given.items chars)

@@ -6,7 +6,8 @@ pub returns-in-Ok-clause-step : goal.returns-in-Ok-clause-step
 returns-in-Ok-clause-step g c =
     let rest_is : c.args.rest.now ≡ Some c.in_ok-text.text = sym c.take.ensures.value ∙ c.in_ok-text.was in
     let first = rw c.as_str.ensures.value at c.in_ok-start.ensures.word in
-    rw rest_is (step-word g.W.WhiteSpace.is_space _ _ _ _ _ c.in-Ok.ensures.word c.in-Ok.ensures.rest first)
+    let step = step-word g.W.WhiteSpace.is_space _ _ _ _ _ c.in-Ok.ensures.word c.in-Ok.ensures.rest first in
+    rw rest_is (record { some = step.0; gives = step.1 })
 
 pub returns-in-Ok-clause-shorter : goal.returns-in-Ok-clause-shorter
 returns-in-Ok-clause-shorter g c =

@@ -1,5 +1,6 @@
 use Rattle.std.proofs.Common.{◌≡◌, ◌∙◌, ◌++◌, ◌∷◌, [], rules}
-use Rattle.bytes_utils_run.proofs.CallLines.{HasRead-none, HasRead-more, line-given, no-calls-read}
+use Rattle.bytes_utils.proofs.Steps.{given}
+use Rattle.bytes_utils_run.proofs.CallLines.{HasRead-none, HasRead-more, no-calls-read}
 use Rattle.bytes_utils_run.proofs.program.call_line.calls_of.Goals as goal
 
 pub loop-line-init : goal.loop-line-init
@@ -8,17 +9,17 @@ loop-line-init c =
 
 pub loop-line-preserved : goal.loop-line-preserved
 loop-line-preserved c =
-    let gives = line-given _ _ _ _ c.in-Ok.is c.in-Some.ensures.steps in
+    let gives = given c.in-Ok.is c.in-Some.ensures.steps in
     let pushed : c.push.new.self.items ≡ c.loop-line.calls.items ++ c.in_ok-call.call ∷ [] = search rules in
     HasRead-more _ _ _ _ _ c.in_ok-call.call _ c.loop-line.invariant gives c.in_ok-call.ensures.ok pushed
 
 pub loop-line-preserved-else-is_err : goal.loop-line-preserved-else-is_err
 loop-line-preserved-else-is_err c =
-    let gives = line-given _ _ _ _ c.in-Ok.is c.in-Some.ensures.steps in
+    let gives = given c.in-Ok.is c.in-Some.ensures.steps in
     let pushed : c.push.new.self.items ≡ c.loop-line.calls.items ++ c.in_ok-call.call ∷ [] = search rules in
     HasRead-more _ _ _ _ _ c.in_ok-call.call _ c.loop-line.invariant gives c.in_ok-call.ensures.ok pushed
 
 pub returns-in_err-call-clause-unknown : goal.returns-in_err-call-clause-unknown
 returns-in_err-call-clause-unknown c is =
-    let gives = line-given _ _ _ _ c.in-Ok.is c.in-Some.ensures.steps in
+    let gives = given c.in-Ok.is c.in-Some.ensures.steps in
     no-calls-read _ _ _ _ _ c.loop-line.invariant gives (c.in_err-call.ensures.unknown (search rules))
