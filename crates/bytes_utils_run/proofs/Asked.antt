@@ -3,7 +3,6 @@ use Rattle.std.proofs.Common.{◌≡◌, refl, sym, ap, subst, ℕ, List, [], �
 use Rattle.std.proofs.lemmas.List.{map-append, length-map}
 use Rattle.std.proofs.lemmas.List.Folds.{concat-append}
 use Rattle.std.specs.List.{concat}
-use Rattle.std.specs.Str.{chars}
 use Rattle.bytes_utils.specs.Outcome.{Outcome}
 use Rattle.bytes_utils_run.specs.Command.{IsCommand, command_line, text_behind}
 use Rattle.bytes_utils_run.specs.Cutting.{Cutting, ArePartsBy}
@@ -25,16 +24,14 @@ Outcome-map f Is Are into given (Some e) begun = (
   subst Are (map-append f given begun.0) (into (given ++ begun.0) begun.2),
 )
 
+-- a list that is to come is right for this way to cut
 pub Outcome-parts : {E : Type 0} (way : Cutting) (line text : List ℕ) → IsCommand way line
-    → (given : List (List ℕ)) (refused : Option E) → Outcome (ArePartsBy way text) (map chars given) refused
-    → Outcome (AreAskedFor line text) (map (λ part. printed_part (chars part)) given) refused
-Outcome-parts way line text command given refused are =
-    subst (λ entries. Outcome (AreAskedFor line text) entries refused) (map_map given)
-    (Outcome-map printed_part _ (AreAskedFor line text) (λ all is. record { request = ForParts way; is = command; right = (all, is, refl) }) (map chars given) refused are)
-  where
-    map_map : (parts : List (List ℕ)) → map printed_part (map chars parts) ≡ map (λ part. printed_part (chars part)) parts
-    map_map [] = refl
-    map_map (part ∷ parts) = ap (λ z. printed_part (chars part) ∷ z) (map_map parts)
+    → (coming : List (List ℕ) → Type 0) → ((parts : List (List ℕ)) → coming parts → ArePartsBy way text parts)
+    → (parts : List (List ℕ)) (refused : Option E) → Outcome coming parts refused
+    → Outcome (AreAskedFor line text) (map printed_part parts) refused
+Outcome-parts way line text command coming right parts refused are =
+    Outcome-map printed_part coming (AreAskedFor line text)
+    (λ all is. record { request = ForParts way; is = command; right = (all, right all is, refl) }) parts refused are
 
 pub Outcome-replies : {E : Type 0} (calls : List (Call (List ℕ))) (line text : List ℕ) → IsRequest (ForReplies calls) line text
     → (given : List Reply) (refused : Option E) → Outcome (AreReplies calls) given refused

@@ -1,8 +1,12 @@
 -- What the program reads from a command line, and what it prints of an answer.
-use Rattle.std.specs.Prelude.{◌≡◌, ℕ, List, Option, map, codes}
-use Rattle.std.specs.Str.{chars}
+use Rattle.std.specs.Prelude.{◌≡◌, ℕ, List, Option, map, codes, ⊤}
+use Rattle.std.specs.Io.KnownBytes.{Appends}
+use Rattle.std.specs.List.{concat}
+use Rattle.bytes_utils.specs.Outcome.{Outcome}
+use Rattle.bytes_utils_run.specs.Coming.{AreToCome}
 use Rattle.bytes_utils_run.specs.Command.{IsCommand}
 use Rattle.bytes_utils_run.specs.Cutting.{IsAllowed, cutting}
+use Rattle.bytes_utils_run.specs.Moves.{AppendsBeginning}
 use Rattle.bytes_utils_run.specs.Printed.{printed_part, printed_reply}
 use Rattle.bytes_utils_run.specs.declared.program.answer.Answer.{Answer}
 use Rattle.bytes_utils_run.specs.declared.program.answer.Answer.TheVariants.{Parts, Replies}
@@ -15,12 +19,22 @@ abbrev pub IsReadFrom : List ℕ → Command → Type 0
 IsReadFrom line (Cut how) = IsAllowed how × IsCommand (cutting how) line
 IsReadFrom line Buf = line ≡ codes "buf"
 
--- the entries of an answer, each as it's printed
-abbrev pub entries_of : Answer → List (List ℕ)
-entries_of (Parts parts) = map (λ part. printed_part (chars part)) parts.given.items
-entries_of (Replies given refused) = map printed_reply given.items
+-- These entries may come of an answer, each as it's printed, and this may be why there are no more of them: an outcome of the parts that
+-- are to come, or the replies as they are.
+abbrev pub ComesOf : Answer → List (List ℕ) → Option Reason → Type 0
+ComesOf (Parts splitter) given refused = (parts : List (List ℕ)) × (given ≡ map printed_part parts) × Outcome (AreToCome splitter) parts refused
+ComesOf (Replies replies) given refused = (given ≡ map printed_reply replies.given.items) × (refused ≡ replies.refused)
 
--- why there are no more of them, if there should be
-abbrev pub refusal_of : Answer → Option Reason
-refusal_of (Parts parts) = parts.refused
-refusal_of (Replies given refused) = refused
+-- some parts are to come, where an answer gives parts
+abbrev pub HasParts : Answer → Type 0
+HasParts (Parts splitter) = (parts : List (List ℕ)) × AreToCome splitter parts
+HasParts (Replies replies) = ⊤
+
+-- what came of an answer was printed, to a writer that held `held` and holds `held'`, where these are known
+abbrev pub PrintsGiven : Answer → Option Reason → Option (List ℕ) → Option (List ℕ) → Type 0
+PrintsGiven answer refused held held' = (given : List (List ℕ)) × ComesOf answer given refused × Appends held held' (concat given)
+
+-- a beginning of what may come of it was
+abbrev pub PrintsBeginning : Answer → Option (List ℕ) → Option (List ℕ) → Type 0
+PrintsBeginning answer held held' =
+    (given : List (List ℕ)) × (refused : Option Reason) × ComesOf answer given refused × AppendsBeginning held held' (concat given)

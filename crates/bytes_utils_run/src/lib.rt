@@ -6,6 +6,7 @@ mod cut;
 pub mod laws;
 pub mod odd;
 mod program;
+mod splitter;
 
 pub use calls::{Call, ReadCall, Replies, Reply, drive, read_calls};
 pub use cut::{How, Parts, cut_all};

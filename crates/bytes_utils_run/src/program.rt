@@ -1,9 +1,8 @@
 //! The program: it reads a command and a text, and prints what the command makes of the text.
-ghost use Rattle.std.specs.Prelude.{◌≡◌, ◌⊎◌, None, OnOk, IsSome, IfOk, IfErr, IsErrOf, IsUtf8, map, Option};
-ghost use Rattle.std.specs.Io.KnownBytes.{Appends, Keeps};
-ghost use Rattle.std.specs.List.{concat};
-ghost use Rattle.bytes_utils_run.specs.Answer.{entries_of, refusal_of};
-ghost use Rattle.bytes_utils_run.specs.Moves.{AppendsBeginning};
+ghost use Rattle.std.specs.Prelude.{◌≡◌, ◌⊎◌, None, Some, OnOk, OnErr, IfOk, IfErr, IsErrOf, IsOkUnless, IsUtf8};
+ghost use Rattle.std.specs.Io.KnownBytes.{Keeps};
+ghost use Rattle.bytes_utils_buf.specs.declared.refused.Reason.{Reason as WhyRefused};
+ghost use Rattle.bytes_utils_run.specs.Answer.{HasParts, PrintsBeginning, PrintsGiven};
 ghost use Rattle.bytes_utils_run.specs.Run.{FindsNoRequest, FindsNotUtf8, PrintsAll, PrintsFirst, WritesBeginning};
 
 mod answer;
@@ -22,7 +21,7 @@ mod tests;
 use answer::{Answer, answer_to};
 use bytes::Bytes;
 use bytes_utils::{Reason, Str};
-use entry::{Entry, print_all};
+use entry::{print_all, print_parts};
 pub use fault::Fault;
 use input::read_all;
 use output::flush_out;
@@ -45,47 +44,41 @@ fn text_of(input: Vec<u8>) -> Result<Str, Fault>
     }
 }
 
-/// Prints entries and flushes, and tells whether others were refused.
-fn print_given<E: Entry, W: Write>(
-    writer: &mut W,
-    given: &[E],
-    refused: Option<Reason>,
-) -> Result<(), Fault>
-    ensures whole { OnOk result (refused ≡ None) }
-    ensures ok { OnOk result (Appends (W.contents writer.old) (W.contents writer.new)
-        (concat (map E.printed given.now))) }
-    ensures out_of_memory { IsErrOf result Fault.OutOfMemory → IsSome refused
-        × Appends (W.contents writer.old) (W.contents writer.new)
-        (concat (map E.printed given.now)) }
-    ensures io { IsErrOf result Fault.Io
-        → AppendsBeginning (W.contents writer.old) (W.contents writer.new)
-        (concat (map E.printed given.now)) }
+/// Prints what an answer gives, one by one, and tells why there is no more, if there should be.
+fn print_given<W: Write>(writer: &mut W, answer: Answer<'_>) -> Result<Option<Reason>, Fault>
+    requires { HasParts answer }
+    ensures ok { IfOk result (λ refused. PrintsGiven answer.entry refused
+        (W.contents writer.old) (W.contents writer.new)) }
+    ensures err { OnErr result (PrintsBeginning answer.entry
+        (W.contents writer.old) (W.contents writer.new)) }
+    ensures fault { IsOkUnless result Fault.Io }
+{
+    match answer {
+        Answer::Parts(splitter) => print_parts(writer, splitter),
+        Answer::Replies(replies) => {
+            print_all(writer, &replies.given)?;
+            Ok(replies.refused)
+        }
+    }
+}
+
+/// Prints what an answer gives and flushes, and tells whether more was refused.
+fn print_answer<W: Write>(writer: &mut W, answer: Answer<'_>) -> Result<(), Fault>
+    requires { HasParts answer }
+    ensures ok { OnOk result (PrintsGiven answer.entry None
+        (W.contents writer.old) (W.contents writer.new)) }
+    ensures out_of_memory { IsErrOf result Fault.OutOfMemory
+        → (reason : WhyRefused) × PrintsGiven answer.entry (Some reason)
+        (W.contents writer.old) (W.contents writer.new) }
+    ensures io { IsErrOf result Fault.Io → PrintsBeginning answer.entry
+        (W.contents writer.old) (W.contents writer.new) }
     ensures fault { IfErr result (λ fault. (fault ≡ Fault.OutOfMemory) ⊎ (fault ≡ Fault.Io)) }
 {
-    print_all(writer, given)?;
+    let refused = print_given(writer, answer)?;
     flush_out(writer)?;
     match refused {
         None => Ok(()),
         Some(_) => Err(Fault::OutOfMemory),
-    }
-}
-
-/// Prints what was given of an answer and flushes, and tells whether more was refused.
-fn print_answer<W: Write>(writer: &mut W, answer: &Answer) -> Result<(), Fault>
-    ensures whole { OnOk result (refusal_of answer.now ≡ None) }
-    ensures ok { OnOk result (Appends (W.contents writer.old) (W.contents writer.new)
-        (concat (entries_of answer.now))) }
-    ensures out_of_memory { IsErrOf result Fault.OutOfMemory → IsSome (refusal_of answer.now)
-        × Appends (W.contents writer.old) (W.contents writer.new)
-        (concat (entries_of answer.now)) }
-    ensures io { IsErrOf result Fault.Io
-        → AppendsBeginning (W.contents writer.old) (W.contents writer.new)
-        (concat (entries_of answer.now)) }
-    ensures fault { IfErr result (λ fault. (fault ≡ Fault.OutOfMemory) ⊎ (fault ≡ Fault.Io)) }
-{
-    match answer {
-        Answer::Parts(parts) => print_given(writer, &parts.given, parts.refused),
-        Answer::Replies(given, refused) => print_given(writer, given, *refused),
     }
 }
 
@@ -115,5 +108,5 @@ pub fn script<R: Read, W: Write>(alloc: Global, reader: &mut R, writer: &mut W) 
     let input = read_all(alloc, reader)?;
     let text = text_of(input)?;
     let answer = answer_to(alloc, &text)?;
-    print_answer(writer, &answer)
+    print_answer(writer, answer)
 }

@@ -1,9 +1,10 @@
 //! Doing what an input asks for.
-ghost use Rattle.std.specs.Prelude.{◌≡◌, ◌⊎◌, IfOk, IfErr, IsErrOf, IsOkUnless};
+ghost use Rattle.std.specs.Prelude.{◌≡◌, ◌⊎◌, ℕ, List, Option, IfOk, IfErr, IsErrOf, IsOkUnless};
 ghost use Rattle.std.specs.List.{position};
 ghost use Rattle.std.specs.Str.{chars};
 ghost use Rattle.bytes_utils.specs.Outcome.{Outcome};
-ghost use Rattle.bytes_utils_run.specs.Answer.{entries_of, refusal_of};
+ghost use Rattle.bytes_utils_buf.specs.declared.refused.Reason.{Reason as WhyRefused};
+ghost use Rattle.bytes_utils_run.specs.Answer.{ComesOf, HasParts};
 ghost use Rattle.bytes_utils_run.specs.Command.{command_line, text_behind};
 ghost use Rattle.bytes_utils_run.specs.Request.{AreReplies, IsRequest, Request, lacks_memory};
 ghost use Rattle.bytes_utils_run.specs.Run.{AsksFor};
@@ -11,19 +12,19 @@ ghost use Rattle.bytes_utils_run.specs.Run.{AsksFor};
 use crate::program::Fault;
 use crate::program::call_line::calls_of;
 use crate::program::command::{Command, first_line, read_command};
-use crate::{Call, Parts, Replies, Reply, cut_all, drive};
+use crate::splitter::AnySplitter;
+use crate::{Call, Replies, Reply, drive};
 use bytes::Bytes;
 use bytes_utils::{Reason, SegmentedBuf, Str};
 use std::alloc::Global;
 
-/// What came of the work.
+/// What is to be printed.
 #[derive(Drop)]
-pub(super) enum Answer {
-    /// The parts of a text.
-    Parts(Parts<Bytes>),
-    /// The replies to calls before the first for want of memory, and why there are no more, if one
-    /// was.
-    Replies(Vec<Reply>, Option<Reason>),
+pub(super) enum Answer<'l> {
+    /// The parts that a splitter gives.
+    Parts(AnySplitter<'l, Bytes>),
+    /// The replies to calls before the first for want of memory, if one was.
+    Replies(Replies),
 }
 
 /// The place of the first reply for want of memory.
@@ -34,9 +35,9 @@ fn first_lacking_memory(replies: &[Reply]) -> Option<usize>
 }
 
 /// Makes calls on a new buffer, and leaves out the replies from the first for want of memory on.
-fn replies_to(alloc: Global, calls: Vec<Call<Bytes>>) -> Result<(Vec<Reply>, Option<Reason>), Fault>
+fn replies_to(alloc: Global, calls: Vec<Call<Bytes>>) -> Result<Replies, Fault>
     ensures ok { IfOk result
-        (λ replies. Outcome (AreReplies calls.items) replies.0.items replies.1) }
+        (λ replies. Outcome (AreReplies calls.items) replies.given.items replies.refused) }
     ensures fault { IsOkUnless result Fault.OutOfMemory }
 {
     let mut buf = SegmentedBuf::new(alloc);
@@ -47,16 +48,23 @@ fn replies_to(alloc: Global, calls: Vec<Call<Bytes>>) -> Result<(Vec<Reply>, Opt
     match first_lacking_memory(&given) {
         Some(count) => {
             given.truncate(count);
-            Ok((given, Some(Reason::OutOfMemory)))
+            Ok(Replies {
+                given,
+                refused: Some(Reason::OutOfMemory),
+            })
         }
-        None => Ok((given, None)),
+        None => Ok(Replies {
+            given,
+            refused: None,
+        }),
     }
 }
 
-/// Does what the first line of an input asks for with the text behind it.
-pub(super) fn answer_to(alloc: Global, input: &Str) -> Result<Answer, Fault>
-    ensures ok { IfOk result (λ answer. Outcome (AsksFor (chars input.now))
-        (entries_of answer) (refusal_of answer)) }
+/// What the first line of an input asks for with the text behind it.
+pub(super) fn answer_to(alloc: Global, input: &Str) -> Result<Answer<'_>, Fault>
+    ensures ok { IfOk result (λ answer. (given : List (List ℕ)) (refused : Option WhyRefused)
+        → ComesOf answer given refused → Outcome (AsksFor (chars input.now)) given refused) }
+    ensures some { IfOk result HasParts }
     ensures unknown { IsErrOf result Fault.UnknownCommand → (request : Request)
         → ¬ IsRequest request (command_line (chars input.now)) (text_behind (chars input.now)) }
     ensures fault { IfErr result
@@ -70,10 +78,10 @@ pub(super) fn answer_to(alloc: Global, input: &Str) -> Result<Answer, Fault>
         return Err(Fault::OutOfMemory);
     };
     match command {
-        Command::Cut(how) => Ok(Answer::Parts(cut_all(alloc, text, how))),
+        Command::Cut(how) => Ok(Answer::Parts(AnySplitter::new(text, how))),
         Command::Buf => {
-            let (given, refused) = replies_to(alloc, calls_of(alloc, text)?)?;
-            Ok(Answer::Replies(given, refused))
+            let calls = calls_of(alloc, text)?;
+            Ok(Answer::Replies(replies_to(alloc, calls)?))
         }
     }
 }

@@ -1,14 +1,18 @@
 //! What is printed one by one: parts, replies, and the slices in a reply.
-ghost use Rattle.std.specs.Prelude.{ℕ, List, OnOk, OnErr, IsOkUnless, map, length, ◌++◌};
+ghost use Rattle.std.specs.Prelude.{ℕ, List, OnOk, OnErr, IfOk, IsOkUnless, map, length, ◌++◌};
 ghost use Rattle.std.specs.Io.KnownBytes.{Appends};
 ghost use Rattle.std.specs.List.{concat};
 ghost use Rattle.std.specs.Str.{chars};
+ghost use Rattle.bytes_utils.specs.Outcome.{Outcome};
+ghost use Rattle.bytes_utils_run.specs.Coming.{AreToCome};
 ghost use Rattle.bytes_utils_run.specs.Moves.{AppendsBeginning};
 ghost use Rattle.bytes_utils_run.specs.Printed.{printed as printed_bytes, printed_number, printed_part, printed_reply};
 
 use crate::Reply;
 use crate::program::Fault;
 use crate::program::output::{print_bytes, print_number, write_out};
+use crate::splitter::AnySplitter;
+use bytes_utils::Reason;
 use bytes_utils::string::{Storage, StrInner};
 use std::io::Write;
 
@@ -84,4 +88,29 @@ pub(super) fn print_all<E: Entry, W: Write>(writer: &mut W, entries: &[E]) -> Re
         entry.print(writer)?;
     }
     Ok(())
+}
+
+/// Prints the parts that a splitter gives, each as it's cut, and tells why there are no more, if
+/// there should be.
+pub(super) fn print_parts<S: Storage, W: Write>(
+    writer: &mut W,
+    splitter: AnySplitter<'_, S>,
+) -> Result<Option<Reason>, Fault>
+    requires { (parts : List (List ℕ)) × AreToCome splitter parts }
+    ensures ok { IfOk result (λ refused. (parts : List (List ℕ))
+        × Outcome (AreToCome splitter.entry) parts refused
+        × Appends (W.contents writer.old) (W.contents writer.new)
+        (concat (map printed_part parts))) }
+    ensures err { OnErr result ((parts : List (List ℕ)) × AreToCome splitter.entry parts
+        × AppendsBeginning (W.contents writer.old) (W.contents writer.new)
+        (concat (map printed_part parts))) }
+    ensures fault { IsOkUnless result Fault.Io }
+{
+    for item in splitter {
+        match item {
+            Ok(part) => part.print(writer)?,
+            Err(reason) => return Ok(Some(reason)),
+        }
+    }
+    Ok(None)
 }

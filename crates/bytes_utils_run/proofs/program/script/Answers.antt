@@ -1,6 +1,5 @@
 use Rattle.std.proofs.Common.{inr}
 use Rattle.std.specs.Str.{chars}
-use Rattle.bytes_utils_run.specs.Answer.{entries_of, refusal_of}
 use Rattle.bytes_utils_run.specs.Run.{AsksFor}
 use Rattle.bytes_utils_run.proofs.Asked.{begun-asked}
 use Rattle.bytes_utils_run.proofs.program.script.Goals as goal
@@ -9,9 +8,9 @@ use Rattle.bytes_utils_run.proofs.program.script.Goals as goal
 pub returns-clause-io : goal.returns-clause-io
 returns-clause-io g c is =
     let input = c.in_ok-input.input.items in
-    let answer = c.in_ok-answer.answer in
+    let begun = c.print_answer.ensures.io is in
     let asked = rw c.in_ok-text.ensures.ok at c.in_ok-answer.ensures.ok in
-    let all = begun-asked (AsksFor (chars input)) (entries_of answer) (refusal_of answer) asked _ _ (c.print_answer.ensures.io is) in
+    let all = begun-asked (AsksFor (chars input)) begun.0 begun.1 (asked begun.0 begun.1 begun.2) _ _ begun.3 in
     inr (record {
       input = input;
       entries = all.0;

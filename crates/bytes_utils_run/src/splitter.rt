@@ -1,0 +1,84 @@
+//! The splitter of a text by any of the ways to cut.
+ghost use Rattle.std.specs.Prelude.{ℕ, List};
+ghost use Rattle.std.specs.Iterator.{at_most};
+ghost use Rattle.std.specs.Str.{chars};
+ghost use Rattle.bytes_utils.specs.Step.{IsStep};
+ghost use Rattle.bytes_utils_run.specs.Coming.{AreToCome, Cuts, most_to_come};
+ghost use Rattle.bytes_utils_run.specs.Cutting.{ArePartsBy, cutting, IsAllowed};
+
+use crate::How;
+use bytes_utils::Reason;
+use bytes_utils::split::{
+    LinesBytes, RSplitBytes, RSplitNBytes, SplitAsciiWhitespaceBytes, SplitBytes,
+    SplitInclusiveBytes, SplitNBytes, SplitWhitespaceBytes,
+};
+use bytes_utils::string::{Storage, StrInner};
+
+/// The splitter by one of the ways to cut, which gives the parts one by one.
+#[derive(Drop)]
+pub(crate) enum AnySplitter<'s, S: Storage> {
+    /// That of `How::Words`.
+    Words(SplitWhitespaceBytes<S>),
+    /// That of `How::AsciiWords`.
+    AsciiWords(SplitAsciiWhitespaceBytes<S>),
+    /// That of `How::Lines`.
+    Lines(LinesBytes<S>),
+    /// That of `How::Split`.
+    Split(SplitBytes<'s, S>),
+    /// That of `How::SplitN`.
+    SplitN(SplitNBytes<'s, S>),
+    /// That of `How::RSplit`.
+    RSplit(RSplitBytes<'s, S>),
+    /// That of `How::RSplitN`.
+    RSplitN(RSplitNBytes<'s, S>),
+    /// That of `How::Inclusive`.
+    Inclusive(SplitInclusiveBytes<'s, S>),
+}
+
+impl<'s, S: Storage> AnySplitter<'s, S> {
+    /// The splitter of a text by this way to cut.
+    pub(crate) fn new(text: StrInner<S>, how: How<'s>) -> Self
+        requires { IsAllowed how }
+        ensures some { (parts : List (List ℕ)) × AreToCome result parts }
+        ensures right { (parts : List (List ℕ)) → AreToCome result parts
+            → ArePartsBy (cutting how.entry) (chars text) parts }
+    {
+        match how {
+            How::Words => AnySplitter::Words(text.split_whitespace_bytes()),
+            How::AsciiWords => AnySplitter::AsciiWords(text.split_ascii_whitespace_bytes()),
+            How::Lines => AnySplitter::Lines(text.lines_bytes()),
+            How::Split(separator) => AnySplitter::Split(text.split_bytes(separator)),
+            How::SplitN(most, separator) => {
+                AnySplitter::SplitN(text.splitn_bytes(most, separator))
+            }
+            How::RSplit(separator) => AnySplitter::RSplit(text.rsplit_bytes(separator)),
+            How::RSplitN(most, separator) => {
+                AnySplitter::RSplitN(text.rsplitn_bytes(most, separator))
+            }
+            How::Inclusive(separator) => {
+                AnySplitter::Inclusive(text.split_inclusive_bytes(separator))
+            }
+        }
+    }
+}
+
+impl<'s, S: Storage> Iterator for AnySplitter<'s, S> {
+    type Item = Result<StrInner<S>, Reason>;
+
+    ghost next_gives = { IsStep AreToCome Cuts };
+
+    ghost remaining = { λ s. at_most (most_to_come s) };
+
+    fn next(&mut self) -> Option<Self::Item> {
+        match self {
+            AnySplitter::Words(splitter) => splitter.next(),
+            AnySplitter::AsciiWords(splitter) => splitter.next(),
+            AnySplitter::Lines(splitter) => splitter.next(),
+            AnySplitter::Split(splitter) => splitter.next(),
+            AnySplitter::SplitN(splitter) => splitter.next(),
+            AnySplitter::RSplit(splitter) => splitter.next(),
+            AnySplitter::RSplitN(splitter) => splitter.next(),
+            AnySplitter::Inclusive(splitter) => splitter.next(),
+        }
+    }
+}
