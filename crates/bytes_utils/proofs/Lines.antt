@@ -24,10 +24,10 @@ IsWithoutReturn-stripped None all line line_is none = inr (ap (λ z. z.now) (sym
 IsWithoutReturn-stripped (Some x) all line line_is stripped = inl (stripped ∙ ap (λ z. z.now ++ carriage_return ∷ []) (sym line_is))
 
 -- no line feed is among these
-abbrev LacksFeed : List ℕ → Type 0
+abbrev pub LacksFeed : List ℕ → Type 0
 LacksFeed cs = (front back : List ℕ) → cs ≡ front ++ line_feed ∷ back → ⊥
 
-LacksFeed-tail : (c : ℕ) (cs : List ℕ) → LacksFeed (c ∷ cs) → LacksFeed cs
+pub LacksFeed-tail : (c : ℕ) (cs : List ℕ) → LacksFeed (c ∷ cs) → LacksFeed cs
 LacksFeed-tail c cs lacks front back e = lacks (c ∷ front) back (ap (λ z. c ∷ z) e)
 
 not_feed : (c : ℕ) (cs : List ℕ) → LacksFeed (c ∷ cs) → c ≢ 10
@@ -48,7 +48,7 @@ lines-cons c t other (inr no_feed) =
     rw (ne_eqb c 10 other, test) refl
 
 -- without a line feed all is one line
-lines-whole : (c : ℕ) (cs : List ℕ) → LacksFeed (c ∷ cs) → lines (c ∷ cs) ≡ (c ∷ cs) ∷ []
+pub lines-whole : (c : ℕ) (cs : List ℕ) → LacksFeed (c ∷ cs) → lines (c ∷ cs) ≡ (c ∷ cs) ∷ []
 lines-whole c [] lacks = lines-cons c [] (not_feed c [] lacks) (inr refl)
 lines-whole c (d ∷ cs) lacks =
     let others = LacksFeed-tail c (d ∷ cs) lacks in
@@ -56,7 +56,7 @@ lines-whole c (d ∷ cs) lacks =
     ∙ ap (first_led_by c) (lines-whole d cs others)
 
 -- a carriage return in front of the line feed is none of the line
-lines-at_return : (cs t : List ℕ) → LacksFeed cs → lines (cs ++ carriage_return ∷ line_feed ∷ t) ≡ cs ∷ lines t
+pub lines-at_return : (cs t : List ℕ) → LacksFeed cs → lines (cs ++ carriage_return ∷ line_feed ∷ t) ≡ cs ∷ lines t
 lines-at_return [] t lacks = refl
 lines-at_return (c ∷ []) t lacks = lines-cons c (13 ∷ 10 ∷ t) (not_feed c [] lacks) (inr refl)
 lines-at_return (c ∷ d ∷ cs) t lacks =
@@ -65,7 +65,7 @@ lines-at_return (c ∷ d ∷ cs) t lacks =
     ∙ ap (first_led_by c) (lines-at_return (d ∷ cs) t others)
 
 -- any other character in front of it is
-lines-at_feed : (cs t : List ℕ) → LacksFeed cs → ((front : List ℕ) → cs ≡ front ++ carriage_return ∷ [] → ⊥) → lines (cs ++ line_feed ∷ t) ≡ cs ∷ lines t
+pub lines-at_feed : (cs t : List ℕ) → LacksFeed cs → ((front : List ℕ) → cs ≡ front ++ carriage_return ∷ [] → ⊥) → lines (cs ++ line_feed ∷ t) ≡ cs ∷ lines t
 lines-at_feed [] t lacks no_return = refl
 lines-at_feed (c ∷ []) t lacks no_return =
     lines-cons c (10 ∷ t) (not_feed c [] lacks) (inl (λ e. no_return [] (ap (λ z. z ∷ []) e)))

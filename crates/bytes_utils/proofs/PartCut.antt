@@ -35,10 +35,10 @@ module _ (text sep : List ℕ) (text_is : IsUtf8 text) (sep_is : IsUtf8 sep) (at
   pub next_boundary : IsCharBoundary text (at + length sep)
   next_boundary = subst (IsCharBoundary text) (sym next_place) (boundary_at_place text text_is (i + length (chars sep)))
 
-  chars_before : (before : List ℕ) → before ≡ take at text → chars before ≡ take i (chars text)
+  pub chars_before : (before : List ℕ) → before ≡ take at text → chars before ≡ take i (chars text)
   chars_before before is = ap chars (is ∙ ap (λ k. take k text) at_is) ∙ chars-take_place text text_is i
 
-  chars_behind : (behind : List ℕ) → behind ≡ drop (at + length sep) text → chars behind ≡ drop (i + length (chars sep)) (chars text)
+  pub chars_behind : (behind : List ℕ) → behind ≡ drop (at + length sep) text → chars behind ≡ drop (i + length (chars sep)) (chars text)
   chars_behind behind is = ap chars (is ∙ ap (λ k. drop k text) next_place) ∙ chars-drop_place text text_is (i + length (chars sep))
 
   pub behind_shorter : (rest : List ℕ) → 0 < length sep → rest ≡ drop (at + length sep) text → length rest < length text

@@ -21,7 +21,7 @@ AreCharacters-from_scalars (c ∷ cs) all =
 pub AreCharacters-chars : (text : List ℕ) → IsUtf8 text → AreCharacters (chars text)
 AreCharacters-chars text text_is = AreCharacters-from_scalars (chars text) (scalars-chars text text_is)
 
-scalars-part : (xs ys : List ℕ) → scalars (xs ++ ys) ≡ true → (scalars xs ≡ true) × (scalars ys ≡ true)
+pub scalars-part : (xs ys : List ℕ) → scalars (xs ++ ys) ≡ true → (scalars xs ≡ true) × (scalars ys ≡ true)
 scalars-part [] ys all = (refl, all)
 scalars-part (x ∷ xs) ys all =
     let more = scalars-part xs ys (and_parts _ _ all).1 in

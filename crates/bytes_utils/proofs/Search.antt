@@ -21,11 +21,11 @@ module _ (text sep : List ℕ) (text_is : IsUtf8 text) (sep_is : IsUtf8 sep) (so
   long : 0 < length (chars sep)
   long = chars-some sep sep_is some
 
-  law : (k : ℕ) → OccursAt (encodes (chars sep)) (encodes (chars text)) k ↔ ((i : ℕ) × (k ≡ byte_place (chars text) i) × OccursAt (chars sep) (chars text) i)
+  pub law : (k : ℕ) → OccursAt (encodes (chars sep)) (encodes (chars text)) k ↔ ((i : ℕ) × (k ≡ byte_place (chars text) i) × OccursAt (chars sep) (chars text) i)
   law k = boundaries_law (chars sep) (chars text) k long (AreCharacters-chars sep sep_is) (AreCharacters-chars text text_is)
 
   -- an occurrence in bytes is one in characters
-  in_chars : (k : ℕ) → HasNeedleAt text sep k → (i : ℕ) × (k ≡ byte_place (chars text) i) × OccursAt (chars sep) (chars text) i
+  pub in_chars : (k : ℕ) → HasNeedleAt text sep k → (i : ℕ) × (k ≡ byte_place (chars text) i) × OccursAt (chars sep) (chars text) i
   in_chars k here =
       (law k).0 (subst (λ z. OccursAt z (encodes (chars text)) k) (sym (encodes-chars sep sep_is))
       (subst (λ z. OccursAt sep z k) (sym (encodes-chars text text_is)) (OccursAt-part text sep k here)))

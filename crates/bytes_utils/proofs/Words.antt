@@ -12,10 +12,10 @@ use Rattle.bytes_utils.specs.Step.{GivesFirst}
 use Rattle.bytes_utils.proofs.Search.{chars-some}
 
 -- what no character of a text passes, none of its characters passes
-NonePass-chars : (p : ℕ → Bool) (text : List ℕ) → IsUtf8 text → NoCharPasses p text → NonePass p (chars text)
+pub NonePass-chars : (p : ℕ → Bool) (text : List ℕ) → IsUtf8 text → NoCharPasses p text → NonePass p (chars text)
 NonePass-chars p text text_is none = subst (NonePass p) (chars_from_encodes none.0 text text_is none.1) none.2
 
-from_not_false : (b : Bool) → not b ≡ false → b ≡ true
+pub from_not_false : (b : Bool) → not b ≡ false → b ≡ true
 from_not_false true e = refl
 from_not_false false e = cc
 
@@ -25,11 +25,11 @@ module _ (is_space : ℕ → Bool) where
   is_other c = not (is_space c)
 
   -- white space in front is none of a word
-  words-behind_space : (front t : List ℕ) → NonePass is_other front → words is_space (front ++ t) ≡ words is_space t
+  pub words-behind_space : (front t : List ℕ) → NonePass is_other front → words is_space (front ++ t) ≡ words is_space t
   words-behind_space [] t spaces = refl
   words-behind_space (c ∷ front) t spaces = rw (from_not_false (is_space c) spaces.0) (words-behind_space front t spaces.1)
 
-  words-of_space : (cs : List ℕ) → NonePass is_other cs → words is_space cs ≡ []
+  pub words-of_space : (cs : List ℕ) → NonePass is_other cs → words is_space cs ≡ []
   words-of_space [] spaces = refl
   words-of_space (c ∷ cs) spaces = rw (from_not_false (is_space c) spaces.0) (words-of_space cs spaces.1)
 
@@ -38,7 +38,7 @@ module _ (is_space : ℕ → Bool) where
   words-led c t other goes_on = rw (other, goes_on) refl
 
   -- a run without white space, up to the end or to white space, is a word
-  words-run : (run t : List ℕ) → 0 < length run → NonePass is_space run → ends_word is_space t ≡ true → words is_space (run ++ t) ≡ run ∷ words is_space t
+  pub words-run : (run t : List ℕ) → 0 < length run → NonePass is_space run → ends_word is_space t ≡ true → words is_space (run ++ t) ≡ run ∷ words is_space t
   words-run [] t some others ends = absurd (omega arith)
   words-run (c ∷ []) t some others ends = rw (others.0, ends) refl
   words-run (c ∷ d ∷ run) t some others ends =

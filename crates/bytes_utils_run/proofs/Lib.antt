@@ -12,3 +12,11 @@ pub mod Fitting
 pub mod Ample
 pub mod Replying
 pub mod Cases
+pub mod TextBeginnings
+pub mod BorrowedRuns
+pub mod BorrowedCuts
+pub mod BorrowedParts
+pub mod BorrowedLimits
+pub mod BorrowedKeeping
+pub mod BorrowedLines
+pub mod BorrowedWords

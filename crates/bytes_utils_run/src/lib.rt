@@ -1,6 +1,7 @@
 //! Texts cut whole, lists of calls on buffers, and a program that does both.
 #![tactic(auto)]
 
+pub mod borrowed;
 mod calls;
 mod cut;
 pub mod laws;

@@ -1,0 +1,119 @@
+-- What each run of `str::split_inclusive` gives, by a pattern that finds a separator that isn't empty.
+use Rattle.std.proofs.Common.{◌≡◌, refl, sym, ap, subst, ◌∙◌, ℕ, ◌+◌, ◌<◌, List, [], ◌∷◌, ◌++◌, Option, None, Some, MatchOption, length, take, drop, take-append-drop, arith, length-append, length-drop, IsUtf8, eq-or-lt_of_le, ◌⊎◌, inl, inr}
+use Rattle.std.proofs.Math.Seq.{take-length}
+use Rattle.std.proofs.lemmas.List.{length-take-le, take_at, drop_at}
+use Rattle.std.proofs.lemmas.List.Elements.{All-head}
+use Rattle.std.proofs.lemmas.Str.{IsUtf8-nil, IsUtf8-take, IsCharBoundary-from_drop, chars-nil, chars-append}
+use Rattle.std.specs.Str.{chars}
+use Rattle.std.specs.Str.Pattern.{EndsAtFirstMatch}
+use Rattle.std.specs.Str.Iter.{split_inclusive_steps, split_inclusive_text, split_inclusive_pattern}
+use Rattle.std.specs.declared.str.SplitInclusive.{SplitInclusive}
+use Rattle.bytes_utils.specs.Occurrence.{Occurs}
+use Rattle.bytes_utils.specs.Parts.{AreInclusiveParts, EndsAtFirst, join}
+use Rattle.bytes_utils.proofs.Boundaries.{OccursAt-fits}
+use Rattle.bytes_utils.proofs.Inclusive.{AreInclusiveParts-none, AreInclusiveParts-more, AreInclusiveParts-last, ends_whole, has_inclusive_parts}
+use Rattle.bytes_utils.proofs.Search.{chars-some}
+use Rattle.bytes_utils_run.specs.Borrowed.{GivesParts}
+use Rattle.bytes_utils_run.proofs.BorrowedRuns.{GivesParts-from_steps}
+use Rattle.bytes_utils_run.proofs.BorrowedCuts.{FindsCut, First, IsCutAt, Seeks}
+
+-- the empty text has no parts
+no_parts : (p : List ℕ) (parts : List (List ℕ)) → AreInclusiveParts [] p parts → parts ≡ []
+no_parts p [] are = refl
+no_parts p (part ∷ []) are = absurd (omega (arith, ap length are.joined, All-head (λ q. 0 < length q) part [] are.none_empty))
+no_parts p (part ∷ next ∷ parts) are =
+    absurd (omega (arith, ap length are.joined, length-append part ([] ++ join [] (next ∷ parts)), All-head (λ q. 0 < length q) part (next ∷ parts) are.none_empty))
+
+none_to_come : (p text : List ℕ) → length text ≡ 0 → AreInclusiveParts (chars text) p []
+none_to_come p [] none = subst (λ z. AreInclusiveParts z p []) (sym chars-nil) (AreInclusiveParts-none p)
+none_to_come p (b ∷ text) none = absurd (omega (arith, none))
+
+module _ (p : List ℕ) (some : 0 < length p) where
+  -- what is left behind a part is text, and its parts go on from that part
+  abbrev Follows : List ℕ → List ℕ → List ℕ → Type 0
+  Follows text part rest = IsUtf8 rest × ((others : List (List ℕ)) → AreInclusiveParts (chars rest) p others → AreInclusiveParts (chars text) p (chars part ∷ others))
+
+  -- the last part is all
+  Follows-last : (text part rest : List ℕ) → IsUtf8 text → text ≡ part ++ rest → part ≡ text → 0 < length text → EndsAtFirst p (chars text) ⊎ (¬ Occurs p (chars text)) → Follows text part rest
+  Follows-last text part rest text_is whole part_is long ends = empty rest (omega (arith, ap length whole, length-append part rest, ap length part_is))
+    where
+      empty : (r : List ℕ) → length r ≡ 0 → Follows text part r
+      empty [] e = (
+        IsUtf8-nil,
+        λ others are.
+            let none : others ≡ [] = no_parts p others (subst (λ z. AreInclusiveParts z p others) chars-nil are) in
+            rw (part_is, none) (AreInclusiveParts-last p (chars text) (chars-some text text_is long) ends),
+      )
+      empty (b ∷ r) e = absurd (omega (arith, e))
+
+  module _ (text : List ℕ) (text_is : IsUtf8 text) (i j : ℕ) (cut : IsCutAt First p text i j) where
+    -- the characters up to the end of the separator, and those behind it
+    parted : chars text ≡ chars (take j text) ++ chars (drop j text)
+    parted =
+        let boundary = IsCharBoundary-from_drop text j cut.fits cut.behind_is in
+        ap chars (sym (take-append-drop j text)) ∙ chars-append (take j text) (drop j text) (IsUtf8-take text j text_is boundary)
+
+    size_behind : length (chars (drop j text)) + (cut.place + length p) ≡ length (chars text)
+    size_behind =
+        let fits = OccursAt-fits p (chars text) cut.place some cut.found.here in
+        omega (arith, fits, ap length cut.behind, length-drop (cut.place + length p) (chars text))
+
+    through : chars (take j text) ≡ take (cut.place + length p) (chars text)
+    through =
+        let sizes = ap length parted ∙ length-append (chars (take j text)) (chars (drop j text)) in
+        let size : length (chars (take j text)) ≡ cut.place + length p = omega (arith, sizes, size_behind) in
+        sym (ap (take (cut.place + length p)) parted ∙ take_at (chars (take j text)) (chars (drop j text)) (cut.place + length p) size)
+
+    -- a separator at the end of the text ends the last part
+    at_end : j ≡ length text → EndsAtFirst p (chars text)
+    at_end end =
+        let nothing : length (drop j text) ≡ 0 = omega (arith, length-drop j text, end) in
+        ends_whole p (chars text) cut.place cut.found (omega (arith, size_behind, no_characters (drop j text) nothing))
+      where
+        no_characters : (r : List ℕ) → length r ≡ 0 → length (chars r) ≡ 0
+        no_characters [] e = ap length chars-nil
+        no_characters (b ∷ r) e = absurd (omega (arith, e))
+
+    Follows-through : (part rest : List ℕ) → text ≡ part ++ rest → part ≡ take j text → Follows text part rest
+    Follows-through part rest whole part_is = either (eq-or-lt_of_le cut.fits)
+      where
+        either : (j ≡ length text) ⊎ (j < length text) → Follows text part rest
+        either (inl end) =
+            let longer = cut.longer in
+            Follows-last text part rest text_is whole (part_is ∙ ap (λ k. take k text) end ∙ take-length text) (omega (arith, longer, end)) (inl (at_end end))
+        either (inr less) =
+            let size : length part ≡ j = ap length part_is ∙ length-take-le j text cut.fits in
+            let rest_is : rest ≡ drop j text = sym (ap (drop j) whole ∙ drop_at part rest j size) in
+            let long : 0 < length (chars (drop j text)) = chars-some (drop j text) cut.behind_is (omega (arith, length-drop j text, less)) in (
+              subst IsUtf8 (sym rest_is) cut.behind_is,
+              λ others are.
+                  let behind = subst (λ z. AreInclusiveParts z p others) (ap chars rest_is ∙ cut.behind) are in
+                  subst (λ z. AreInclusiveParts (chars text) p (z ∷ others)) (sym (ap chars part_is ∙ through))
+                  (AreInclusiveParts-more p (chars text) cut.place some cut.found (omega (arith, size_behind, long)) others behind),
+            )
+
+  follows : (text part rest : List ℕ) (F : List ℕ → Option (ℕ × ℕ) → Type 0) → ((found : Option (ℕ × ℕ)) → F text found → FindsCut First p text found)
+      → IsUtf8 text → text ≡ part ++ rest → EndsAtFirstMatch F text part → Follows text part rest
+  follows text part rest F cuts text_is whole ends = either ends.0 (cuts ends.0 ends.1) ends.2
+    where
+      either : (found : Option (ℕ × ℕ)) → FindsCut First p text found → MatchOption found ((part ≡ text) × (0 < length text)) (λ q. 0 < q.1 → part ≡ take q.1 text) → Follows text part rest
+      either None nowhere is = Follows-last text part rest text_is whole is.0 is.1 (inr nowhere)
+      either (Some (i, j)) cut is =
+          let longer = cut.longer in
+          Follows-through text text_is i j cut part rest whole (is (omega (arith, longer)))
+
+  module _ {P : Type 0} (finds : P → List ℕ → Option (ℕ × ℕ) → Type 0) (keeps : P → P → Type 0) (is : P → Type 0) where
+    pub split_inclusive-gives : Seeks finds keeps First p is → (s : SplitInclusive P) (text : List ℕ) → split_inclusive_text s ≡ text → IsUtf8 text → is (split_inclusive_pattern s)
+        → GivesParts (split_inclusive_steps finds keeps) s (AreInclusiveParts (chars text) p)
+    split_inclusive-gives seeks s text text_is utf8 pattern_is =
+        subst (λ t. GivesParts (split_inclusive_steps finds keeps) s (AreInclusiveParts (chars t) p)) text_is
+        (GivesParts-from_steps (split_inclusive_steps finds keeps) (λ s. IsUtf8 (split_inclusive_text s) × is (split_inclusive_pattern s))
+        (λ s. AreInclusiveParts (chars (split_inclusive_text s)) p)
+        (λ s s_is. has_inclusive_parts p (chars (split_inclusive_text s)) some)
+        (λ s u s_is step. none_to_come p (split_inclusive_text s) step.1.0)
+        (λ s t x s_is step.
+        let pattern = split_inclusive_pattern s in
+        let text = split_inclusive_text s in
+        let one = follows text x.now (split_inclusive_text t) (finds pattern) (λ found. seeks.cuts pattern text found s_is.1 s_is.0) s_is.0 step.1.0 step.1.1 in
+        ((one.0, seeks.kept pattern (split_inclusive_pattern t) s_is.1 step.0), one.1))
+        s (subst IsUtf8 (sym text_is) utf8, pattern_is))

@@ -1,0 +1,159 @@
+-- What each run of `str::split` and `str::rsplit` gives, by a pattern that finds a separator that isn't empty.
+use Rattle.std.proofs.Common.{◌≡◌, refl, sym, ap, subst, ◌∙◌, ℕ, ◌+◌, ◌<◌, List, [], ◌∷◌, Option, None, Some, Bool, true, false, length, take, drop, arith, Bor, IsUtf8, MatchBool, MatchOption}
+use Rattle.std.specs.Str.{chars}
+use Rattle.std.specs.Str.Pattern.{IsSplitAtFirstMatch, IsSplitAtLastMatch}
+use Rattle.std.specs.Str.Iter.{split_steps, split_text, split_has_more, split_pattern, rsplit_steps, rsplit_text, rsplit_has_more, rsplit_pattern}
+use Rattle.std.specs.declared.str.Split.{Split}
+use Rattle.std.specs.declared.str.RSplit.{RSplit}
+use Rattle.bytes_utils.specs.Occurrence.{Occurs, OccursFirstAt, OccursLastAt}
+use Rattle.bytes_utils.specs.Parts.{ArePartsFromFront, ArePartsFromBack}
+use Rattle.bytes_utils.specs.Splitting.{LeavesMore, one_less}
+use Rattle.bytes_utils.proofs.Forward.{AreForwardParts-more, AreForwardParts-last}
+use Rattle.bytes_utils.proofs.Backward.{AreBackwardParts-more, AreBackwardParts-last}
+use Rattle.bytes_utils.proofs.FromEnds.{positive, positive-less, front-from, front-to, back-from, back-to, has_front, has_back}
+use Rattle.bytes_utils_run.specs.Borrowed.{GivesParts}
+use Rattle.bytes_utils_run.proofs.BorrowedRuns.{GivesParts-from_steps}
+use Rattle.bytes_utils_run.proofs.BorrowedCuts.{FindsCut, First, Last, Seeks}
+
+-- where more is to come, Is says which parts, and else none is
+abbrev pub ToCome : Bool → (List (List ℕ) → Type 0) → List (List ℕ) → Type 0
+ToCome live Is parts = MatchBool live (Is parts) (parts ≡ [])
+
+-- some list is to come where there is one that is right
+pub some_to_come : (live : Bool) (Is : List (List ℕ) → Type 0) → (parts : List (List ℕ)) × Is parts → (parts : List (List ℕ)) × ToCome live Is parts
+some_to_come true Is right = right
+some_to_come false Is right = ([], refl)
+
+-- Are says which lists are the parts of a text by a limit. The text is left where another part comes, and each list of parts that is then
+-- to come goes on from the part.
+pub record Leads (Are : List ℕ → Option ℕ → List (List ℕ) → Type 0) (text part : List ℕ) (live : Bool) (rest : List ℕ) (limit : Option ℕ) : Type 0 where
+  pub left : live ≡ true → IsUtf8 rest
+  pub each : (others : List (List ℕ)) → ToCome live (Are (chars rest) (one_less limit)) others → Are (chars text) limit (chars part ∷ others)
+
+module _ (Are : List ℕ → Option ℕ → List (List ℕ) → Type 0) (text part : List ℕ) (live : Bool) (rest : List ℕ) (limit : Option ℕ) where
+  -- the part is all of the text, and no other comes
+  Leads-last_part : live ≡ false → part ≡ text → Are (chars text) limit (chars text ∷ []) → Leads Are text part live rest limit
+  Leads-last_part ends whole alone = record {
+    left = λ goes_on. let both : true ≡ false = sym goes_on ∙ ends in cc;
+    each = λ others are.
+        let none : others ≡ [] = subst (λ b. ToCome b (Are (chars rest) (one_less limit)) others) ends are in
+        rw (whole, none) alone;
+  }
+
+  Leads-first_part : live ≡ true → IsUtf8 rest → ((others : List (List ℕ)) → Are (chars rest) (one_less limit) others → Are (chars text) limit (chars part ∷ others))
+      → Leads Are text part live rest limit
+  Leads-first_part goes_on rest_is each = record {
+    left = λ _. rest_is;
+    each = λ others are. each others (subst (λ b. ToCome b (Are (chars rest) (one_less limit)) others) goes_on are);
+  }
+
+module _ (p : List ℕ) (some : 0 < length p) where
+  -- the parts by the separator p
+  abbrev pub from_front : List ℕ → Option ℕ → List (List ℕ) → Type 0
+  from_front t limit parts = ArePartsFromFront t p limit parts
+
+  abbrev pub from_back : List ℕ → Option ℕ → List (List ℕ) → Type 0
+  from_back t limit parts = ArePartsFromBack t p limit parts
+
+  module _ (limit : Option ℕ) (more : LeavesMore limit) where
+    front_whole : (t : List ℕ) → (¬ Occurs p t) → from_front t limit (t ∷ [])
+    front_whole t lacks = front-from t p limit (t ∷ []) some (positive limit more) (AreForwardParts-last p t limit (positive limit more) lacks)
+
+    back_whole : (t : List ℕ) → (¬ Occurs p t) → from_back t limit (t ∷ [])
+    back_whole t lacks = back-from t p limit (t ∷ []) some (positive limit more) (AreBackwardParts-last p t limit (positive limit more) lacks)
+
+    front_more : (t : List ℕ) (k : ℕ) → OccursFirstAt p t k → (others : List (List ℕ)) → from_front (drop (k + length p) t) (one_less limit) others → from_front t limit (take k t ∷ others)
+    front_more t k first others are =
+        front-from t p limit (take k t ∷ others) some (positive limit more)
+        (AreForwardParts-more p t k some first limit more others (front-to (drop (k + length p) t) p (one_less limit) others some (positive-less limit more) are))
+
+    back_more : (t : List ℕ) (k : ℕ) → OccursLastAt p t k → (others : List (List ℕ)) → from_back (take k t) (one_less limit) others → from_back t limit (drop (k + length p) t ∷ others)
+    back_more t k last others are =
+        back-from t p limit (drop (k + length p) t ∷ others) some (positive limit more)
+        (AreBackwardParts-more p t k some last limit more others (back-to (take k t) p (one_less limit) others some (positive-less limit more) are))
+
+    module _ (text part : List ℕ) (live : Bool) (rest : List ℕ) where
+      pub Leads-first : (F : List ℕ → Option (ℕ × ℕ) → Type 0) → ((found : Option (ℕ × ℕ)) → F text found → FindsCut First p text found)
+          → IsSplitAtFirstMatch F text part live rest → Leads from_front text part live rest limit
+      Leads-first F cuts cut = either cut.1.0 (cuts cut.1.0 cut.1.1) cut.1.2
+        where
+          either : (found : Option (ℕ × ℕ)) → FindsCut First p text found
+              → MatchOption found ((part ≡ text) × (live ≡ false)) (λ q. 0 < q.1 → (part ≡ take q.0 text) × (live ≡ true) × (rest ≡ drop q.1 text))
+              → Leads from_front text part live rest limit
+          either None nowhere is = Leads-last_part from_front text part live rest limit is.1 is.0 (front_whole (chars text) nowhere)
+          either (Some (i, j)) at is =
+              let longer = at.longer in
+              let cut_is = is (omega (arith, longer)) in
+              let part_chars : chars part ≡ take at.place (chars text) = ap chars cut_is.0 ∙ at.before in
+              let rest_chars : chars rest ≡ drop (at.place + length p) (chars text) = ap chars cut_is.2 ∙ at.behind in
+              Leads-first_part from_front text part live rest limit cut_is.1 (subst IsUtf8 (sym cut_is.2) at.behind_is)
+              (λ others are. subst (λ z. from_front (chars text) limit (z ∷ others)) (sym part_chars)
+              (front_more (chars text) at.place at.found others (subst (λ z. from_front z (one_less limit) others) rest_chars are)))
+
+      pub Leads-last : (F : List ℕ → Option (ℕ × ℕ) → Type 0) → ((found : Option (ℕ × ℕ)) → F text found → FindsCut Last p text found)
+          → IsSplitAtLastMatch F text part live rest → Leads from_back text part live rest limit
+      Leads-last F cuts cut = either cut.1.0 (cuts cut.1.0 cut.1.1) cut.1.2
+        where
+          either : (found : Option (ℕ × ℕ)) → FindsCut Last p text found
+              → MatchOption found ((part ≡ text) × (live ≡ false)) (λ q. q.0 < length text → (part ≡ drop q.1 text) × (live ≡ true) × (rest ≡ take q.0 text))
+              → Leads from_back text part live rest limit
+          either None nowhere is = Leads-last_part from_back text part live rest limit is.1 is.0 (back_whole (chars text) nowhere)
+          either (Some (i, j)) at is =
+              let longer = at.longer in
+              let fits = at.fits in
+              let cut_is = is (omega (arith, longer, fits)) in
+              let part_chars : chars part ≡ drop (at.place + length p) (chars text) = ap chars cut_is.0 ∙ at.behind in
+              let rest_chars : chars rest ≡ take at.place (chars text) = ap chars cut_is.2 ∙ at.before in
+              Leads-first_part from_back text part live rest limit cut_is.1 (subst IsUtf8 (sym cut_is.2) at.before_is)
+              (λ others are. subst (λ z. from_back (chars text) limit (z ∷ others)) (sym part_chars)
+              (back_more (chars text) at.place at.found others (subst (λ z. from_back z (one_less limit) others) rest_chars are)))
+
+-- where more is to come, what is left is text, and `is` holds of the pattern
+abbrev pub IsLeft : {P : Type 0} → (P → Type 0) → Bool → List ℕ → P → Type 0
+IsLeft is live text pattern = live ≡ true → IsUtf8 text × is pattern
+
+-- what is said of the parts to come, at the start, where more is to come
+pub GivesParts-at_start : {S : Type 0} (steps : S → Option (Bor (List ℕ)) → S → Type 0) (s : S) (live : Bool) (Is : List (List ℕ) → Type 0) → live ≡ true
+    → GivesParts steps s (ToCome live Is) → GivesParts steps s Is
+GivesParts-at_start steps s live Is more = subst (λ b. GivesParts steps s (ToCome b Is)) more
+
+module _ {P : Type 0} (finds : P → List ℕ → Option (ℕ × ℕ) → Type 0) (keeps : P → P → Type 0) (p : List ℕ) (some : 0 < length p) (is : P → Type 0) where
+  abbrev split_coming : Split P → List (List ℕ) → Type 0
+  split_coming s = ToCome (split_has_more s) (from_front p some (chars (split_text s)) None)
+
+  pub split-gives : Seeks finds keeps First p is → (s : Split P) → (text : List ℕ) → split_text s ≡ text → split_has_more s ≡ true → IsUtf8 text → is (split_pattern s)
+      → GivesParts (split_steps finds keeps) s (ArePartsFromFront (chars text) p None)
+  split-gives seeks s text text_is more utf8 pattern_is =
+      subst (λ t. GivesParts (split_steps finds keeps) s (ArePartsFromFront (chars t) p None)) text_is
+      (GivesParts-at_start (split_steps finds keeps) s (split_has_more s) (ArePartsFromFront (chars (split_text s)) p None) more
+      (GivesParts-from_steps (split_steps finds keeps) (λ s. IsLeft is (split_has_more s) (split_text s) (split_pattern s)) split_coming
+      (λ s s_is. some_to_come (split_has_more s) (from_front p some (chars (split_text s)) None) (has_front (chars (split_text s)) p None))
+      (λ s u s_is step. subst (λ b. ToCome b (from_front p some (chars (split_text s)) None) []) step.0 refl)
+      (λ s t x s_is step.
+      let left = s_is (sym step.0) in
+      let leads = Leads-first p some None tt (split_text s) x.now (split_has_more t) (split_text t) (finds (split_pattern s))
+      (λ found. seeks.cuts (split_pattern s) (split_text s) found left.1 left.0) step.1.1 in (
+        λ goes_on. (leads.left goes_on, seeks.kept (split_pattern s) (split_pattern t) left.1 step.1.0),
+        λ others are. subst (λ b. ToCome b (from_front p some (chars (split_text s)) None) (chars x.now ∷ others)) step.0 (leads.each others are),
+      ))
+      s (λ _. (subst IsUtf8 (sym text_is) utf8, pattern_is))))
+
+  abbrev rsplit_coming : RSplit P → List (List ℕ) → Type 0
+  rsplit_coming s = ToCome (rsplit_has_more s) (from_back p some (chars (rsplit_text s)) None)
+
+  pub rsplit-gives : Seeks finds keeps Last p is → (s : RSplit P) → (text : List ℕ) → rsplit_text s ≡ text → rsplit_has_more s ≡ true → IsUtf8 text → is (rsplit_pattern s)
+      → GivesParts (rsplit_steps finds keeps) s (ArePartsFromBack (chars text) p None)
+  rsplit-gives seeks s text text_is more utf8 pattern_is =
+      subst (λ t. GivesParts (rsplit_steps finds keeps) s (ArePartsFromBack (chars t) p None)) text_is
+      (GivesParts-at_start (rsplit_steps finds keeps) s (rsplit_has_more s) (ArePartsFromBack (chars (rsplit_text s)) p None) more
+      (GivesParts-from_steps (rsplit_steps finds keeps) (λ s. IsLeft is (rsplit_has_more s) (rsplit_text s) (rsplit_pattern s)) rsplit_coming
+      (λ s s_is. some_to_come (rsplit_has_more s) (from_back p some (chars (rsplit_text s)) None) (has_back (chars (rsplit_text s)) p None))
+      (λ s u s_is step. subst (λ b. ToCome b (from_back p some (chars (rsplit_text s)) None) []) step.0 refl)
+      (λ s t x s_is step.
+      let left = s_is (sym step.0) in
+      let leads = Leads-last p some None tt (rsplit_text s) x.now (rsplit_has_more t) (rsplit_text t) (finds (rsplit_pattern s))
+      (λ found. seeks.cuts (rsplit_pattern s) (rsplit_text s) found left.1 left.0) step.1.1 in (
+        λ goes_on. (leads.left goes_on, seeks.kept (rsplit_pattern s) (rsplit_pattern t) left.1 step.1.0),
+        λ others are. subst (λ b. ToCome b (from_back p some (chars (rsplit_text s)) None) (chars x.now ∷ others)) step.0 (leads.each others are),
+      ))
+      s (λ _. (subst IsUtf8 (sym text_is) utf8, pattern_is))))

@@ -1,0 +1,40 @@
+-- What each run of an iterator over a text gives, from its steps.
+use Rattle.std.proofs.Common.{sym, subst, ℕ, List, [], ◌∷◌, ◌++◌, append-nil, Option, None, Some, Bor}
+use Rattle.std.specs.Iterator.{Yields}
+use Rattle.std.specs.Str.{chars}
+use Rattle.bytes_utils_run.specs.Borrowed.{characters_of, GivesParts}
+
+-- `is s` holds of each state; `coming s parts` says that these parts are to come, and some list of them always is
+module _ {S : Type 0} (steps : S → Option (Bor (List ℕ)) → S → Type 0) (is : S → Type 0) (coming : S → List (List ℕ) → Type 0)
+    (some : (s : S) → is s → (parts : List (List ℕ)) × coming s parts)
+    (last : (s u : S) → is s → steps s None u → coming s [])
+    (first : (s t : S) (x : Bor (List ℕ)) → is s → steps s (Some x) t → is t × ((others : List (List ℕ)) → coming t others → coming s (chars x.now ∷ others))) where
+  -- the items so far, and behind them whatever is then to come
+  along : (s t : S) (items : List (Bor (List ℕ))) → is s → Yields steps s items t
+      → is t × ((others : List (List ℕ)) → coming t others → coming s (characters_of items ++ others))
+  along s t [] s_is run = (subst is run s_is, λ others are. subst (λ z. coming z others) (sym run) are)
+  along s t (x ∷ items) s_is run =
+      let one = first s run.0 x s_is run.1 in
+      let later = along run.0 t items one.0 run.2 in
+      (later.0, λ others are. one.1 _ (later.1 others are))
+
+  pub GivesParts-from_steps : (s : S) → is s → GivesParts steps s (coming s)
+  GivesParts-from_steps s s_is = record {
+    whole = λ items run.
+        let so_far = along s run.1.0 items s_is run.1.1 in
+        subst (coming s) (append-nil (characters_of items)) (so_far.1 [] (last run.1.0 run.0 so_far.0 run.1.2));
+    stopped = λ items t run.
+        let so_far = along s t items s_is run in
+        let more = some t so_far.0 in
+        (more.0, so_far.1 more.0 more.1);
+  }
+
+-- what holds of each list that is right holds of those that are given
+pub GivesParts-map : {S : Type 0} (steps : S → Option (Bor (List ℕ)) → S → Type 0) (s : S) (Is Are : List (List ℕ) → Type 0) → ((parts : List (List ℕ)) → Is parts → Are parts)
+    → GivesParts steps s Is → GivesParts steps s Are
+GivesParts-map steps s Is Are each gives = record {
+  whole = λ items run. each (characters_of items) (gives.whole items run);
+  stopped = λ items t run.
+      let more = gives.stopped items t run in
+      (more.0, each (characters_of items ++ more.0) more.1);
+}

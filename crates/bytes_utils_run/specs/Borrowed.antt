@@ -1,0 +1,39 @@
+-- What std's iterators over a text that lend its parts give, and what the patterns find by which they cut.
+use Rattle.std.specs.Prelude.{◌≡◌, ℕ, List, ◌++◌, map, Bool, Option}
+use denote.Ref.{Bor}
+use Rattle.std.specs.Iterator.{Yields, Drains}
+use Rattle.std.specs.Str.{chars}
+use Rattle.std.specs.Str.Pattern.{FindsText, RFindsText, FindsBy}
+
+-- each of these texts as its characters
+abbrev pub characters_of : List (Bor (List ℕ)) → List (List ℕ)
+characters_of = map (λ text. chars text.now)
+
+-- `steps` says what a call of `next` does, and Is which lists of parts are right. From the state s, a run to its end gives a list that is
+-- right, and a run that is stopped before gives a beginning of one.
+pub record GivesParts {S : Type 0} (steps : S → Option (Bor (List ℕ)) → S → Type 0) (s : S) (Is : List (List ℕ) → Type 0) : Type 0 where
+  pub whole : (items : List (Bor (List ℕ))) → Drains steps s items → Is (characters_of items)
+  pub stopped : (items : List (Bor (List ℕ))) (t : S) → Yields steps s items t → (others : List (List ℕ)) × Is (characters_of items ++ others)
+
+-- what a text as a pattern finds, from the front and from the back, and what a search leaves of it
+abbrev pub finds_text : Bor (List ℕ) → List ℕ → Option (ℕ × ℕ) → Type 0
+finds_text pattern = FindsText pattern.now
+
+abbrev pub rfinds_text : Bor (List ℕ) → List ℕ → Option (ℕ × ℕ) → Type 0
+rfinds_text pattern = RFindsText pattern.now
+
+abbrev pub keeps_text : Bor (List ℕ) → Bor (List ℕ) → Type 0
+keeps_text pattern after = after.now ≡ pattern.now
+
+-- and what a character leaves of itself
+abbrev pub keeps_character : ℕ → ℕ → Type 0
+keeps_character pattern after = after ≡ pattern
+
+-- `answers f passes` says that each call of the closure f from now on answers by the test `passes`. What a closure as a pattern finds, and
+-- what a search leaves of it
+module _ {F : Type 0} (answers : F → (ℕ → Bool) → Type 0) where
+  abbrev pub finds_tested : F → List ℕ → Option (ℕ × ℕ) → Type 0
+  finds_tested f text found = (passes : ℕ → Bool) → answers f passes → FindsBy passes text found
+
+  abbrev pub keeps_tested : F → F → Type 0
+  keeps_tested f after = (passes : ℕ → Bool) → answers f passes → answers after passes

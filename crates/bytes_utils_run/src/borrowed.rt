@@ -1,0 +1,112 @@
+//! The methods of `str` that lend their parts, and what each of their runs gives.
+//!
+//! Each function is the method of the same name of `str`, and answers the very iterator of that
+//! method. What it adds is its contract: the parts that the iterator gives, in order, are those that
+//! are right for the way to cut, by the definitions that `cut_all` keeps to too. A run that is
+//! stopped before its end gives a beginning of them.
+//!
+//! A separator isn't empty here: what std says of the empty one admits other parts too.
+ghost use Rattle.std.specs.Prelude.{◌≡◌, ◌<◌, ◌==◌, ℕ, Bool, [], ◌∷◌, None, Some, length};
+ghost use Rattle.std.specs.Fn.{AlwaysReturns};
+ghost use Rattle.std.specs.Str.{chars};
+ghost use Rattle.std.specs.Str.Iter.{lines_steps, split_whitespace_steps};
+ghost use Rattle.std.specs.Str.Iter.{split_ascii_whitespace_steps, split_inclusive_steps};
+ghost use Rattle.std.specs.Str.Iter.{split_steps, splitn_steps, rsplit_steps, rsplitn_steps};
+ghost use Rattle.std.specs.Str.Pattern.{FindsChar};
+ghost use Rattle.bytes_utils_run.specs.Borrowed.{GivesParts, finds_text, rfinds_text, keeps_text};
+ghost use Rattle.bytes_utils_run.specs.Borrowed.{keeps_character, finds_tested, keeps_tested};
+ghost use Rattle.bytes_utils_run.specs.Cutting.{ArePartsBy, ByWords, ByAsciiWords, ByLines};
+ghost use Rattle.bytes_utils_run.specs.Cutting.{FromFront, FromBack, Keeping};
+
+use std::str::{
+    Lines, RSplit, RSplitN, Split, SplitAsciiWhitespace, SplitInclusive, SplitN, SplitWhitespace,
+};
+
+/// The words of a text between characters with Unicode's property White_Space.
+pub fn split_whitespace(text: &str) -> SplitWhitespace<'_>
+    ensures { GivesParts split_whitespace_steps result (ArePartsBy ByWords (chars text.now)) }
+{
+    text.split_whitespace()
+}
+
+/// The words of a text between ASCII white space.
+pub fn split_ascii_whitespace(text: &str) -> SplitAsciiWhitespace<'_>
+    ensures { GivesParts split_ascii_whitespace_steps result
+        (ArePartsBy ByAsciiWords (chars text.now)) }
+{
+    text.split_ascii_whitespace()
+}
+
+/// The lines of a text.
+pub fn lines(text: &str) -> Lines<'_>
+    ensures { GivesParts lines_steps result (ArePartsBy ByLines (chars text.now)) }
+{
+    text.lines()
+}
+
+/// The parts of a text between separators.
+pub fn split<'t, 's>(text: &'t str, separator: &'s str) -> Split<'t, &'s str>
+    requires { 0 < length separator.now }
+    ensures { GivesParts (split_steps finds_text keeps_text) result
+        (ArePartsBy (FromFront (chars separator.now) None) (chars text.now)) }
+{
+    text.split(separator)
+}
+
+/// The parts of a text between separators, at most so many, the last uncut.
+pub fn splitn<'t, 's>(text: &'t str, most: usize, separator: &'s str) -> SplitN<'t, &'s str>
+    requires { 0 < length separator.now }
+    ensures { GivesParts (splitn_steps finds_text keeps_text) result
+        (ArePartsBy (FromFront (chars separator.now) (Some most)) (chars text.now)) }
+{
+    text.splitn(most, separator)
+}
+
+/// The parts of a text between separators, from the back.
+pub fn rsplit<'t, 's>(text: &'t str, separator: &'s str) -> RSplit<'t, &'s str>
+    requires { 0 < length separator.now }
+    ensures { GivesParts (rsplit_steps rfinds_text keeps_text) result
+        (ArePartsBy (FromBack (chars separator.now) None) (chars text.now)) }
+{
+    text.rsplit(separator)
+}
+
+/// The parts of a text between separators, from the back, at most so many, the last uncut.
+pub fn rsplitn<'t, 's>(text: &'t str, most: usize, separator: &'s str) -> RSplitN<'t, &'s str>
+    requires { 0 < length separator.now }
+    ensures { GivesParts (rsplitn_steps rfinds_text keeps_text) result
+        (ArePartsBy (FromBack (chars separator.now) (Some most)) (chars text.now)) }
+{
+    text.rsplitn(most, separator)
+}
+
+/// The parts of a text, each with the separator that ends it.
+pub fn split_inclusive<'t, 's>(text: &'t str, separator: &'s str) -> SplitInclusive<'t, &'s str>
+    requires { 0 < length separator.now }
+    ensures { GivesParts (split_inclusive_steps finds_text keeps_text) result
+        (ArePartsBy (Keeping (chars separator.now)) (chars text.now)) }
+{
+    text.split_inclusive(separator)
+}
+
+/// The parts of a text between the characters that are the separator, as by the text of that one
+/// character.
+pub fn split_character(text: &str, separator: char) -> Split<'_, char>
+    ensures { GivesParts (split_steps FindsChar keeps_character) result
+        (ArePartsBy (FromFront (separator ∷ []) None) (chars text.now)) }
+{
+    text.split(separator)
+}
+
+/// The parts of a text between the characters at which a closure answers true. Where that is at one
+/// character alone, they are the parts by the text of that one character.
+pub fn split_tested<F: FnMut(char) -> bool>(text: &str, is_separator: F) -> Split<'_, F>
+    requires { F.IsAlwaysCallable is_separator }
+    ensures { (separator : ℕ) → AlwaysReturns F.FnMut (λ a r. r ≡ (a.0 == separator)) is_separator
+        → GivesParts (split_steps
+        (finds_tested (λ f passes. AlwaysReturns F.FnMut (λ a r. r ≡ passes a.0) f))
+        (keeps_tested (λ f passes. AlwaysReturns F.FnMut (λ a r. r ≡ passes a.0) f))) result
+        (ArePartsBy (FromFront (separator ∷ []) None) (chars text.now)) }
+{
+    text.split(is_separator)
+}
