@@ -1,15 +1,18 @@
 //! Worked cases of runs, each reply, and that calls succeed.
+mod memory;
+mod odd_buffers;
+
 use super::{Call, ReadCall, Replies, Reply, drive, read_calls};
 use crate::odd::Zeros;
 use bytes::{Buf, Bytes};
 use bytes_utils::parts::BufParts;
-use bytes_utils::{Reason, SegmentedBuf, SegmentedSlice};
-use std::alloc::Global;
+use bytes_utils::{SegmentedBuf, SegmentedSlice};
+use std::alloc::{AllocError, Global};
 use std::process::Abort;
 use std::test::Fail;
 
 /// A reply as a test writes it.
-#[derive(Clone, Copy, Debug)]
+#[derive(Clone, Copy)]
 enum Want {
     Done,
     PastEnd,
@@ -30,242 +33,199 @@ fn are_slices(slices: &[Vec<u8>], texts: &[&str]) -> bool {
             .all(|(slice, text)| slice.as_slice() == text.as_bytes())
 }
 
-fn is_wanted(reply: &Reply, want: &Want) -> bool {
-    match (reply, want) {
-        (Reply::Done, Want::Done) => true,
-        (Reply::PastEnd, Want::PastEnd) => true,
-        (Reply::TooLong, Want::TooLong) => true,
-        (Reply::NoMemory, Want::NoMemory) => true,
-        (Reply::CopyStopped(taken), Want::CopyStopped(number)) => taken == number,
-        (Reply::Number(count), Want::Number(number)) => count == number,
-        (Reply::Piece(piece), Want::Piece(text)) => piece.as_slice() == text.as_bytes(),
-        (Reply::Shown(chunk), Want::Shown(text)) => chunk.as_slice() == text.as_bytes(),
-        (Reply::Slices(slices), Want::Slices(texts)) => are_slices(slices, texts),
-        _ => false,
+impl Want {
+    fn is(&self, reply: &Reply) -> bool {
+        match self {
+            Want::Done => matches!(reply, Reply::Done),
+            Want::PastEnd => matches!(reply, Reply::PastEnd),
+            Want::TooLong => matches!(reply, Reply::TooLong),
+            Want::NoMemory => matches!(reply, Reply::NoMemory),
+            Want::CopyStopped(number) => {
+                matches!(reply, Reply::CopyStopped(taken) if taken == number)
+            }
+            Want::Number(number) => matches!(reply, Reply::Number(count) if count == number),
+            Want::Piece(text) => {
+                matches!(reply, Reply::Piece(piece) if piece.as_slice() == text.as_bytes())
+            }
+            Want::Shown(text) => {
+                matches!(reply, Reply::Shown(chunk) if chunk.as_slice() == text.as_bytes())
+            }
+            Want::Slices(texts) => {
+                matches!(reply, Reply::Slices(slices) if are_slices(slices, texts))
+            }
+        }
     }
 }
 
-fn assert_replies(rt: &impl Abort, replies: &Replies, wanted: &[Want]) {
-    assert_eq!(rt; replies.refused, None);
-    assert_eq!(rt; replies.given.len(), wanted.len());
-    for (reply, want) in replies.given.iter().zip(wanted) {
-        assert!(rt; is_wanted(reply, want), "{reply:?} for {want:?}");
+/// A read, and the reply that it has.
+type Row = (ReadCall, Want);
+
+fn reads(alloc: Global, rows: &[Row]) -> Result<Vec<ReadCall>, AllocError> {
+    rows.iter().map(|row| row.0).collect(alloc)
+}
+
+fn assert_replies(rt: &impl Abort, replies: &Replies, rows: &[Row]) {
+    assert!(rt; replies.refused.is_none() && replies.given.len() == rows.len());
+    for (reply, (call, want)) in replies.given.iter().zip(rows) {
+        assert!(rt; want.is(reply), "{call:?}: {reply:?}");
     }
 }
 
-fn four(alloc: Global) -> Result<SegmentedBuf<Bytes>, Fail> {
-    let mut bufs = Vec::new(alloc);
-    for text in ["Hello", " ", "", "World"] {
-        bufs.push(Bytes::from_static(text.as_bytes()))?;
-    }
-    Ok(SegmentedBuf::from_vec(alloc, bufs)?)
-}
-
-fn push(text: &'static str) -> Call<Bytes> {
-    Call::Push(Bytes::from_static(text.as_bytes()))
-}
-
-// Any buffer, through its bound alone.
-fn replies_of<B: BufParts>(
+/// Asserts the replies of any buffer, through its bound alone.
+fn assert_reads<B: BufParts>(
+    rt: &impl Abort,
     alloc: Global,
     buf: &mut B,
-    calls: &[ReadCall],
-) -> Result<Replies, Fail> {
-    Ok(read_calls(alloc, buf, calls.to_vec(alloc)?))
+    rows: &[Row],
+) -> Result<(), Fail> {
+    let replies = read_calls(alloc, buf, reads(alloc, rows)?);
+    assert_replies(rt, &replies, rows);
+    Ok(())
+}
+
+/// A call on four buffers, and the reply that it has.
+enum Step {
+    Push(&'static str),
+    Segments,
+    Read(ReadCall),
+}
+
+fn call_of(step: &Step) -> Call<Bytes> {
+    match step {
+        Step::Push(text) => Call::Push(Bytes::from_static(text.as_bytes())),
+        Step::Segments => Call::Segments,
+        Step::Read(call) => Call::Read(*call),
+    }
+}
+
+/// Asserts the replies to calls on a buffer that holds its bytes.
+fn assert_drives(
+    rt: &impl Abort,
+    alloc: Global,
+    buf: &mut SegmentedBuf<Bytes>,
+    rows: &[(Step, Want)],
+) -> Result<(), Fail> {
+    let calls: Vec<Call<Bytes>> = rows.iter().map(|row| call_of(&row.0)).collect(alloc)?;
+    let replies = drive(alloc, buf, calls);
+    assert!(rt; replies.refused.is_none() && replies.given.len() == rows.len());
+    for (reply, (_, want)) in replies.given.iter().zip(rows) {
+        assert!(rt; want.is(reply), "{reply:?}");
+    }
+    Ok(())
 }
 
 #[test]
 fn pushes_and_reads(rt: HostRuntime) -> Result<(), Fail> {
     let mut buf = SegmentedBuf::new(rt.alloc());
-    let calls = vec![in rt.alloc();
-        push("Hello"),
-        push(" "),
-        push(""),
-        push("World"),
-        Call::Read(ReadCall::CopyOut(8)),
-        Call::Segments,
-        Call::Read(ReadCall::Chunk),
-        Call::Read(ReadCall::Advance(9)),
-        Call::Read(ReadCall::Chunks(3)),
-        Call::Read(ReadCall::CopyOut(4)),
-        Call::Read(ReadCall::Remaining),
-        Call::Read(ReadCall::Advance(3)),
-        Call::Read(ReadCall::Chunks(usize::MAX)),
-        Call::Segments,
-    ]?;
-    let replies = drive(rt.alloc(), &mut buf, calls);
-    assert_replies(
+    assert_drives(
         &rt,
-        &replies,
+        rt.alloc(),
+        &mut buf,
         &[
-            Want::Done,
-            Want::Done,
-            Want::Done,
-            Want::Done,
-            Want::Piece("Hello Wo"),
-            Want::Number(1),
-            Want::Shown("rld"),
-            Want::PastEnd,
-            Want::Slices(&["rld"]),
-            Want::PastEnd,
-            Want::Number(3),
-            Want::Done,
-            Want::Slices(&[]),
-            Want::Number(0),
+            (Step::Push("Hello"), Want::Done),
+            (Step::Push(" "), Want::Done),
+            (Step::Push(""), Want::Done),
+            (Step::Push("World"), Want::Done),
+            (Step::Read(ReadCall::CopyOut(8)), Want::Piece("Hello Wo")),
+            (Step::Segments, Want::Number(1)),
+            (Step::Read(ReadCall::Chunk), Want::Shown("rld")),
+            (Step::Read(ReadCall::Advance(9)), Want::PastEnd),
+            (Step::Read(ReadCall::Chunks(3)), Want::Slices(&["rld"])),
+            (Step::Read(ReadCall::CopyOut(4)), Want::PastEnd),
+            (Step::Read(ReadCall::Remaining), Want::Number(3)),
+            (Step::Read(ReadCall::Advance(3)), Want::Done),
+            (Step::Read(ReadCall::Chunks(usize::MAX)), Want::Slices(&[])),
+            (Step::Segments, Want::Number(0)),
         ],
-    );
+    )?;
     assert_eq!(rt; buf.remaining(), 0);
     Ok(())
+}
+
+/// The buffer of as many bytes as there may be, held alone.
+fn longest(alloc: Global) -> Result<SegmentedBuf<Zeros>, Fail> {
+    Ok(SegmentedBuf::from_vec(alloc, vec![in alloc; Zeros::new(usize::MAX)]?)?)
 }
 
 // The third part of the conversions that pass `usize`.
 #[test]
 fn pushed_past_the_greatest_length(rt: HostRuntime) -> Result<(), Fail> {
-    let mut buf = SegmentedBuf::from_vec(rt.alloc(), vec![in rt.alloc(); Zeros::new(usize::MAX)]?)?;
+    let mut buf = longest(rt.alloc())?;
     let calls = vec![in rt.alloc(); Call::Push(Zeros::new(1)), Call::Segments]?;
     let replies = drive(rt.alloc(), &mut buf, calls);
-    assert_replies(&rt, &replies, &[Want::TooLong, Want::Number(1)]);
-    assert_eq!(rt; buf.remaining(), usize::MAX);
+    assert!(rt; replies.refused.is_none() && buf.remaining() == usize::MAX);
+    assert!(rt; matches!(replies.given.as_slice(), [Reply::TooLong, Reply::Number(1)]));
     Ok(())
 }
 
+/// What is answered where no allocation is that long.
+const TOO_MUCH: &[Row] = &[
+    (ReadCall::CopyOut(usize::MAX), Want::CopyStopped(0)),
+    (ReadCall::Chunks(usize::MAX), Want::NoMemory),
+    (ReadCall::Remaining, Want::Number(usize::MAX)),
+];
+
 #[test]
 fn no_allocation_is_that_long(rt: HostRuntime) -> Result<(), Fail> {
-    let reads = [
-        ReadCall::CopyOut(usize::MAX),
-        ReadCall::Chunks(usize::MAX),
-        ReadCall::Remaining,
-    ];
-    let wanted = [
-        Want::CopyStopped(0),
-        Want::NoMemory,
-        Want::Number(usize::MAX),
-    ];
-    let mut zeros = Zeros::new(usize::MAX);
-    assert_replies(&rt, &replies_of(rt.alloc(), &mut zeros, &reads)?, &wanted);
+    assert_reads(&rt, rt.alloc(), &mut Zeros::new(usize::MAX), TOO_MUCH)
+}
 
-    let mut buf = SegmentedBuf::from_vec(rt.alloc(), vec![in rt.alloc(); zeros]?)?;
-    let mut calls = Vec::new(rt.alloc());
-    for read in reads {
-        calls.push(Call::Read(read))?;
-    }
-    assert_replies(&rt, &drive(rt.alloc(), &mut buf, calls), &wanted);
+#[test]
+fn no_allocation_is_that_long_of_held_buffers(rt: HostRuntime) -> Result<(), Fail> {
+    let calls = reads(rt.alloc(), TOO_MUCH)?;
+    let calls: Vec<Call<Zeros>> = calls.into_iter().map(Call::Read).collect(rt.alloc())?;
+    let replies = drive(rt.alloc(), &mut longest(rt.alloc())?, calls);
+    assert_replies(&rt, &replies, TOO_MUCH);
     Ok(())
+}
+
+/// The buffer that holds four, if there is memory for it.
+fn four(alloc: Global) -> Option<SegmentedBuf<Bytes>> {
+    let mut bufs = Vec::new(alloc);
+    for text in &["Hello", " ", "", "World"] {
+        bufs.push(Bytes::from_static(text.as_bytes())).ok()?;
+    }
+    SegmentedBuf::from_vec(alloc, bufs).ok()
 }
 
 #[test]
 fn reads_nested_buffers(rt: HostRuntime) -> Result<(), Fail> {
-    let mut bufs = vec![in rt.alloc(); four(rt.alloc())?, four(rt.alloc())?]?;
+    let mut bufs = Vec::new(rt.alloc());
+    for _ in 0..2 {
+        bufs.push(four(rt.alloc()).ok_or("out of memory")?)?;
+    }
     assert!(rt; SegmentedSlice::total(&bufs).is_some());
-    let mut all = SegmentedSlice::new(&mut bufs);
-    let calls = [
-        ReadCall::Remaining,
-        ReadCall::CopyOut(12),
-        ReadCall::Chunk,
-        ReadCall::Advance(11),
-        ReadCall::Advance(10),
-        ReadCall::Chunk,
-        ReadCall::Remaining,
-    ];
-    let replies = replies_of(rt.alloc(), &mut all, &calls)?;
-    assert_replies(
+    assert_reads(
         &rt,
-        &replies,
+        rt.alloc(),
+        &mut SegmentedSlice::new(&mut bufs),
         &[
-            Want::Number(22),
-            Want::Piece("Hello WorldH"),
-            Want::Shown("ello"),
-            Want::PastEnd,
-            Want::Done,
-            Want::Shown(""),
-            Want::Number(0),
+            (ReadCall::Remaining, Want::Number(22)),
+            (ReadCall::CopyOut(12), Want::Piece("Hello WorldH")),
+            (ReadCall::Chunk, Want::Shown("ello")),
+            (ReadCall::Advance(11), Want::PastEnd),
+            (ReadCall::Advance(10), Want::Done),
+            (ReadCall::Chunk, Want::Shown("")),
+            (ReadCall::Remaining, Want::Number(0)),
         ],
-    );
-    Ok(())
+    )
 }
 
 #[test]
 fn reads_plain_bytes(rt: HostRuntime) -> Result<(), Fail> {
     let mut bytes: &[u8] = b"Hello";
-    let calls = [
-        ReadCall::Chunks(0),
-        ReadCall::Chunks(2),
-        ReadCall::CopyOut(6),
-        ReadCall::CopyOut(5),
-        ReadCall::CopyOut(0),
-        ReadCall::Chunks(1),
-    ];
-    let replies = replies_of(rt.alloc(), &mut bytes, &calls)?;
-    assert_replies(
+    assert_reads(
         &rt,
-        &replies,
+        rt.alloc(),
+        &mut bytes,
         &[
-            Want::Slices(&[]),
-            Want::Slices(&["Hello"]),
-            Want::PastEnd,
-            Want::Piece("Hello"),
-            Want::Piece(""),
-            Want::Slices(&[]),
+            (ReadCall::Chunks(0), Want::Slices(&[])),
+            (ReadCall::Chunks(2), Want::Slices(&["Hello"])),
+            (ReadCall::CopyOut(6), Want::PastEnd),
+            (ReadCall::CopyOut(5), Want::Piece("Hello")),
+            (ReadCall::CopyOut(0), Want::Piece("")),
+            (ReadCall::Chunks(1), Want::Slices(&[])),
         ],
-    );
-    assert_replies(&rt, &replies_of(rt.alloc(), &mut bytes, &[])?, &[]);
-    Ok(())
-}
-
-// Each request for memory is refused in turn by `rt try --test --fail-alloc N`. What stands then is
-// what the replies say.
-#[test]
-fn refused_memory(rt: HostRuntime) -> Result<(), Fail> {
-    let mut buf = SegmentedBuf::new(rt.alloc());
-    let calls = vec![in rt.alloc();
-        push("Hello"),
-        push(" World"),
-        Call::Read(ReadCall::CopyOut(8)),
-        Call::Read(ReadCall::Chunk),
-        Call::Read(ReadCall::Chunks(3)),
-        Call::Read(ReadCall::Remaining),
-    ];
-    let Ok(calls) = calls else {
-        return Ok(());
-    };
-    let replies = drive(rt.alloc(), &mut buf, calls);
-    if replies.given.is_empty() {
-        assert_eq!(rt; replies.refused, Some(Reason::OutOfMemory));
-        assert_eq!(rt; buf.segments(), 0);
-        return Ok(());
-    }
-    assert_eq!(rt; replies.refused, None);
-    assert_eq!(rt; replies.given.len(), 6);
-    assert!(rt; is_wanted(&replies.given[5], &Want::Number(buf.remaining())));
-    Ok(())
-}
-
-#[test]
-fn reads_with_refused_memory(rt: HostRuntime) {
-    let mut bufs = [Bytes::from_static(b"Hello"), Bytes::from_static(b" World")];
-    assert!(rt; SegmentedSlice::total(&bufs).is_some());
-    let mut all = SegmentedSlice::new(&mut bufs);
-    let calls = [
-        ReadCall::CopyOut(8),
-        ReadCall::Chunk,
-        ReadCall::Chunks(3),
-        ReadCall::Remaining,
-    ];
-    let Ok(calls) = calls.to_vec(rt.alloc()) else {
-        return;
-    };
-    let replies = read_calls(rt.alloc(), &mut all, calls);
-    if replies.given.is_empty() {
-        assert_eq!(rt; replies.refused, Some(Reason::OutOfMemory));
-        assert_eq!(rt; all.remaining(), 11);
-        return;
-    }
-    assert_eq!(rt; replies.refused, None);
-    assert_eq!(rt; replies.given.len(), 4);
-    let taken = match replies.given[0] {
-        Reply::CopyStopped(taken) => taken,
-        _ => 8,
-    };
-    assert_eq!(rt; all.remaining(), 11_usize.saturating_sub(taken));
-    assert!(rt; is_wanted(&replies.given[3], &Want::Number(all.remaining())));
+    )?;
+    assert_reads(&rt, rt.alloc(), &mut bytes, &[])
 }

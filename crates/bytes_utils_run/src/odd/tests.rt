@@ -1,6 +1,5 @@
-//! What no clause says of the odd parts: that calls succeed, worked cases, what is counted, and what
-//! the splitters give over a storage that refuses.
-mod buffers;
+//! What no clause says of the odd parts: that calls succeed, worked cases, and what is counted.
+mod counts;
+mod memory;
 mod storages;
-mod sweep;
 mod walks;

@@ -1,96 +1,91 @@
-//! What is given where a request for memory is refused. With ample memory none is:
-//! `rt try --test --fail-alloc N` refuses each test's Nth request, and no other.
+//! What is given where a request for memory is refused. With ample memory none is: a run that
+//! refuses one prints a line for it.
 ghost use Rattle.bytes_utils_run.specs.Cutting.{IsAllowed};
 
-use crate::cut::{How, Parts, cut_all};
-use bytes_utils::string::Storage;
+use super::{Row, begins, gave, is_allowed};
+use crate::{How, Parts, cut_all};
+use bytes_utils::string::{Storage, StrInner};
 use bytes_utils::{Reason, Str, StrMut};
 use std::alloc::Global;
 use std::process::Abort;
+use std::test::Fail;
 
-/// Whether all of these parts were given, or the first of them and a refusal.
-fn is_beginning<S: Storage>(parts: &Parts<S>, wanted: &[&str]) -> bool {
-    let is_told = match parts.refused {
-        None => parts.given.len() == wanted.len(),
-        Some(reason) => reason == Reason::OutOfMemory && parts.given.len() < wanted.len(),
-    };
-    is_told
-        && parts
-            .given
-            .iter()
-            .zip(wanted)
-            .all(|(part, want)| part.as_str() == *want)
+/// Whether a request was refused. Then the parts are a beginning of these that isn't the whole,
+/// else they are these.
+fn is_refused<S: Storage>(rt: &impl Abort, parts: &Parts<S>, wanted: &[&str]) -> bool {
+    if parts.refused.is_none() {
+        assert!(rt; gave(parts, wanted), "{wanted:?}");
+        return false;
+    }
+    assert!(rt; parts.refused == Some(Reason::OutOfMemory), "{wanted:?}");
+    assert!(rt;
+        begins(parts, wanted) && parts.given.len() < wanted.len(),
+        "{wanted:?}"
+    );
+    true
 }
 
-/// Asserts that a text over either storage is cut into these parts, or into the first of them. A
-/// text that can't be made isn't cut.
-fn assert_cuts(rt: &impl Abort, alloc: Global, text: &str, how: How<'_>, wanted: &[&str])
+/// Cuts a text, and asserts what is given. Where a request was refused it tells of it, and asserts
+/// that the same text is then cut whole.
+fn assert_cut<S: Storage>(
+    rt: &(impl Abort + Print),
+    alloc: Global,
+    text: StrInner<S>,
+    again: StrInner<S>,
+    how: How<'_>,
+    wanted: &[&str],
+) -> Result<(), Fail>
     requires { IsAllowed how }
 {
-    if let Ok(shared) = Str::from_str(alloc, text) {
-        assert!(rt;
-            is_beginning(&cut_all(alloc, shared, how), wanted),
-            "{text:?}"
-        );
+    if is_refused(rt, &cut_all(alloc, text, how), wanted) {
+        println!(rt; "refused cut_all")?;
+        assert!(rt; gave(&cut_all(alloc, again, how), wanted), "{wanted:?}");
     }
-    if let Ok(owned) = StrMut::from_str(alloc, text) {
-        assert!(rt;
-            is_beginning(&cut_all(alloc, owned, how), wanted),
-            "{text:?}"
-        );
+    Ok(())
+}
+
+const ROWS: &[Row] = &[
+    (
+        "a,b,,c,d,e",
+        How::Split(","),
+        &["a", "b", "", "c", "d", "e"],
+    ),
+    ("a", How::Split(""), &["", "a", ""]),
+    ("a,b,c", How::SplitN(2, ","), &["a", "b,c"]),
+    ("ababa", How::RSplit("aba"), &["", "ab"]),
+    ("a,b,c", How::RSplitN(2, ","), &["c", "a,b"]),
+    (" a\u{b}b\t😈 ", How::Words, &["a", "b", "😈"]),
+    (" a\u{b}b\t😈 ", How::AsciiWords, &["a\u{b}b", "😈"]),
+    ("a\r\n\nb\n", How::Lines, &["a", "", "b"]),
+    ("a,b,", How::Inclusive(","), &["a,", "b,"]),
+];
+
+#[test]
+fn shared(rt: HostRuntime) -> Result<(), Fail> {
+    for (text, how, wanted) in ROWS {
+        assert!(rt; is_allowed(*how));
+        let Ok(whole) = Str::from_str(rt.alloc(), text) else {
+            return Ok(());
+        };
+        let Ok(again) = Str::from_str(rt.alloc(), text) else {
+            return Ok(());
+        };
+        assert_cut(&rt, rt.alloc(), whole, again, *how, wanted)?;
     }
+    Ok(())
 }
 
 #[test]
-fn split(rt: HostRuntime) {
-    let wanted = ["a", "b", "", "c"];
-    assert_cuts(&rt, rt.alloc(), "a,b,,c", How::Split(","), &wanted);
-}
-
-#[test]
-fn split_each_character(rt: HostRuntime) {
-    assert_cuts(&rt, rt.alloc(), "a", How::Split(""), &["", "a", ""]);
-}
-
-#[test]
-fn split_n(rt: HostRuntime) {
-    assert_cuts(&rt, rt.alloc(), "a,b,c", How::SplitN(2, ","), &["a", "b,c"]);
-}
-
-#[test]
-fn rsplit(rt: HostRuntime) {
-    assert_cuts(&rt, rt.alloc(), "ababa", How::RSplit("aba"), &["", "ab"]);
-}
-
-#[test]
-fn rsplit_n(rt: HostRuntime) {
-    assert_cuts(
-        &rt,
-        rt.alloc(),
-        "a,b,c",
-        How::RSplitN(2, ","),
-        &["c", "a,b"],
-    );
-}
-
-#[test]
-fn words(rt: HostRuntime) {
-    let text = " a\u{b}b\t😈 ";
-    assert_cuts(&rt, rt.alloc(), text, How::Words, &["a", "b", "😈"]);
-}
-
-#[test]
-fn ascii_words(rt: HostRuntime) {
-    let text = " a\u{b}b\t😈 ";
-    assert_cuts(&rt, rt.alloc(), text, How::AsciiWords, &["a\u{b}b", "😈"]);
-}
-
-#[test]
-fn lines(rt: HostRuntime) {
-    assert_cuts(&rt, rt.alloc(), "a\r\n\nb\n", How::Lines, &["a", "", "b"]);
-}
-
-#[test]
-fn inclusive(rt: HostRuntime) {
-    assert_cuts(&rt, rt.alloc(), "a,b,", How::Inclusive(","), &["a,", "b,"]);
+fn owned(rt: HostRuntime) -> Result<(), Fail> {
+    for (text, how, wanted) in ROWS {
+        assert!(rt; is_allowed(*how));
+        let Ok(whole) = StrMut::from_str(rt.alloc(), text) else {
+            return Ok(());
+        };
+        let Ok(again) = StrMut::from_str(rt.alloc(), text) else {
+            return Ok(());
+        };
+        assert_cut(&rt, rt.alloc(), whole, again, *how, wanted)?;
+    }
+    Ok(())
 }
