@@ -1,106 +1,156 @@
-//! The laws at characters, beside what Rust's own methods on `str` do.
+//! The laws at characters, as `cut_all` keeps them, and cases in which their premises are needed.
+ghost use Rattle.bytes_utils_run.specs.Cutting.{IsAllowed};
+
 use super::{agree, limits, mirror, unique_backward, unique_forward, unique_inclusive};
 use crate::{How, cut_all};
-use bytes::Bytes;
 use bytes_utils::Str;
-use std::alloc::Global;
+use std::alloc::{AllocError, Global};
+use std::process::Abort;
 use std::test::Fail;
+
+/// The parts that a text is cut into.
+fn given(rt: &impl Abort, alloc: Global, text: &str, how: How<'_>) -> Result<Vec<String>, Fail>
+    requires { IsAllowed how }
+{
+    let parts = cut_all(alloc, Str::from_str(alloc, text)?, how);
+    assert!(rt; parts.refused.is_none());
+    let mut texts = Vec::new(alloc);
+    for part in &parts.given {
+        texts.push(String::from_str(alloc, part.as_str())?)?;
+    }
+    Ok(texts)
+}
+
+fn are(parts: &[String], wanted: &[&str]) -> bool {
+    parts.len() == wanted.len()
+        && parts
+            .iter()
+            .zip(wanted)
+            .all(|(part, want)| part.as_str() == *want)
+}
+
+/// Asserts that `cut_all` gives what Rust's own `str` gives, from the front, from the back, and with
+/// the separators kept.
+fn assert_same(rt: &impl Abort, alloc: Global, text: &str, separator: &str) -> Result<(), Fail> {
+    assert!(rt; !separator.is_empty());
+    let others: Vec<&str> = text.split(separator).collect(alloc)?;
+    assert!(rt; are(&given(rt, alloc, text, How::Split(separator))?, &others));
+    let others: Vec<&str> = text.rsplit(separator).collect(alloc)?;
+    assert!(rt; are(&given(rt, alloc, text, How::RSplit(separator))?, &others));
+    let others: Vec<&str> = text.split_inclusive(separator).collect(alloc)?;
+    assert!(rt; are(&given(rt, alloc, text, How::Inclusive(separator))?, &others));
+    Ok(())
+}
 
 #[test]
 fn two_cutters_give_the_same(rt: HostRuntime) -> Result<(), Fail> {
     unique_forward::<char>();
     unique_backward::<char>();
     unique_inclusive::<char>();
-    for (text, separator) in [
-        ("a,b,,c", ","),
-        ("aaa", "aa"),
-        ("ababa", "aba"),
-        ("αβα", "β"),
-    ] {
-        assert!(rt; !separator.is_empty());
-        let bytes = Bytes::copy_from_slice(rt.alloc(), text.as_bytes())?;
-        let parts = cut_all(rt.alloc(), Str::from_inner(bytes)?, How::Split(separator));
-        assert_eq!(rt;
-            parts.given.len(),
-            text.split(separator).count(),
-            "{text} by {separator}"
-        );
-        for (part, other) in parts.given.iter().zip(text.split(separator)) {
-            assert_eq!(rt; part.as_str(), other, "{text} by {separator}");
-        }
-    }
-    Ok(())
+    assert_same(&rt, rt.alloc(), "a,b,,c", ",")?;
+    assert_same(&rt, rt.alloc(), "aaa", "aa")?;
+    assert_same(&rt, rt.alloc(), "ababa", "aba")?;
+    assert_same(&rt, rt.alloc(), "αβα", "β")
 }
 
 /// The text's characters from the last to the first.
-fn reversed(alloc: Global, text: &str) -> Result<String, Fail> {
-    Ok(String::from_iter(alloc, text.chars().rev())?)
+fn reversed(alloc: Global, text: &str) -> Result<String, AllocError> {
+    String::from_iter(alloc, text.chars().rev())
 }
 
+/// Each of the texts reversed, in the same order.
+fn mirrored(alloc: Global, texts: &[String]) -> Result<Vec<String>, AllocError> {
+    texts
+        .iter()
+        .map(|text| reversed(alloc, text.as_str()))
+        .try_collect(alloc)
+}
+
+fn assert_mirrors(rt: &impl Abort, alloc: Global, text: &str, separator: &str) -> Result<(), Fail> {
+    let backward = given(rt, alloc, text, How::RSplitN(2, separator))?;
+    let text = reversed(alloc, text)?;
+    let separator = reversed(alloc, separator)?;
+    let forward = given(rt, alloc, text.as_str(), How::SplitN(2, separator.as_str()))?;
+    assert!(rt; backward == mirrored(alloc, &forward)?, "{backward:?}");
+    Ok(())
+}
+
+// The order of the parts stays: it's each part that is mirrored.
 #[test]
 fn cutting_from_the_back_is_cutting_in_a_mirror(rt: HostRuntime) -> Result<(), Fail> {
     mirror::<char>();
-    for (text, separator) in [
-        ("ababa", "aba"),
-        ("aaa", "aa"),
-        ("a,b,c", ","),
-        ("β,αβ,γ", "β,"),
-    ] {
-        let other_text = reversed(rt.alloc(), text)?;
-        let other_separator = reversed(rt.alloc(), separator)?;
-        let forward = other_text.splitn(2, other_separator.as_str());
-        assert_eq!(rt;
-            text.rsplitn(2, separator).count(),
-            2,
-            "{text} by {separator}"
-        );
-        for (back, front) in text.rsplitn(2, separator).zip(forward) {
-            let front = reversed(rt.alloc(), front)?;
-            assert_eq!(rt; back, front.as_str(), "{text} by {separator}");
-        }
-    }
-    Ok(())
+    assert_mirrors(&rt, rt.alloc(), "ababa", "aba")?;
+    assert_mirrors(&rt, rt.alloc(), "aaa", "aa")?;
+    assert_mirrors(&rt, rt.alloc(), "a,b,c", ",")?;
+    assert_mirrors(&rt, rt.alloc(), "β,αβ,γ", "β,")
+}
+
+/// Whether the parts from the back are those from the front in opposite order.
+fn agrees(rt: &impl Abort, alloc: Global, text: &str, separator: &str) -> Result<bool, Fail> {
+    let forward = given(rt, alloc, text, How::Split(separator))?;
+    let mut backward = given(rt, alloc, text, How::RSplit(separator))?;
+    backward.reverse();
+    Ok(forward == backward)
 }
 
 #[test]
 fn both_ways_agree_where_nothing_overlaps(rt: HostRuntime) -> Result<(), Fail> {
     agree::<char>();
-    for (text, separator) in [("a,b,,c", ","), ("αβα", "β"), ("", ","), ("abcab", "ab")] {
-        let mut parts = Vec::new(rt.alloc());
-        for part in text.split(separator) {
-            parts.push(part)?;
-        }
-        assert_eq!(rt;
-            parts.len(),
-            text.rsplit(separator).count(),
-            "{text} by {separator}"
-        );
-        for (front, back) in parts.iter().rev().zip(text.rsplit(separator)) {
-            assert_eq!(rt; *front, back, "{text} by {separator}");
-        }
-    }
-    assert_eq!(rt; "ababa".split("aba").last(), Some("ba"));
-    assert_eq!(rt; "ababa".rsplit("aba").last(), Some("ab"));
+    assert!(rt; agrees(&rt, rt.alloc(), "a,b,,c", ",")?);
+    assert!(rt; agrees(&rt, rt.alloc(), "αβα", "β")?);
+    assert!(rt; agrees(&rt, rt.alloc(), "", ",")?);
+    assert!(rt; agrees(&rt, rt.alloc(), "abcab", "ab")?);
     Ok(())
 }
 
 #[test]
+fn they_differ_where_occurrences_overlap(rt: HostRuntime) -> Result<(), Fail> {
+    assert!(rt; !agrees(&rt, rt.alloc(), "ababa", "aba")?);
+    assert!(rt; !agrees(&rt, rt.alloc(), "aaa", "aa")?);
+    Ok(())
+}
+
+/// A limit, and the parts under it from the front and from the back.
+type Limited = (usize, &'static [&'static str], &'static [&'static str]);
+
+fn assert_limits(rt: &impl Abort, alloc: Global, rows: &[Limited]) -> Result<(), Fail> {
+    for (most, forward, backward) in rows {
+        let front = given(rt, alloc, "a,b,c", How::SplitN(*most, ","))?;
+        let back = given(rt, alloc, "a,b,c", How::RSplitN(*most, ","))?;
+        assert!(rt;
+            are(&front, forward) && are(&back, backward),
+            "at most {most}"
+        );
+    }
+    Ok(())
+}
+
+// The rest of the parts from the back is joined in the order of the text.
+#[test]
 fn a_limit_leaves_the_rest_uncut(rt: HostRuntime) -> Result<(), Fail> {
     limits::<char>();
-    let rows: [(usize, &[&str], &[&str]); 3] = [
-        (1, &["a,b,c"], &["a,b,c"]),
-        (2, &["a", "b,c"], &["c", "a,b"]),
-        (4, &["a", "b", "c"], &["c", "b", "a"]),
-    ];
-    for (limit, forward, backward) in rows {
-        assert_eq!(rt; "a,b,c".splitn(limit, ",").count(), forward.len());
-        assert_eq!(rt; "a,b,c".rsplitn(limit, ",").count(), backward.len());
-        for (part, want) in "a,b,c".splitn(limit, ",").zip(forward) {
-            assert_eq!(rt; part, *want, "at most {limit}");
-        }
-        for (part, want) in "a,b,c".rsplitn(limit, ",").zip(backward) {
-            assert_eq!(rt; part, *want, "at most {limit} from the back");
-        }
-    }
+    assert_limits(
+        &rt,
+        rt.alloc(),
+        &[
+            (1, &["a,b,c"], &["a,b,c"]),
+            (2, &["a", "b,c"], &["c", "a,b"]),
+            (4, &["a", "b", "c"], &["c", "b", "a"]),
+        ],
+    )
+}
+
+// No part makes up no text, so the laws ask for a limit of at least 1.
+#[test]
+fn a_limit_of_0_leaves_no_part(rt: HostRuntime) -> Result<(), Fail> {
+    assert_limits(&rt, rt.alloc(), &[(0, &[], &[])])
+}
+
+// It occurs in every part, also in one that isn't the last, so the laws ask for another.
+#[test]
+fn the_empty_separator_leaves_itself_in_a_part(rt: HostRuntime) -> Result<(), Fail> {
+    let front = given(&rt, rt.alloc(), "a", How::Split(""))?;
+    let back = given(&rt, rt.alloc(), "a", How::RSplit(""))?;
+    assert!(rt; are(&front, &["", "a", ""]) && are(&back, &["", "a", ""]));
     Ok(())
 }
