@@ -58,6 +58,42 @@ impl Read for SlowReader<'_> {
     }
 }
 
+/// Gives its input by as few calls as may be, and notes the shortest and the longest place that it
+/// was to fill.
+#[derive(Drop)]
+pub(super) struct NotingReader<'a> {
+    rest: &'a [u8],
+    shortest: usize,
+    longest: usize,
+}
+
+impl<'a> NotingReader<'a> {
+    pub(super) fn new(input: &'a [u8]) -> Self {
+        NotingReader {
+            rest: input,
+            shortest: usize::MAX,
+            longest: 0,
+        }
+    }
+
+    /// The shortest and the longest place.
+    pub(super) fn places(&self) -> (usize, usize) {
+        (self.shortest, self.longest)
+    }
+}
+
+impl Read for NotingReader<'_> {
+    ghost use Rattle.std.specs.Prelude.{Some};
+
+    ghost remaining = { λ reader. Some reader.rest.now };
+
+    fn read(&mut self, buf: &mut [u8]) -> io::Result<usize> {
+        self.shortest = self.shortest.min(buf.len());
+        self.longest = self.longest.max(buf.len());
+        self.rest.read(buf)
+    }
+}
+
 /// Gives one `a` a call, never ends, and counts its calls.
 #[derive(Drop)]
 pub(super) struct EndlessReader {
