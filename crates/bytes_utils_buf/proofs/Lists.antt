@@ -1,6 +1,6 @@
 -- Lists of lists, seen from the front.
 use Rattle.std.proofs.Common.{◌≡◌, nat_lt, lt-ltb, cond, true, ◌⊎◌, inl, inr, ℕ, ◌+◌, ◌-◌, ◌<◌, ◌≤◌, List, [], ◌∷◌, ◌++◌, zero, suc, length, take, drop, map, get_or, set, replicate, ap, ◌∙◌, sym, refl, arith, length-append, append_assoc, length-drop}
-use Rattle.std.proofs.lemmas.List.{take_more, drop-append-le, drop-drop, take-append-drop, drop_all, nil_from_length}
+use Rattle.std.proofs.lemmas.List.{take_more, drop-append-le, drop-drop, take-append-drop, drop_all, nil_from_length, map-append}
 use Rattle.std.proofs.lemmas.List.Elements.{All-nil, All-cons, All-head, All-tail, All-same, All-drop, All-append}
 use Rattle.std.specs.List.{concat, filter, AllZip}
 use Rattle.bytes.proofs.Chunks.{concat_push}
@@ -27,6 +27,11 @@ concat-append (x ∷ xs) ys = ap (λ l. x ++ l) (concat-append xs ys) ∙ sym (a
 
 pub concat_split : (n : ℕ) (xs : List (List ℕ)) → concat xs ≡ concat (take n xs) ++ concat (drop n xs)
 concat_split n xs = ap concat (sym (take-append-drop n xs)) ∙ concat-append (take n xs) (drop n xs)
+
+-- the bytes of elements in a row are those of its two parts
+pub concat-map_parts : {X : Type 0} (f : X → List ℕ) (xs ys all : List X) → xs ++ ys ≡ all → concat (map f all) ≡ concat (map f xs) ++ concat (map f ys)
+concat-map_parts f xs ys all parts =
+    ap (λ l. concat (map f l)) (sym parts) ∙ ap concat (map-append f xs ys) ∙ concat-append (map f xs) (map f ys)
 
 pub drop-append_past : (xs ys : List ℕ) (n m : ℕ) → m ≡ length xs + n → drop m (xs ++ ys) ≡ drop n ys
 drop-append_past [] ys n m e = let same : m ≡ n = omega arith in rw same

@@ -1,7 +1,9 @@
 //! Many buffers that read as one.
 mod buf;
 mod copy;
+mod fill;
 mod slice;
+mod sum;
 mod tally;
 mod walk;
 

@@ -6,6 +6,7 @@ ghost use Rattle.bytes_utils_buf.specs.Segments.{NoneEmpty, front_of, nothing_he
 ghost use Rattle.bytes_utils_buf.specs.Tally.{IsCovered, IsPaid, cost_of};
 
 mod accept;
+mod front;
 mod hand_out;
 
 use super::tally::Tally;
@@ -29,23 +30,8 @@ use std::marker::Model;
 /// body.copy_to_bytes(alloc, 6)?    // `lo Wor`; 2 bytes are left in 1 segment
 /// ```
 ///
-/// An empty buffer is dropped wherever it comes, and one that is read out is dropped then. It is a
-/// `Buf` itself, so these nest.
-///
-/// It serves who collects a message in parts and reads it as a whole, as a body that comes in
-/// chunks. A part goes behind the others by [`push`](SegmentedBuf::push), and no part is copied or
-/// joined:
-///
-/// ```text
-/// let mut body: SegmentedBuf<Bytes> = SegmentedBuf::new(alloc);
-/// body.push(hello)?;                        // `Hello`, where `body.fits(hello.len())`
-/// body.push(world)?;                        // ` World`
-/// let front = body.copy_to_bytes(alloc, 8)?;
-/// // `front` is `Hello Wo`, one segment is left, and `body.chunk()` is `rld`
-/// ```
-///
-/// It holds no empty buffer: one that comes in is dropped, and so is one that is read out. It is a
-/// `Buf` itself, so these nest.
+/// A piece goes behind the others by [`push`](SegmentedBuf::push). It holds no empty buffer: one that
+/// comes in is dropped, and so is one that is read out. It is a `Buf` itself, so these nest.
 #[derive(Debug, Drop)]
 pub struct SegmentedBuf<B: Buf + Drop> {
     segments: VecDeque<B>,
@@ -178,6 +164,7 @@ impl<B: Buf + Drop> From<SegmentedBuf<B>> for VecDeque<B> {
 impl<B: Buf + Drop> Buf for SegmentedBuf<B> {
     ghost unread = { λ q. concat q.segments };
 
+    // What no read changes: how many segments were given.
     ghost kept = { λ q. ([], q.tally.given) ∷ [] };
 
     fn remaining(&self) -> usize {

@@ -9,6 +9,7 @@ ghost use Rattle.bytes_utils_buf.specs.Tally.{IsCovered, IsPaid, cost_of};
 
 mod hand_out;
 
+use super::sum::sum_of;
 use super::tally::Tally;
 use super::walk::{count_lent, skip_lent};
 use bytes::Buf;
@@ -69,11 +70,7 @@ impl<'a, B: Buf> SegmentedSlice<'a, B> {
         ensures { SomeIff result (length (concat (map B.unread bufs.now)) < 2 ^ 64)
             (length (concat (map B.unread bufs.now))) }
     {
-        let mut sum: usize = 0;
-        for buf in bufs {
-            sum = sum.checked_add(buf.remaining())?;
-        }
-        Some(sum)
+        sum_of(bufs)
     }
 
     /// Reads these buffers as one. The reading place is the first that isn't empty. It counts as a
@@ -95,7 +92,9 @@ impl<'a, B: Buf> SegmentedSlice<'a, B> {
         let mut tally = Tally::new();
         tally.give(bufs.len());
         tally.call();
-        let remaining = sum_of(bufs);
+        let Some(remaining) = sum_of(bufs) else {
+            unreachable!()
+        };
         let (place, _) = count_lent(bufs, &mut tally, 0);
         let loan = Loan { bufs };
         let handed_in = Snapshot::of(&loan);
@@ -163,21 +162,11 @@ impl<'a, B: Buf> SegmentedSlice<'a, B> {
     }
 }
 
-/// How many bytes these buffers hold together.
-fn sum_of<B: Buf>(bufs: &[B]) -> usize
-    requires { length (concat (map B.unread bufs.now)) < 2 ^ 64 }
-    ensures { result ≡ length (concat (map B.unread bufs.now)) }
-{
-    let mut sum = 0;
-    for buf in bufs {
-        sum += buf.remaining();
-    }
-    sum
-}
-
 impl<B: Buf> Buf for SegmentedSlice<'_, B> {
     ghost unread = { λ q. concat q.segments };
 
+    // What no read changes, packed into lists of bytes with a number each: the name of the borrow,
+    // how many buffers were given, and the unread list of each as it was handed in.
     ghost kept = { λ q. ([], q.name) ∷ ([], q.tally.given) ∷ map (λ s. (s, 0)) q.handed_in };
 
     fn remaining(&self) -> usize

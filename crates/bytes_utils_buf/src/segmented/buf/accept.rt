@@ -2,11 +2,11 @@
 ghost use Rattle.std.specs.Prelude.{◌≡◌, ◌+◌, ◌^◌, ◌<◌, ◌≤◌, List, [], ◌∷◌, ◌++◌, length, map, ◌↔◌, Some, IsOk, IsErr, OnOk, OnErr, IfOk, IfErr};
 ghost use Rattle.std.specs.Iterator.{IsFinite, Drains, YieldsThen};
 ghost use Rattle.std.specs.List.{concat};
-ghost use Rattle.std.specs.Option.{SomeIff};
 ghost use Rattle.bytes_utils_buf.specs.Segments.{after_accepting, nothing_held, without_empty};
 ghost use Rattle.bytes_utils_buf.specs.Tally.{IsPaid};
 
 use super::SegmentedBuf;
+use crate::segmented::sum::sum_of_held;
 use crate::segmented::tally::Tally;
 use crate::{Reason, Refused};
 use bytes::Buf;
@@ -116,7 +116,7 @@ impl<B: Buf + Drop> SegmentedBuf<B> {
         ensures back { IfErr result (λ e. e.back.items ≡ bufs.items) }
         ensures reason { IfErr result (λ e. e.reason ≡ Reason.TooLong) }
     {
-        let Some(remaining) = sum_of(&bufs) else {
+        let Some(remaining) = sum_of_held(&bufs) else {
             return Err(Refused {
                 reason: Reason::TooLong,
                 back: bufs,
@@ -182,16 +182,4 @@ fn append<B: Buf + Drop>(segments: &mut VecDeque<B>, buf: B, size: usize) -> Res
     }
     segments.push_back_reserved(buf);
     Ok(())
-}
-
-/// How many bytes are unread in all, or `None` past `usize`.
-fn sum_of<B: Buf>(bufs: &VecDeque<B>) -> Option<usize>
-    ensures { SomeIff result (length (concat (map B.unread bufs.now.items)) < 2 ^ 64)
-        (length (concat (map B.unread bufs.now.items))) }
-{
-    let mut sum: usize = 0;
-    for i in 0..bufs.len() {
-        sum = sum.checked_add(bufs[i].remaining())?;
-    }
-    Some(sum)
 }

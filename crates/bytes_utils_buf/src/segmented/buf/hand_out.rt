@@ -7,13 +7,12 @@ ghost use Rattle.bytes_utils_buf.specs.Segments.{NoneEmpty, count_unread, front_
 ghost use Rattle.bytes_utils_buf.specs.Tally.{IsPaid, cost_of};
 
 use super::SegmentedBuf;
+use super::front::{copy_front, drop_read_out_front, front_holds};
 use crate::parts::{BufParts, CopyRefused};
-use crate::segmented::copy::{
-    append_chunk, bytes_taken, copy_front, fill_from_held, front_holds, front_is_read_out,
-};
-use bytes::{Buf, Bytes};
+use crate::segmented::copy::{append_chunk, bytes_taken};
+use crate::segmented::fill::fill_from_held;
+use bytes::Bytes;
 use std::alloc::Global;
-use std::collections::VecDeque;
 
 impl<B: BufParts + Drop> SegmentedBuf<B> {
     /// Takes the first `len` bytes out. The first segment is asked alone where it holds them; else
@@ -91,16 +90,6 @@ impl<B: BufParts + Drop> SegmentedBuf<B> {
             self.advance(count);
         }
         Bytes::from_vec(copy).map_err(|_| CopyRefused { taken: len })
-    }
-}
-
-/// Drops the first segment where it is read out.
-fn drop_read_out_front<B: Buf + Drop>(segments: &mut VecDeque<B>)
-    ensures { NoneEmpty (drop 1 (map B.unread segments.old.items))
-        → Skips 0 (map B.unread segments.old.items) (map B.unread segments.new.items) }
-{
-    if front_is_read_out(segments) {
-        let _ = segments.pop_front();
     }
 }
 

@@ -9,7 +9,8 @@ ghost use Rattle.bytes_utils_buf.specs.Tally.{IsPaid, cost_of};
 
 use super::SegmentedSlice;
 use crate::parts::{BufParts, CopyRefused};
-use crate::segmented::copy::{append_chunk, bytes_taken, fill_from_lent};
+use crate::segmented::copy::{append_chunk, bytes_taken};
+use crate::segmented::fill::fill_from;
 use crate::segmented::tally::Tally;
 use crate::segmented::walk::count_lent;
 use bytes::{Buf, Bytes};
@@ -54,7 +55,7 @@ impl<B: BufParts> SegmentedSlice<'_, B> {
         ensures { FillsTable result dst.old dst.new (concat self.now.segments) }
     {
         let bufs = &*self.bufs;
-        fill_from_lent(&bufs[self.place..], dst)
+        fill_from(&bufs[self.place..], dst)
     }
 
     fn front_holds(&self, len: usize) -> bool

@@ -7,4 +7,4 @@ use Rattle.bytes_utils_buf.proofs.segmented.slice.SegmentedSlice.chunks_vectored
 pub returns : goal.returns
 returns g c =
     let part = map-part g.B.Buf.unread c.self.inside.bufs.now c.self.inside.place ∙ ap (λ q. q.segments) c.self.view_is in
-    FillsTable-same _ _ _ _ _ (sym (ap concat part)) c.fill_from_lent.ensures
+    FillsTable-same _ _ _ _ _ (sym (ap concat part)) c.fill_from.ensures

@@ -1,4 +1,4 @@
-use Rattle.std.proofs.Common.{map, drop, arith, ap, length-drop}
+use Rattle.std.proofs.Common.{rules, map, drop, arith, ap, length-drop}
 use Rattle.std.proofs.lemmas.List.{length-map}
 use Rattle.bytes_utils_buf.specs.Tally.{IsCovered}
 use Rattle.bytes_utils_buf.proofs.Lent.{IsLent-new, Trimmed-from_count}
@@ -14,8 +14,8 @@ invariant_of-result g c =
     let trimmed = Trimmed-from_count (map f xs) p count.result.1 (omega (arith, size, count.ensures.passed)) count.ensures.left (λ h. count.ensures.next (omega (arith, h, size))) in
     let covered : IsCovered (drop p (map f xs)) count.new.tally =
     rw (count.ensures.turns, c.call.ensures, c.give.ensures, c.new-tally.ensures) (omega (arith, length-drop p (map f xs), size, count.ensures.passed)) in
-    IsLent-new p c.sum_of-remaining.result (map f xs) (map f c.of-handed_in.result.value.bufs.now) count.new.tally c.args.bufs.ghost_name trimmed (ap (λ loan. map f loan.bufs.now) c.of-handed_in.ensures)
-    c.sum_of-remaining.ensures covered
+    IsLent-new p c.in-Some.remaining (map f xs) (map f c.of-handed_in.result.value.bufs.now) count.new.tally c.args.bufs.ghost_name trimmed (ap (λ loan. map f loan.bufs.now) c.of-handed_in.ensures)
+    (search rules) covered
 
 pub returns-clause-skips : goal.returns-clause-skips
 returns-clause-skips g c =

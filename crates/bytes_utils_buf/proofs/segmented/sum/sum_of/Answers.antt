@@ -3,7 +3,7 @@ use Rattle.std.proofs.Math.Seq.{take-length}
 use Rattle.std.proofs.lemmas.List.{length-map}
 use Rattle.std.specs.List.{concat}
 use Rattle.bytes_utils_buf.proofs.Lent.{sum_more, length-concat-take_le}
-use Rattle.bytes_utils_buf.proofs.segmented.slice.SegmentedSlice.total.Goals as goal
+use Rattle.bytes_utils_buf.proofs.segmented.sum.sum_of.Goals as goal
 
 pub loop-buf-preserved : goal.loop-buf-preserved
 loop-buf-preserved g c =

@@ -1,7 +1,7 @@
 use Rattle.std.proofs.Common.{map, arith, ap, ◌∙◌, sym}
 use Rattle.std.proofs.lemmas.List.{length-map, drop-map}
 use Rattle.bytes_utils_buf.proofs.Lists.{Skips-drop_front}
-use Rattle.bytes_utils_buf.proofs.segmented.buf.hand_out.drop_read_out_front.Goals as goal
+use Rattle.bytes_utils_buf.proofs.segmented.buf.front.drop_read_out_front.Goals as goal
 
 pub returns-then-front_is_read_out : goal.returns-then-front_is_read_out
 returns-then-front_is_read_out g c all =

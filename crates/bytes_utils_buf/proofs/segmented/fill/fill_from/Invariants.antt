@@ -1,7 +1,7 @@
 use Rattle.std.proofs.Common.{◌≡◌, ◌-◌, ◌≤◌, length, map, take}
 use Rattle.std.specs.List.{concat}
 use Rattle.bytes_utils_buf.specs.Parts.{FillsTable}
-use Rattle.bytes_utils_buf.proofs.segmented.copy.fill_from_lent.Given as goal
+use Rattle.bytes_utils_buf.proofs.segmented.fill.fill_from.Given as goal
 
 abbrev pub invariant-loop-i : goal.invariant-loop-i
 invariant-loop-i g l =

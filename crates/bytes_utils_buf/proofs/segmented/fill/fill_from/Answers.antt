@@ -4,18 +4,18 @@ use Rattle.std.specs.List.{concat}
 use Rattle.bytes.proofs.Chunks.{concat_push}
 use Rattle.bytes_utils_buf.proofs.Lists.{read_at, concat_split}
 use Rattle.bytes_utils_buf.proofs.Tables.{FillsTable-same, FillsTable-full, FillsTable-more, length-put_mid}
-use Rattle.bytes_utils_buf.proofs.segmented.copy.fill_from_held.Goals as goal
+use Rattle.bytes_utils_buf.proofs.segmented.fill.fill_from.Goals as goal
 
 pub loop-i-preserved : goal.loop-i-preserved
 loop-i-preserved g c =
     let f = g.B.Buf.unread in
-    let items = c.args.segments.now.items in
+    let items = c.args.bufs.now in
     let i = c.loop-i.i in
     let here : i < length items = search rules in
-    let more : concat (take (i + 1) (map f items)) ≡ concat (take i (map f items)) ++ f c.index.result.now
+    let more : concat (take (i + 1) (map f items)) ≡ concat (take i (map f items)) ++ f c.index-bufs-i.result
     = ap concat (take_more (map f items) i [] (omega (arith, here, length-map items f)))
     ∙ concat_push (take i (map f items)) _
-    ∙ ap (λ l. concat (take i (map f items)) ++ l) (read_at f items i c.index.result.now here c.index.ensures) in (
+    ∙ ap (λ l. concat (take i (map f items)) ++ l) (read_at f items i c.index-bufs-i.result here c.index-bufs-i.is) in (
       search rules,
       length-put_mid c.loop-i.dst c.chunks_into-filled.new.dst c.loop-i.filled (search rules) (search rules) ∙ c.loop-i.invariant.1,
       FillsTable-same _ _ _ _ _ more
@@ -25,6 +25,6 @@ loop-i-preserved g c =
 
 pub returns-else-filled-dst : goal.returns-else-filled-dst
 returns-else-filled-dst g c =
-    let lists = map g.B.Buf.unread c.args.segments.now.items in
+    let lists = map g.B.Buf.unread c.args.bufs.now in
     FillsTable-same _ _ _ _ _ (concat_split c.loop-i.i lists)
     (FillsTable-full c.loop-i.filled _ _ _ _ (search rules) c.loop-i.invariant.2)

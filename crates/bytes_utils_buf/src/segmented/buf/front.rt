@@ -1,0 +1,62 @@
+//! The first held segment: asked alone, and dropped where it is read out.
+ghost use Rattle.std.specs.Prelude.{◌≡◌, ◌<◌, ◌≤◌, length, map, take, drop, IsTrue, ◌↔◌, IfOk};
+ghost use Rattle.std.specs.Bool.{OnTrue, OnFalse};
+ghost use Rattle.bytes_utils_buf.specs.Parts.{taken_by};
+ghost use Rattle.bytes_utils_buf.specs.Segments.{NoneEmpty, cut_front, front_of, FrontUnread, Skips};
+
+use crate::parts::{BufParts, CopyRefused};
+use bytes::{Buf, Bytes};
+use std::alloc::Global;
+use std::collections::VecDeque;
+
+/// Whether the first held segment alone holds at least `len` bytes.
+pub(super) fn front_holds<B: Buf>(segments: &VecDeque<B>, len: usize) -> bool
+    ensures { IsTrue result
+        ↔ ((0 < length segments.now.items) × (len ≤ length (front_of (map B.unread segments.now.items)))) }
+{
+    match segments.front() {
+        Some(front) => len <= front.remaining(),
+        None => false,
+    }
+}
+
+/// Copies `len` bytes out of the first held segment alone.
+pub(super) fn copy_front<B: BufParts>(
+    segments: &mut VecDeque<B>,
+    alloc: Global,
+    len: usize,
+) -> Result<Bytes, CopyRefused>
+    requires some { 0 < length segments.old.items }
+    requires holds { len ≤ length (front_of (map B.unread segments.old.items)) }
+    ensures value { IfOk result (λ copy. copy ≡ take len (front_of (map B.unread segments.old.items))) }
+    ensures taken { taken_by len result ≤ len }
+    ensures rest { map B.unread segments.new.items
+        ≡ cut_front (taken_by len result) (map B.unread segments.old.items) }
+{
+    let Some(front) = segments.front_mut() else {
+        unreachable!()
+    };
+    front.copy_out(alloc, len)
+}
+
+/// Drops the first segment where it is read out.
+pub(super) fn drop_read_out_front<B: Buf + Drop>(segments: &mut VecDeque<B>)
+    ensures { NoneEmpty (drop 1 (map B.unread segments.old.items))
+        → Skips 0 (map B.unread segments.old.items) (map B.unread segments.new.items) }
+{
+    if front_is_read_out(segments) {
+        let _ = segments.pop_front();
+    }
+}
+
+/// Whether there is a first held segment and it is read out.
+fn front_is_read_out<B: Buf>(segments: &VecDeque<B>) -> bool
+    ensures yes { OnTrue result
+        ((0 < length segments.now.items) × (length (front_of (map B.unread segments.now.items)) ≡ 0)) }
+    ensures no { OnFalse result (FrontUnread (map B.unread segments.now.items)) }
+{
+    match segments.front() {
+        Some(front) => front.remaining() == 0,
+        None => false,
+    }
+}
