@@ -1,8 +1,14 @@
-//! What no clause says: worked cases, that calls succeed, printed text, and how often a buffer is
-//! asked.
+//! What no clause says: worked cases, that calls succeed, printed text, how often a buffer is
+//! asked, and what is left where memory is refused.
+mod accept;
 mod buf;
 mod caller;
+mod fixtures;
+mod looks;
 mod memory;
+mod nested;
 mod odd;
 mod parts;
+mod random;
 mod slice;
+mod tables;

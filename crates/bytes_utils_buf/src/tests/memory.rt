@@ -1,7 +1,11 @@
-//! What a call leaves where a request for memory is refused. With ample memory none is:
-//! `rt try --test --fail-alloc N` refuses each test's Nth request, and no other. A test that can't
-//! make its buffers then ends well.
-use crate::parts::BufParts;
+//! What a call answers and leaves where its request for memory is refused. Each of these tests
+//! passes whichever single request of its run is refused, and then says whose it was. A test that
+//! can't make its buffers ends well.
+use super::fixtures::{
+    FOUR, JOINED, assert_bytes, assert_fills, assert_reads, bytes_of, collect, gather, lend, skip,
+    slices_of,
+};
+use crate::parts::{BufParts, CopyRefused};
 use crate::segmented::{SegmentedBuf, SegmentedSlice};
 use crate::{Reason, Refused};
 use bytes::{Buf, Bytes};
@@ -10,184 +14,310 @@ use std::collections::VecDeque;
 use std::process::Abort;
 use std::test::Fail;
 
-const FOUR: [&str; 4] = ["Hello", " ", "", "World"];
+/// Six buffers: a deque grows twice while they come in.
+const LETTERS: [&str; 6] = ["a", "b", "c", "d", "e", "f"];
 
-const JOINED: &str = "Hello World";
-
-fn bytes_of(alloc: Global, texts: &[&'static str]) -> Result<Vec<Bytes>, AllocError> {
-    let mut bufs = Vec::with_capacity(alloc, texts.len())?;
-    for text in texts {
-        bufs.push(Bytes::from_static(text.as_bytes()))?;
-    }
-    Ok(bufs)
+fn letters(alloc: Global) -> Result<Vec<Bytes>, AllocError> {
+    bytes_of(alloc, &LETTERS)
 }
 
-fn slices_of(alloc: Global, texts: &[&'static str]) -> Result<Vec<&'static [u8]>, AllocError> {
-    let mut bufs = Vec::with_capacity(alloc, texts.len())?;
-    for text in texts {
-        bufs.push(text.as_bytes())?;
-    }
-    Ok(bufs)
+fn tell_refused(rt: &impl Print, call: &str) -> Result<(), Fail> {
+    println!(rt; "refused {call}")?;
+    Ok(())
 }
 
-fn assert_refused(rt: &impl Abort, refused: &Refused<Bytes>, back: &str) {
-    assert_eq!(rt; refused.reason, Reason::OutOfMemory);
-    assert_eq!(rt; refused.back.as_slice(), back.as_bytes());
+// The first `held` letters are held.
+fn assert_holds(rt: &impl Abort, buf: &SegmentedBuf<Bytes>, held: usize) {
+    assert!(rt; held <= LETTERS.len());
+    assert!(rt; buf.segments() == held && buf.remaining() == held);
+    assert_fills(rt, buf, 10, &LETTERS[..held]);
+}
+
+// The letter behind the `held` first ones was refused, which are all that is held. It can be pushed
+// again.
+fn pushes_again(
+    rt: &impl Abort,
+    buf: &mut SegmentedBuf<Bytes>,
+    refused: Refused<Bytes>,
+    held: usize,
+) -> Result<(), Fail> {
+    assert_holds(rt, buf, held);
+    assert!(rt; held < LETTERS.len() && refused.reason == Reason::OutOfMemory);
+    assert_bytes(rt, refused.back.as_slice(), LETTERS[held]);
+    assert!(rt; buf.fits(refused.back.len()));
+    buf.push(refused.back)?;
+    assert_holds(rt, buf, held.saturating_add(1));
+    Ok(())
 }
 
 #[test]
-fn push(rt: HostRuntime) {
+fn push(rt: HostRuntime) -> Result<(), Fail> {
+    let Ok(letters) = letters(rt.alloc()) else {
+        return Ok(());
+    };
     let mut buf = SegmentedBuf::new(rt.alloc());
-    let mut held = 0_usize;
-    for _ in 0..100 {
-        assert!(rt; buf.fits(2));
-        match buf.push(Bytes::from_static(b"ab")) {
-            Ok(()) => held = held.saturating_add(1),
-            Err(refused) => assert_refused(&rt, &refused, "ab"),
+    for (held, letter) in letters.into_iter().enumerate() {
+        assert!(rt; buf.fits(letter.len()));
+        if let Err(refused) = buf.push(letter) {
+            tell_refused(&rt, "SegmentedBuf::push")?;
+            pushes_again(&rt, &mut buf, refused, held)?;
         }
-        assert_eq!(rt; buf.segments(), held);
-        assert_eq!(rt; buf.remaining(), held.saturating_mul(2));
     }
-    assert!(rt; held >= 99);
+    assert_holds(&rt, &buf, 6);
+    Ok(())
 }
 
 #[test]
 fn extend(rt: HostRuntime) -> Result<(), Fail> {
-    let Ok(bufs) = bytes_of(rt.alloc(), &FOUR) else {
+    let Ok(letters) = letters(rt.alloc()) else {
         return Ok(());
     };
     let mut buf = SegmentedBuf::new(rt.alloc());
-    if let Err(refused) = buf.extend(bufs.into_iter()) {
-        // The first item makes the only request.
-        assert_refused(&rt, &refused, "Hello");
-        assert_eq!(rt; buf.segments(), 0);
-        assert!(rt; buf.fits(refused.back.len()));
-        buf.push(refused.back)?;
-        assert_eq!(rt; buf.chunk(), b"Hello".as_slice());
-        return Ok(());
+    if let Err(refused) = buf.extend(letters.into_iter()) {
+        tell_refused(&rt, "SegmentedBuf::extend")?;
+        let held = buf.segments();
+        return pushes_again(&rt, &mut buf, refused, held);
     }
-    assert_eq!(rt; buf.segments(), 3);
-    assert_eq!(rt; buf.remaining(), 11);
+    assert_holds(&rt, &buf, 6);
+    Ok(())
+}
+
+// Whatever was refused is over, so the next call succeeds.
+fn collects_again(rt: &impl Abort, alloc: Global, refused: Refused<Bytes>) -> Result<(), Fail> {
+    assert!(rt; refused.reason == Reason::OutOfMemory && refused.back.len() == 1);
+    assert_holds(rt, &collect(alloc, letters(alloc)?)?, 6);
     Ok(())
 }
 
 #[test]
-fn make(rt: HostRuntime) {
-    if let Ok(bufs) = bytes_of(rt.alloc(), &FOUR) {
-        match SegmentedBuf::from_iter(rt.alloc(), bufs.into_iter()) {
-            Ok(buf) => assert_eq!(rt; buf.remaining(), 11),
-            Err(refused) => assert_refused(&rt, &refused, "Hello"),
-        }
-    }
-    if let Ok(bufs) = bytes_of(rt.alloc(), &FOUR) {
-        match SegmentedBuf::from_vec(rt.alloc(), bufs) {
-            Ok(buf) => assert_eq!(rt; buf.remaining(), 11),
-            Err(refused) => {
-                assert_eq!(rt; refused.reason, Reason::OutOfMemory);
-                assert_eq!(rt; refused.back.len(), 4);
-            }
-        }
-    }
-}
-
-#[test]
-fn clone(rt: HostRuntime) -> Result<(), Fail> {
-    let Ok(bufs) = bytes_of(rt.alloc(), &FOUR) else {
+fn from_iter(rt: HostRuntime) -> Result<(), Fail> {
+    let Ok(letters) = letters(rt.alloc()) else {
         return Ok(());
     };
-    let buf = SegmentedBuf::from_deque(VecDeque::from_vec(bufs));
-    let buf = buf.ok().ok_or("refused")?;
-    match buf.try_clone() {
-        Ok(clone) => assert_eq!(rt; clone.remaining(), 11),
-        Err(reason) => assert_eq!(rt; reason, Reason::OutOfMemory),
+    match SegmentedBuf::from_iter(rt.alloc(), letters.into_iter()) {
+        Ok(buf) => assert_holds(&rt, &buf, 6),
+        Err(refused) => {
+            tell_refused(&rt, "SegmentedBuf::from_iter")?;
+            collects_again(&rt, rt.alloc(), refused)?;
+        }
     }
-    assert_eq!(rt; buf.segments(), 3);
-    assert_eq!(rt; buf.remaining(), 11);
     Ok(())
 }
 
-/// Copies pieces of `JOINED` out of a buffer. Each is the next bytes, or a refusal that tells how
-/// many are gone. Answers how many were refused.
-fn refusals<B: BufParts>(rt: &impl Abort, alloc: Global, buf: &mut B) -> usize {
+fn clones(
+    rt: &(impl Abort + Print),
+    buf: &SegmentedBuf<Bytes>,
+) -> Result<SegmentedBuf<Bytes>, Fail> {
+    match buf.try_clone() {
+        Ok(clone) => Ok(clone),
+        Err(reason) => {
+            tell_refused(rt, "SegmentedBuf::try_clone")?;
+            assert_eq!(rt; reason, Reason::OutOfMemory);
+            Ok(buf.try_clone()?)
+        }
+    }
+}
+
+#[test]
+fn try_clone(rt: HostRuntime) -> Result<(), Fail> {
+    let Ok(letters) = letters(rt.alloc()) else {
+        return Ok(());
+    };
+    let buf = gather(rt.alloc(), letters)?;
+    assert_holds(&rt, &clones(&rt, &buf)?, 6);
+    assert_holds(&rt, &buf, 6);
+    Ok(())
+}
+
+/// So many bytes are copied in turn. Where one copy is refused, the last but one or the last gives
+/// what it left.
+const PIECES: [usize; 6] = [3, 4, 0, 2, 11, 11];
+
+/// What is left of `rest` behind a copy of its first `len` bytes: it is right, or it is refused and
+/// tells how many bytes are gone.
+fn behind<'a>(
+    rt: &(impl Abort + Print),
+    call: &str,
+    copy: Result<Bytes, CopyRefused>,
+    len: usize,
+    rest: &'a [u8],
+) -> Result<&'a [u8], Fail> {
+    assert!(rt; len <= rest.len());
+    let taken = match copy {
+        Ok(copy) => {
+            assert_eq!(rt; copy.as_slice(), &rest[..len]);
+            len
+        }
+        Err(refused) => {
+            tell_refused(rt, call)?;
+            refused.taken
+        }
+    };
+    assert!(rt; taken <= len);
+    Ok(&rest[taken..])
+}
+
+/// Copies `JOINED` out of a buffer by `copy_out`.
+fn copies_out<B: BufParts>(
+    rt: &(impl Abort + Print),
+    alloc: Global,
+    call: &str,
+    buf: &mut B,
+) -> Result<(), Fail> {
     let mut rest = JOINED.as_bytes();
-    let mut count = 0_usize;
-    for len in [3, 4, 0, 2, 9] {
+    for len in PIECES {
         let len = buf.remaining().min(len);
-        let taken = match buf.copy_out(alloc, len) {
-            Ok(copy) => {
-                assert_eq!(rt; copy.len(), len);
-                assert!(rt; rest.starts_with(copy.as_slice()));
-                len
-            }
-            Err(refused) => {
-                count = count.saturating_add(1);
-                refused.taken
-            }
-        };
-        assert!(rt; taken <= len && taken <= rest.len());
-        rest = &rest[taken..];
+        let copy = buf.copy_out(alloc, len);
+        rest = behind(rt, call, copy, len, rest)?;
         assert_eq!(rt; buf.remaining(), rest.len());
     }
-    assert!(rt; rest.is_empty() || count > 0);
-    count
+    assert!(rt; rest.is_empty());
+    Ok(())
 }
 
 #[test]
-fn copy_of_one(rt: HostRuntime) {
-    assert!(rt; refusals(&rt, rt.alloc(), &mut JOINED.as_bytes()) <= 1);
-    if let Ok(mut bytes) = Bytes::copy_from_slice(rt.alloc(), JOINED.as_bytes()) {
-        assert!(rt; refusals(&rt, rt.alloc(), &mut bytes) <= 1);
+fn copy_out_of_bytes(rt: HostRuntime) -> Result<(), Fail> {
+    let Ok(mut bytes) = Bytes::copy_from_slice(rt.alloc(), JOINED.as_bytes()) else {
+        return Ok(());
+    };
+    copies_out(&rt, rt.alloc(), "copy_out of Bytes", &mut bytes)
+}
+
+#[test]
+fn copy_out_of_slices(rt: HostRuntime) -> Result<(), Fail> {
+    copies_out(&rt, rt.alloc(), "copy_out of &[u8]", &mut JOINED.as_bytes())
+}
+
+/// Copies `JOINED` out of held buffers by the call of the type.
+fn copies_held<B: BufParts + Drop>(
+    rt: &(impl Abort + Print),
+    alloc: Global,
+    bufs: Vec<B>,
+) -> Result<(), Fail> {
+    let mut buf = gather(alloc, bufs)?;
+    let mut rest = JOINED.as_bytes();
+    for len in PIECES {
+        let len = buf.remaining().min(len);
+        let copy = buf.copy_to_bytes(alloc, len);
+        rest = behind(rt, "SegmentedBuf::copy_to_bytes", copy, len, rest)?;
+        assert_eq!(rt; buf.remaining(), rest.len());
     }
+    assert!(rt; rest.is_empty());
+    Ok(())
 }
 
 #[test]
-fn copy_of_held(rt: HostRuntime) {
+fn copy_to_bytes_of_held(rt: HostRuntime) -> Result<(), Fail> {
     if let Ok(bufs) = bytes_of(rt.alloc(), &FOUR) {
-        if let Ok(mut buf) = SegmentedBuf::from_vec(rt.alloc(), bufs) {
-            assert!(rt; refusals(&rt, rt.alloc(), &mut buf) <= 1);
-        }
+        copies_held(&rt, rt.alloc(), bufs)?;
     }
     if let Ok(bufs) = slices_of(rt.alloc(), &FOUR) {
-        if let Ok(mut buf) = SegmentedBuf::from_vec(rt.alloc(), bufs) {
-            assert!(rt; refusals(&rt, rt.alloc(), &mut buf) <= 1);
-        }
+        copies_held(&rt, rt.alloc(), bufs)?;
     }
+    Ok(())
+}
+
+fn copies_out_held<B: BufParts + Drop>(
+    rt: &(impl Abort + Print),
+    alloc: Global,
+    bufs: Vec<B>,
+) -> Result<(), Fail> {
+    let mut buf = gather(alloc, bufs)?;
+    copies_out(rt, alloc, "copy_out of SegmentedBuf", &mut buf)
 }
 
 #[test]
-fn copy_of_lent(rt: HostRuntime) {
-    if let Ok(mut bufs) = bytes_of(rt.alloc(), &FOUR) {
-        assert!(rt; SegmentedSlice::total(&bufs).is_some());
-        let mut all = SegmentedSlice::new(&mut bufs);
-        assert!(rt; refusals(&rt, rt.alloc(), &mut all) <= 1);
+fn copy_out_of_held(rt: HostRuntime) -> Result<(), Fail> {
+    if let Ok(bufs) = bytes_of(rt.alloc(), &FOUR) {
+        copies_out_held(&rt, rt.alloc(), bufs)?;
     }
-    if let Ok(mut bufs) = slices_of(rt.alloc(), &FOUR) {
-        assert!(rt; SegmentedSlice::total(&bufs).is_some());
-        let mut all = SegmentedSlice::new(&mut bufs);
-        assert!(rt; refusals(&rt, rt.alloc(), &mut all) <= 1);
+    if let Ok(bufs) = slices_of(rt.alloc(), &FOUR) {
+        copies_out_held(&rt, rt.alloc(), bufs)?;
     }
+    Ok(())
 }
 
-/// These take no memory, whichever request is refused.
+/// Copies `JOINED` out of lent buffers by the call of the type.
+fn copies_lent<B: BufParts>(
+    rt: &(impl Abort + Print),
+    alloc: Global,
+    bufs: &mut [B],
+) -> Result<(), Fail> {
+    let mut all = lend(rt, bufs);
+    let mut rest = JOINED.as_bytes();
+    for len in PIECES {
+        let len = all.remaining().min(len);
+        let copy = all.copy_to_bytes(alloc, len);
+        rest = behind(rt, "SegmentedSlice::copy_to_bytes", copy, len, rest)?;
+        assert_eq!(rt; all.remaining(), rest.len());
+    }
+    assert!(rt; rest.is_empty());
+    Ok(())
+}
+
+#[test]
+fn copy_to_bytes_of_lent(rt: HostRuntime) -> Result<(), Fail> {
+    if let Ok(mut bufs) = bytes_of(rt.alloc(), &FOUR) {
+        copies_lent(&rt, rt.alloc(), &mut bufs)?;
+    }
+    if let Ok(mut bufs) = slices_of(rt.alloc(), &FOUR) {
+        copies_lent(&rt, rt.alloc(), &mut bufs)?;
+    }
+    Ok(())
+}
+
+fn copies_out_lent<B: BufParts>(
+    rt: &(impl Abort + Print),
+    alloc: Global,
+    bufs: &mut [B],
+) -> Result<(), Fail> {
+    let mut all = lend(rt, bufs);
+    copies_out(rt, alloc, "copy_out of SegmentedSlice", &mut all)
+}
+
+#[test]
+fn copy_out_of_lent(rt: HostRuntime) -> Result<(), Fail> {
+    if let Ok(mut bufs) = bytes_of(rt.alloc(), &FOUR) {
+        copies_out_lent(&rt, rt.alloc(), &mut bufs)?;
+    }
+    if let Ok(mut bufs) = slices_of(rt.alloc(), &FOUR) {
+        copies_out_lent(&rt, rt.alloc(), &mut bufs)?;
+    }
+    Ok(())
+}
+
+// These take no memory, so no refusal reaches them.
 #[test]
 fn no_memory_needed(rt: HostRuntime) -> Result<(), Fail> {
     let mut buf = SegmentedBuf::new(rt.alloc());
     assert!(rt; buf.fits(usize::MAX));
     buf.push(Bytes::new())?;
     buf.advance(0);
-    assert!(rt; buf.chunk().is_empty());
-    let mut table: [&[u8]; 1] = [b"-"];
-    assert_eq!(rt; buf.chunks_vectored(&mut table), 0);
-    if let Ok(bufs) = bytes_of(rt.alloc(), &FOUR) {
-        let buf = SegmentedBuf::from_deque(VecDeque::from_vec(bufs));
-        let mut buf = buf.ok().ok_or("refused")?;
-        assert!(rt; buf.remaining() >= 6);
-        buf.advance(6);
-        assert_eq!(rt; buf.chunk(), b"World".as_slice());
-        assert!(rt; buf.fits(0));
-        buf.push(Bytes::new())?;
-        assert_eq!(rt; buf.chunks_vectored(&mut table), 1);
-        assert_eq!(rt; table[0], b"World".as_slice());
+    assert_holds(&rt, &buf, 0);
+    assert!(rt; buf.chunk().is_empty() && buf.into_inner().is_empty());
+    Ok(())
+}
+
+#[test]
+fn no_memory_needed_by_vectors(rt: HostRuntime) -> Result<(), Fail> {
+    if let Ok(letters) = letters(rt.alloc()) {
+        assert_holds(&rt, &gather(rt.alloc(), letters)?, 6);
     }
+    Ok(())
+}
+
+#[test]
+fn no_memory_needed_by_deques(rt: HostRuntime) -> Result<(), Fail> {
+    let Ok(letters) = letters(rt.alloc()) else {
+        return Ok(());
+    };
+    let mut buf = SegmentedBuf::from_deque(VecDeque::from_vec(letters))
+        .ok()
+        .ok_or("too long")?;
+    assert!(rt; buf.fits(0));
+    buf.push(Bytes::new())?;
+    assert_holds(&rt, &buf, 6);
+    skip(&rt, &mut buf, 5);
+    assert_reads(&rt, &buf, 1, "f");
     Ok(())
 }

@@ -1,7 +1,9 @@
 //! Lawful but odd buffers.
 ghost use Rattle.std.specs.Prelude.{◌≡◌, List, ℕ, replicate};
 
+use crate::parts::{BufParts, CopyRefused};
 use bytes::{Buf, Bytes};
+use std::alloc::Global;
 use std::cell::Cell;
 
 /// So many zero bytes, of which at most 8 lie together.
@@ -27,7 +29,7 @@ impl Buf for Zeros {
     }
 }
 
-/// A buffer that counts how often it is advanced, and how often it is looked at.
+/// A buffer that counts how often it is advanced or copied from, and how often it is looked at.
 #[derive(Debug, Drop)]
 pub(super) struct Asked {
     pub bytes: Bytes,
@@ -45,23 +47,39 @@ impl Asked {
             looks: Cell::new(0),
         }
     }
+
+    fn look(&self) {
+        self.looks.set(self.looks.get().saturating_add(1));
+    }
 }
 
 impl Buf for Asked {
     ghost unread = { λ a. a.bytes };
 
     fn remaining(&self) -> usize {
-        self.looks.set(self.looks.get().saturating_add(1));
+        self.look();
         self.bytes.remaining()
     }
 
     fn chunk(&self) -> &[u8] {
-        self.looks.set(self.looks.get().saturating_add(1));
+        self.look();
         self.bytes.chunk()
     }
 
     fn advance(&mut self, cnt: usize) {
         self.advanced = self.advanced.saturating_add(1);
         self.bytes.advance(cnt);
+    }
+}
+
+impl BufParts for Asked {
+    fn copy_out(&mut self, alloc: Global, len: usize) -> Result<Bytes, CopyRefused> {
+        self.advanced = self.advanced.saturating_add(1);
+        self.bytes.copy_out(alloc, len)
+    }
+
+    fn chunks_into<'s>(&'s self, dst: &mut [&'s [u8]]) -> usize {
+        self.look();
+        self.bytes.chunks_into(dst)
     }
 }

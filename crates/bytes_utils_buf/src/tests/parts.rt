@@ -1,20 +1,10 @@
+//! Buffers that are no segmented ones.
+use super::fixtures::{assert_bytes, take_out};
 use crate::parts::BufParts;
 use bytes::Bytes;
 use std::alloc::Global;
 use std::process::Abort;
 use std::test::Fail;
-
-fn copies<B: BufParts>(
-    rt: &impl Abort,
-    alloc: Global,
-    buf: &mut B,
-    piece: &str,
-) -> Result<(), Fail> {
-    assert!(rt; piece.len() <= buf.remaining());
-    let copy = buf.copy_out(alloc, piece.len())?;
-    assert_eq!(rt; copy.as_slice(), piece.as_bytes());
-    Ok(())
-}
 
 // The first of two places shows all that is unread. Where nothing is, it stays as it was.
 fn shows<B: BufParts>(rt: &impl Abort, buf: &B, unread: &str) {
@@ -22,19 +12,28 @@ fn shows<B: BufParts>(rt: &impl Abort, buf: &B, unread: &str) {
     let filled = if unread.is_empty() { 0 } else { 1 };
     let first = if unread.is_empty() { "x" } else { unread };
     assert_eq!(rt; buf.chunks_into(&mut table), filled);
-    assert!(rt; table[0] == first.as_bytes());
-    assert!(rt; table[1] == b"y".as_slice());
+    let shown = table[0];
+    assert_bytes(rt, shown, first);
+    let other = table[1];
+    assert_bytes(rt, other, "y");
+}
+
+// A leaf of `Hello`.
+fn hands_out<B: BufParts>(rt: &impl Abort, alloc: Global, leaf: &mut B) -> Result<(), Fail> {
+    for (piece, unread) in [("He", "llo"), ("", "llo"), ("llo", "")] {
+        let copy = take_out(rt, alloc, leaf, piece.len())?;
+        assert_bytes(rt, copy.as_slice(), piece);
+        shows(rt, leaf, unread);
+    }
+    Ok(())
 }
 
 #[test]
 fn leaves_hand_out_parts(rt: HostRuntime) -> Result<(), Fail> {
-    let mut slice = b"Hello".as_slice();
-    let mut bytes = Bytes::copy_from_slice(rt.alloc(), b"Hello")?;
-    for (piece, unread) in [("He", "llo"), ("", "llo"), ("llo", "")] {
-        copies(&rt, rt.alloc(), &mut slice, piece)?;
-        copies(&rt, rt.alloc(), &mut bytes, piece)?;
-        shows(&rt, &slice, unread);
-        shows(&rt, &bytes, unread);
-    }
-    Ok(())
+    hands_out(&rt, rt.alloc(), &mut b"Hello".as_slice())?;
+    hands_out(
+        &rt,
+        rt.alloc(),
+        &mut Bytes::copy_from_slice(rt.alloc(), b"Hello")?,
+    )
 }
