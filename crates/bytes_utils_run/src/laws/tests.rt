@@ -29,28 +29,52 @@ fn are(parts: &[String], wanted: &[&str]) -> bool {
             .all(|(part, want)| part.as_str() == *want)
 }
 
-/// Asserts that `cut_all` gives what Rust's own `str` gives, from the front, from the back, and with
-/// the separators kept.
-fn assert_same(rt: &impl Abort, alloc: Global, text: &str, separator: &str) -> Result<(), Fail> {
-    assert!(rt; !separator.is_empty());
-    let others: Vec<&str> = text.split(separator).collect(alloc)?;
-    assert!(rt; are(&given(rt, alloc, text, How::Split(separator))?, &others));
-    let others: Vec<&str> = text.rsplit(separator).collect(alloc)?;
-    assert!(rt; are(&given(rt, alloc, text, How::RSplit(separator))?, &others));
-    let others: Vec<&str> = text.split_inclusive(separator).collect(alloc)?;
-    assert!(rt; are(&given(rt, alloc, text, How::Inclusive(separator))?, &others));
+fn assert_given(
+    rt: &impl Abort,
+    alloc: Global,
+    text: &str,
+    how: How<'_>,
+    wanted: &[&str],
+) -> Result<(), Fail>
+    requires { IsAllowed how }
+{
+    let parts = given(rt, alloc, text, how)?;
+    assert!(rt; are(&parts, wanted), "{text:?}, {how:?}");
     Ok(())
 }
+
+/// Asserts that `cut_all` gives what Rust's own `str` gives.
+fn assert_same(rt: &impl Abort, alloc: Global, text: &str, separator: &str) -> Result<(), Fail> {
+    let others: Vec<&str> = text.split(separator).collect(alloc)?;
+    assert_given(rt, alloc, text, How::Split(separator), &others)?;
+    let others: Vec<&str> = text.rsplit(separator).collect(alloc)?;
+    assert_given(rt, alloc, text, How::RSplit(separator), &others)
+}
+
+/// The same where the separators are kept.
+fn assert_keeps(rt: &impl Abort, alloc: Global, text: &str, separator: &str) -> Result<(), Fail> {
+    assert!(rt; !separator.is_empty());
+    let others: Vec<&str> = text.split_inclusive(separator).collect(alloc)?;
+    assert_given(rt, alloc, text, How::Inclusive(separator), &others)
+}
+
+const TEXTS: &[(&str, &str)] = &[
+    ("a,b,,c", ","),
+    ("aaa", "aa"),
+    ("ababa", "aba"),
+    ("αβα", "β"),
+];
 
 #[test]
 fn two_cutters_give_the_same(rt: HostRuntime) -> Result<(), Fail> {
     unique_forward::<char>();
     unique_backward::<char>();
     unique_inclusive::<char>();
-    assert_same(&rt, rt.alloc(), "a,b,,c", ",")?;
-    assert_same(&rt, rt.alloc(), "aaa", "aa")?;
-    assert_same(&rt, rt.alloc(), "ababa", "aba")?;
-    assert_same(&rt, rt.alloc(), "αβα", "β")
+    for (text, separator) in TEXTS {
+        assert_same(&rt, rt.alloc(), text, separator)?;
+        assert_keeps(&rt, rt.alloc(), text, separator)?;
+    }
+    Ok(())
 }
 
 /// The text's characters from the last to the first.
@@ -115,12 +139,8 @@ type Limited = (usize, &'static [&'static str], &'static [&'static str]);
 
 fn assert_limits(rt: &impl Abort, alloc: Global, rows: &[Limited]) -> Result<(), Fail> {
     for (most, forward, backward) in rows {
-        let front = given(rt, alloc, "a,b,c", How::SplitN(*most, ","))?;
-        let back = given(rt, alloc, "a,b,c", How::RSplitN(*most, ","))?;
-        assert!(rt;
-            are(&front, forward) && are(&back, backward),
-            "at most {most}"
-        );
+        assert_given(rt, alloc, "a,b,c", How::SplitN(*most, ","), forward)?;
+        assert_given(rt, alloc, "a,b,c", How::RSplitN(*most, ","), backward)?;
     }
     Ok(())
 }
@@ -149,8 +169,6 @@ fn a_limit_of_0_leaves_no_part(rt: HostRuntime) -> Result<(), Fail> {
 // It occurs in every part, also in one that isn't the last, so the laws ask for another.
 #[test]
 fn the_empty_separator_leaves_itself_in_a_part(rt: HostRuntime) -> Result<(), Fail> {
-    let front = given(&rt, rt.alloc(), "a", How::Split(""))?;
-    let back = given(&rt, rt.alloc(), "a", How::RSplit(""))?;
-    assert!(rt; are(&front, &["", "a", ""]) && are(&back, &["", "a", ""]));
-    Ok(())
+    assert_given(&rt, rt.alloc(), "a", How::Split(""), &["", "a", ""])?;
+    assert_given(&rt, rt.alloc(), "a", How::RSplit(""), &["", "a", ""])
 }

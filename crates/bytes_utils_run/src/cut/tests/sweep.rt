@@ -48,17 +48,17 @@ where
     let mut is_whole = true;
     for want in wanted {
         match next_of(&mut parts) {
-            Some(Ok(part)) => assert!(rt; part.as_str() == *want, "of {wanted:?}"),
+            Some(Ok(part)) => assert!(rt; part.as_str() == *want),
             Some(Err(reason)) => {
                 assert!(rt; reason == Reason::OutOfMemory);
                 is_whole = false;
                 break;
             }
-            None => panic!(rt; "{want:?} of {wanted:?} is missing"),
+            None => panic!(rt; "{want} is missing"),
         }
     }
     for _ in 0..4 {
-        assert!(rt; next_of(&mut parts).is_none(), "{wanted:?}");
+        assert!(rt; next_of(&mut parts).is_none());
     }
     is_whole
 }
