@@ -65,7 +65,7 @@ impl<'s, S: Storage> AnySplitter<'s, S> {
 impl<'s, S: Storage> Iterator for AnySplitter<'s, S> {
     type Item = Result<StrInner<S>, Reason>;
 
-    ghost next_gives = { IsStep AreToCome Cuts };
+    ghost next_gives = { IsStep AreToCome Cuts S.refuses };
 
     ghost remaining = { λ s. at_most (most_to_come s) };
 

@@ -25,11 +25,11 @@ returns-in_err-print-in-Ok-clause-err g c =
     let before = c.loop-item.invariant in
     let part = chars c.in-Ok.part in
     let step = rw c.in-Ok.is at c.in-Some.ensures.steps in
-    let others = step.1.some in
+    let others = step.gives.some in
     let begun : (parts : List (List ℕ)) × AreToCome c.args.splitter parts
     × AppendsBeginning (g.W.Write.contents c.args.writer.now) (g.W.Write.contents c.print.new.writer) (concat (map printed_part parts)) = (
       before.parts ++ part ∷ others.0,
-      before.each (part ∷ others.0) (step.1.each others.0 others.1),
+      before.each (part ∷ others.0) (step.gives.each others.0 others.1),
       print_begun_behind printed_part before.parts part others.0 _ _ _ before.printed c.in_err-print-in-Ok.ensures.err,
     ) in
     OnErr-always _ _ begun
@@ -41,8 +41,8 @@ loop-item-preserved g c =
     let step = rw c.in-Ok.is at c.in-Some.ensures.steps in
     record {
       parts = before.parts ++ part ∷ [];
-      some = step.1.some;
+      some = step.gives.some;
       each = λ more to_come.
-          subst (AreToCome c.args.splitter) (sym (append_assoc before.parts (part ∷ []) more)) (before.each (part ∷ more) (step.1.each more to_come));
+          subst (AreToCome c.args.splitter) (sym (append_assoc before.parts (part ∷ []) more)) (before.each (part ∷ more) (step.gives.each more to_come));
       printed = print_behind printed_part before.parts part _ _ _ before.printed c.in_ok-print-in-Ok.ensures.ok;
     }
