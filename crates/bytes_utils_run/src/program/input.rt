@@ -7,7 +7,7 @@ use std::alloc::Global;
 use std::io::Read;
 
 /// How many bytes one call of `read` may give.
-const PLACE: usize = 4_096;
+const BYTES_PER_READ: usize = 4_096;
 
 /// How many calls of `read` are made at most.
 const MOST_READS: usize = 1_048_576;
@@ -17,12 +17,12 @@ const MOST_READS: usize = 1_048_576;
 pub(super) fn read_all<R: Read>(alloc: Global, reader: &mut R) -> Result<Vec<u8>, Fault>
     ensures whole { IfOk result
         (λ bytes. ReadsWhole (R.remaining reader.old) (R.remaining reader.new) bytes.items) }
-    ensures bounded { IfOk result (λ bytes. length bytes.items < PLACE * MOST_READS) }
+    ensures bounded { IfOk result (λ bytes. length bytes.items < BYTES_PER_READ * MOST_READS) }
     ensures err { OnErr result (ConsumesSome (R.remaining reader.old) (R.remaining reader.new)) }
     ensures fault { IfErr result (λ fault. (fault ≡ Fault.Io) ⊎ (fault ≡ Fault.OutOfMemory)) }
 {
     let mut bytes = Vec::new(alloc);
-    let mut place = [0; PLACE];
+    let mut place = [0; BYTES_PER_READ];
     for _ in 0..MOST_READS {
         match reader.read(&mut place) {
             Ok(0) => return Ok(bytes),
