@@ -1,6 +1,5 @@
 -- What an input asks for, by way of the request that was read from it.
 use Rattle.std.proofs.Common.{◌≡◌, refl, sym, ap, subst, ℕ, List, [], ◌∷◌, ◌++◌, Option, None, Some, map, arith}
-use Rattle.std.proofs.lemmas.List.{map-append, length-map}
 use Rattle.std.proofs.lemmas.List.Folds.{concat-append}
 use Rattle.std.specs.List.{concat}
 use Rattle.bytes_utils.specs.Outcome.{Outcome}
@@ -11,18 +10,9 @@ use Rattle.bytes_utils_run.specs.Printed.{printed_part, printed_reply}
 use Rattle.bytes_utils_run.specs.Request.{AreAskedFor, AreReplies, ForParts, ForReplies, IsRequest}
 use Rattle.bytes_utils_run.specs.Run.{AsksFor}
 use Rattle.bytes_utils_run.proofs.Beginnings.{AppendsBeginning-more}
+use Rattle.bytes_utils_run.proofs.Outcomes.{Outcome-map}
 use Rattle.bytes_utils_run.specs.declared.calls.Call.{Call}
 use Rattle.bytes_utils_run.specs.declared.calls.Reply.{Reply}
-
--- an outcome for one list is an outcome for what it becomes, element by element
-pub Outcome-map : {X Y E : Type 0} (f : X → Y) (Is : List X → Type 0) (Are : List Y → Type 0) → ((all : List X) → Is all → Are (map f all))
-    → (given : List X) (refused : Option E) → Outcome Is given refused → Outcome Are (map f given) refused
-Outcome-map f Is Are into given None is = into given is
-Outcome-map f Is Are into given (Some e) begun = (
-  map f begun.0,
-  omega (arith, begun.1, length-map begun.0 f),
-  subst Are (map-append f given begun.0) (into (given ++ begun.0) begun.2),
-)
 
 -- a list that is to come is right for this way to cut
 pub Outcome-parts : {E : Type 0} (way : Cutting) (line text : List ℕ) → IsCommand way line

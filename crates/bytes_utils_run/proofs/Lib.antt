@@ -1,6 +1,7 @@
 pub mod Beginnings
 pub mod FirstLine
 pub mod CommandLine
+pub mod Outcomes
 pub mod Asked
 pub mod CallLines
 pub mod Numbers

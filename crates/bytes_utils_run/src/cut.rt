@@ -1,22 +1,12 @@
 //! A text cut into all of its parts.
-ghost use Rattle.std.specs.Prelude.{◌≡◌, ◌+◌, ◌≤◌, ◌⊎◌, ℕ, List, Option, Result, IfSome, length, map};
-ghost use Rattle.std.specs.Char.{is_whitespace, is_ascii_whitespace};
-ghost use Rattle.std.specs.Iterator.{IsFinite};
+ghost use Rattle.std.specs.Prelude.{◌≡◌, ◌+◌, ◌≤◌, ◌⊎◌, ℕ, List, IfSome, length, map};
 ghost use Rattle.std.specs.Str.{chars};
-ghost use Rattle.bytes_utils.specs.Keeping.{AreInclusivePartsToCome, CutsBehindNext};
-ghost use Rattle.bytes_utils.specs.Lines.{AreLinesToCome, HoldsLineFeed};
 ghost use Rattle.bytes_utils.specs.Outcome.{Outcome};
-ghost use Rattle.bytes_utils.specs.Splitting.{AreForwardPartsToCome, AreBackwardPartsToCome, CutsNext};
-ghost use Rattle.bytes_utils.specs.Step.{IsStep};
-ghost use Rattle.bytes_utils.specs.Words.{AreWordsToCome, HoldsSpace};
+ghost use Rattle.bytes_utils_run.specs.Coming.{AreToCome};
 ghost use Rattle.bytes_utils_run.specs.Cutting.{ArePartsBy, cutting, IsAllowed};
-ghost use Rattle.bytes_utils_buf.specs.declared.refused.Reason.{Reason as WhyRefused};
 
+use crate::splitter::AnySplitter;
 use bytes_utils::Reason;
-use bytes_utils::split::{
-    LinesBytes, RSplitBytes, RSplitNBytes, SplitAsciiWhitespaceBytes, SplitBytes,
-    SplitInclusiveBytes, SplitNBytes, SplitWhitespaceBytes,
-};
 use bytes_utils::string::{Storage, StrInner};
 use std::alloc::Global;
 
@@ -53,89 +43,11 @@ pub struct Parts<S: Storage> {
     pub refused: Option<Reason>,
 }
 
-/// An iterator of a text's parts, each step of which keeps to the list of those to come.
-trait Splitter<S: Storage>: Iterator<Item = Result<StrInner<S>, Reason>> {
-    // Which parts are to come.
-    ghost coming: { Self → List (List ℕ) → Type 0 };
-
-    // Whether a step splits the storage.
-    ghost cuts: { Self → Type 0 };
-
-    // Each step gives the first of them and leaves the others.
-    ghost steps: { (s : Self) (r : Option (Result (List ℕ) WhyRefused)) (t : Self)
-        → Self.next_gives s r t → IsStep coming cuts S.refuses s r t };
-}
-
-impl<S: Storage> Splitter<S> for SplitWhitespaceBytes<S> {
-    ghost coming = { AreWordsToCome is_whitespace };
-
-    ghost cuts = { HoldsSpace is_whitespace };
-
-    ghost steps = { λ s r t step. step };
-}
-
-impl<S: Storage> Splitter<S> for SplitAsciiWhitespaceBytes<S> {
-    ghost coming = { AreWordsToCome is_ascii_whitespace };
-
-    ghost cuts = { HoldsSpace is_ascii_whitespace };
-
-    ghost steps = { λ s r t step. step };
-}
-
-impl<S: Storage> Splitter<S> for LinesBytes<S> {
-    ghost coming = { AreLinesToCome };
-
-    ghost cuts = { HoldsLineFeed };
-
-    ghost steps = { λ s r t step. step };
-}
-
-impl<S: Storage> Splitter<S> for SplitBytes<'_, S> {
-    ghost coming = { AreForwardPartsToCome };
-
-    ghost cuts = { CutsNext };
-
-    ghost steps = { λ s r t step. step };
-}
-
-impl<S: Storage> Splitter<S> for SplitNBytes<'_, S> {
-    ghost coming = { AreForwardPartsToCome };
-
-    ghost cuts = { CutsNext };
-
-    ghost steps = { λ s r t step. step };
-}
-
-impl<S: Storage> Splitter<S> for RSplitBytes<'_, S> {
-    ghost coming = { AreBackwardPartsToCome };
-
-    ghost cuts = { CutsNext };
-
-    ghost steps = { λ s r t step. step };
-}
-
-impl<S: Storage> Splitter<S> for RSplitNBytes<'_, S> {
-    ghost coming = { AreBackwardPartsToCome };
-
-    ghost cuts = { CutsNext };
-
-    ghost steps = { λ s r t step. step };
-}
-
-impl<S: Storage> Splitter<S> for SplitInclusiveBytes<'_, S> {
-    ghost coming = { AreInclusivePartsToCome };
-
-    ghost cuts = { CutsBehindNext };
-
-    ghost steps = { λ s r t step. step.1 };
-}
-
-/// Takes all the parts that an iterator gives.
-fn gather<S: Storage, I: Splitter<S> + Drop>(alloc: Global, splitter: I) -> Parts<S>
-    requires can { I.can_next splitter }
-    requires ends { IsFinite (I.remaining splitter) }
-    requires some { (parts : List (List ℕ)) × I.coming splitter parts }
-    ensures outcome { Outcome (I.coming splitter) (map chars result.given.items) result.refused }
+/// Takes all the parts that a splitter gives.
+fn gather<S: Storage>(alloc: Global, splitter: AnySplitter<'_, S>) -> Parts<S>
+    requires { (parts : List (List ℕ)) × AreToCome splitter parts }
+    ensures outcome { Outcome (AreToCome splitter.entry) (map chars result.given.items)
+        result.refused }
     ensures reason { IfSome result.refused
         (λ reason. S.refuses reason ⊎ (reason ≡ Reason.OutOfMemory)) }
 {
@@ -163,26 +75,6 @@ fn gather<S: Storage, I: Splitter<S> + Drop>(alloc: Global, splitter: I) -> Part
     }
 }
 
-/// The parts that a way to cut makes of a text.
-fn parts_by<S: Storage>(alloc: Global, text: StrInner<S>, how: How<'_>) -> Parts<S>
-    requires { IsAllowed how }
-    ensures outcome { Outcome (ArePartsBy (cutting how.entry) (chars text))
-        (map chars result.given.items) result.refused }
-    ensures reason { IfSome result.refused
-        (λ reason. S.refuses reason ⊎ (reason ≡ Reason.OutOfMemory)) }
-{
-    match how {
-        How::Words => gather(alloc, text.split_whitespace_bytes()),
-        How::AsciiWords => gather(alloc, text.split_ascii_whitespace_bytes()),
-        How::Lines => gather(alloc, text.lines_bytes()),
-        How::Split(separator) => gather(alloc, text.split_bytes(separator)),
-        How::SplitN(most, separator) => gather(alloc, text.splitn_bytes(most, separator)),
-        How::RSplit(separator) => gather(alloc, text.rsplit_bytes(separator)),
-        How::RSplitN(most, separator) => gather(alloc, text.rsplitn_bytes(most, separator)),
-        How::Inclusive(separator) => gather(alloc, text.split_inclusive_bytes(separator)),
-    }
-}
-
 /// Cuts a text into all of its parts. `is_empty` of the separator tests the condition on
 /// `Inclusive`.
 pub fn cut_all<S: Storage>(alloc: Global, text: StrInner<S>, how: How<'_>) -> Parts<S>
@@ -194,5 +86,5 @@ pub fn cut_all<S: Storage>(alloc: Global, text: StrInner<S>, how: How<'_>) -> Pa
     ensures reason { IfSome result.refused
         (λ reason. S.refuses reason ⊎ (reason ≡ Reason.OutOfMemory)) }
 {
-    parts_by(alloc, text, how)
+    gather(alloc, AnySplitter::new(text, how))
 }
