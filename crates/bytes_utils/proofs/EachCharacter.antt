@@ -16,17 +16,17 @@ length-single {X} t = omega (arith, length-append (map (λ x. x ∷ []) t) ([] �
 limited : {X : Type 0} (t : List X) (n : ℕ) → n < length t + 2 → by_element t (Some n) ≡ take (n - 1) (single t) ++ (drop (n - 2) t ∷ [])
 limited t n below = cond-true _ _ _ (lt-ltb n (length (single t)) (omega (arith, below, length-single t)))
 
-limited_more : {X : Type 0} (t : List X) (n : ℕ) → suc (suc n) < length t + 2 → by_element t (Some (suc (suc n))) ≡ take (suc n) (single t) ++ (drop n t ∷ [])
+pub limited_more : {X : Type 0} (t : List X) (n : ℕ) → suc (suc n) < length t + 2 → by_element t (Some (suc (suc n))) ≡ take (suc n) (single t) ++ (drop n t ∷ [])
 limited_more t n below =
     let most : suc (suc n) - 1 ≡ suc n = omega arith in
     let left : suc (suc n) - 2 ≡ n = omega arith in
     limited t (suc (suc n)) below ∙ (λ k. take (most k) (single t) ++ (drop (left k) t ∷ []))
 
-unlimited : {X : Type 0} (t : List X) (n : ℕ) → length t + 2 ≤ n → by_element t (Some n) ≡ single t
+pub unlimited : {X : Type 0} (t : List X) (n : ℕ) → length t + 2 ≤ n → by_element t (Some n) ≡ single t
 unlimited t n enough = cond-false _ _ _ (le-ltb n (length (single t)) (omega (arith, enough, length-single t)))
 
 -- the limit is less than the number of parts, or isn't
-below_or_enough : (n m : ℕ) → (n < m) ⊎ (m ≤ n)
+pub below_or_enough : (n m : ℕ) → (n < m) ⊎ (m ≤ n)
 below_or_enough n zero = inr (omega arith)
 below_or_enough zero (suc m) = inl (omega arith)
 below_or_enough (suc n) (suc m) = step (below_or_enough n m)

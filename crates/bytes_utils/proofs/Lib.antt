@@ -21,6 +21,9 @@ pub mod CharacterCut
 pub mod NextPart
 pub mod Results
 pub mod Steps
+pub mod Walks
+pub mod ToCome
+pub mod Rejoining
 pub mod KeepingCut
 pub mod Lines
 pub mod Words

@@ -114,7 +114,7 @@ map-reverse f (x ∷ xs) =
     ap (map f) (reverse-append (x ∷ []) xs) ∙ map-append f (reverse xs) (x ∷ []) ∙ ap (λ z. z ++ f x ∷ []) (map-reverse f xs)
     ∙ sym (reverse-append (f x ∷ []) (map f xs))
 
-reverse-join : {X : Type 0} (p : List X) (parts : List (List X)) → reverse (join p parts) ≡ join (reverse p) (reverse (map reverse parts))
+pub reverse-join : {X : Type 0} (p : List X) (parts : List (List X)) → reverse (join p parts) ≡ join (reverse p) (reverse (map reverse parts))
 reverse-join p [] = refl
 reverse-join p (part ∷ []) = refl
 reverse-join p (part ∷ next ∷ parts) =

@@ -131,3 +131,20 @@ module _ {X : Type 0} (p : List X) (some : 0 < length p) where
       let more = inclusive_same (join [] (next ∷ parts)) (next ∷ parts) (later ∷ others) (AreInclusiveParts-others p t some part next parts are)
       (subst (λ z. AreInclusiveParts z p (later ∷ others)) (sym cut.1) behind) in
       λ k. cut.0 k ∷ more k
+
+-- For p empty there is one inclusive part, or none.
+one_alone : {X : Type 0} (t part next : List X) (parts : List (List X)) → AreInclusiveParts t [] (part ∷ next ∷ parts) → ⊥
+one_alone t part next parts are =
+    omega (arith, are.cut_behind_first.0.none_before 0 refl, All-head (λ q. 0 < length q) part (next ∷ parts) are.none_empty)
+
+none_with_one : {X : Type 0} (t part : List X) → AreInclusiveParts t [] [] → AreInclusiveParts t [] (part ∷ []) → ⊥
+none_with_one t part none are = omega (arith, ap length none.joined, ap length are.joined, All-head (λ q. 0 < length q) part [] are.none_empty)
+
+pub inclusive_same_any : {X : Type 0} (p t : List X) (parts others : List (List X)) → AreInclusiveParts t p parts → AreInclusiveParts t p others → parts ≡ others
+inclusive_same_any (x ∷ p) t parts others are also = inclusive_same (x ∷ p) (omega arith) t parts others are also
+inclusive_same_any [] t [] [] are also = refl
+inclusive_same_any [] t [] (other ∷ []) are also = absurd (none_with_one t other are also)
+inclusive_same_any [] t (part ∷ []) [] are also = absurd (none_with_one t part also are)
+inclusive_same_any [] t (part ∷ []) (other ∷ []) are also = ap (λ z. z ∷ []) (are.joined ∙ sym also.joined)
+inclusive_same_any [] t (part ∷ next ∷ parts) others are also = absurd (one_alone t part next parts are)
+inclusive_same_any [] t parts (other ∷ later ∷ others) are also = absurd (one_alone t other later others also)

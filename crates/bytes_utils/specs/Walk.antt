@@ -1,5 +1,5 @@
 -- A text cut at the places that a closure of the caller's answers.
-use Rattle.std.specs.Prelude.{◌≡◌, ℕ, ◌+◌, ◌<◌, ◌≤◌, List, length, take, drop, Option, None, Some, Result, Ok, MatchOption, MatchResult, IsSomeAnd, IsCharBoundary, IsUtf8}
+use Rattle.std.specs.Prelude.{◌≡◌, ℕ, ◌+◌, ◌<◌, ◌≤◌, List, [], ◌∷◌, ◌++◌, length, map, take, drop, Option, None, Some, Result, Ok, MatchOption, MatchResult, IsSomeAnd, IsCharBoundary, IsUtf8, ⊤}
 use Rattle.std.specs.Option.{option_map_or}
 use Rattle.std.specs.Fn.{Mut, TakesAt, CalledAt}
 use Rattle.std.specs.Str.{chars}
@@ -28,6 +28,11 @@ abbrev pub rest_at : Direction → List ℕ → ℕ → ℕ → List ℕ
 rest_at Forward text a b = drop b text
 rest_at Backward text a b = take b text
 
+-- what a cut leaves out, between its chunk and what it leaves
+abbrev pub gap_at : Direction → List ℕ → ℕ → ℕ → List ℕ
+gap_at Forward text a b = drop a (take b text)
+gap_at Backward text a b = drop b (take a text)
+
 -- What an answer of the closure on a text leads to: on `None` the whole text is given and nothing is left; on a cut its chunk is given and
 -- its rest is left, or a refusal is given, for a reason that the storage refuses for, and nothing is left.
 abbrev pub FollowsAnswer : {E : Type 0} → (E → Type 0) → Direction → List ℕ → Option (ℕ × ℕ) → Result (List ℕ) E → Option (List ℕ) → Type 0
@@ -43,10 +48,49 @@ pub record Walk (F : Type 0) : Type 0 where
   pub closure : F
 
 -- A step from s to t that answers r: `None` where nothing is left, else the closure is called once, on what is left, and the rest follows.
-abbrev pub IsWalkStep : {F E : Type 0} → Mut F (Bor (List ℕ) × Unit {0}) (Option (ℕ × ℕ)) → (E → Type 0) → Walk F → Option (Result (List ℕ) E) → Walk F → Type 0
-IsWalkStep f refuses s r t = (t.direction ≡ s.direction) × MatchOption s.rest ((r ≡ None) × (t.rest ≡ None) × (t.closure ≡ s.closure))
-    (λ text. (answer : Option (ℕ × ℕ)) × CalledAt f s.closure text answer t.closure × IsSomeAnd r (λ item. FollowsAnswer refuses s.direction text answer item t.rest))
+pub record IsWalkStep {F E : Type 0} (f : Mut F (Bor (List ℕ) × Unit {0}) (Option (ℕ × ℕ))) (refuses : E → Type 0) (s : Walk F) (r : Option (Result (List ℕ) E)) (t : Walk F) : Type 0 where
+  pub direction : t.direction ≡ s.direction
+  pub follows : MatchOption s.rest ((r ≡ None) × (t.rest ≡ None) × (t.closure ≡ s.closure))
+      (λ text. (answer : Option (ℕ × ℕ)) × CalledAt f s.closure text answer t.closure × IsSomeAnd r (λ item. FollowsAnswer refuses s.direction text answer item t.rest))
 
 -- a bound on the items to come: one more than the characters left
 abbrev pub most_chunks : {F : Type 0} → Walk F → ℕ
 most_chunks s = option_map_or (λ text. length (chars text) + 1) s.rest 0
+
+-- what a cut took off: a chunk, and what was left out next to it
+pub record Taken : Type 0 where
+  pub chunk : List ℕ
+  pub gap : List ℕ
+
+-- what cuts took off, in the order in which they were made, and the text that they left, joined as they stand in the text
+abbrev pub laid_out : Direction → List Taken → List ℕ → List ℕ
+laid_out direction [] last = last
+laid_out Forward (cut ∷ cuts) last = cut.chunk ++ (cut.gap ++ laid_out Forward cuts last)
+laid_out Backward (cut ∷ cuts) last = laid_out Backward cuts last ++ (cut.gap ++ cut.chunk)
+
+-- called on this text, the closure answered the cut that takes these off
+pub record IsAnswered {F : Type 0} (f : Mut F (Bor (List ℕ) × Unit {0}) (Option (ℕ × ℕ))) (direction : Direction) (text : List ℕ) (cut : Taken) : Type 0 where
+  pub state : F
+  pub after : F
+  pub chunk_edge : ℕ
+  pub separator_edge : ℕ
+  pub called : CalledAt f state text (Some (chunk_edge, separator_edge)) after
+  pub chunk : cut.chunk ≡ chunk_at direction text chunk_edge separator_edge
+  pub gap : cut.gap ≡ gap_at direction text chunk_edge separator_edge
+
+-- the closure answered each cut, called on what the cuts before it had left
+abbrev pub AreAnswered : {F : Type 0} → Mut F (Bor (List ℕ) × Unit {0}) (Option (ℕ × ℕ)) → Direction → List Taken → List ℕ → Type 0
+AreAnswered f direction [] last = ⊤
+AreAnswered f direction (cut ∷ cuts) last = IsAnswered f direction (laid_out direction (cut ∷ cuts) last) cut × AreAnswered f direction cuts last
+
+-- These items are a run to its end over a text: the chunks of cuts that the closure answered, and at last an item that ends it. All that the
+-- cuts took off, and what they left, joined in order, are the text. What they left is the last chunk, on which the closure answered `None`;
+-- or its cut was refused, and it is what is missing.
+pub record IsWholeWalk {F E : Type 0} (f : Mut F (Bor (List ℕ) × Unit {0}) (Option (ℕ × ℕ))) (refuses : E → Type 0) (direction : Direction) (text : List ℕ) (items : List (Result (List ℕ) E)) : Type 0 where
+  pub cuts : List Taken
+  pub last : List ℕ
+  pub joined : laid_out direction cuts last ≡ text
+  pub answered : AreAnswered f direction cuts last
+  pub end : Result (List ℕ) E
+  pub gives : items ≡ map (λ cut. Ok cut.chunk) cuts ++ (end ∷ [])
+  pub ends : MatchResult end (λ chunk. (chunk ≡ last) × (state : F) × (after : F) × CalledAt f state last None after) refuses

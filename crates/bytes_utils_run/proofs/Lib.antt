@@ -9,6 +9,7 @@ pub mod Printing
 pub mod Runs
 pub mod Slices
 pub mod Counts
+pub mod Joining
 pub mod Fitting
 pub mod Ample
 pub mod Replying

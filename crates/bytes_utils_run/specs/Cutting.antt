@@ -1,9 +1,9 @@
 -- The ways to cut a text, and the list of parts that each gives.
-use Rattle.std.specs.Prelude.{◌≡◌, ℕ, ◌<◌, List, length, Option, None, Some, ⊤}
+use Rattle.std.specs.Prelude.{◌≡◌, ℕ, ◌<◌, List, [], length, reverse, Option, None, Some, IfSome, ⊤}
 use Rattle.std.specs.Char.{is_whitespace, is_ascii_whitespace}
 use Rattle.std.specs.Str.{chars}
 use Rattle.bytes_utils.specs.Lines.{lines}
-use Rattle.bytes_utils.specs.Parts.{ArePartsFromFront, ArePartsFromBack, AreInclusiveParts}
+use Rattle.bytes_utils.specs.Parts.{join, ArePartsFromFront, ArePartsFromBack, AreInclusiveParts}
 use Rattle.bytes_utils.specs.Words.{words}
 use Rattle.bytes_utils_run.specs.declared.cut.How.{How}
 use Rattle.bytes_utils_run.specs.declared.cut.How.TheVariants.{Words, AsciiWords, Lines, Split, SplitN, RSplit, RSplitN, Inclusive}
@@ -26,6 +26,16 @@ ArePartsBy ByLines t parts = parts ≡ lines t
 ArePartsBy (FromFront p limit) t parts = ArePartsFromFront t p limit parts
 ArePartsBy (FromBack p limit) t parts = ArePartsFromBack t p limit parts
 ArePartsBy (Keeping p) t parts = AreInclusiveParts t p parts
+
+-- These parts, joined by the separator, are the text t; those from the back in reverse, and those that keep it with nothing between. A limit
+-- of 0 leaves no part. Words and lines are without what stood between them, so of them nothing is said.
+abbrev pub JoinTo : Cutting → List ℕ → List (List ℕ) → Type 0
+JoinTo ByWords t parts = ⊤
+JoinTo ByAsciiWords t parts = ⊤
+JoinTo ByLines t parts = ⊤
+JoinTo (FromFront p limit) t parts = IfSome limit (λ most. 0 < most) → join p parts ≡ t
+JoinTo (FromBack p limit) t parts = IfSome limit (λ most. 0 < most) → join p (reverse parts) ≡ t
+JoinTo (Keeping p) t parts = join [] parts ≡ t
 
 -- the way that a caller asks for
 abbrev pub cutting : How → Cutting

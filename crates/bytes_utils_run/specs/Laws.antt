@@ -1,7 +1,8 @@
 -- What follows from the definitions of lists of parts, for lists of elements of any type X. A text is such a list, of characters.
 use Rattle.std.specs.Prelude.{◌≡◌, ◌⊎◌, ◌↔◌, ℕ, ◌-◌, ◌<◌, List, [], ◌∷◌, ◌++◌, length, map, take, drop, reverse, Option, None, Some, IfSome, if◌then◌else◌, nat_lt}
+use Rattle.std.specs.Str.{chars, IsAscii}
 use Rattle.bytes_utils.specs.Occurrence.{NoneOverlap}
-use Rattle.bytes_utils.specs.Parts.{join, AreForwardParts, AreBackwardParts, AreInclusiveParts}
+use Rattle.bytes_utils.specs.Parts.{join, AreForwardParts, AreBackwardParts, AreInclusiveParts, ArePartsFromFront, ArePartsFromBack}
 
 -- any two elements are the same or they aren't, as any two characters are: without this nobody could say where a separator occurs
 abbrev pub CanBeToldApart : Type 0 → Type 0
@@ -40,6 +41,24 @@ AgreeLaw X = (t p : List X) (parts : List (List X)) → 0 < length p → NoneOve
 -- what `uncut` makes of the others.
 abbrev pub limited : {X : Type 0} → (List (List X) → List X) → ℕ → List (List X) → List (List X)
 limited uncut most parts = if nat_lt most (length parts) then take (most - 1) parts ++ (uncut (drop (most - 1) parts) ∷ []) else parts
+
+-- the parts of t from the front, joined by p, are t, for every p and a limit of at least 1 or none
+abbrev pub JoinForwardLaw : Type 0 → Type 0
+JoinForwardLaw X = (t p : List X) (limit : Option ℕ) (parts : List (List X)) → IfSome limit (λ most. 0 < most)
+    → ArePartsFromFront t p limit parts → join p parts ≡ t
+
+-- and those from the back in reverse
+abbrev pub JoinBackwardLaw : Type 0 → Type 0
+JoinBackwardLaw X = (t p : List X) (limit : Option ℕ) (parts : List (List X)) → IfSome limit (λ most. 0 < most)
+    → ArePartsFromBack t p limit parts → join p (reverse parts) ≡ t
+
+-- in each state of a splitter at most one list is to come
+abbrev pub OneToComeLaw : {S : Type 0} → (S → List (List ℕ) → Type 0) → Type 0
+OneToComeLaw {S} coming = (s : S) (parts others : List (List ℕ)) → coming s parts → coming s others → parts ≡ others
+
+-- the characters of an ASCII text are its bytes
+abbrev pub AsciiLaw : Type 0
+AsciiLaw = (bytes : List ℕ) → IsAscii bytes → chars bytes ≡ bytes
 
 -- for p not empty and a limit of at least 1, what a limit makes of the forward parts
 abbrev pub ForwardLimitLaw : Type 0 → Type 0

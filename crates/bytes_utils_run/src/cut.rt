@@ -1,9 +1,9 @@
 //! A text cut into all of its parts.
-ghost use Rattle.std.specs.Prelude.{◌≡◌, ◌+◌, ◌≤◌, ◌⊎◌, ℕ, List, IfSome, length, map};
+ghost use Rattle.std.specs.Prelude.{◌≡◌, ◌+◌, ◌≤◌, ◌⊎◌, ℕ, List, IfNone, IfSome, length, map};
 ghost use Rattle.std.specs.Str.{chars};
 ghost use Rattle.bytes_utils.specs.Outcome.{Outcome};
 ghost use Rattle.bytes_utils_run.specs.Coming.{AreToCome};
-ghost use Rattle.bytes_utils_run.specs.Cutting.{ArePartsBy, cutting, IsAllowed};
+ghost use Rattle.bytes_utils_run.specs.Cutting.{ArePartsBy, JoinTo, cutting, IsAllowed};
 
 use crate::splitter::AnySplitter;
 use bytes_utils::Reason;
@@ -82,6 +82,8 @@ pub fn cut_all<S: Storage>(alloc: Global, text: StrInner<S>, how: How<'_>) -> Pa
     ensures outcome { Outcome (ArePartsBy (cutting how.entry) (chars text))
         (map chars result.given.items) result.refused }
     ensures few { length result.given.items ≤ length (chars text) + 2 }
+    ensures joined { IfNone result.refused
+        (JoinTo (cutting how.entry) (chars text) (map chars result.given.items)) }
     // The storage refused a cut, or memory refused the place for the next part.
     ensures reason { IfSome result.refused
         (λ reason. S.refuses reason ⊎ (reason ≡ Reason.OutOfMemory)) }

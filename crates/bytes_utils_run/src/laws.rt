@@ -6,6 +6,12 @@
 ghost use Rattle.bytes_utils_run.specs.Laws.{UniqueForwardLaw, UniqueBackwardLaw};
 ghost use Rattle.bytes_utils_run.specs.Laws.{UniqueInclusiveLaw, MirrorLaw, AgreeLaw};
 ghost use Rattle.bytes_utils_run.specs.Laws.{ForwardLimitLaw, BackwardLimitLaw};
+ghost use Rattle.bytes_utils_run.specs.Laws.{JoinForwardLaw, JoinBackwardLaw, OneToComeLaw, AsciiLaw};
+ghost use Rattle.std.specs.Prelude.{ℕ, Bool};
+ghost use Rattle.bytes_utils.specs.Keeping.{AreInclusivePartsToCome};
+ghost use Rattle.bytes_utils.specs.Lines.{AreLinesToCome};
+ghost use Rattle.bytes_utils.specs.Splitting.{AreForwardPartsToCome, AreBackwardPartsToCome};
+ghost use Rattle.bytes_utils.specs.Words.{AreWordsToCome};
 
 #[cfg(test)]
 mod tests;
@@ -43,4 +49,26 @@ pub fn agree<X>()
 pub fn limits<X>()
     ensures forward { ForwardLimitLaw X }
     ensures backward { BackwardLimitLaw X }
+{}
+
+/// The parts between separators, joined by the separator, are the text: for every separator, the
+/// empty one too, and a limit of at least 1 or none. Those from the back are joined in reverse.
+pub fn rejoin<X>()
+    ensures forward { JoinForwardLaw X }
+    ensures backward { JoinBackwardLaw X }
+{}
+
+/// In each state of a splitter at most one list of parts is to come. So the parts that a run gave
+/// are the ones that were to come when it began.
+pub fn one_to_come()
+    ensures forward { OneToComeLaw AreForwardPartsToCome }
+    ensures backward { OneToComeLaw AreBackwardPartsToCome }
+    ensures inclusive { OneToComeLaw AreInclusivePartsToCome }
+    ensures lines { OneToComeLaw AreLinesToCome }
+    ensures words { (is_space : ℕ → Bool) → OneToComeLaw (AreWordsToCome is_space) }
+{}
+
+/// The characters of an ASCII text, as of a separator that a caller writes, are its bytes.
+pub fn ascii_characters()
+    ensures { AsciiLaw }
 {}

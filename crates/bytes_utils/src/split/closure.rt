@@ -1,8 +1,9 @@
 //! A text cut at the places that a closure of the caller's answers.
-ghost use Rattle.std.specs.Prelude.{◌≡◌, ◌<◌, Some, length, IfOk, IfErr, IsUtf8};
-ghost use Rattle.std.specs.Iterator.{at_most};
+ghost use Rattle.std.specs.Prelude.{◌≡◌, ◌<◌, ℕ, List, Result, Some, length, IfOk, IfErr, IsUtf8};
+ghost use Rattle.std.specs.Iterator.{at_most, Drains};
 ghost use Rattle.std.specs.Str.{chars};
-ghost use Rattle.bytes_utils.specs.Walk.{IsLawfulCut, IsLawfulClosure, IsWalkStep};
+ghost use Rattle.bytes_utils.specs.Walk.{IsLawfulCut, IsLawfulClosure, IsWalkStep, IsWholeWalk};
+ghost use Rattle.bytes_utils_buf.specs.declared.refused.Reason.{Reason as WhyRefused};
 ghost use Rattle.bytes_utils.specs.Walk.{chunk_at, most_chunks, rest_at};
 
 use super::cut::cut_out;
@@ -70,8 +71,14 @@ impl<S: Storage, F: FnMut(&str) -> Option<(usize, usize)>> BytesIter<S, F> {
     /// empty. The closure is called once for each item.
     pub fn new(s: StrInner<S>, direction: Direction, ext: F) -> Self
         requires { IsLawfulClosure F.FnMut direction }
-        ensures { result ≡ record { rest = Some s; direction = direction; closure = ext } }
+        ensures value { result ≡ record { rest = Some s; direction = direction; closure = ext } }
+        // All that a run gives and leaves out, joined in order, is the text.
+        ensures run { (items : List (Result (List ℕ) WhyRefused))
+            → Drains (IsWalkStep F.FnMut S.refuses) result items
+            → IsWholeWalk F.FnMut S.refuses direction s items }
     {
+        // Tells the proof that the bytes are UTF-8.
+        let _ = s.as_str();
         BytesIter {
             rest: Some(s),
             direction,

@@ -1,0 +1,64 @@
+-- In each state of a splitter at most one list is to come.
+use Rattle.std.proofs.Common.{◌≡◌, sym, ◌∙◌, ℕ, zero, suc, Bool, true, false, List, [], ◌∷◌, Option, None, Some, arith}
+use Rattle.std.specs.Option.{option_map}
+use Rattle.std.specs.Str.{chars}
+use Rattle.bytes_utils.specs.Keeping.{Keeping, AreInclusivePartsToCome}
+use Rattle.bytes_utils.specs.Lines.{AreLinesToCome}
+use Rattle.bytes_utils.specs.Parts.{ArePartsFromFront, ArePartsFromBack}
+use Rattle.bytes_utils.specs.Splitting.{Splitting, AreForwardPartsToCome, AreBackwardPartsToCome}
+use Rattle.bytes_utils.specs.Words.{AreWordsToCome}
+use Rattle.bytes_utils.proofs.Unique.{forward_same, backward_same, inclusive_same_any}
+
+front_same : (t p : List ℕ) (limit : Option ℕ) (parts others : List (List ℕ)) → ArePartsFromFront t p limit parts → ArePartsFromFront t p limit others → parts ≡ others
+front_same t p (Some zero) parts others are also = are ∙ sym also
+front_same t [] None parts others are also = are ∙ sym also
+front_same t [] (Some (suc most)) parts others are also = are ∙ sym also
+front_same t (x ∷ p) None parts others are also = forward_same (x ∷ p) (omega arith) t None parts others are also
+front_same t (x ∷ p) (Some (suc most)) parts others are also = forward_same (x ∷ p) (omega arith) t (Some (suc most)) parts others are also
+
+back_same : (t p : List ℕ) (limit : Option ℕ) (parts others : List (List ℕ)) → ArePartsFromBack t p limit parts → ArePartsFromBack t p limit others → parts ≡ others
+back_same t p (Some zero) parts others are also = are ∙ sym also
+back_same t [] None parts others are also = are ∙ sym also
+back_same t [] (Some (suc most)) parts others are also = are ∙ sym also
+back_same t (x ∷ p) None parts others are also = backward_same (x ∷ p) (omega arith) t None parts others are also
+back_same t (x ∷ p) (Some (suc most)) parts others are also = backward_same (x ∷ p) (omega arith) t (Some (suc most)) parts others are also
+
+-- a splitter's state, by its fields
+abbrev state : Option (List ℕ) → List ℕ → Option ℕ → Bool → Splitting
+state rest separator limit begun = record { rest = rest; separator = separator; limit = limit; begun = begun }
+
+from_front : (rest : Option (List ℕ)) (separator : List ℕ) (limit : Option ℕ) (begun : Bool) (parts others : List (List ℕ))
+    → AreForwardPartsToCome (state rest separator limit begun) parts → AreForwardPartsToCome (state rest separator limit begun) others → parts ≡ others
+from_front None separator limit begun parts others are also = are ∙ sym also
+from_front (Some text) separator limit true parts others are also =
+    let same = front_same (chars text) [] (option_map suc limit) ([] ∷ parts) ([] ∷ others) are also in cc
+from_front (Some text) separator limit false parts others are also = front_same (chars text) (chars separator) limit parts others are also
+
+from_back : (rest : Option (List ℕ)) (separator : List ℕ) (limit : Option ℕ) (begun : Bool) (parts others : List (List ℕ))
+    → AreBackwardPartsToCome (state rest separator limit begun) parts → AreBackwardPartsToCome (state rest separator limit begun) others → parts ≡ others
+from_back None separator limit begun parts others are also = are ∙ sym also
+from_back (Some text) separator limit true parts others are also =
+    let same = back_same (chars text) [] (option_map suc limit) ([] ∷ parts) ([] ∷ others) are also in cc
+from_back (Some text) separator limit false parts others are also = back_same (chars text) (chars separator) limit parts others are also
+
+from_kept : (rest : Option (List ℕ)) (separator : List ℕ) (parts others : List (List ℕ)) → AreInclusivePartsToCome (record { rest = rest; separator = separator }) parts
+    → AreInclusivePartsToCome (record { rest = rest; separator = separator }) others → parts ≡ others
+from_kept None separator parts others are also = are ∙ sym also
+from_kept (Some text) separator parts others are also = inclusive_same_any (chars separator) (chars text) parts others are also
+
+pub one_forward : (s : Splitting) (parts others : List (List ℕ)) → AreForwardPartsToCome s parts → AreForwardPartsToCome s others → parts ≡ others
+one_forward s parts others are also = from_front s.rest s.separator s.limit s.begun parts others are also
+
+pub one_backward : (s : Splitting) (parts others : List (List ℕ)) → AreBackwardPartsToCome s parts → AreBackwardPartsToCome s others → parts ≡ others
+one_backward s parts others are also = from_back s.rest s.separator s.limit s.begun parts others are also
+
+pub one_inclusive : (s : Keeping) (parts others : List (List ℕ)) → AreInclusivePartsToCome s parts → AreInclusivePartsToCome s others → parts ≡ others
+one_inclusive s parts others are also = from_kept s.rest s.separator parts others are also
+
+pub one_of_lines : (s : Option (List ℕ)) (parts others : List (List ℕ)) → AreLinesToCome s parts → AreLinesToCome s others → parts ≡ others
+one_of_lines None parts others are also = are ∙ sym also
+one_of_lines (Some text) parts others are also = are ∙ sym also
+
+pub one_of_words : (is_space : ℕ → Bool) (s : Option (List ℕ)) (parts others : List (List ℕ)) → AreWordsToCome is_space s parts → AreWordsToCome is_space s others → parts ≡ others
+one_of_words is_space None parts others are also = are ∙ sym also
+one_of_words is_space (Some text) parts others are also = are ∙ sym also
