@@ -1,28 +1,25 @@
 -- What each run of `str::split_inclusive` gives, by a pattern that finds a separator that isn't empty.
-use Rattle.std.proofs.Common.{◌≡◌, refl, sym, ap, subst, ◌∙◌, ℕ, ◌+◌, ◌<◌, List, [], ◌∷◌, ◌++◌, Option, None, Some, MatchOption, length, take, drop, take-append-drop, arith, length-append, length-drop, IsUtf8, eq-or-lt_of_le, ◌⊎◌, inl, inr}
+use Rattle.std.proofs.Common.{◌≡◌, sym, ap, subst, ◌∙◌, ℕ, ◌+◌, ◌<◌, List, [], ◌∷◌, ◌++◌, Option, None, Some, MatchOption, length, take, drop, take-append-drop, arith, length-append, length-drop, IsUtf8, eq-or-lt_of_le, ◌⊎◌, inl, inr}
 use Rattle.std.proofs.Math.Seq.{take-length}
 use Rattle.std.proofs.lemmas.List.{length-take-le, take_at, drop_at}
-use Rattle.std.proofs.lemmas.List.Elements.{All-head}
 use Rattle.std.proofs.lemmas.Str.{IsUtf8-nil, IsUtf8-take, IsCharBoundary-from_drop, chars-nil, chars-append}
 use Rattle.std.specs.Str.{chars}
 use Rattle.std.specs.Str.Pattern.{EndsAtFirstMatch}
 use Rattle.std.specs.Str.Iter.{split_inclusive_steps, split_inclusive_text, split_inclusive_pattern}
 use Rattle.std.specs.declared.str.SplitInclusive.{SplitInclusive}
 use Rattle.bytes_utils.specs.Occurrence.{Occurs}
-use Rattle.bytes_utils.specs.Parts.{AreInclusiveParts, EndsAtFirst, join}
+use Rattle.bytes_utils.specs.Parts.{AreInclusiveParts, EndsAtFirst}
 use Rattle.bytes_utils.proofs.Boundaries.{OccursAt-fits}
 use Rattle.bytes_utils.proofs.Inclusive.{AreInclusiveParts-none, AreInclusiveParts-more, AreInclusiveParts-last, ends_whole, has_inclusive_parts}
 use Rattle.bytes_utils.proofs.Search.{chars-some}
+use Rattle.bytes_utils.proofs.Unique.{inclusive_same}
 use Rattle.bytes_utils_run.specs.Borrowed.{GivesParts}
 use Rattle.bytes_utils_run.proofs.BorrowedRuns.{GivesParts-from_steps}
 use Rattle.bytes_utils_run.proofs.BorrowedCuts.{FindsCut, First, IsCutAt, Seeks}
 
 -- the empty text has no parts
-no_parts : (p : List ℕ) (parts : List (List ℕ)) → AreInclusiveParts [] p parts → parts ≡ []
-no_parts p [] are = refl
-no_parts p (part ∷ []) are = absurd (omega (arith, ap length are.joined, All-head (λ q. 0 < length q) part [] are.none_empty))
-no_parts p (part ∷ next ∷ parts) are =
-    absurd (omega (arith, ap length are.joined, length-append part ([] ++ join [] (next ∷ parts)), All-head (λ q. 0 < length q) part (next ∷ parts) are.none_empty))
+no_parts : (p : List ℕ) → 0 < length p → (parts : List (List ℕ)) → AreInclusiveParts [] p parts → parts ≡ []
+no_parts p some parts are = inclusive_same p some [] parts [] are (AreInclusiveParts-none p)
 
 none_to_come : (p text : List ℕ) → length text ≡ 0 → AreInclusiveParts (chars text) p []
 none_to_come p [] none = subst (λ z. AreInclusiveParts z p []) (sym chars-nil) (AreInclusiveParts-none p)
@@ -41,7 +38,7 @@ module _ (p : List ℕ) (some : 0 < length p) where
       empty [] e = (
         IsUtf8-nil,
         λ others are.
-            let none : others ≡ [] = no_parts p others (subst (λ z. AreInclusiveParts z p others) chars-nil are) in
+            let none : others ≡ [] = no_parts p some others (subst (λ z. AreInclusiveParts z p others) chars-nil are) in
             rw (part_is, none) (AreInclusiveParts-last p (chars text) (chars-some text text_is long) ends),
       )
       empty (b ∷ r) e = absurd (omega (arith, e))

@@ -32,7 +32,7 @@ pub record Leads (Are : List ℕ → Option ℕ → List (List ℕ) → Type 0) 
 
 module _ (Are : List ℕ → Option ℕ → List (List ℕ) → Type 0) (text part : List ℕ) (live : Bool) (rest : List ℕ) (limit : Option ℕ) where
   -- the part is all of the text, and no other comes
-  Leads-last_part : live ≡ false → part ≡ text → Are (chars text) limit (chars text ∷ []) → Leads Are text part live rest limit
+  pub Leads-last_part : live ≡ false → part ≡ text → Are (chars text) limit (chars text ∷ []) → Leads Are text part live rest limit
   Leads-last_part ends whole alone = record {
     left = λ goes_on. let both : true ≡ false = sym goes_on ∙ ends in cc;
     each = λ others are.
@@ -40,7 +40,7 @@ module _ (Are : List ℕ → Option ℕ → List (List ℕ) → Type 0) (text pa
         rw (whole, none) alone;
   }
 
-  Leads-first_part : live ≡ true → IsUtf8 rest → ((others : List (List ℕ)) → Are (chars rest) (one_less limit) others → Are (chars text) limit (chars part ∷ others))
+  pub Leads-first_part : live ≡ true → IsUtf8 rest → ((others : List (List ℕ)) → Are (chars rest) (one_less limit) others → Are (chars text) limit (chars part ∷ others))
       → Leads Are text part live rest limit
   Leads-first_part goes_on rest_is each = record {
     left = λ _. rest_is;
@@ -117,26 +117,35 @@ pub GivesParts-at_start : {S : Type 0} (steps : S → Option (Bor (List ℕ)) �
     → GivesParts steps s (ToCome live Is) → GivesParts steps s Is
 GivesParts-at_start steps s live Is more = subst (λ b. GivesParts steps s (ToCome b Is)) more
 
-module _ {P : Type 0} (finds : P → List ℕ → Option (ℕ × ℕ) → Type 0) (keeps : P → P → Type 0) (p : List ℕ) (some : 0 < length p) (is : P → Type 0) where
+-- `str::split` by patterns of which `is` holds, where each cut at the first match leads to the others
+module _ {P : Type 0} (finds : P → List ℕ → Option (ℕ × ℕ) → Type 0) (keeps : P → P → Type 0) (is : P → Type 0) (Are : List ℕ → Option ℕ → List (List ℕ) → Type 0)
+    (has : (t : List ℕ) → (parts : List (List ℕ)) × Are t None parts) (kept : (pattern after : P) → is pattern → keeps pattern after → is after)
+    (leads : (pattern : P) (text part : List ℕ) (live : Bool) (rest : List ℕ) → is pattern → IsUtf8 text → IsSplitAtFirstMatch (finds pattern) text part live rest → Leads Are text part live rest None) where
   abbrev split_coming : Split P → List (List ℕ) → Type 0
-  split_coming s = ToCome (split_has_more s) (from_front p some (chars (split_text s)) None)
+  split_coming s = ToCome (split_has_more s) (Are (chars (split_text s)) None)
 
-  pub split-gives : Seeks finds keeps First p is → (s : Split P) → (text : List ℕ) → split_text s ≡ text → split_has_more s ≡ true → IsUtf8 text → is (split_pattern s)
-      → GivesParts (split_steps finds keeps) s (ArePartsFromFront (chars text) p None)
-  split-gives seeks s text text_is more utf8 pattern_is =
-      subst (λ t. GivesParts (split_steps finds keeps) s (ArePartsFromFront (chars t) p None)) text_is
-      (GivesParts-at_start (split_steps finds keeps) s (split_has_more s) (ArePartsFromFront (chars (split_text s)) p None) more
+  pub split-gives_by : (s : Split P) → (text : List ℕ) → split_text s ≡ text → split_has_more s ≡ true → IsUtf8 text → is (split_pattern s)
+      → GivesParts (split_steps finds keeps) s (Are (chars text) None)
+  split-gives_by s text text_is more utf8 pattern_is =
+      subst (λ t. GivesParts (split_steps finds keeps) s (Are (chars t) None)) text_is
+      (GivesParts-at_start (split_steps finds keeps) s (split_has_more s) (Are (chars (split_text s)) None) more
       (GivesParts-from_steps (split_steps finds keeps) (λ s. IsLeft is (split_has_more s) (split_text s) (split_pattern s)) split_coming
-      (λ s s_is. some_to_come (split_has_more s) (from_front p some (chars (split_text s)) None) (has_front (chars (split_text s)) p None))
-      (λ s u s_is step. subst (λ b. ToCome b (from_front p some (chars (split_text s)) None) []) step.0 refl)
+      (λ s s_is. some_to_come (split_has_more s) (Are (chars (split_text s)) None) (has (chars (split_text s))))
+      (λ s u s_is step. subst (λ b. ToCome b (Are (chars (split_text s)) None) []) step.0 refl)
       (λ s t x s_is step.
       let left = s_is (sym step.0) in
-      let leads = Leads-first p some None tt (split_text s) x.now (split_has_more t) (split_text t) (finds (split_pattern s))
-      (λ found. seeks.cuts (split_pattern s) (split_text s) found left.1 left.0) step.1.1 in (
-        λ goes_on. (leads.left goes_on, seeks.kept (split_pattern s) (split_pattern t) left.1 step.1.0),
-        λ others are. subst (λ b. ToCome b (from_front p some (chars (split_text s)) None) (chars x.now ∷ others)) step.0 (leads.each others are),
+      let led = leads (split_pattern s) (split_text s) x.now (split_has_more t) (split_text t) left.1 left.0 step.1.1 in (
+        λ goes_on. (led.left goes_on, kept (split_pattern s) (split_pattern t) left.1 step.1.0),
+        λ others are. subst (λ b. ToCome b (Are (chars (split_text s)) None) (chars x.now ∷ others)) step.0 (led.each others are),
       ))
       s (λ _. (subst IsUtf8 (sym text_is) utf8, pattern_is))))
+
+module _ {P : Type 0} (finds : P → List ℕ → Option (ℕ × ℕ) → Type 0) (keeps : P → P → Type 0) (p : List ℕ) (some : 0 < length p) (is : P → Type 0) where
+  pub split-gives : Seeks finds keeps First p is → (s : Split P) → (text : List ℕ) → split_text s ≡ text → split_has_more s ≡ true → IsUtf8 text → is (split_pattern s)
+      → GivesParts (split_steps finds keeps) s (ArePartsFromFront (chars text) p None)
+  split-gives seeks = split-gives_by finds keeps is (from_front p some) (λ t. has_front t p None) seeks.kept
+      (λ pattern text part live rest pattern_is text_is cut.
+      Leads-first p some None tt text part live rest (finds pattern) (λ found. seeks.cuts pattern text found pattern_is text_is) cut)
 
   abbrev rsplit_coming : RSplit P → List (List ℕ) → Type 0
   rsplit_coming s = ToCome (rsplit_has_more s) (from_back p some (chars (rsplit_text s)) None)

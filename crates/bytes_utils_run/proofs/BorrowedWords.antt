@@ -1,5 +1,5 @@
 -- What each run of `str::split_whitespace` and `str::split_ascii_whitespace` gives.
-use Rattle.std.proofs.Common.{◌≡◌, refl, sym, ap, subst, ◌∙◌, ℕ, ◌<◌, Bool, true, not, List, [], ◌∷◌, ◌++◌, length, arith, IsUtf8}
+use Rattle.std.proofs.Common.{◌≡◌, refl, sym, ap, subst, ◌∙◌, ℕ, ◌<◌, Bool, true, List, [], ◌∷◌, ◌++◌, length, arith, IsUtf8}
 use Rattle.std.proofs.lemmas.Bool.Decides.{nat_tests}
 use Rattle.std.proofs.lemmas.List.Elements.{All-head, All-tail}
 use Rattle.std.proofs.lemmas.Str.{chars-nil, encode_ascii, chars_past_char}
@@ -15,6 +15,7 @@ use Rattle.bytes_utils.proofs.Words.{is_other, words-none, words-behind_space, w
 use Rattle.bytes_utils_run.specs.Borrowed.{GivesParts}
 use Rattle.bytes_utils_run.proofs.BorrowedRuns.{GivesParts-from_steps}
 use Rattle.bytes_utils_run.proofs.TextBeginnings.{behind, between}
+use Rattle.bytes_utils_run.proofs.WordRuns.{NonePass-spaces}
 
 module _ (is_space : ℕ → Bool) where
   -- what is behind a word
@@ -61,13 +62,8 @@ encodes-spaces (c ∷ cs) are =
     ap (λ z. z ++ encodes cs) (encode_ascii c (spaces-low c (All-head (λ b. is_ascii_whitespace b ≡ true) c cs are)))
     ∙ ap (λ z. c ∷ z) (encodes-spaces cs (All-tail (λ b. is_ascii_whitespace b ≡ true) c cs are))
 
-NonePass-spaces : (cs : List ℕ) → Spaces cs → NonePass (is_other is_ascii_whitespace) cs
-NonePass-spaces [] are = tt
-NonePass-spaces (c ∷ cs) are =
-    (ap not (All-head (λ b. is_ascii_whitespace b ≡ true) c cs are), NonePass-spaces cs (All-tail (λ b. is_ascii_whitespace b ≡ true) c cs are))
-
 NoCharPasses-spaces : (bs : List ℕ) → Spaces bs → NoCharPasses (is_other is_ascii_whitespace) bs
-NoCharPasses-spaces bs all = (bs, encodes-spaces bs all, NonePass-spaces bs all)
+NoCharPasses-spaces bs all = (bs, encodes-spaces bs all, NonePass-spaces is_ascii_whitespace bs all)
 
 -- what is behind a word: one byte of white space, or the end of the text
 behind_word : (sep rest : List ℕ) → IsAsciiSeparator sep rest → IsUtf8 (sep ++ rest)
@@ -78,7 +74,7 @@ behind_word (c ∷ sep) rest sep_is both_is =
     let cut = behind (c ∷ sep) (c ∷ sep ++ rest) rest both_is (ap (λ z. z ++ rest) (sym (encodes-spaces (c ∷ sep) sep_is.0))) in (
       cut.0,
       ap (ends_word is_ascii_whitespace) cut.1 ∙ All-head (λ b. is_ascii_whitespace b ≡ true) c sep sep_is.0,
-      ap (words is_ascii_whitespace) cut.1 ∙ words-behind_space is_ascii_whitespace (c ∷ sep) (chars rest) (NonePass-spaces (c ∷ sep) sep_is.0),
+      ap (words is_ascii_whitespace) cut.1 ∙ words-behind_space is_ascii_whitespace (c ∷ sep) (chars rest) (NonePass-spaces is_ascii_whitespace (c ∷ sep) sep_is.0),
     )
 
 pub ascii_words-gives : (s : SplitAscii) (text : List ℕ) → split_ascii_whitespace_text s ≡ text → IsUtf8 text → GivesParts split_ascii_whitespace_steps s (λ parts. parts ≡ words is_ascii_whitespace (chars text))

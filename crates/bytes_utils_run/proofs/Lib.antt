@@ -18,7 +18,11 @@ pub mod TextBeginnings
 pub mod BorrowedRuns
 pub mod BorrowedCuts
 pub mod BorrowedParts
+pub mod BorrowedTests
 pub mod BorrowedLimits
 pub mod BorrowedKeeping
 pub mod BorrowedLines
+pub mod WordRuns
+pub mod LineEnds
+pub mod OwnedAsLent
 pub mod BorrowedWords

@@ -1,8 +1,10 @@
 -- What std's iterators over a text that lend its parts give, and what the patterns find by which they cut.
-use Rattle.std.specs.Prelude.{◌≡◌, ℕ, List, ◌++◌, map, Bool, Option}
+use Rattle.std.specs.Prelude.{◌≡◌, ℕ, List, [], ◌∷◌, ◌++◌, map, Bool, true, Option}
+use denote.Param.Members.{Mut}
 use denote.Ref.{Bor}
+use Rattle.std.specs.Fn.{AlwaysReturns}
 use Rattle.std.specs.Iterator.{Yields, Drains}
-use Rattle.std.specs.Str.{chars}
+use Rattle.std.specs.Str.{chars, NonePass}
 use Rattle.std.specs.Str.Pattern.{FindsText, RFindsText, FindsBy}
 
 -- each of these texts as its characters
@@ -29,6 +31,10 @@ keeps_text pattern after = after.now ≡ pattern.now
 abbrev pub keeps_character : ℕ → ℕ → Type 0
 keeps_character pattern after = after ≡ pattern
 
+-- each call of the closure f from now on answers by the test
+abbrev pub AnswersBy : {F : Type 0} → Mut F (ℕ × Unit {0}) Bool → F → (ℕ → Bool) → Type 0
+AnswersBy calls f passes = AlwaysReturns calls (λ a r. r ≡ passes a.0) f
+
 -- `answers f passes` says that each call of the closure f from now on answers by the test `passes`. What a closure as a pattern finds, and
 -- what a search leaves of it
 module _ {F : Type 0} (answers : F → (ℕ → Bool) → Type 0) where
@@ -37,3 +43,10 @@ module _ {F : Type 0} (answers : F → (ℕ → Bool) → Type 0) where
 
   abbrev pub keeps_tested : F → F → Type 0
   keeps_tested f after = (passes : ℕ → Bool) → answers f passes → answers after passes
+
+-- The parts of t between the characters that pass a test: none of them holds such a character, and one stands behind each but the last.
+abbrev pub ArePartsByTest : (ℕ → Bool) → List ℕ → List (List ℕ) → Type 0
+ArePartsByTest passes t [] = ⊥
+ArePartsByTest passes t (part ∷ []) = (t ≡ part) × NonePass passes part
+ArePartsByTest passes t (part ∷ next ∷ parts) = (c : ℕ) × (rest : List ℕ) × (t ≡ part ++ c ∷ rest) × (passes c ≡ true) × NonePass passes part
+    × ArePartsByTest passes rest (next ∷ parts)

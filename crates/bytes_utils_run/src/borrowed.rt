@@ -7,20 +7,24 @@
 //!
 //! A separator isn't empty here: what std says of the empty one admits other parts too.
 ghost use Rattle.std.specs.Prelude.{◌≡◌, ◌<◌, ◌==◌, ℕ, Bool, [], ◌∷◌, None, Some, length};
-ghost use Rattle.std.specs.Fn.{AlwaysReturns};
 ghost use Rattle.std.specs.Str.{chars};
 ghost use Rattle.std.specs.Str.Iter.{lines_steps, split_whitespace_steps};
 ghost use Rattle.std.specs.Str.Iter.{split_ascii_whitespace_steps, split_inclusive_steps};
-ghost use Rattle.std.specs.Str.Iter.{split_steps, splitn_steps, rsplit_steps, rsplitn_steps};
+ghost use Rattle.std.specs.Str.Iter.{split_steps, split_pattern, splitn_steps};
+ghost use Rattle.std.specs.Str.Iter.{rsplit_steps, rsplitn_steps};
 ghost use Rattle.std.specs.Str.Pattern.{FindsChar};
 ghost use Rattle.bytes_utils_run.specs.Borrowed.{GivesParts, finds_text, rfinds_text, keeps_text};
-ghost use Rattle.bytes_utils_run.specs.Borrowed.{keeps_character, finds_tested, keeps_tested};
+ghost use Rattle.bytes_utils_run.specs.Borrowed.{keeps_character, AnswersBy, finds_tested};
+ghost use Rattle.bytes_utils_run.specs.Borrowed.{keeps_tested, ArePartsByTest};
 ghost use Rattle.bytes_utils_run.specs.Cutting.{ArePartsBy, ByWords, ByAsciiWords, ByLines};
 ghost use Rattle.bytes_utils_run.specs.Cutting.{FromFront, FromBack, Keeping};
 
 use std::str::{
     Lines, RSplit, RSplitN, Split, SplitAsciiWhitespace, SplitInclusive, SplitN, SplitWhitespace,
 };
+
+#[cfg(test)]
+mod tests;
 
 /// The words of a text between characters with Unicode's property White_Space.
 pub fn split_whitespace(text: &str) -> SplitWhitespace<'_>
@@ -89,23 +93,25 @@ pub fn split_inclusive<'t, 's>(text: &'t str, separator: &'s str) -> SplitInclus
     text.split_inclusive(separator)
 }
 
-/// The parts of a text between the characters that are the separator, as by the text of that one
-/// character.
-pub fn split_character(text: &str, separator: char) -> Split<'_, char>
+/// The parts of a text between characters, as by the text of that one character.
+pub fn split_character(text: &str, character: char) -> Split<'_, char>
     ensures { GivesParts (split_steps FindsChar keeps_character) result
-        (ArePartsBy (FromFront (separator ∷ []) None) (chars text.now)) }
+        (ArePartsBy (FromFront (character ∷ []) None) (chars text.now)) }
 {
-    text.split(separator)
+    text.split(character)
 }
 
 /// The parts of a text between the characters at which a closure answers true. Where that is at one
 /// character alone, they are the parts by the text of that one character.
 pub fn split_tested<F: FnMut(char) -> bool>(text: &str, is_separator: F) -> Split<'_, F>
-    requires { F.IsAlwaysCallable is_separator }
-    ensures { (separator : ℕ) → AlwaysReturns F.FnMut (λ a r. r ≡ (a.0 == separator)) is_separator
-        → GivesParts (split_steps
-        (finds_tested (λ f passes. AlwaysReturns F.FnMut (λ a r. r ≡ passes a.0) f))
-        (keeps_tested (λ f passes. AlwaysReturns F.FnMut (λ a r. r ≡ passes a.0) f))) result
+    ensures pattern { split_pattern result ≡ is_separator }
+    ensures tested { (passes : ℕ → Bool) → AnswersBy F.FnMut is_separator passes
+        → GivesParts (split_steps (finds_tested (AnswersBy F.FnMut))
+        (keeps_tested (AnswersBy F.FnMut))) result
+        (ArePartsByTest passes (chars text.now)) }
+    ensures one { (separator : ℕ) → AnswersBy F.FnMut is_separator (λ c. c == separator)
+        → GivesParts (split_steps (finds_tested (AnswersBy F.FnMut))
+        (keeps_tested (AnswersBy F.FnMut))) result
         (ArePartsBy (FromFront (separator ∷ []) None) (chars text.now)) }
 {
     text.split(is_separator)

@@ -5,13 +5,14 @@
 //! conclude more from those contracts. The type parameter is the type of the elements.
 ghost use Rattle.bytes_utils_run.specs.Laws.{UniqueForwardLaw, UniqueBackwardLaw};
 ghost use Rattle.bytes_utils_run.specs.Laws.{UniqueInclusiveLaw, MirrorLaw, AgreeLaw};
-ghost use Rattle.bytes_utils_run.specs.Laws.{ForwardLimitLaw, BackwardLimitLaw};
+ghost use Rattle.bytes_utils_run.specs.Laws.{ForwardLimitLaw, BackwardLimitLaw, OwnedAsLentLaw};
 ghost use Rattle.bytes_utils_run.specs.Laws.{JoinForwardLaw, JoinBackwardLaw, OneToComeLaw, AsciiLaw};
 ghost use Rattle.std.specs.Prelude.{ℕ, Bool};
 ghost use Rattle.bytes_utils.specs.Keeping.{AreInclusivePartsToCome};
 ghost use Rattle.bytes_utils.specs.Lines.{AreLinesToCome};
 ghost use Rattle.bytes_utils.specs.Splitting.{AreForwardPartsToCome, AreBackwardPartsToCome};
 ghost use Rattle.bytes_utils.specs.Words.{AreWordsToCome};
+ghost use Rattle.bytes_utils_run.specs.Readings.{WordsLaw, LinesLaw};
 
 #[cfg(test)]
 mod tests;
@@ -71,4 +72,21 @@ pub fn one_to_come()
 /// The characters of an ASCII text, as of a separator that a caller writes, are its bytes.
 pub fn ascii_characters()
     ensures { AsciiLaw }
+{}
+
+/// What `cut_all` gives without a refusal are, one by one and in order, the parts that the method of
+/// `str` lends, and with a refusal the first of them. The functions of `borrowed` say what those
+/// methods give.
+pub fn owned_as_lent()
+    ensures { OwnedAsLentLaw }
+{}
+
+/// The words of a text are its maximal runs of characters that aren't white space.
+pub fn words_are_runs()
+    ensures { WordsLaw }
+{}
+
+/// The lines of a text, each with its end, make up the text.
+pub fn lines_have_ends()
+    ensures { LinesLaw }
 {}

@@ -7,6 +7,6 @@ use Rattle.bytes_utils_run.proofs.borrowed.split_character.Goals as goal
 
 pub returns : goal.returns
 returns c =
-    let separator = c.args.separator in
-    split-gives FindsChar keeps_character (separator ∷ []) (omega arith) (λ pattern. pattern ≡ separator)
-    (Seeks-character separator) c.split.result c.args.text.now c.split.ensures.text c.split.ensures.has_more c.utf8.text c.split.ensures.pattern
+    let character = c.args.character in
+    split-gives FindsChar keeps_character (character ∷ []) (omega arith) (λ pattern. pattern ≡ character)
+    (Seeks-character character) c.split.result c.args.text.now c.split.ensures.text c.split.ensures.has_more c.utf8.text c.split.ensures.pattern

@@ -1,13 +1,17 @@
-use Rattle.std.proofs.Common.{◌≡◌, ◌==◌, [], ◌∷◌, subst, sym, arith}
-use Rattle.std.specs.Fn.{AlwaysReturns}
-use Rattle.bytes_utils_run.specs.Borrowed.{finds_tested, keeps_tested}
+use Rattle.std.proofs.Common.{◌==◌, [], ◌∷◌, subst, sym, arith}
+use Rattle.bytes_utils_run.specs.Borrowed.{AnswersBy, finds_tested, keeps_tested}
 use Rattle.bytes_utils_run.proofs.BorrowedCuts.{Seeks-tested}
 use Rattle.bytes_utils_run.proofs.BorrowedParts.{split-gives}
+use Rattle.bytes_utils_run.proofs.BorrowedTests.{split_tested-gives}
 use Rattle.bytes_utils_run.proofs.borrowed.split_tested.Goals as goal
 
-pub returns : goal.returns
-returns g c = λ separator answers.
-    split-gives (finds_tested (λ f passes. AlwaysReturns g.F.FnMut (λ a r. r ≡ passes a.0) f)) (keeps_tested (λ f passes. AlwaysReturns g.F.FnMut (λ a r. r ≡ passes a.0) f))
-    (separator ∷ []) (omega arith) (λ f. AlwaysReturns g.F.FnMut (λ a r. r ≡ (a.0 == separator)) f)
-    (Seeks-tested (λ f passes. AlwaysReturns g.F.FnMut (λ a r. r ≡ passes a.0) f) separator) c.split.result c.args.text.now c.split.ensures.text c.split.ensures.has_more c.utf8.text
-    (subst (AlwaysReturns g.F.FnMut (λ a r. r ≡ (a.0 == separator))) (sym c.split.ensures.pattern) answers)
+pub returns-clause-tested : goal.returns-clause-tested
+returns-clause-tested g c = λ passes answers.
+    split_tested-gives passes (AnswersBy g.F.FnMut) c.split.result c.args.text.now c.split.ensures.text c.split.ensures.has_more c.utf8.text
+    (subst (λ f. AnswersBy g.F.FnMut f passes) (sym c.split.ensures.pattern) answers)
+
+pub returns-clause-one : goal.returns-clause-one
+returns-clause-one g c = λ separator answers.
+    split-gives (finds_tested (AnswersBy g.F.FnMut)) (keeps_tested (AnswersBy g.F.FnMut)) (separator ∷ []) (omega arith) (λ f. AnswersBy g.F.FnMut f (λ c. c == separator))
+    (Seeks-tested (AnswersBy g.F.FnMut) separator) c.split.result c.args.text.now c.split.ensures.text c.split.ensures.has_more c.utf8.text
+    (subst (λ f. AnswersBy g.F.FnMut f (λ c. c == separator)) (sym c.split.ensures.pattern) answers)
