@@ -1,4 +1,6 @@
 //! What no clause says: that calls succeed with ample memory, printed text, and worked cases.
+ghost use Rattle.std.specs.Iterator.{IsFinite};
+
 mod borrowed;
 mod build;
 mod closure;
@@ -10,18 +12,20 @@ mod lines;
 mod memory;
 mod parts;
 mod readme;
+mod refused_builds;
+mod refused_cuts;
 mod refusing;
-mod scarce;
 mod show;
 mod slices;
 mod storages;
-mod sweep;
 mod texts;
 mod words;
 
-use crate::{Str, StrMut};
+use crate::string::{Storage, StrInner};
+use crate::{Reason, Str, StrMut};
 use bytes::{Bytes, BytesMut};
 use std::alloc::Global;
+use std::process::Abort;
 use std::test::Fail;
 
 /// The text over shared bytes of its own.
@@ -34,4 +38,56 @@ fn shared(alloc: Global, text: &str) -> Result<Str, Fail> {
 fn growing(alloc: Global, text: &str) -> Result<StrMut, Fail> {
     let bytes = BytesMut::copy_from_slice(alloc, text.as_bytes())?;
     Ok(StrMut::from_inner(bytes)?)
+}
+
+/// Asserts that the parts are those wanted and then the end, or a beginning of them, one refusal
+/// and then the end. Answers how many there were, and the reason of the refusal.
+fn taken<'t, S, P, W>(rt: &impl Abort, parts: &mut P, wanted: W) -> (usize, Option<Reason>)
+where
+    S: Storage,
+    P: Iterator<Item = Result<StrInner<S>, Reason>> + Drop,
+    W: Iterator<Item = &'t str> + Drop,
+    requires parts { P.can_next parts.old }
+    requires wanted { W.can_next wanted × IsFinite (W.remaining wanted) }
+{
+    let mut count = 0_usize;
+    for want in wanted {
+        match parts.next() {
+            Some(Ok(part)) => assert_eq!(rt; part.as_str(), want),
+            Some(Err(reason)) => {
+                assert!(rt; parts.next().is_none(), "an item behind the refusal");
+                return (count, Some(reason));
+            }
+            None => assert!(rt; false, "no part {want:?}"),
+        }
+        count = count.saturating_add(1);
+    }
+    assert!(rt; parts.next().is_none(), "more than {count} parts");
+    (count, None)
+}
+
+/// Asserts that the parts have ended, at each further call.
+fn assert_end<P: Iterator>(rt: &impl Abort, mut parts: P)
+where
+    P: Drop,
+    P::Item: Drop,
+    requires { (s : P) → P.can_next s }
+{
+    assert!(rt; parts.next().is_none());
+    assert!(rt; parts.next().is_none());
+    assert!(rt; parts.next().is_none());
+}
+
+/// Asserts that these are the parts, and then the end.
+fn assert_parts<'t, S, P, W>(rt: &impl Abort, mut parts: P, wanted: W)
+where
+    S: Storage,
+    P: Iterator<Item = Result<StrInner<S>, Reason>> + Drop,
+    W: Iterator<Item = &'t str> + Drop,
+    requires can { (s : P) → P.can_next s }
+    requires wanted { W.can_next wanted × IsFinite (W.remaining wanted) }
+{
+    let (_, refused) = taken(rt, &mut parts, wanted);
+    assert_eq!(rt; refused, None);
+    assert_end(rt, parts);
 }

@@ -4,34 +4,90 @@ ghost use Rattle.std.specs.Iterator.{IsFinite};
 ghost use Rattle.bytes_utils.specs.Walk.{IsLawfulCut};
 ghost use Rattle.bytes_utils.specs.declared.split.direction.Direction.TheVariants.{Forward};
 
-use super::shared;
-use crate::string::{BytesIter, Direction};
+use super::refusing::granting;
+use super::{growing, shared, taken};
+use crate::string::{BytesIter, Direction, Storage, StrInner};
 use crate::{Reason, Str};
+use std::process::Abort;
 use std::test::Fail;
+
+/// Asserts the chunks between commas, as `taken` does.
+pub(super) fn taken_fields<S: Storage>(
+    rt: &impl Abort,
+    text: StrInner<S>,
+    wanted: &str,
+) -> (usize, Option<Reason>) {
+    let mut chunks = BytesIter::new(text, Direction::Forward, |s: &str| {
+        s.find(',').map(|at| (at, at + 1))
+    });
+    taken(rt, &mut chunks, wanted.split_terminator('|'))
+}
+
+/// Asserts the characters from the last to the first, as `taken` does.
+pub(super) fn taken_characters<S: Storage>(
+    rt: &impl Abort,
+    text: StrInner<S>,
+    wanted: &str,
+) -> (usize, Option<Reason>) {
+    let mut chunks = BytesIter::new(text, Direction::Backward, |s: &str| {
+        let last = s.len().checked_sub(1)?;
+        let start = s.floor_char_boundary(last);
+        Some((start, start))
+    });
+    taken(rt, &mut chunks, wanted.split_terminator('|'))
+}
+
+/// Asserts that there is one item, and then the end, at each further call.
+fn assert_one_item<S: Storage>(rt: &impl Abort, text: StrInner<S>) {
+    let mut chunks = BytesIter::new(text, Direction::Forward, |s: &str| {
+        s.find(',').map(|at| (at, at + 1))
+    });
+    assert!(rt; chunks.next().is_some());
+    for _ in 0..3 {
+        assert!(rt; chunks.next().is_none());
+    }
+}
+
+#[test]
+fn ends_for_good(rt: HostRuntime) -> Result<(), Fail> {
+    assert_one_item(&rt, shared(rt.alloc(), "a")?);
+    assert_one_item(&rt, granting(rt.alloc(), "a,b", 0, Reason::TooLong)?);
+    Ok(())
+}
 
 #[test]
 fn cuts_by_a_bare_closure(rt: HostRuntime) -> Result<(), Fail> {
     let text = shared(rt.alloc(), "a,b,,c")?;
-    let mut chunks = BytesIter::new(text, Direction::Forward, |s: &str| {
-        s.find(',').map(|at| (at, at + 1))
-    });
-    for want in ["a", "b", "", "c"] {
-        let chunk = chunks.next().ok_or(want)??;
-        assert_eq!(rt; chunk.as_str(), want);
-    }
-    for _ in 0..3 {
-        assert!(rt; chunks.next().is_none());
+    assert!(rt; taken_fields(&rt, text, "a|b||c|") == (4, None));
+    let text = growing(rt.alloc(), "a,b,,c")?;
+    assert!(rt; taken_fields(&rt, text, "a|b||c|") == (4, None));
+    Ok(())
+}
+
+#[test]
+fn closure_backward(rt: HostRuntime) -> Result<(), Fail> {
+    let text = shared(rt.alloc(), "aβ")?;
+    assert!(rt; taken_characters(&rt, text, "β|a||") == (3, None));
+    let text = growing(rt.alloc(), "aβ")?;
+    assert!(rt; taken_characters(&rt, text, "β|a||") == (3, None));
+    Ok(())
+}
+
+/// A cut makes two splits.
+#[test]
+fn tells_the_reason_of_the_storage(rt: HostRuntime) -> Result<(), Fail> {
+    for reason in [Reason::OutOfMemory, Reason::TooLong] {
+        let text = granting(rt.alloc(), "a,b,c", 2, reason)?;
+        assert!(rt; taken_fields(&rt, text, "a|b|c|") == (1, Some(reason)));
+        let text = granting(rt.alloc(), "aβ", 2, reason)?;
+        assert!(rt; taken_characters(&rt, text, "β|a||") == (1, Some(reason)));
     }
     Ok(())
 }
 
 #[test]
 fn closure_growing(rt: HostRuntime) -> Result<(), Fail> {
-    let rows = [
-        ("abcdef", ["a", "bc", "def", ""]),
-        ("αβγδεζ", ["α", "βγ", "δεζ", ""]),
-    ];
-    for (text, wanted) in rows {
+    for (text, wanted) in [("abcdef", "a|bc|def||"), ("αβγδεζ", "α|βγ|δεζ||")] {
         let mut passed = 0_usize;
         let text = shared(rt.alloc(), text)?;
         let grows = move |s: &str|
@@ -43,28 +99,9 @@ fn closure_growing(rt: HostRuntime) -> Result<(), Fail> {
             s.is_char_boundary(end).then_some((end, end))
         };
         let mut chunks = BytesIter::new(text, Direction::Forward, grows);
-        for want in wanted {
-            let chunk = chunks.next().ok_or(want)??;
-            assert_eq!(rt; chunk.as_str(), want);
-        }
-        assert!(rt; chunks.next().is_none());
+        let answer = taken(&rt, &mut chunks, wanted.split_terminator('|'));
+        assert!(rt; answer == (4, None));
     }
-    Ok(())
-}
-
-#[test]
-fn closure_backward(rt: HostRuntime) -> Result<(), Fail> {
-    let text = shared(rt.alloc(), "aβ")?;
-    let mut chunks = BytesIter::new(text, Direction::Backward, |s: &str| {
-        let last = s.len().checked_sub(1)?;
-        let start = s.floor_char_boundary(last);
-        Some((start, start))
-    });
-    for want in ["β", "a", ""] {
-        let chunk = chunks.next().ok_or(want)??;
-        assert_eq!(rt; chunk.as_str(), want);
-    }
-    assert!(rt; chunks.next().is_none());
     Ok(())
 }
 
@@ -114,12 +151,4 @@ fn counts_through_its_bound(rt: HostRuntime) -> Result<(), Fail> {
         assert_eq!(rt; count(chunks)?, want);
     }
     Ok(())
-}
-
-#[test]
-fn directions_compare(rt: HostRuntime) {
-    let direction = Direction::Backward;
-    let copy = direction;
-    assert_eq!(rt; direction, copy);
-    assert!(rt; copy != Direction::Forward);
 }

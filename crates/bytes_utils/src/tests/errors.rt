@@ -1,50 +1,52 @@
 //! Bytes that aren't UTF-8: they come back, with what is wrong.
-use crate::Str;
-use crate::string::Utf8Error;
-use bytes::Bytes;
-use std::alloc::{AllocError, Global};
+use crate::string::{Storage, Utf8Error};
+use crate::{Str, StrMut};
+use bytes::{Bytes, BytesMut};
+use std::alloc::Global;
 use std::error::Error;
+use std::fmt::Debug;
+use std::process::Abort;
 use std::test::Fail;
 
 const NOT_UTF8: [u8; 3] = [0, 0, 255];
 
-fn error_text<E: Error>(alloc: Global, error: &E) -> Result<String, AllocError> {
-    error.to_string(alloc)
-}
-
-/// The same bytes, refused by each of the two ways to make a text.
-fn refused(alloc: Global) -> Result<[Utf8Error<Bytes>; 2], Fail> {
-    let made = Str::from_inner(Bytes::copy_from_slice(alloc, &NOT_UTF8)?);
-    let converted = Str::try_from(Bytes::copy_from_slice(alloc, &NOT_UTF8)?);
-    Ok([
-        made.err().ok_or("made")?,
-        converted.err().ok_or("converted")?,
-    ])
-}
-
-#[test]
-fn tells_what_is_wrong(rt: HostRuntime) -> Result<(), Fail> {
-    let alloc = rt.alloc();
+/// Asserts what an error writes, by `Display` and as an error.
+fn assert_writes<E: Error>(rt: &impl Abort, alloc: Global, error: &E) -> Result<(), Fail> {
     let text = "invalid utf-8 sequence of 1 bytes from index 2";
-    for error in refused(alloc)? {
-        let fault = error.utf8_error();
-        assert_eq!(rt; fault.valid_up_to(), 2);
-        assert_eq!(rt; fault.error_len(), Some(1));
-        assert_eq!(rt; format!(in alloc; "{error}")?.as_str(), text);
-        assert_eq!(rt; error_text(alloc, &error)?.as_str(), text);
-        assert!(rt;
-            format!(in alloc; "{error:?}")?
-                .as_str()
-                .contains("Utf8Error")
-        );
-    }
+    assert_eq!(rt; format!(in alloc; "{error}")?.as_str(), text);
+    assert_eq!(rt; error.to_string(alloc)?.as_str(), text);
+    Ok(())
+}
+
+/// Asserts that the error tells what is wrong with the bytes, and hands them back.
+fn assert_tells<S: Storage + Debug>(
+    rt: &impl Abort,
+    alloc: Global,
+    error: Utf8Error<S>,
+) -> Result<(), Fail> {
+    let fault = error.utf8_error();
+    assert!(rt; (fault.valid_up_to(), fault.error_len()) == (2, Some(1)));
+    assert_writes(rt, alloc, &error)?;
+    let debug = format!(in alloc; "{error:?}")?;
+    assert!(rt; debug.as_str().contains("Utf8Error"));
+    assert_eq!(rt; error.into_inner().as_bytes(), NOT_UTF8.as_slice());
     Ok(())
 }
 
 #[test]
-fn hands_the_bytes_back(rt: HostRuntime) -> Result<(), Fail> {
-    for error in refused(rt.alloc())? {
-        assert_eq!(rt; error.into_inner().as_slice(), NOT_UTF8.as_slice());
-    }
-    Ok(())
+fn from_inner_refuses(rt: HostRuntime) -> Result<(), Fail> {
+    let alloc = rt.alloc();
+    let made = Str::from_inner(Bytes::copy_from_slice(alloc, &NOT_UTF8)?);
+    assert_tells(&rt, alloc, made.err().ok_or("made")?)?;
+    let made = StrMut::from_inner(BytesMut::copy_from_slice(alloc, &NOT_UTF8)?);
+    assert_tells(&rt, alloc, made.err().ok_or("made")?)
+}
+
+#[test]
+fn try_from_refuses(rt: HostRuntime) -> Result<(), Fail> {
+    let alloc = rt.alloc();
+    let made = Str::try_from(Bytes::copy_from_slice(alloc, &NOT_UTF8)?);
+    assert_tells(&rt, alloc, made.err().ok_or("made")?)?;
+    let made = StrMut::try_from(BytesMut::copy_from_slice(alloc, &NOT_UTF8)?);
+    assert_tells(&rt, alloc, made.err().ok_or("made")?)
 }

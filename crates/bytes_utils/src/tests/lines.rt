@@ -1,26 +1,26 @@
 //! A text's lines.
-use super::shared;
+use super::{assert_parts, growing, shared};
 use std::test::Fail;
+
+/// A text, and its lines, each with a bar behind it.
+fn rows() -> [(&'static str, &'static str); 6] {
+    [
+        ("a\r\n\nb\n", "a||b|"),
+        ("a\r", "a\r|"),
+        ("\r\r\n", "\r|"),
+        ("\n", "|"),
+        ("", ""),
+        ("a\rb\r\n", "a\rb|"),
+    ]
+}
 
 #[test]
 fn lines_documented(rt: HostRuntime) -> Result<(), Fail> {
-    let rows: [(&str, &[&str]); 6] = [
-        ("a\r\n\nb\n", &["a", "", "b"]),
-        ("a\r", &["a\r"]),
-        ("\r\r\n", &["\r"]),
-        ("\n", &[""]),
-        ("", &[]),
-        ("a\rb\r\n", &["a\rb"]),
-    ];
-    for (text, wanted) in rows {
-        let mut lines = shared(rt.alloc(), text)?.lines_bytes();
-        for want in wanted {
-            let line = lines.next().ok_or(*want)??;
-            assert_eq!(rt; line.as_str(), *want, "{text:?}");
-        }
-        for _ in 0..3 {
-            assert!(rt; lines.next().is_none(), "{text:?}");
-        }
+    for (text, wanted) in rows() {
+        let lines = shared(rt.alloc(), text)?.lines_bytes();
+        assert_parts(&rt, lines, wanted.split_terminator('|'));
+        let lines = growing(rt.alloc(), text)?.lines_bytes();
+        assert_parts(&rt, lines, wanted.split_terminator('|'));
     }
     Ok(())
 }
@@ -35,6 +35,6 @@ fn lines_in_a_loop(rt: HostRuntime) -> Result<(), Fail> {
         count = count.saturating_add(1);
     }
     assert_eq!(rt; count, 3);
-    assert!(rt; least <= count && most.is_none_or(|most| count <= most));
+    assert!(rt; least <= count && count <= most.unwrap_or(count));
     Ok(())
 }

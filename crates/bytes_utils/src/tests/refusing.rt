@@ -1,44 +1,58 @@
-//! A caller's own storage that refuses its splits, under the splitters.
-use crate::string::{Storage, StrInner};
+//! A caller's own storage that refuses.
+ghost use Rattle.std.specs.Prelude.{◌≡◌};
+
+use crate::string::{Storage, StorageMut, StrInner};
 use crate::{Reason, Refused};
-use bytes::{Bytes, BytesMut};
-use std::alloc::{AllocFailed, Global};
+use bytes::BytesMut;
+use std::alloc::Global;
 use std::test::Fail;
 
-/// Shared bytes that grant a number of splits, and then refuse for the reason that they were given.
-#[derive(Drop)]
+/// Bytes that grant a number of splits, appends or takings over, and refuse what comes after these
+/// for the reason that they were given.
+#[derive(Debug, Drop)]
 pub(super) struct Refusing {
-    bytes: Bytes,
+    bytes: BytesMut,
     granted: usize,
     reason: Reason,
 }
 
-/// The text over a storage that grants a number of splits, and then refuses for want of memory.
+impl Refusing {
+    fn grant(&mut self) -> Result<(), Reason>
+        ensures { self.new.bytes ≡ self.old.bytes }
+    {
+        self.granted = self.granted.checked_sub(1).ok_or(self.reason)?;
+        Ok(())
+    }
+}
+
+/// The text over a storage that grants so much.
 pub(super) fn granting(
     alloc: Global,
     text: &str,
     granted: usize,
+    reason: Reason,
 ) -> Result<StrInner<Refusing>, Fail> {
     let storage = Refusing {
-        bytes: Bytes::copy_from_slice(alloc, text.as_bytes())?,
+        bytes: BytesMut::copy_from_slice(alloc, text.as_bytes())?,
         granted,
-        reason: Reason::OutOfMemory,
+        reason,
     };
-    Ok(StrInner::from_inner(storage).ok().ok_or("a text")?)
+    Ok(StrInner::from_inner(storage)?)
 }
 
 impl Storage for Refusing {
-    type Creator = BytesMut;
+    type Creator = Refusing;
 
-    ghost stored = { λ s. s.bytes };
+    ghost stored = { λ s. s.bytes.items };
 
-    ghost created = { λ c. c.items };
+    ghost created = { λ c. c.bytes.items };
 
-    fn empty(_alloc: Global) -> Result<Self, Reason> {
+    /// It grants two appends or takings over.
+    fn empty(alloc: Global) -> Result<Self, Reason> {
         Ok(Refusing {
-            bytes: Bytes::new(),
-            granted: usize::MAX,
-            reason: Reason::OutOfMemory,
+            bytes: BytesMut::new(alloc),
+            granted: 2,
+            reason: Reason::TooLong,
         })
     }
 
@@ -46,38 +60,31 @@ impl Storage for Refusing {
         self.bytes.as_slice()
     }
 
-    fn from_creator(creator: BytesMut) -> Result<Self, Refused<BytesMut>> {
-        match creator.freeze() {
-            Ok(bytes) => Ok(Refusing {
-                bytes,
-                granted: usize::MAX,
-                reason: Reason::OutOfMemory,
-            }),
-            Err(AllocFailed { value }) => Err(Refused {
-                reason: Reason::OutOfMemory,
-                back: value,
+    fn from_creator(mut creator: Refusing) -> Result<Self, Refused<Refusing>> {
+        match creator.grant() {
+            Ok(()) => Ok(creator),
+            Err(reason) => Err(Refused {
+                reason,
+                back: creator,
             }),
         }
     }
 
     /// The left piece has one split less to grant, the right piece two.
     fn split_at(mut self, at: usize) -> Result<(Self, Self), Refused<Self>> {
-        let reason = self.reason;
-        if self.granted == 0 {
+        if let Err(reason) = self.grant() {
             return Err(Refused { reason, back: self });
         }
         match self.bytes.split_to(at) {
             Ok(bytes) => {
-                let granted = self.granted - 1;
+                let (granted, reason) = (self.granted, self.reason);
                 self.granted = granted.saturating_sub(1);
-                Ok((
-                    Refusing {
-                        bytes,
-                        granted,
-                        reason,
-                    },
-                    self,
-                ))
+                let left = Refusing {
+                    bytes,
+                    granted,
+                    reason,
+                };
+                Ok((left, self))
             }
             Err(_) => Err(Refused {
                 reason: Reason::OutOfMemory,
@@ -87,68 +94,14 @@ impl Storage for Refusing {
     }
 }
 
-/// The text, the splits that are granted, the parts by `,`, and whether an error follows them.
-type Row = (&'static str, usize, &'static [&'static str], bool);
+impl StorageMut for Refusing {
+    type Immutable = Refusing;
 
-const ROWS: [Row; 6] = [
-    ("a,b,c", 0, &[], true),
-    ("a,b,c", 1, &[], true),
-    ("a,b,c", 2, &["a"], true),
-    ("a,b,c", 3, &["a"], true),
-    ("a,b,c", 4, &["a", "b", "c"], false),
-    ("abc", 0, &["abc"], false),
-];
-
-#[test]
-fn refuse_after_each(rt: HostRuntime) -> Result<(), Fail> {
-    for reason in [Reason::OutOfMemory, Reason::TooLong] {
-        for (text, granted, wanted, is_refused) in ROWS {
-            let bytes = Bytes::copy_from_slice(rt.alloc(), text.as_bytes())?;
-            let storage = Refusing {
-                bytes,
-                granted,
-                reason,
-            };
-            let text = StrInner::from_inner(storage).ok().ok_or(text)?;
-            let mut parts = text.split_bytes(",");
-            for want in wanted {
-                let part = parts.next().ok_or(*want)??;
-                assert_eq!(rt; part.as_str(), *want);
-            }
-            if is_refused {
-                let refused = parts.next().ok_or("an error")?;
-                assert_eq!(rt; refused.err(), Some(reason));
-            }
-            for _ in 0..3 {
-                assert!(rt; parts.next().is_none());
-            }
+    fn push_slice(&mut self, s: &[u8]) -> Result<(), Reason> {
+        self.grant()?;
+        match self.bytes.extend_from_slice(s) {
+            Ok(()) => Ok(()),
+            Err(_) => Err(Reason::OutOfMemory),
         }
     }
-    Ok(())
-}
-
-#[test]
-fn refuse_inclusive(rt: HostRuntime) -> Result<(), Fail> {
-    let rows: [(usize, &[&str], bool); 2] = [(0, &[], true), (1, &["a,", "b,"], false)];
-    for (granted, wanted, is_refused) in rows {
-        let storage = Refusing {
-            bytes: Bytes::copy_from_slice(rt.alloc(), b"a,b,")?,
-            granted,
-            reason: Reason::OutOfMemory,
-        };
-        let text = StrInner::from_inner(storage).ok().ok_or("a text")?;
-        let mut parts = text.split_inclusive_bytes(",");
-        for want in wanted {
-            let part = parts.next().ok_or(*want)??;
-            assert_eq!(rt; part.as_str(), *want);
-        }
-        if is_refused {
-            let refused = parts.next().ok_or("an error")?;
-            assert_eq!(rt; refused.err(), Some(Reason::OutOfMemory));
-        }
-        for _ in 0..3 {
-            assert!(rt; parts.next().is_none());
-        }
-    }
-    Ok(())
 }

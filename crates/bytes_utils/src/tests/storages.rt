@@ -10,7 +10,10 @@ fn empty_length<S: Storage>(alloc: Global) -> Result<usize, Reason> {
 }
 
 fn stored<S: Storage>(creator: S::Creator) -> Result<S, Reason> {
-    S::from_creator(creator).map_err(|refused| refused.reason)
+    match S::from_creator(creator) {
+        Ok(storage) => Ok(storage),
+        Err(refused) => Err(refused.reason),
+    }
 }
 
 /// The two pieces, or `None` where the storage doesn't reach as far as the place.
@@ -18,10 +21,10 @@ fn cut<S: Storage>(storage: S, at: usize) -> Result<Option<(S, S)>, Reason> {
     if at > storage.as_bytes().len() {
         return Ok(None);
     }
-    storage
-        .split_at(at)
-        .map(Some)
-        .map_err(|refused| refused.reason)
+    match storage.split_at(at) {
+        Ok(pieces) => Ok(Some(pieces)),
+        Err(refused) => Err(refused.reason),
+    }
 }
 
 #[test]

@@ -1,24 +1,20 @@
 //! A text: made of its storage, read, cut at a place, and turned back into its storage.
 use super::shared;
 use crate::Str;
-use bytes::Bytes;
+use crate::string::{Storage, StrInner};
+use bytes::{Bytes, BytesMut};
 use std::alloc::Global;
+use std::fmt::Debug;
 use std::process::Abort;
 use std::test::Fail;
 
-const TEXTS: [&str; 5] = ["", "hello", "αβα", "😈😉", "a\0b"];
-
-fn try_made<T: TryFrom<Bytes>>(bytes: Bytes) -> Result<T, T::Error> {
-    T::try_from(bytes)
-}
-
-fn made<T: From<Str>>(text: Str) -> T {
-    T::from(text)
+fn texts() -> [&'static str; 5] {
+    ["", "hello", "αβα", "😈😉", "a\0b"]
 }
 
 #[test]
 fn reads_as_its_storage(rt: HostRuntime) -> Result<(), Fail> {
-    for want in TEXTS {
+    for want in texts() {
         let text = shared(rt.alloc(), want)?;
         assert_eq!(rt; text.as_str(), want);
         assert_eq!(rt; text.inner().as_slice(), want.as_bytes());
@@ -29,26 +25,37 @@ fn reads_as_its_storage(rt: HostRuntime) -> Result<(), Fail> {
 
 #[test]
 fn unchecked_keeps_the_text(rt: HostRuntime) {
-    for want in TEXTS {
+    for want in texts() {
         let text = Str::from_inner_unchecked(Bytes::from_static(want.as_bytes()));
         assert_eq!(rt; text.as_str(), want);
     }
 }
 
+/// Asserts that the storage becomes the text, by either trait, and the text that storage again.
+fn assert_converts<S, E>(rt: &impl Abort, storage: S, want: &str) -> Result<(), Fail>
+where
+    S: Storage,
+    StrInner<S>: TryFrom<S, Error = E>,
+    S: From<StrInner<S>>,
+    E: Debug + Drop,
+{
+    let text = StrInner::try_from(storage)?;
+    assert_eq!(rt; text.as_str(), want);
+    let storage = S::from(text);
+    assert_eq!(rt; storage.as_bytes(), want.as_bytes());
+    let text: StrInner<S> = storage.try_into()?;
+    assert_eq!(rt; text.as_str(), want);
+    let storage: S = text.into();
+    assert_eq!(rt; storage.as_bytes(), want.as_bytes());
+    Ok(())
+}
+
 #[test]
 fn converts_both_ways(rt: HostRuntime) -> Result<(), Fail> {
-    for want in TEXTS {
-        let bytes = Bytes::from_static(want.as_bytes());
-        let text = Str::try_from(bytes)?;
-        assert_eq!(rt; text.as_str(), want);
-        let bytes = Bytes::from(text);
-        assert_eq!(rt; bytes.as_slice(), want.as_bytes());
-        let text: Str = bytes.try_into()?;
-        assert_eq!(rt; text.as_str(), want);
-        let bytes: Bytes = text.into();
-        let text = try_made::<Str>(bytes)?;
-        assert_eq!(rt; text.as_str(), want);
-        assert_eq!(rt; made::<Bytes>(text).as_slice(), want.as_bytes());
+    for want in texts() {
+        assert_converts(&rt, Bytes::from_static(want.as_bytes()), want)?;
+        let bytes = BytesMut::copy_from_slice(rt.alloc(), want.as_bytes())?;
+        assert_converts(&rt, bytes, want)?;
     }
     Ok(())
 }
@@ -63,9 +70,9 @@ fn assert_splits(
 ) -> Result<(), Fail> {
     let hello = shared(alloc, "hello")?;
     assert!(rt; hello.as_str().is_char_boundary(at));
-    let halves = hello.split_at_bytes(at).map_err(|refused| refused.reason)?;
-    assert_eq!(rt; halves.0.as_str(), left);
-    assert_eq!(rt; halves.1.as_str(), right);
+    let (first, second) = hello.split_at_bytes(at)?;
+    assert_eq!(rt; first.as_str(), left);
+    assert_eq!(rt; second.as_str(), right);
     Ok(())
 }
 

@@ -1,43 +1,44 @@
 //! A text's words.
-use super::shared;
+use super::{assert_parts, growing, shared};
 use std::test::Fail;
+
+/// A text, its words, each with a bar behind it, and its words between ASCII white space.
+fn rows() -> [(&'static str, &'static str, &'static str); 5] {
+    [
+        (" a\u{b}b\t😈 ", "a|b|😈|", "a\u{b}b|😈|"),
+        ("a  b", "a|b|", "a|b|"),
+        (" \t\n\r\u{c} ", "", ""),
+        ("α\u{3000}β\u{a0}", "α|β|", "α\u{3000}β\u{a0}|"),
+        ("", "", ""),
+    ]
+}
 
 #[test]
 fn words_white_space(rt: HostRuntime) -> Result<(), Fail> {
-    let text = " a\u{b}b\t😈 ";
-    let mut words = shared(rt.alloc(), text)?.split_whitespace_bytes();
-    for want in ["a", "b", "😈"] {
-        let word = words.next().ok_or(want)??;
-        assert_eq!(rt; word.as_str(), want);
-    }
-    for _ in 0..3 {
-        assert!(rt; words.next().is_none());
-    }
-    let mut words = shared(rt.alloc(), text)?.split_ascii_whitespace_bytes();
-    for want in ["a\u{b}b", "😈"] {
-        let word = words.next().ok_or(want)??;
-        assert_eq!(rt; word.as_str(), want);
-    }
-    for _ in 0..3 {
-        assert!(rt; words.next().is_none());
+    for (text, wanted, wanted_ascii) in rows() {
+        let words = shared(rt.alloc(), text)?.split_whitespace_bytes();
+        assert_parts(&rt, words, wanted.split_terminator('|'));
+        let words = growing(rt.alloc(), text)?.split_whitespace_bytes();
+        assert_parts(&rt, words, wanted.split_terminator('|'));
+        let words = shared(rt.alloc(), text)?.split_ascii_whitespace_bytes();
+        assert_parts(&rt, words, wanted_ascii.split_terminator('|'));
+        let words = growing(rt.alloc(), text)?.split_ascii_whitespace_bytes();
+        assert_parts(&rt, words, wanted_ascii.split_terminator('|'));
     }
     Ok(())
 }
 
 #[test]
 fn split_w_byte_index(rt: HostRuntime) -> Result<(), Fail> {
-    let mut words = shared(rt.alloc(), "😈 ")?.split_whitespace_bytes();
-    let word = words.next().ok_or("a word")??;
-    assert_eq!(rt; word.as_str(), "😈");
-    assert!(rt; words.next().is_none());
+    let words = shared(rt.alloc(), "😈 ")?.split_whitespace_bytes();
+    assert_parts(&rt, words, "😈|".split_terminator('|'));
     Ok(())
 }
 
-/// Each character with the property White_Space, from the Unicode Character Database's PropList,
-/// and characters beside them, which haven't got it.
-#[test]
-fn words_at_each_white_space(rt: HostRuntime) -> Result<(), Fail> {
-    let spaces = [
+/// The characters with the property White_Space, from the Unicode Character Database's PropList:
+/// the first and the last of each run of them.
+fn spaces() -> [(char, char); 10] {
+    [
         ('\u{9}', '\u{d}'),
         ('\u{20}', '\u{20}'),
         ('\u{85}', '\u{85}'),
@@ -48,7 +49,13 @@ fn words_at_each_white_space(rt: HostRuntime) -> Result<(), Fail> {
         ('\u{202f}', '\u{202f}'),
         ('\u{205f}', '\u{205f}'),
         ('\u{3000}', '\u{3000}'),
-    ];
+    ]
+}
+
+/// Each of these, and all characters beside them, which haven't got the property.
+#[test]
+fn words_at_each_white_space(rt: HostRuntime) -> Result<(), Fail> {
+    let spaces = spaces();
     let is_space = |c: char| spaces.iter().any(|(from, to)| *from <= c && c <= *to);
     let mut texts = 0_usize;
     for c in '\0'..='\u{3001}' {

@@ -1,0 +1,96 @@
+//! Texts written as JSON and read from it.
+ghost use Rattle.std.specs.Prelude.{◌≡◌};
+
+use super::given;
+use crate::json::JsonRefused;
+use crate::string::{Storage, StorageMut, StrInner};
+use crate::{Str, StrMut};
+use bytes::{Bytes, BytesMut};
+use std::alloc::Global;
+use std::io::Print;
+use std::process::Abort;
+use std::test::Fail;
+
+/// Asserts what is written, the second time where the first is refused.
+fn assert_writes<S: Storage, R: Abort + Print>(
+    rt: &R,
+    alloc: Global,
+    text: &StrInner<S>,
+) -> Result<(), Fail> {
+    let json = match given(rt, "to_json", text.to_json(alloc))? {
+        Some(json) => json,
+        None => text.to_json(alloc)?,
+    };
+    assert_eq!(rt; json.as_str(), "\"aβ\\n\"");
+    assert_eq!(rt; text.as_str(), "aβ\n");
+    Ok(())
+}
+
+#[test]
+fn shared_to_json(rt: HostRuntime) -> Result<(), Fail> {
+    let Ok(text) = Str::from_str(rt.alloc(), "aβ\n") else {
+        return Ok(());
+    };
+    assert_writes(&rt, rt.alloc(), &text)
+}
+
+#[test]
+fn growing_to_json(rt: HostRuntime) -> Result<(), Fail> {
+    let Ok(text) = StrMut::from_str(rt.alloc(), "aβ\n") else {
+        return Ok(());
+    };
+    assert_writes(&rt, rt.alloc(), &text)
+}
+
+/// Asserts what is read, the second time where the first is refused.
+fn assert_reads<S: Storage, R: Abort + Print>(
+    rt: &R,
+    alloc: Global,
+    json: &str,
+    want: Result<&str, JsonRefused>,
+) -> Result<(), Fail>
+where
+    S::Creator: StorageMut,
+    requires creator { (c : S.Creator) → S.created c ≡ S.Creator.stored c }
+{
+    let mut read = StrInner::<S>::from_json(alloc, json);
+    if let Err(JsonRefused::OutOfMemory) = read {
+        println!(rt; "refused from_json")?;
+        read = StrInner::from_json(alloc, json);
+    }
+    match read {
+        Ok(text) => assert_eq!(rt; Ok(text.as_str()), want),
+        Err(refused) => assert_eq!(rt; Err(refused), want),
+    }
+    Ok(())
+}
+
+#[test]
+fn shared_from_string(rt: HostRuntime) -> Result<(), Fail> {
+    assert_reads::<Bytes, HostRuntime>(&rt, rt.alloc(), "\"aβ\\n\"", Ok("aβ\n"))
+}
+
+#[test]
+fn growing_from_string(rt: HostRuntime) -> Result<(), Fail> {
+    assert_reads::<BytesMut, HostRuntime>(&rt, rt.alloc(), "\"aβ\\n\"", Ok("aβ\n"))
+}
+
+#[test]
+fn shared_from_list(rt: HostRuntime) -> Result<(), Fail> {
+    assert_reads::<Bytes, HostRuntime>(&rt, rt.alloc(), "[72,105]", Ok("Hi"))
+}
+
+#[test]
+fn growing_from_list(rt: HostRuntime) -> Result<(), Fail> {
+    assert_reads::<BytesMut, HostRuntime>(&rt, rt.alloc(), "[72,105]", Ok("Hi"))
+}
+
+#[test]
+fn from_other_bytes(rt: HostRuntime) -> Result<(), Fail> {
+    assert_reads::<Bytes, HostRuntime>(&rt, rt.alloc(), "[255]", Err(JsonRefused::NotUtf8))
+}
+
+#[test]
+fn from_no_json(rt: HostRuntime) -> Result<(), Fail> {
+    assert_reads::<Bytes, HostRuntime>(&rt, rt.alloc(), "[72,", Err(JsonRefused::NotJson))
+}
