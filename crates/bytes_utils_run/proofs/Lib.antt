@@ -18,7 +18,7 @@ pub mod TextBeginnings
 pub mod BorrowedRuns
 pub mod BorrowedCuts
 pub mod BorrowedParts
-pub mod BorrowedTests
+pub mod BorrowedClosure
 pub mod BorrowedLimits
 pub mod BorrowedKeeping
 pub mod BorrowedLines

@@ -2,7 +2,7 @@ use Rattle.std.proofs.Common.{◌==◌, [], ◌∷◌, subst, sym, arith}
 use Rattle.bytes_utils_run.specs.Borrowed.{AnswersBy, finds_tested, keeps_tested}
 use Rattle.bytes_utils_run.proofs.BorrowedCuts.{Seeks-tested}
 use Rattle.bytes_utils_run.proofs.BorrowedParts.{split-gives}
-use Rattle.bytes_utils_run.proofs.BorrowedTests.{split_tested-gives}
+use Rattle.bytes_utils_run.proofs.BorrowedClosure.{split_tested-gives}
 use Rattle.bytes_utils_run.proofs.borrowed.split_tested.Goals as goal
 
 pub returns-clause-tested : goal.returns-clause-tested
