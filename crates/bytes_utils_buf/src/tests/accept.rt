@@ -1,6 +1,7 @@
 //! Buffers that come into a `SegmentedBuf`.
 use super::fixtures::{
-    FOUR, Shown, assert_bytes, assert_shows, bytes_of, collect, gather, held, skip, take_out,
+    FOUR, Shown, assert_bytes, assert_shows, bytes_of, collect, extend, gather, held, skip,
+    take_out,
 };
 use super::odd::Zeros;
 use crate::Reason;
@@ -11,6 +12,10 @@ use std::collections::VecDeque;
 use std::process::Abort;
 use std::test::Fail;
 
+/// A text that is pushed, how many bytes are skipped then, the bytes that are copied then, and what
+/// is shown.
+type Step = (&'static str, usize, &'static str, Shown);
+
 fn push(rt: &impl Abort, buf: &mut SegmentedBuf<Bytes>, text: &'static str) -> Result<(), Fail> {
     let text = Bytes::from_static(text.as_bytes());
     assert!(rt; buf.fits(text.len()));
@@ -18,45 +23,60 @@ fn push(rt: &impl Abort, buf: &mut SegmentedBuf<Bytes>, text: &'static str) -> R
     Ok(())
 }
 
-// What is pushed, how many bytes are skipped then, and what is shown.
-#[test]
-fn push_and_advance(rt: HostRuntime) -> Result<(), Fail> {
-    let mut buf = SegmentedBuf::new(rt.alloc());
-    for (text, cnt, shown) in [
-        ("Hello", 0, (5, 1, "Hello")),
-        (" ", 0, (6, 2, "Hello")),
-        ("", 0, (6, 2, "Hello")),
-        ("World", 0, (11, 3, "Hello")),
-        ("", 3, (8, 3, "lo")),
-        ("", 4, (4, 1, "orld")),
-        ("", 0, (4, 1, "orld")),
-        ("", 4, (0, 0, "")),
-        ("", 0, (0, 0, "")),
-        ("Hello", 0, (5, 1, "Hello")),
-    ] {
-        push(&rt, &mut buf, text)?;
-        skip(&rt, &mut buf, cnt);
-        assert_shows(&rt, &buf, shown);
+fn take_step(
+    rt: &impl Abort,
+    alloc: Global,
+    buf: &mut SegmentedBuf<Bytes>,
+    step: Step,
+) -> Result<(), Fail> {
+    let (text, cnt, piece, shown) = step;
+    push(rt, buf, text)?;
+    skip(rt, buf, cnt);
+    let copy = take_out(rt, alloc, buf, piece.len())?;
+    assert_bytes(rt, copy.as_slice(), piece);
+    assert_shows(rt, buf, shown);
+    Ok(())
+}
+
+fn take_steps(rt: &impl Abort, alloc: Global, steps: &[Step]) -> Result<(), Fail> {
+    let mut buf = SegmentedBuf::new(alloc);
+    for step in steps {
+        take_step(rt, alloc, &mut buf, *step)?;
     }
     Ok(())
 }
 
-// What is pushed, what is copied then, and what is shown.
+#[test]
+fn push_and_advance(rt: HostRuntime) -> Result<(), Fail> {
+    let steps: [Step; 10] = [
+        ("Hello", 0, "", (5, 1, "Hello")),
+        (" ", 0, "", (6, 2, "Hello")),
+        ("", 0, "", (6, 2, "Hello")),
+        ("World", 0, "", (11, 3, "Hello")),
+        ("", 3, "", (8, 3, "lo")),
+        ("", 4, "", (4, 1, "orld")),
+        ("", 0, "", (4, 1, "orld")),
+        ("", 4, "", (0, 0, "")),
+        ("", 0, "", (0, 0, "")),
+        ("Hello", 0, "", (5, 1, "Hello")),
+    ];
+    take_steps(&rt, rt.alloc(), &steps)
+}
+
 #[test]
 fn push_and_copy(rt: HostRuntime) -> Result<(), Fail> {
-    let mut buf = SegmentedBuf::new(rt.alloc());
-    for (text, piece, shown) in [
-        ("Hello", "", (5, 1, "Hello")),
-        ("", "Hel", (2, 1, "lo")),
-        ("World", "", (7, 2, "lo")),
-        ("", "loW", (4, 1, "orld")),
-    ] {
-        push(&rt, &mut buf, text)?;
-        let copy = take_out(&rt, rt.alloc(), &mut buf, piece.len())?;
-        assert_bytes(&rt, copy.as_slice(), piece);
-        assert_shows(&rt, &buf, shown);
-    }
-    Ok(())
+    let steps: [Step; 4] = [
+        ("Hello", 0, "", (5, 1, "Hello")),
+        ("", 0, "Hel", (2, 1, "lo")),
+        ("World", 0, "", (7, 2, "lo")),
+        ("", 0, "loW", (4, 1, "orld")),
+    ];
+    take_steps(&rt, rt.alloc(), &steps)
+}
+
+fn hands_back(rt: &impl Abort, buf: SegmentedBuf<Bytes>, shown: Shown) {
+    assert_shows(rt, &buf, shown);
+    assert_eq!(rt; buf.into_inner().len(), shown.1);
 }
 
 // However these come in, so much is shown.
@@ -66,13 +86,12 @@ fn comes_in(
     texts: &[&'static str],
     shown: Shown,
 ) -> Result<(), Fail> {
-    assert_shows(rt, &held(alloc, texts)?, shown);
-    assert_shows(rt, &collect(alloc, bytes_of(alloc, texts)?)?, shown);
+    hands_back(rt, held(alloc, texts)?, shown);
+    hands_back(rt, collect(alloc, bytes_of(alloc, texts)?)?, shown);
     let mut buf = SegmentedBuf::new(alloc);
     push(rt, &mut buf, "")?;
-    buf.extend(bytes_of(alloc, texts)?.into_iter())?;
-    assert_shows(rt, &buf, shown);
-    assert_eq!(rt; buf.into_inner().len(), shown.1);
+    extend(&mut buf, bytes_of(alloc, texts)?)?;
+    hands_back(rt, buf, shown);
     Ok(())
 }
 
@@ -83,16 +102,8 @@ fn empty_bufs(rt: HostRuntime) -> Result<(), Fail> {
 }
 
 #[test]
-fn four_come_in(rt: HostRuntime) -> Result<(), Fail> {
+fn from_four(rt: HostRuntime) -> Result<(), Fail> {
     comes_in(&rt, rt.alloc(), &FOUR, (11, 3, "Hello"))
-}
-
-#[test]
-fn from_empties(rt: HostRuntime) -> Result<(), Fail> {
-    let buf = collect(rt.alloc(), bytes_of(rt.alloc(), &["", ""])?)?;
-    assert_shows(&rt, &buf, (0, 0, ""));
-    assert_eq!(rt; buf.into_inner().len(), 0);
-    Ok(())
 }
 
 // `x`, ten thousand empty buffers, and `y`.

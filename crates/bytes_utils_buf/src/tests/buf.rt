@@ -84,17 +84,10 @@ fn to_bytes_at_border(rt: HostRuntime) -> Result<(), Fail> {
 }
 
 #[test]
-fn to_bytes_of_none(rt: HostRuntime) -> Result<(), Fail> {
-    let mut none: SegmentedBuf<Bytes> = SegmentedBuf::new(rt.alloc());
-    assert_eq!(rt; none.copy_to_bytes(rt.alloc(), 0)?.len(), 0);
-    Ok(())
-}
-
-#[test]
 fn empty(rt: HostRuntime) -> Result<(), Fail> {
     let buf: SegmentedBuf<Bytes> = SegmentedBuf::new(rt.alloc());
     assert_eq!(rt; buf.segments(), 0);
-    reads_nothing(&rt, buf)
+    reads_nothing(&rt, rt.alloc(), buf)
 }
 
 fn assert_only(rt: &impl Abort, segments: &VecDeque<Bytes>, len: usize, first: &str) {

@@ -61,6 +61,23 @@ pub(super) fn collect<B: Buf + Drop>(alloc: Global, bufs: Vec<B>) -> Result<Segm
     )
 }
 
+/// More buffers behind those that are held.
+pub(super) fn extend<B: Buf + Drop>(buf: &mut SegmentedBuf<B>, bufs: Vec<B>) -> Result<(), Fail> {
+    Ok(buf.extend(bufs.into_iter()).ok().ok_or("refused")?)
+}
+
+/// A `SegmentedBuf` for each of these lists.
+pub(super) fn held_each(
+    alloc: Global,
+    lists: &[&[&'static str]],
+) -> Result<Vec<SegmentedBuf<Bytes>>, Fail> {
+    let mut bufs = Vec::new(alloc);
+    for list in lists {
+        bufs.push(held(alloc, list)?)?;
+    }
+    Ok(bufs)
+}
+
 pub(super) fn lend<'a, B: Buf>(rt: &impl Abort, bufs: &'a mut [B]) -> SegmentedSlice<'a, B> {
     assert!(rt; SegmentedSlice::total(bufs).is_some());
     SegmentedSlice::new(bufs)
@@ -110,10 +127,15 @@ pub(super) fn assert_shows<B: Buf + Drop>(rt: &impl Abort, buf: &SegmentedBuf<B>
 }
 
 /// An empty buffer reads as nothing, also after calls on no bytes.
-pub(super) fn reads_nothing<B: Buf + Drop>(rt: &impl Abort, mut buf: B) -> Result<(), Fail> {
+pub(super) fn reads_nothing<B: BufParts + Drop>(
+    rt: &impl Abort,
+    alloc: Global,
+    mut buf: B,
+) -> Result<(), Fail> {
     assert_reads(rt, &buf, 0, "");
     buf.copy_to_slice(&mut [0; 0]);
     skip(rt, &mut buf, 0);
+    assert_eq!(rt; take_out(rt, alloc, &mut buf, 0)?.len(), 0);
     assert_reads(rt, &buf, 0, "");
     let mut ten = [0; 10];
     assert_eq!(rt; buf.reader().read(&mut ten)?, 0);

@@ -1,5 +1,5 @@
 //! How often buffers are advanced and looked at.
-use super::fixtures::{gather, lend, skip, take_out, thousand};
+use super::fixtures::{assert_reads, gather, lend, skip, take_out, thousand};
 use super::odd::Asked;
 use crate::parts::BufParts;
 use crate::segmented::SegmentedBuf;
@@ -48,7 +48,7 @@ fn walks_together(rt: HostRuntime) -> Result<(), Fail> {
     let mut bufs = thousand(rt.alloc())?;
     let mut all = lend(&rt, &mut bufs);
     skip(&rt, &mut all, 1000);
-    assert_eq!(rt; all.remaining(), 0);
+    assert_reads(&rt, &all, 0, "");
     for buf in all.into_lent().iter() {
         assert_eq!(rt; buf.advanced, 1);
     }

@@ -50,18 +50,28 @@ fn pushes_again(
     Ok(())
 }
 
+fn pushes(
+    rt: &(impl Abort + Print),
+    buf: &mut SegmentedBuf<Bytes>,
+    letter: Bytes,
+) -> Result<(), Fail> {
+    let held = buf.segments();
+    assert!(rt; buf.fits(letter.len()));
+    if let Err(refused) = buf.push(letter) {
+        tell_refused(rt, "SegmentedBuf::push")?;
+        pushes_again(rt, buf, refused, held)?;
+    }
+    Ok(())
+}
+
 #[test]
 fn push(rt: HostRuntime) -> Result<(), Fail> {
     let Ok(letters) = letters(rt.alloc()) else {
         return Ok(());
     };
     let mut buf = SegmentedBuf::new(rt.alloc());
-    for (held, letter) in letters.into_iter().enumerate() {
-        assert!(rt; buf.fits(letter.len()));
-        if let Err(refused) = buf.push(letter) {
-            tell_refused(&rt, "SegmentedBuf::push")?;
-            pushes_again(&rt, &mut buf, refused, held)?;
-        }
+    for letter in letters {
+        pushes(&rt, &mut buf, letter)?;
     }
     assert_holds(&rt, &buf, 6);
     Ok(())
@@ -175,6 +185,7 @@ fn copies_out<B: BufParts>(
     Ok(())
 }
 
+// It shares its bytes and makes no request, so it is never refused.
 #[test]
 fn copy_out_of_bytes(rt: HostRuntime) -> Result<(), Fail> {
     let Ok(mut bytes) = Bytes::copy_from_slice(rt.alloc(), JOINED.as_bytes()) else {
@@ -233,6 +244,19 @@ fn copy_out_of_held(rt: HostRuntime) -> Result<(), Fail> {
     }
     if let Ok(bufs) = slices_of(rt.alloc(), &FOUR) {
         copies_out_held(&rt, rt.alloc(), bufs)?;
+    }
+    Ok(())
+}
+
+// A buffer that is alone in another is asked itself. What its refusal took is gone from both.
+#[test]
+fn copy_out_of_nested(rt: HostRuntime) -> Result<(), Fail> {
+    let Ok(bufs) = bytes_of(rt.alloc(), &FOUR) else {
+        return Ok(());
+    };
+    let inner = gather(rt.alloc(), bufs)?;
+    if let Ok(outer) = vec![in rt.alloc(); inner] {
+        copies_out_held(&rt, rt.alloc(), outer)?;
     }
     Ok(())
 }

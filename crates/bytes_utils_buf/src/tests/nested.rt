@@ -1,7 +1,7 @@
 //! Segmented buffers in segmented buffers.
 use super::fixtures::{
     FIVE, FOUR, assert_bytes, assert_fills, assert_hold, assert_reads, assert_shows, bytes_of,
-    gather, held, lend, skip, take_out,
+    gather, held_each, lend, skip, take_out,
 };
 use crate::parts::BufParts;
 use crate::segmented::SegmentedBuf;
@@ -40,10 +40,9 @@ fn nest<B: Buf + Drop>(
 
 #[test]
 fn three_levels(rt: HostRuntime) -> Result<(), Fail> {
-    let alloc = rt.alloc();
-    let upper = vec![in alloc; held(alloc, &["a", "", "b"])?, held(alloc, &[])?]?;
-    let lower = vec![in alloc; held(alloc, &["cd"])?]?;
-    reads_three(&rt, alloc, nest(alloc, upper, lower)?)
+    let upper = held_each(rt.alloc(), &[&["a", "", "b"], &[]])?;
+    let lower = held_each(rt.alloc(), &[&["cd"]])?;
+    reads_three(&rt, rt.alloc(), nest(rt.alloc(), upper, lower)?)
 }
 
 // Reads two buffers that hold 22 bytes together.

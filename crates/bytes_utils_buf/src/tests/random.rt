@@ -19,7 +19,7 @@ fn gives<B: BufParts>(
     Ok(())
 }
 
-// Cuts all three alike, but no further than to the end.
+// Cuts both like one `Bytes`, but no further than to the end.
 fn gives_alike<B: BufParts, C: BufParts>(
     rt: &impl Abort,
     alloc: Global,
@@ -37,19 +37,27 @@ fn gives_alike<B: BufParts, C: BufParts>(
     Ok(())
 }
 
+fn reads_alike<B: BufParts + Drop>(
+    rt: &impl Abort,
+    alloc: Global,
+    held: Vec<B>,
+    mut lent: Vec<B>,
+) -> Result<(), Fail> {
+    let mut held = collect(alloc, held)?;
+    assert!(rt; held.segments() <= 5);
+    gives_alike(rt, alloc, &mut held, &mut lend(rt, &mut lent))
+}
+
 #[test]
 fn random(rt: HostRuntime) -> Result<(), Fail> {
-    let alloc = rt.alloc();
-    let mut held = collect(alloc, slices_of(alloc, &FIVE)?)?;
-    assert!(rt; held.segments() <= 5);
-    let mut bufs = slices_of(alloc, &FIVE)?;
-    let mut lent = lend(&rt, &mut bufs);
-    gives_alike(&rt, alloc, &mut held, &mut lent)
+    let held = slices_of(rt.alloc(), &FIVE)?;
+    let lent = slices_of(rt.alloc(), &FIVE)?;
+    reads_alike(&rt, rt.alloc(), held, lent)
 }
 
 #[test]
 fn random_clone(rt: HostRuntime) -> Result<(), Fail> {
-    let alloc = rt.alloc();
-    let held = collect(alloc, slices_of(alloc, &FIVE)?)?;
-    gives(&rt, alloc, &mut held.try_clone()?, JOINED.as_bytes(), 0)
+    let held = collect(rt.alloc(), slices_of(rt.alloc(), &FIVE)?)?;
+    let mut clone = held.try_clone()?;
+    gives(&rt, rt.alloc(), &mut clone, JOINED.as_bytes(), 0)
 }

@@ -1,5 +1,5 @@
 //! Tables that buffers fill with slices.
-use super::fixtures::{FOUR, assert_bytes, assert_fills, bytes_of, held, lend, skip};
+use super::fixtures::{FOUR, assert_bytes, assert_fills, bytes_of, held, held_each, lend, skip};
 use crate::parts::BufParts;
 use crate::segmented::{SegmentedBuf, SegmentedSlice};
 use std::process::Abort;
@@ -50,9 +50,7 @@ fn fills_by_two<B: BufParts>(rt: &impl Abort, bufs: &mut [B]) {
 #[test]
 fn chunk_vectored_nested(rt: HostRuntime) -> Result<(), Fail> {
     let alloc = rt.alloc();
-    let upper = held(alloc, &FOUR)?;
-    let lower = held(alloc, &FOUR)?;
-    fills_by_two(&rt, &mut vec![in alloc; upper, lower]?);
+    fills_by_two(&rt, &mut held_each(alloc, &[&FOUR, &FOUR])?);
     let mut bufs = bytes_of(alloc, &FOUR)?;
     fills_lent_by_itself(&rt, &lend(&rt, &mut bufs));
     Ok(())
