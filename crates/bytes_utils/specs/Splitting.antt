@@ -1,5 +1,5 @@
 -- The state of a splitter by a separator, and what is still to come in it.
-use Rattle.std.specs.Prelude.{◌≡◌, ℕ, suc, ◌+◌, ◌-◌, ◌<◌, List, [], ◌∷◌, length, Bool, Option, MatchOption, IfSome, IsSomeAnd, if◌then◌else◌}
+use Rattle.std.specs.Prelude.{◌≡◌, ℕ, suc, ◌+◌, ◌-◌, ◌<◌, List, [], ◌∷◌, length, Bool, false, Option, Some, MatchOption, IfSome, IsSomeAnd, if◌then◌else◌}
 use Rattle.std.specs.Bool.{MatchBool, OnTrue}
 use Rattle.std.specs.Option.{option_map, option_map_or}
 use Rattle.std.specs.Str.{chars}
@@ -15,6 +15,14 @@ pub record Splitting : Type 0 where
   pub separator : List ℕ
   pub limit : Option ℕ
   pub begun : Bool
+
+-- a state, by its fields
+abbrev pub splitting : Option (List ℕ) → List ℕ → Option ℕ → Bool → Splitting
+splitting rest separator limit begun = record { rest = rest; separator = separator; limit = limit; begun = begun }
+
+-- all of a text is to be cut by a separator, into at most so many parts
+abbrev pub all_of : List ℕ → List ℕ → Option ℕ → Splitting
+all_of text separator limit = splitting (Some text) separator limit false
 
 -- Are says which lists are the parts of a text by a separator with a limit. These parts of what is left are to come; none where nothing
 -- is left. Once the first empty part by an empty separator was given, those behind it are.

@@ -77,7 +77,8 @@ pub struct Replies {
 }
 
 impl Replies {
-    fn refused(alloc: Global) -> Replies
+    /// None, since memory refused the place for them.
+    fn without_place(alloc: Global) -> Replies
         ensures given { result.given.items ≡ [] }
         ensures reason { result.refused ≡ Some WhyRefused.OutOfMemory }
     {
@@ -110,7 +111,7 @@ pub fn drive<B: BufParts + Drop>(
     prove!(buf.segments() <= buf.remaining());
 
     let Ok(mut given) = Vec::with_capacity(alloc, calls.len()) else {
-        return Replies::refused(alloc);
+        return Replies::without_place(alloc);
     };
     for call in calls {
         given.push_reserved(make(alloc, buf, call));
@@ -131,7 +132,7 @@ pub fn read_calls<B: BufParts>(alloc: Global, buf: &mut B, calls: Vec<ReadCall>)
     ensures kept { B.kept buf.new ≡ B.kept buf.old }
 {
     let Ok(mut given) = Vec::with_capacity(alloc, calls.len()) else {
-        return Replies::refused(alloc);
+        return Replies::without_place(alloc);
     };
     for call in calls {
         given.push_reserved(read(alloc, buf, call));

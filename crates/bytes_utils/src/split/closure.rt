@@ -1,12 +1,12 @@
 //! A text cut at the places that a closure of the caller's answers.
-ghost use Rattle.std.specs.Prelude.{◌≡◌, ◌<◌, ℕ, List, Result, Some, length, IfOk, IfErr, IsUtf8};
+ghost use Rattle.std.specs.Prelude.{◌≡◌, ◌<◌, ℕ, List, Result, Some, length, IfOk, IfErr, IfSome, IsUtf8};
 ghost use Rattle.std.specs.Iterator.{at_most, Drains};
 ghost use Rattle.std.specs.Str.{chars};
 ghost use Rattle.bytes_utils.specs.Walk.{IsLawfulCut, IsLawfulClosure, IsWalkStep, IsWholeWalk};
 ghost use Rattle.bytes_utils_buf.specs.declared.refused.Reason.{Reason as WhyRefused};
 ghost use Rattle.bytes_utils.specs.Walk.{chunk_at, most_chunks, rest_at};
 
-use super::cut::cut_out;
+use super::cut::{Cut, cut_out, hand_out};
 use super::direction::Direction;
 use crate::string::{Storage, StrInner};
 use bytes_utils_buf::Reason;
@@ -19,21 +19,25 @@ fn chunk_and_rest<S: Storage>(
     direction: Direction,
     chunk_edge: usize,
     separator_edge: usize,
-) -> Result<(StrInner<S>, StrInner<S>), Reason>
+) -> Result<Cut<S>, Reason>
     requires text { IsUtf8 text }
     requires cut { IsLawfulCut direction text chunk_edge separator_edge }
     ensures chunk { IfOk result
-        (λ pieces. pieces.0 ≡ chunk_at direction text chunk_edge separator_edge) }
+        (λ cut. cut.0 ≡ chunk_at direction text chunk_edge separator_edge) }
     ensures rest { IfOk result
-        (λ pieces. pieces.1 ≡ rest_at direction text chunk_edge separator_edge) }
-    ensures fewer { IfOk result (λ pieces. length (chars pieces.1) < length (chars text)) }
+        (λ cut. cut.1 ≡ Some (rest_at direction text chunk_edge separator_edge)) }
+    ensures fewer { IfOk result
+        (λ cut. IfSome cut.1 (λ rest. length (chars rest) < length (chars text))) }
     ensures reason { IfErr result S.refuses }
 {
     match direction {
-        Direction::Forward => cut_out(text, chunk_edge, separator_edge),
+        Direction::Forward => {
+            let (chunk, rest) = cut_out(text, chunk_edge, separator_edge)?;
+            Ok((chunk, Some(rest)))
+        }
         Direction::Backward => {
             let (rest, chunk) = cut_out(text, separator_edge, chunk_edge)?;
-            Ok((chunk, rest))
+            Ok((chunk, Some(rest)))
         }
     }
 }
@@ -101,12 +105,9 @@ impl<S: Storage, F: FnMut(&str) -> Option<(usize, usize)> + Drop> Iterator for B
         let Some((chunk_edge, separator_edge)) = (self.closure)(text.as_str()) else {
             return Some(Ok(text));
         };
-        match chunk_and_rest(text, self.direction, chunk_edge, separator_edge) {
-            Ok((chunk, rest)) => {
-                self.rest = Some(rest);
-                Some(Ok(chunk))
-            }
-            Err(reason) => Some(Err(reason)),
-        }
+        hand_out!(
+            self.rest,
+            chunk_and_rest(text, self.direction, chunk_edge, separator_edge)
+        )
     }
 }

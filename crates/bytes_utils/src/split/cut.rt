@@ -1,5 +1,5 @@
-//! The one step that cuts a text in two and leaves out what is between.
-ghost use Rattle.std.specs.Prelude.{◌≡◌, ◌≤◌, take, drop, IsCharBoundary, IfOk, IfErr};
+//! The one step that cuts a text: each splitter's cuts, and what it gives and keeps, go through here.
+ghost use Rattle.std.specs.Prelude.{◌≡◌, ◌≤◌, ◌<◌, length, take, drop, IsCharBoundary, IfOk, IfErr, OnErr, MatchOption};
 
 use crate::string::{Storage, StrInner};
 use bytes_utils_buf::Reason;
@@ -40,3 +40,51 @@ pub(super) fn cut_out<S: Storage>(
     let (before, _) = cut_at(front, end)?;
     Ok((before, after))
 }
+
+/// The text before a byte place, and that from it on, if any: at the end no split is made.
+#[inline(always)]
+pub(super) fn cut_behind<S: Storage>(text: StrInner<S>, end: usize) -> Result<Cut<S>, Reason>
+    requires { IsCharBoundary text end }
+    ensures front { IfOk result (λ cut. cut.0 ≡ take end text) }
+    ensures rest { IfOk result (λ cut. MatchOption cut.1 (end ≡ length text)
+        (λ rest. rest ≡ drop end text)) }
+    ensures err { OnErr result (end < length text) }
+    ensures reason { IfErr result S.refuses }
+{
+    if end == text.as_str().len() {
+        return Ok((text, None));
+    }
+    let (front, rest) = cut_at(text, end)?;
+    Ok((front, Some(rest)))
+}
+
+/// The text from a byte place on: from its start on no split is made.
+#[inline(always)]
+pub(super) fn cut_before<S: Storage>(text: StrInner<S>, start: usize) -> Result<StrInner<S>, Reason>
+    requires { IsCharBoundary text start }
+    ensures rest { IfOk result (λ rest. rest ≡ drop start text) }
+    ensures err { OnErr result (0 < start) }
+    ensures reason { IfErr result S.refuses }
+{
+    if start == 0 {
+        return Ok(text);
+    }
+    let (_, rest) = cut_at(text, start)?;
+    Ok(rest)
+}
+
+/// Gives the part of a cut and keeps what is left; a refused cut gives its reason, and keeps
+/// nothing.
+macro_rules! hand_out {
+    ($rest:expr, $cut:expr) => {
+        match $cut {
+            Ok((part, left)) => {
+                $rest = left;
+                Some(Ok(part))
+            }
+            Err(reason) => Some(Err(reason)),
+        }
+    };
+}
+
+pub(super) use hand_out;

@@ -2,7 +2,7 @@
 ghost use Rattle.std.specs.Prelude.{◌≡◌, ◌<◌, ℕ, [], Option, None, Some, length, true, false, IfOk, IfErr, OnErr, IfSome};
 ghost use Rattle.std.specs.Bool.{OnTrue};
 ghost use Rattle.std.specs.Str.{chars};
-ghost use Rattle.bytes_utils.specs.Splitting.{ArePartsToCome, AreForwardPartsToCome, AreBackwardPartsToCome, LeavesMore, one_less, most_parts};
+ghost use Rattle.bytes_utils.specs.Splitting.{ArePartsToCome, AreForwardPartsToCome, AreBackwardPartsToCome, LeavesMore, one_less, most_parts, splitting};
 ghost use Rattle.bytes_utils.specs.Step.{GivesFirst};
 
 use super::character::{first_end, last_start};
@@ -16,9 +16,8 @@ use bytes_utils_buf::Reason;
 fn empty_part<S: Storage>(text: StrInner<S>, from: Direction) -> Result<Cut<S>, Reason>
     ensures gives { IfOk result (λ cut. (limit : Option ℕ) → LeavesMore limit
         → GivesFirst (ArePartsToCome from)
-        (record { rest = Some text; separator = []; limit = limit; begun = false })
-        (chars cut.0)
-        (record { rest = cut.1; separator = []; limit = one_less limit; begun = true })) }
+        (splitting (Some text) [] limit false) (chars cut.0)
+        (splitting cut.1 [] (one_less limit) true)) }
     ensures rest { IfOk result (λ cut. cut.1 ≡ Some text) }
     ensures reason { IfErr result S.refuses }
 {
@@ -40,9 +39,8 @@ fn empty_part<S: Storage>(text: StrInner<S>, from: Direction) -> Result<Cut<S>, 
 fn first_character<S: Storage>(text: StrInner<S>) -> Result<Cut<S>, Reason>
     ensures gives { IfOk result (λ cut. (limit : Option ℕ) → LeavesMore limit
         → GivesFirst AreForwardPartsToCome
-        (record { rest = Some text; separator = []; limit = limit; begun = true })
-        (chars cut.0)
-        (record { rest = cut.1; separator = []; limit = one_less limit; begun = true })) }
+        (splitting (Some text) [] limit true) (chars cut.0)
+        (splitting cut.1 [] (one_less limit) true)) }
     ensures shorter { IfOk result (λ cut. IfSome cut.1 (λ rest. length rest < length text)) }
     ensures err { OnErr result (0 < length text) }
     ensures reason { IfErr result S.refuses }
@@ -59,9 +57,8 @@ fn first_character<S: Storage>(text: StrInner<S>) -> Result<Cut<S>, Reason>
 fn last_character<S: Storage>(text: StrInner<S>) -> Result<Cut<S>, Reason>
     ensures gives { IfOk result (λ cut. (limit : Option ℕ) → LeavesMore limit
         → GivesFirst AreBackwardPartsToCome
-        (record { rest = Some text; separator = []; limit = limit; begun = true })
-        (chars cut.0)
-        (record { rest = cut.1; separator = []; limit = one_less limit; begun = true })) }
+        (splitting (Some text) [] limit true) (chars cut.0)
+        (splitting cut.1 [] (one_less limit) true)) }
     ensures shorter { IfOk result (λ cut. IfSome cut.1 (λ rest. length rest < length text)) }
     ensures err { OnErr result (0 < length text) }
     ensures reason { IfErr result S.refuses }
@@ -83,12 +80,11 @@ pub(super) fn cut_character<S: Storage>(
 ) -> Result<Cut<S>, Reason>
     ensures gives { IfOk result (λ cut. (limit : Option ℕ) → LeavesMore limit
         → GivesFirst (ArePartsToCome from)
-        (record { rest = Some text; separator = []; limit = limit; begun = begun })
-        (chars cut.0)
-        (record { rest = cut.1; separator = []; limit = one_less limit; begun = true })) }
+        (splitting (Some text) [] limit begun) (chars cut.0)
+        (splitting cut.1 [] (one_less limit) true)) }
     ensures fewer { IfOk result (λ cut. most_parts
-        (record { rest = cut.1; separator = []; limit = None; begun = true })
-        < most_parts (record { rest = Some text; separator = []; limit = None; begun = begun })) }
+        (splitting cut.1 [] None true)
+        < most_parts (splitting (Some text) [] None begun)) }
     ensures err { OnErr result (OnTrue begun (0 < length text)) }
     ensures reason { IfErr result S.refuses }
 {

@@ -6,6 +6,7 @@ ghost use Rattle.bytes_utils.specs.Keeping.{AreInclusivePartsToCome, CutsBehindN
 ghost use Rattle.bytes_utils.specs.Keeping.{most_inclusive_parts};
 ghost use Rattle.bytes_utils.specs.Step.{GivesFirst, IsStep};
 
+use super::cut::{Cut, cut_at, hand_out};
 use super::search::find;
 use crate::string::{Storage, StrInner};
 use bytes_utils_buf::Reason;
@@ -14,10 +15,7 @@ use std::marker::Model;
 /// The part through the first separator and the text behind it, or the whole text where the
 /// separator ends it or there is none.
 #[inline(always)]
-fn first_part<S: Storage>(
-    text: StrInner<S>,
-    separator: &str,
-) -> Result<(StrInner<S>, Option<StrInner<S>>), Reason>
+fn part_through<S: Storage>(text: StrInner<S>, separator: &str) -> Result<Cut<S>, Reason>
     requires separator { 0 < length separator.now }
     requires text { 0 < length text }
     ensures gives { IfOk result (λ cut. GivesFirst AreInclusivePartsToCome
@@ -35,7 +33,7 @@ fn first_part<S: Storage>(
     if end == text.as_str().len() {
         return Ok((text, None));
     }
-    let (part, rest) = text.split_at_bytes(end).map_err(|refused| refused.reason)?;
+    let (part, rest) = cut_at(text, end)?;
     Ok((part, Some(rest)))
 }
 
@@ -86,12 +84,6 @@ impl<'s, S: Storage> Iterator for SplitInclusiveBytes<'s, S> {
         if text.as_str().is_empty() {
             return None;
         }
-        match first_part(text, self.separator) {
-            Ok((part, rest)) => {
-                self.rest = rest;
-                Some(Ok(part))
-            }
-            Err(reason) => Some(Err(reason)),
-        }
+        hand_out!(self.rest, part_through(text, self.separator))
     }
 }

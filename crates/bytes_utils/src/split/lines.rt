@@ -6,7 +6,7 @@ ghost use Rattle.std.specs.Str.{chars};
 ghost use Rattle.bytes_utils.specs.Lines.{AreLinesToCome, HoldsLineFeed, lines};
 ghost use Rattle.bytes_utils.specs.Step.{GivesFirst, IsStep};
 
-use super::cut::cut_out;
+use super::cut::{Cut, cut_out, hand_out};
 use super::search::find;
 use crate::string::{Storage, StrInner};
 use bytes_utils_buf::Reason;
@@ -31,7 +31,7 @@ fn line_place(text: &str) -> Option<(usize, usize)>
 
 /// The first line and the text behind its line feed, or the whole text where there is none.
 #[inline(always)]
-fn first_line<S: Storage>(text: StrInner<S>) -> Result<(StrInner<S>, Option<StrInner<S>>), Reason>
+fn first_line<S: Storage>(text: StrInner<S>) -> Result<Cut<S>, Reason>
     requires { 0 < length text }
     ensures gives { IfOk result (λ cut. GivesFirst AreLinesToCome (Some text) (chars cut.0) cut.1) }
     ensures shorter { IfOk result (λ cut. IfSome cut.1 (λ rest. length rest < length text)) }
@@ -82,12 +82,6 @@ impl<S: Storage> Iterator for LinesBytes<S> {
         if text.as_str().is_empty() {
             return None;
         }
-        match first_line(text) {
-            Ok((line, rest)) => {
-                self.rest = rest;
-                Some(Ok(line))
-            }
-            Err(reason) => Some(Err(reason)),
-        }
+        hand_out!(self.rest, first_line(text))
     }
 }

@@ -3,10 +3,10 @@ ghost use Rattle.std.specs.Prelude.{◌≡◌, ◌≢◌, ◌<◌, ◌==◌, ℕ
 ghost use Rattle.std.specs.Bool.{OnTrue};
 ghost use Rattle.std.specs.Str.{chars};
 ghost use Rattle.bytes_utils.specs.Occurrence.{Occurs};
-ghost use Rattle.bytes_utils.specs.Splitting.{ArePartsToCome, AreForwardPartsToCome, AreBackwardPartsToCome, CutsNext, LeavesMore, one_less, most_parts};
+ghost use Rattle.bytes_utils.specs.Splitting.{ArePartsToCome, AreForwardPartsToCome, AreBackwardPartsToCome, CutsNext, LeavesMore, one_less, most_parts, splitting, all_of};
 ghost use Rattle.bytes_utils.specs.Step.{GivesFirst, IsStep};
 
-use super::cut::{Cut, cut_out};
+use super::cut::{Cut, cut_out, hand_out};
 use super::direction::Direction;
 use super::each_character::cut_character;
 use super::search::{find, rfind};
@@ -21,14 +21,8 @@ fn first_part<S: Storage>(text: StrInner<S>, separator: &str) -> Result<Cut<S>, 
     requires { 0 < length separator.now }
     ensures gives { IfOk result (λ cut. (limit : Option ℕ) → LeavesMore limit
         → GivesFirst AreForwardPartsToCome
-        (record { rest = Some text; separator = separator.now; limit = limit; begun = false })
-        (chars cut.0)
-        (record {
-          rest = cut.1;
-          separator = separator.now;
-          limit = one_less limit;
-          begun = false;
-        })) }
+        (splitting (Some text) separator.now limit false) (chars cut.0)
+        (splitting cut.1 separator.now (one_less limit) false)) }
     ensures shorter { IfOk result (λ cut. IfSome cut.1 (λ rest. length rest < length text)) }
     ensures err { OnErr result (Occurs (chars separator.now) (chars text)) }
     ensures reason { IfErr result S.refuses }
@@ -47,14 +41,8 @@ fn last_part<S: Storage>(text: StrInner<S>, separator: &str) -> Result<Cut<S>, R
     requires { 0 < length separator.now }
     ensures gives { IfOk result (λ cut. (limit : Option ℕ) → LeavesMore limit
         → GivesFirst AreBackwardPartsToCome
-        (record { rest = Some text; separator = separator.now; limit = limit; begun = false })
-        (chars cut.0)
-        (record {
-          rest = cut.1;
-          separator = separator.now;
-          limit = one_less limit;
-          begun = false;
-        })) }
+        (splitting (Some text) separator.now limit false) (chars cut.0)
+        (splitting cut.1 separator.now (one_less limit) false)) }
     ensures shorter { IfOk result (λ cut. IfSome cut.1 (λ rest. length rest < length text)) }
     ensures err { OnErr result (Occurs (chars separator.now) (chars text)) }
     ensures reason { IfErr result S.refuses }
@@ -78,27 +66,11 @@ fn cut_next<S: Storage>(
     requires { OnTrue begun (length separator.now ≡ 0) }
     ensures gives { IfOk result (λ cut. (limit : Option ℕ) → LeavesMore limit
         → GivesFirst (ArePartsToCome from)
-        (record { rest = Some text; separator = separator.now; limit = limit; begun = begun })
-        (chars cut.0)
-        (record {
-          rest = cut.1;
-          separator = separator.now;
-          limit = one_less limit;
-          begun = length separator.now == 0;
-        })) }
+        (splitting (Some text) separator.now limit begun) (chars cut.0)
+        (splitting cut.1 separator.now (one_less limit) (length separator.now == 0))) }
     ensures fewer { IfOk result (λ cut. most_parts
-        (record {
-          rest = cut.1;
-          separator = separator.now;
-          limit = None;
-          begun = length separator.now == 0;
-        })
-        < most_parts (record {
-          rest = Some text;
-          separator = separator.now;
-          limit = None;
-          begun = begun;
-        })) }
+        (splitting cut.1 separator.now None (length separator.now == 0))
+        < most_parts (splitting (Some text) separator.now None begun)) }
     ensures holds { OnErr result (Occurs (chars separator.now) (chars text)) }
     ensures more { OnErr result (OnTrue begun (0 < length text)) }
     ensures reason { IfErr result S.refuses }
@@ -124,27 +96,11 @@ fn next_part<S: Storage>(
     requires some { limit ≢ Some 0 }
     requires begun { OnTrue begun (length separator.now ≡ 0) }
     ensures gives { IfOk result (λ cut. GivesFirst (ArePartsToCome from)
-        (record { rest = Some text; separator = separator.now; limit = limit; begun = begun })
-        (chars cut.0)
-        (record {
-          rest = cut.1;
-          separator = separator.now;
-          limit = one_less limit;
-          begun = length separator.now == 0;
-        })) }
+        (splitting (Some text) separator.now limit begun) (chars cut.0)
+        (splitting cut.1 separator.now (one_less limit) (length separator.now == 0))) }
     ensures fewer { IfOk result (λ cut. most_parts
-        (record {
-          rest = cut.1;
-          separator = separator.now;
-          limit = None;
-          begun = length separator.now == 0;
-        })
-        < most_parts (record {
-          rest = Some text;
-          separator = separator.now;
-          limit = None;
-          begun = begun;
-        })) }
+        (splitting cut.1 separator.now None (length separator.now == 0))
+        < most_parts (splitting (Some text) separator.now None begun)) }
     ensures left { IfOk result (λ cut. IfSome cut.1 (λ _. LeavesMore limit)) }
     ensures holds { OnErr result (Occurs (chars separator.now) (chars text)) }
     ensures more { OnErr result (OnTrue begun (0 < length text)) }
@@ -189,12 +145,7 @@ impl<'s, S: Storage> Separated<'s, S> {
     /// All of a text, with at most so many parts.
     #[inline(always)]
     pub(super) fn new(text: StrInner<S>, separator: &'s str, limit: Option<usize>) -> Self
-        ensures { result ≡ record {
-          rest = Some text;
-          separator = separator.now;
-          limit = limit;
-          begun = false;
-        } }
+        ensures { result ≡ all_of text separator.now limit }
     {
         Separated {
             rest: Some(text),
@@ -214,14 +165,9 @@ impl<'s, S: Storage> Separated<'s, S> {
             return None;
         }
         let text = self.rest.take()?;
-        match next_part(text, self.separator, self.limit, self.begun, from) {
-            Ok((part, rest)) => {
-                self.rest = rest;
-                self.limit = self.limit.map(|most| most.saturating_sub(1));
-                self.begun = self.separator.is_empty();
-                Some(Ok(part))
-            }
-            Err(reason) => Some(Err(reason)),
-        }
+        let cut = next_part(text, self.separator, self.limit, self.begun, from);
+        self.limit = self.limit.map(|most| most.saturating_sub(1));
+        self.begun = self.separator.is_empty();
+        hand_out!(self.rest, cut)
     }
 }

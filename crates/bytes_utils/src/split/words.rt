@@ -7,6 +7,7 @@ ghost use Rattle.std.specs.Str.{chars};
 ghost use Rattle.bytes_utils.specs.Step.{IsStep};
 ghost use Rattle.bytes_utils.specs.Words.{AreWordsToCome, HoldsSpace, words};
 
+use super::cut::{Cut, cut_before, cut_behind, hand_out};
 use crate::string::{Storage, StrInner};
 use bytes_utils_buf::Reason;
 use std::marker::Model;
@@ -63,51 +64,10 @@ fn word_place<W: WhiteSpace>(text: &str) -> Option<(usize, usize)>
     Some((start, start + length))
 }
 
-/// The text before a byte place, and that from it on, if any: at the end no split is made.
-#[inline(always)]
-fn cut_behind<S: Storage>(
-    text: StrInner<S>,
-    end: usize,
-) -> Result<(StrInner<S>, Option<StrInner<S>>), Reason>
-    requires { IsCharBoundary text end }
-    ensures front { IfOk result (λ cut. cut.0 ≡ take end text) }
-    ensures rest { IfOk result (λ cut. MatchOption cut.1 (end ≡ length text)
-        (λ rest. rest ≡ drop end text)) }
-    ensures err { OnErr result (end < length text) }
-    ensures reason { IfErr result S.refuses }
-{
-    if end == text.as_str().len() {
-        return Ok((text, None));
-    }
-    let (front, rest) = text.split_at_bytes(end).map_err(|refused| refused.reason)?;
-    Ok((front, Some(rest)))
-}
-
-/// The text from a byte place on: from its start on no split is made.
-#[inline(always)]
-fn cut_before<S: Storage>(text: StrInner<S>, start: usize) -> Result<StrInner<S>, Reason>
-    requires { IsCharBoundary text start }
-    ensures rest { IfOk result (λ rest. rest ≡ drop start text) }
-    ensures err { OnErr result (0 < start) }
-    ensures reason { IfErr result S.refuses }
-{
-    if start == 0 {
-        return Ok(text);
-    }
-    let (_, rest) = text
-        .split_at_bytes(start)
-        .map_err(|refused| refused.reason)?;
-    Ok(rest)
-}
-
 /// The text between two byte places, and that behind the second, if any. The later place is split
 /// first.
 #[inline(always)]
-fn cut_word<S: Storage>(
-    text: StrInner<S>,
-    start: usize,
-    end: usize,
-) -> Result<(StrInner<S>, Option<StrInner<S>>), Reason>
+fn cut_word<S: Storage>(text: StrInner<S>, start: usize, end: usize) -> Result<Cut<S>, Reason>
     requires order { start ≤ end }
     requires start { IsCharBoundary text start }
     requires end { IsCharBoundary text end }
@@ -134,13 +94,7 @@ fn next_word<W: WhiteSpace, S: Storage>(
 {
     let text = rest.take()?;
     let (start, end) = word_place::<W>(text.as_str())?;
-    match cut_word(text, start, end) {
-        Ok((word, behind)) => {
-            *rest = behind;
-            Some(Ok(word))
-        }
-        Err(reason) => Some(Err(reason)),
-    }
+    hand_out!(*rest, cut_word(text, start, end))
 }
 
 /// The words of a text between characters with Unicode's property White_Space, first to last, as

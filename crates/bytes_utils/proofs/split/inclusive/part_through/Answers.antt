@@ -1,7 +1,7 @@
 use Rattle.std.proofs.Common.{rules, arith, ap, ◌≡◌, ◌+◌, ◌≤◌, length, take, drop, inl, inr}
 use Rattle.bytes_utils.proofs.PartCut.{next_boundary}
 use Rattle.bytes_utils.proofs.KeepingCut.{gives_whole, gives_through, ends_text, cuts_behind}
-use Rattle.bytes_utils.proofs.split.inclusive.first_part.Goals as goal
+use Rattle.bytes_utils.proofs.split.inclusive.part_through.Goals as goal
 
 pub returns-in_default-clause-gives : goal.returns-in_default-clause-gives
 returns-in_default-clause-gives g c =
@@ -22,8 +22,8 @@ returns-then-end-as_str-clause-gives g c =
     let whole = rw c.as_str-2.ensures.value at c.if-end-as_str.true in
     gives_whole _ _ text_is c.requires.text (inl (ends_text _ _ text_is c.utf8.separator _ found c.requires.separator whole))
 
-pub split_at_bytes-requires : goal.split_at_bytes-requires
-split_at_bytes-requires g c = rw (← c.as_str.ensures.value) (next_boundary _ _ c.as_str.utf8 c.utf8.separator _ _ c.in-Some.ensures.1 c.in-Some.ensures.2.here)
+pub cut_at-requires : goal.cut_at-requires
+cut_at-requires g c = rw (← c.as_str.ensures.value) (next_boundary _ _ c.as_str.utf8 c.utf8.separator _ _ c.in-Some.ensures.1 c.in-Some.ensures.2.here)
 
 pub returns-in_err-part-clause-err : goal.returns-in_err-part-clause-err
 returns-in_err-part-clause-err g c =

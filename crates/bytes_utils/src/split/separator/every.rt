@@ -1,0 +1,94 @@
+//! The splitters at every separator: `split_bytes` and `rsplit_bytes`.
+ghost use Rattle.std.specs.Prelude.{◌≡◌, ℕ, List, None};
+ghost use Rattle.std.specs.Iterator.{at_most};
+ghost use Rattle.bytes_utils.specs.Splitting.{AreForwardPartsToCome, AreBackwardPartsToCome};
+ghost use Rattle.bytes_utils.specs.Splitting.{CutsNext, all_of, most_parts};
+ghost use Rattle.bytes_utils.specs.Step.{IsStep};
+
+use crate::split::Direction;
+use crate::split::separated::Separated;
+use crate::string::{Storage, StrInner};
+use bytes_utils_buf::Reason;
+use std::marker::Model;
+
+/// The parts of a text between separators, first to last. A refused cut is the last
+/// item.
+#[derive(Drop)]
+pub struct SplitBytes<'s, S: Storage> {
+    parts: Separated<'s, S>,
+}
+
+impl<'s, S: Storage> Model for SplitBytes<'s, S> {
+    ghost use Rattle.bytes_utils.specs.Splitting.{Splitting};
+
+    ghost Value = { Splitting };
+
+    ghost view = { λ s. s.parts };
+}
+
+impl<S: Storage> StrInner<S> {
+    /// The parts between separators, first to last, as `str::split` has them. By the empty separator
+    /// they are an empty part, each character, and an empty part.
+    pub fn split_bytes<'s>(self, separator: &'s str) -> SplitBytes<'s, S>
+        ensures value { result ≡ all_of self separator.now None }
+        ensures coming { (parts : List (List ℕ)) × AreForwardPartsToCome result parts }
+    {
+        SplitBytes {
+            parts: Separated::new(self, separator, None),
+        }
+    }
+}
+
+impl<'s, S: Storage> Iterator for SplitBytes<'s, S> {
+    type Item = Result<StrInner<S>, Reason>;
+
+    ghost next_gives = { IsStep AreForwardPartsToCome CutsNext S.refuses };
+
+    ghost remaining = { λ s. at_most (most_parts s) };
+
+    #[inline]
+    fn next(&mut self) -> Option<Self::Item> {
+        self.parts.next_from(Direction::Forward)
+    }
+}
+
+/// The parts of a text between separators, last to first. A refused cut is the last
+/// item.
+#[derive(Drop)]
+pub struct RSplitBytes<'s, S: Storage> {
+    parts: Separated<'s, S>,
+}
+
+impl<'s, S: Storage> Model for RSplitBytes<'s, S> {
+    ghost use Rattle.bytes_utils.specs.Splitting.{Splitting};
+
+    ghost Value = { Splitting };
+
+    ghost view = { λ s. s.parts };
+}
+
+impl<S: Storage> StrInner<S> {
+    /// The parts between separators, last to first, as `str::rsplit` has them: each is cut at the
+    /// last separator of what is left.
+    pub fn rsplit_bytes<'s>(self, separator: &'s str) -> RSplitBytes<'s, S>
+        ensures value { result ≡ all_of self separator.now None }
+        ensures coming { (parts : List (List ℕ)) × AreBackwardPartsToCome result parts }
+    {
+        RSplitBytes {
+            parts: Separated::new(self, separator, None),
+        }
+    }
+}
+
+impl<'s, S: Storage> Iterator for RSplitBytes<'s, S> {
+    type Item = Result<StrInner<S>, Reason>;
+
+    ghost next_gives = { IsStep AreBackwardPartsToCome CutsNext S.refuses };
+
+    ghost remaining = { λ s. at_most (most_parts s) };
+
+    #[inline]
+    fn next(&mut self) -> Option<Self::Item> {
+        self.parts.next_from(Direction::Backward)
+    }
+}
