@@ -52,7 +52,7 @@ module _ {P : Type 0} (finds : P → List ℕ → Option (ℕ × ℕ) → Type 0
   splitn_more s = nat_lt 0 (splitn_count s) && split_has_more (splitn_parts s)
 
   abbrev splitn_right : SplitN P → List (List ℕ) → Type 0
-  splitn_right s = from_front p some (chars (split_text (splitn_parts s))) (Some (splitn_count s))
+  splitn_right s = from_front p (chars (split_text (splitn_parts s))) (Some (splitn_count s))
 
   splitn-to_come : Seeks finds keeps First p is → (s : SplitN P) → IsLeft is (splitn_more s) (split_text (splitn_parts s)) (split_pattern (splitn_parts s))
       → GivesParts (splitn_steps finds keeps) s (ToCome (splitn_more s) (splitn_right s))
@@ -71,11 +71,11 @@ module _ {P : Type 0} (finds : P → List ℕ → Option (ℕ × ℕ) → Type 0
       let alone = front-from (chars text) p (Some 1) (chars text ∷ []) some (omega arith) (AreForwardParts-rest p (chars text)) in
       let cut = λ (room : 1 < n). Leads-first p some (Some n) room text x.now live rest (finds pattern) (λ found. seeks.cuts pattern text found left.1 left.0) (step.2.1 room).1 in (
         λ goes_on.
-            let more = limited-left (from_front p some) text x.now live rest n (splitn_count t) positive step.0 alone step.2.0 cut goes_on in
+            let more = limited-left (from_front p) text x.now live rest n (splitn_count t) positive step.0 alone step.2.0 cut goes_on in
             (more.0, seeks.kept pattern (split_pattern (splitn_parts t)) left.1 (step.2.1 more.1).0),
         λ others are.
             subst (λ b. ToCome b (splitn_right s) (chars x.now ∷ others)) step.1
-            (limited-each (from_front p some) text x.now live rest n (splitn_count t) positive step.0 alone step.2.0 cut others are),
+            (limited-each (from_front p) text x.now live rest n (splitn_count t) positive step.0 alone step.2.0 cut others are),
       ))
 
   pub splitn-gives : Seeks finds keeps First p is → (s : SplitN P) (text : List ℕ) (most : ℕ) → split_text (splitn_parts s) ≡ text → split_has_more (splitn_parts s) ≡ true → splitn_count s ≡ most
@@ -84,14 +84,14 @@ module _ {P : Type 0} (finds : P → List ℕ → Option (ℕ × ℕ) → Type 0
       subst (λ t. GivesParts (splitn_steps finds keeps) s (ArePartsFromFront (chars t) p (Some most))) text_is
       (subst (λ n. GivesParts (splitn_steps finds keeps) s (ArePartsFromFront (chars (split_text (splitn_parts s))) p (Some n))) count
       (GivesParts-map (splitn_steps finds keeps) s (ToCome (splitn_more s) (splitn_right s)) (splitn_right s)
-      (at_start (from_front p some (chars (split_text (splitn_parts s)))) (λ parts none. none) (splitn_count s) (split_has_more (splitn_parts s)) more)
+      (at_start (from_front p (chars (split_text (splitn_parts s)))) (λ parts none. none) (splitn_count s) (split_has_more (splitn_parts s)) more)
       (splitn-to_come seeks s (λ _. (subst IsUtf8 (sym text_is) utf8, pattern_is)))))
 
   abbrev rsplitn_more : RSplitN P → Bool
   rsplitn_more s = nat_lt 0 (rsplitn_count s) && rsplit_has_more (rsplitn_parts s)
 
   abbrev rsplitn_right : RSplitN P → List (List ℕ) → Type 0
-  rsplitn_right s = from_back p some (chars (rsplit_text (rsplitn_parts s))) (Some (rsplitn_count s))
+  rsplitn_right s = from_back p (chars (rsplit_text (rsplitn_parts s))) (Some (rsplitn_count s))
 
   rsplitn-to_come : Seeks finds keeps Last p is → (s : RSplitN P) → IsLeft is (rsplitn_more s) (rsplit_text (rsplitn_parts s)) (rsplit_pattern (rsplitn_parts s))
       → GivesParts (rsplitn_steps finds keeps) s (ToCome (rsplitn_more s) (rsplitn_right s))
@@ -110,11 +110,11 @@ module _ {P : Type 0} (finds : P → List ℕ → Option (ℕ × ℕ) → Type 0
       let alone = back-from (chars text) p (Some 1) (chars text ∷ []) some (omega arith) (AreBackwardParts-rest p (chars text)) in
       let cut = λ (room : 1 < n). Leads-last p some (Some n) room text x.now live rest (finds pattern) (λ found. seeks.cuts pattern text found left.1 left.0) (step.2.1 room).1 in (
         λ goes_on.
-            let more = limited-left (from_back p some) text x.now live rest n (rsplitn_count t) positive step.0 alone step.2.0 cut goes_on in
+            let more = limited-left (from_back p) text x.now live rest n (rsplitn_count t) positive step.0 alone step.2.0 cut goes_on in
             (more.0, seeks.kept pattern (rsplit_pattern (rsplitn_parts t)) left.1 (step.2.1 more.1).0),
         λ others are.
             subst (λ b. ToCome b (rsplitn_right s) (chars x.now ∷ others)) step.1
-            (limited-each (from_back p some) text x.now live rest n (rsplitn_count t) positive step.0 alone step.2.0 cut others are),
+            (limited-each (from_back p) text x.now live rest n (rsplitn_count t) positive step.0 alone step.2.0 cut others are),
       ))
 
   pub rsplitn-gives : Seeks finds keeps Last p is → (s : RSplitN P) (text : List ℕ) (most : ℕ) → rsplit_text (rsplitn_parts s) ≡ text → rsplit_has_more (rsplitn_parts s) ≡ true → rsplitn_count s ≡ most
@@ -123,5 +123,5 @@ module _ {P : Type 0} (finds : P → List ℕ → Option (ℕ × ℕ) → Type 0
       subst (λ t. GivesParts (rsplitn_steps finds keeps) s (ArePartsFromBack (chars t) p (Some most))) text_is
       (subst (λ n. GivesParts (rsplitn_steps finds keeps) s (ArePartsFromBack (chars (rsplit_text (rsplitn_parts s))) p (Some n))) count
       (GivesParts-map (rsplitn_steps finds keeps) s (ToCome (rsplitn_more s) (rsplitn_right s)) (rsplitn_right s)
-      (at_start (from_back p some (chars (rsplit_text (rsplitn_parts s)))) (λ parts none. none) (rsplitn_count s) (rsplit_has_more (rsplitn_parts s)) more)
+      (at_start (from_back p (chars (rsplit_text (rsplitn_parts s)))) (λ parts none. none) (rsplitn_count s) (rsplit_has_more (rsplitn_parts s)) more)
       (rsplitn-to_come seeks s (λ _. (subst IsUtf8 (sym text_is) utf8, pattern_is)))))

@@ -47,66 +47,66 @@ module _ (Are : List ℕ → Option ℕ → List (List ℕ) → Type 0) (text pa
     each = λ others are. each others (subst (λ b. ToCome b (Are (chars rest) (one_less limit)) others) goes_on are);
   }
 
+-- the parts of a text by the separator p
+abbrev pub from_front : List ℕ → List ℕ → Option ℕ → List (List ℕ) → Type 0
+from_front p t limit parts = ArePartsFromFront t p limit parts
+
+abbrev pub from_back : List ℕ → List ℕ → Option ℕ → List (List ℕ) → Type 0
+from_back p t limit parts = ArePartsFromBack t p limit parts
+
 module _ (p : List ℕ) (some : 0 < length p) where
-  -- the parts by the separator p
-  abbrev pub from_front : List ℕ → Option ℕ → List (List ℕ) → Type 0
-  from_front t limit parts = ArePartsFromFront t p limit parts
-
-  abbrev pub from_back : List ℕ → Option ℕ → List (List ℕ) → Type 0
-  from_back t limit parts = ArePartsFromBack t p limit parts
-
   module _ (limit : Option ℕ) (more : LeavesMore limit) where
-    front_whole : (t : List ℕ) → (¬ Occurs p t) → from_front t limit (t ∷ [])
+    front_whole : (t : List ℕ) → (¬ Occurs p t) → from_front p t limit (t ∷ [])
     front_whole t lacks = front-from t p limit (t ∷ []) some (positive limit more) (AreForwardParts-last p t limit (positive limit more) lacks)
 
-    back_whole : (t : List ℕ) → (¬ Occurs p t) → from_back t limit (t ∷ [])
+    back_whole : (t : List ℕ) → (¬ Occurs p t) → from_back p t limit (t ∷ [])
     back_whole t lacks = back-from t p limit (t ∷ []) some (positive limit more) (AreBackwardParts-last p t limit (positive limit more) lacks)
 
-    front_more : (t : List ℕ) (k : ℕ) → OccursFirstAt p t k → (others : List (List ℕ)) → from_front (drop (k + length p) t) (one_less limit) others → from_front t limit (take k t ∷ others)
+    front_more : (t : List ℕ) (k : ℕ) → OccursFirstAt p t k → (others : List (List ℕ)) → from_front p (drop (k + length p) t) (one_less limit) others → from_front p t limit (take k t ∷ others)
     front_more t k first others are =
         front-from t p limit (take k t ∷ others) some (positive limit more)
         (AreForwardParts-more p t k some first limit more others (front-to (drop (k + length p) t) p (one_less limit) others some (positive-less limit more) are))
 
-    back_more : (t : List ℕ) (k : ℕ) → OccursLastAt p t k → (others : List (List ℕ)) → from_back (take k t) (one_less limit) others → from_back t limit (drop (k + length p) t ∷ others)
+    back_more : (t : List ℕ) (k : ℕ) → OccursLastAt p t k → (others : List (List ℕ)) → from_back p (take k t) (one_less limit) others → from_back p t limit (drop (k + length p) t ∷ others)
     back_more t k last others are =
         back-from t p limit (drop (k + length p) t ∷ others) some (positive limit more)
         (AreBackwardParts-more p t k some last limit more others (back-to (take k t) p (one_less limit) others some (positive-less limit more) are))
 
     module _ (text part : List ℕ) (live : Bool) (rest : List ℕ) where
       pub Leads-first : (F : List ℕ → Option (ℕ × ℕ) → Type 0) → ((found : Option (ℕ × ℕ)) → F text found → FindsCut First p text found)
-          → IsSplitAtFirstMatch F text part live rest → Leads from_front text part live rest limit
+          → IsSplitAtFirstMatch F text part live rest → Leads (from_front p) text part live rest limit
       Leads-first F cuts cut = either cut.1.0 (cuts cut.1.0 cut.1.1) cut.1.2
         where
           either : (found : Option (ℕ × ℕ)) → FindsCut First p text found
               → MatchOption found ((part ≡ text) × (live ≡ false)) (λ q. 0 < q.1 → (part ≡ take q.0 text) × (live ≡ true) × (rest ≡ drop q.1 text))
-              → Leads from_front text part live rest limit
-          either None nowhere is = Leads-last_part from_front text part live rest limit is.1 is.0 (front_whole (chars text) nowhere)
+              → Leads (from_front p) text part live rest limit
+          either None nowhere is = Leads-last_part (from_front p) text part live rest limit is.1 is.0 (front_whole (chars text) nowhere)
           either (Some (i, j)) at is =
               let longer = at.longer in
               let cut_is = is (omega (arith, longer)) in
               let part_chars : chars part ≡ take at.place (chars text) = ap chars cut_is.0 ∙ at.before in
               let rest_chars : chars rest ≡ drop (at.place + length p) (chars text) = ap chars cut_is.2 ∙ at.behind in
-              Leads-first_part from_front text part live rest limit cut_is.1 (subst IsUtf8 (sym cut_is.2) at.behind_is)
-              (λ others are. subst (λ z. from_front (chars text) limit (z ∷ others)) (sym part_chars)
-              (front_more (chars text) at.place at.found others (subst (λ z. from_front z (one_less limit) others) rest_chars are)))
+              Leads-first_part (from_front p) text part live rest limit cut_is.1 (subst IsUtf8 (sym cut_is.2) at.behind_is)
+              (λ others are. subst (λ z. from_front p (chars text) limit (z ∷ others)) (sym part_chars)
+              (front_more (chars text) at.place at.found others (subst (λ z. from_front p z (one_less limit) others) rest_chars are)))
 
       pub Leads-last : (F : List ℕ → Option (ℕ × ℕ) → Type 0) → ((found : Option (ℕ × ℕ)) → F text found → FindsCut Last p text found)
-          → IsSplitAtLastMatch F text part live rest → Leads from_back text part live rest limit
+          → IsSplitAtLastMatch F text part live rest → Leads (from_back p) text part live rest limit
       Leads-last F cuts cut = either cut.1.0 (cuts cut.1.0 cut.1.1) cut.1.2
         where
           either : (found : Option (ℕ × ℕ)) → FindsCut Last p text found
               → MatchOption found ((part ≡ text) × (live ≡ false)) (λ q. q.0 < length text → (part ≡ drop q.1 text) × (live ≡ true) × (rest ≡ take q.0 text))
-              → Leads from_back text part live rest limit
-          either None nowhere is = Leads-last_part from_back text part live rest limit is.1 is.0 (back_whole (chars text) nowhere)
+              → Leads (from_back p) text part live rest limit
+          either None nowhere is = Leads-last_part (from_back p) text part live rest limit is.1 is.0 (back_whole (chars text) nowhere)
           either (Some (i, j)) at is =
               let longer = at.longer in
               let fits = at.fits in
               let cut_is = is (omega (arith, longer, fits)) in
               let part_chars : chars part ≡ drop (at.place + length p) (chars text) = ap chars cut_is.0 ∙ at.behind in
               let rest_chars : chars rest ≡ take at.place (chars text) = ap chars cut_is.2 ∙ at.before in
-              Leads-first_part from_back text part live rest limit cut_is.1 (subst IsUtf8 (sym cut_is.2) at.before_is)
-              (λ others are. subst (λ z. from_back (chars text) limit (z ∷ others)) (sym part_chars)
-              (back_more (chars text) at.place at.found others (subst (λ z. from_back z (one_less limit) others) rest_chars are)))
+              Leads-first_part (from_back p) text part live rest limit cut_is.1 (subst IsUtf8 (sym cut_is.2) at.before_is)
+              (λ others are. subst (λ z. from_back p (chars text) limit (z ∷ others)) (sym part_chars)
+              (back_more (chars text) at.place at.found others (subst (λ z. from_back p z (one_less limit) others) rest_chars are)))
 
 -- where more is to come, what is left is text, and `is` holds of the pattern
 abbrev pub IsLeft : {P : Type 0} → (P → Type 0) → Bool → List ℕ → P → Type 0
@@ -143,12 +143,12 @@ module _ {P : Type 0} (finds : P → List ℕ → Option (ℕ × ℕ) → Type 0
 module _ {P : Type 0} (finds : P → List ℕ → Option (ℕ × ℕ) → Type 0) (keeps : P → P → Type 0) (p : List ℕ) (some : 0 < length p) (is : P → Type 0) where
   pub split-gives : Seeks finds keeps First p is → (s : Split P) → (text : List ℕ) → split_text s ≡ text → split_has_more s ≡ true → IsUtf8 text → is (split_pattern s)
       → GivesParts (split_steps finds keeps) s (ArePartsFromFront (chars text) p None)
-  split-gives seeks = split-gives_by finds keeps is (from_front p some) (λ t. has_front t p None) seeks.kept
+  split-gives seeks = split-gives_by finds keeps is (from_front p) (λ t. has_front t p None) seeks.kept
       (λ pattern text part live rest pattern_is text_is cut.
       Leads-first p some None tt text part live rest (finds pattern) (λ found. seeks.cuts pattern text found pattern_is text_is) cut)
 
   abbrev rsplit_coming : RSplit P → List (List ℕ) → Type 0
-  rsplit_coming s = ToCome (rsplit_has_more s) (from_back p some (chars (rsplit_text s)) None)
+  rsplit_coming s = ToCome (rsplit_has_more s) (from_back p (chars (rsplit_text s)) None)
 
   pub rsplit-gives : Seeks finds keeps Last p is → (s : RSplit P) → (text : List ℕ) → rsplit_text s ≡ text → rsplit_has_more s ≡ true → IsUtf8 text → is (rsplit_pattern s)
       → GivesParts (rsplit_steps finds keeps) s (ArePartsFromBack (chars text) p None)
@@ -156,13 +156,13 @@ module _ {P : Type 0} (finds : P → List ℕ → Option (ℕ × ℕ) → Type 0
       subst (λ t. GivesParts (rsplit_steps finds keeps) s (ArePartsFromBack (chars t) p None)) text_is
       (GivesParts-at_start (rsplit_steps finds keeps) s (rsplit_has_more s) (ArePartsFromBack (chars (rsplit_text s)) p None) more
       (GivesParts-from_steps (rsplit_steps finds keeps) (λ s. IsLeft is (rsplit_has_more s) (rsplit_text s) (rsplit_pattern s)) rsplit_coming
-      (λ s s_is. some_to_come (rsplit_has_more s) (from_back p some (chars (rsplit_text s)) None) (has_back (chars (rsplit_text s)) p None))
-      (λ s u s_is step. subst (λ b. ToCome b (from_back p some (chars (rsplit_text s)) None) []) step.0 refl)
+      (λ s s_is. some_to_come (rsplit_has_more s) (from_back p (chars (rsplit_text s)) None) (has_back (chars (rsplit_text s)) p None))
+      (λ s u s_is step. subst (λ b. ToCome b (from_back p (chars (rsplit_text s)) None) []) step.0 refl)
       (λ s t x s_is step.
       let left = s_is (sym step.0) in
       let leads = Leads-last p some None tt (rsplit_text s) x.now (rsplit_has_more t) (rsplit_text t) (finds (rsplit_pattern s))
       (λ found. seeks.cuts (rsplit_pattern s) (rsplit_text s) found left.1 left.0) step.1.1 in (
         λ goes_on. (leads.left goes_on, seeks.kept (rsplit_pattern s) (rsplit_pattern t) left.1 step.1.0),
-        λ others are. subst (λ b. ToCome b (from_back p some (chars (rsplit_text s)) None) (chars x.now ∷ others)) step.0 (leads.each others are),
+        λ others are. subst (λ b. ToCome b (from_back p (chars (rsplit_text s)) None) (chars x.now ∷ others)) step.0 (leads.each others are),
       ))
       s (λ _. (subst IsUtf8 (sym text_is) utf8, pattern_is))))
