@@ -1,5 +1,6 @@
 -- What an input asks for, and what is right to print for it. Command lines and texts are lists of characters here.
 use Rattle.std.specs.Prelude.{◌≡◌, ℕ, List, Bool, true, false, All, map, codes}
+use Rattle.std.specs.List.{before_first}
 use Rattle.bytes_utils.specs.Lines.{lines}
 use Rattle.bytes_utils_buf.specs.Segments.{Held, nothing_held}
 use Rattle.bytes_utils_run.specs.CallLine.{AreCallLines}
@@ -32,6 +33,13 @@ pub record AreReplies (calls : List (Call (List ℕ))) (replies : List Reply) : 
   pub left : Held
   pub run : IsRun (IsCall (λ bytes. bytes)) calls nothing_held replies left
   pub whole : All (λ reply. lacks_memory reply ≡ false) replies
+
+-- what stands before the first reply for want of memory, or all where none is, of replies that are right for these calls on a new buffer
+pub record AreFirstReplies (calls : List (Call (List ℕ))) (replies : List Reply) : Type 0 where
+  pub all : List Reply
+  pub left : Held
+  pub run : IsRun (IsCall (λ bytes. bytes)) calls nothing_held all left
+  pub before : replies ≡ before_first lacks_memory all
 
 -- these entries, parts or replies as they are printed, are right for this request on this text
 abbrev pub AreEntries : Request → List ℕ → List (List ℕ) → Type 0
