@@ -1,5 +1,5 @@
 -- What an input asks for, by way of the request that was read from it.
-use Rattle.std.proofs.Common.{◌≡◌, refl, sym, ap, subst, ℕ, List, [], ◌∷◌, ◌++◌, Option, None, Some, map, arith}
+use Rattle.std.proofs.Common.{◌≡◌, refl, sym, subst, ℕ, List, ◌++◌, Option, None, Some, map}
 use Rattle.std.proofs.lemmas.List.Folds.{concat-append}
 use Rattle.std.specs.List.{concat}
 use Rattle.bytes_utils.specs.Outcome.{Outcome}
