@@ -1,11 +1,11 @@
 //! Buffers that come into a `SegmentedBuf`.
 use super::fixtures::{
-    FOUR, Shown, assert_bytes, assert_shows, bytes_of, collect, extend, gather, held, skip,
+    FOUR, Shown, assert_bytes, assert_shows, bytes_of, collect, extend, gather, held, hold, skip,
     take_out,
 };
 use super::odd::Zeros;
-use crate::Reason;
 use crate::segmented::SegmentedBuf;
+use crate::{Reason, Refused};
 use bytes::{Buf, Bytes};
 use std::alloc::Global;
 use std::collections::VecDeque;
@@ -126,14 +126,19 @@ fn many_empties(rt: HostRuntime) -> Result<(), Fail> {
     Ok(())
 }
 
+// The item that doesn't go in.
+fn refused_of<B: Buf + Drop>(buf: &mut SegmentedBuf<B>, items: Vec<B>) -> Result<Refused<B>, Fail> {
+    Ok(buf.extend(items.into_iter()).err().ok_or("accepted")?)
+}
+
 #[test]
 fn too_long(rt: HostRuntime) -> Result<(), Fail> {
     let alloc = rt.alloc();
     let most = Zeros { left: usize::MAX };
-    let mut buf = SegmentedBuf::from_deque(VecDeque::from_vec(vec![in alloc; most]?))?;
+    let mut buf = hold(&rt, alloc, most)?;
     assert!(rt; buf.fits(0) && !buf.fits(1));
     let items = vec![in alloc; Zeros { left: 0 }, Zeros { left: 1 }, Zeros { left: 2 }]?;
-    let refused = buf.extend(items.into_iter()).err().ok_or("accepted")?;
+    let refused = refused_of(&mut buf, items)?;
     assert!(rt; refused.reason == Reason::TooLong && refused.back.left == 1);
     assert!(rt; buf.segments() == 1 && buf.remaining() == usize::MAX);
     Ok(())

@@ -1,5 +1,7 @@
 //! Reading a `SegmentedBuf`.
-use super::fixtures::{FOUR, Shown, assert_bytes, assert_shows, held, reads_nothing, skip};
+use super::fixtures::{
+    FOUR, Shown, assert_bytes, assert_shows, held, reads_nothing, skip, skip_held, take_held,
+};
 use crate::segmented::SegmentedBuf;
 use bytes::{Buf, Bytes};
 use std::alloc::Global;
@@ -10,8 +12,7 @@ use std::test::Fail;
 // Skips bytes of `FOUR` by the type's own call, and by that of the trait.
 fn skips(rt: &impl Abort, alloc: Global, cnt: usize, shown: Shown) -> Result<(), Fail> {
     let mut buf = held(alloc, &FOUR)?;
-    assert!(rt; cnt <= buf.remaining());
-    buf.advance(cnt);
+    skip_held(rt, &mut buf, cnt);
     assert_shows(rt, &buf, shown);
     let mut buf = held(alloc, &FOUR)?;
     skip(rt, &mut buf, cnt);
@@ -60,8 +61,7 @@ fn copies(
 ) -> Result<(), Fail> {
     let mut buf = held(alloc, &FOUR)?;
     skip(rt, &mut buf, cnt);
-    assert!(rt; piece.len() <= buf.remaining());
-    let copy = buf.copy_to_bytes(alloc, piece.len())?;
+    let copy = take_held(rt, alloc, &mut buf, piece.len())?;
     assert_bytes(rt, copy.as_slice(), piece);
     assert_shows(rt, &buf, shown);
     Ok(())

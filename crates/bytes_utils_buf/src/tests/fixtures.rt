@@ -61,6 +61,18 @@ pub(super) fn collect<B: Buf + Drop>(alloc: Global, bufs: Vec<B>) -> Result<Segm
     )
 }
 
+/// A buffer of any type, held alone.
+pub(super) fn hold<B: Buf + Drop>(
+    rt: &impl Abort,
+    alloc: Global,
+    buf: B,
+) -> Result<SegmentedBuf<B>, Fail> {
+    let mut held = SegmentedBuf::new(alloc);
+    assert!(rt; held.fits(buf.remaining()));
+    held.push(buf).ok().ok_or("refused")?;
+    Ok(held)
+}
+
 /// More buffers behind those that are held.
 pub(super) fn extend<B: Buf + Drop>(buf: &mut SegmentedBuf<B>, bufs: Vec<B>) -> Result<(), Fail> {
     Ok(buf.extend(bufs.into_iter()).ok().ok_or("refused")?)
@@ -89,6 +101,18 @@ pub(super) fn skip<B: Buf>(rt: &impl Abort, buf: &mut B, cnt: usize) {
     buf.advance(cnt);
 }
 
+/// As `skip`, by the call of the type.
+pub(super) fn skip_held<B: Buf + Drop>(rt: &impl Abort, buf: &mut SegmentedBuf<B>, cnt: usize) {
+    assert!(rt; cnt <= buf.remaining());
+    buf.advance(cnt);
+}
+
+/// As `skip`, by the call of the type.
+pub(super) fn skip_lent<B: Buf>(rt: &impl Abort, all: &mut SegmentedSlice<'_, B>, cnt: usize) {
+    assert!(rt; cnt <= all.remaining());
+    all.advance(cnt);
+}
+
 /// Takes the first bytes out of a buffer of any type.
 pub(super) fn take_out<B: BufParts>(
     rt: &impl Abort,
@@ -98,6 +122,28 @@ pub(super) fn take_out<B: BufParts>(
 ) -> Result<Bytes, CopyRefused> {
     assert!(rt; len <= buf.remaining());
     buf.copy_out(alloc, len)
+}
+
+/// As `take_out`, by the call of the type.
+pub(super) fn take_held<B: BufParts + Drop>(
+    rt: &impl Abort,
+    alloc: Global,
+    buf: &mut SegmentedBuf<B>,
+    len: usize,
+) -> Result<Bytes, CopyRefused> {
+    assert!(rt; len <= buf.remaining());
+    buf.copy_to_bytes(alloc, len)
+}
+
+/// As `take_out`, by the call of the type.
+pub(super) fn take_lent<B: BufParts>(
+    rt: &impl Abort,
+    alloc: Global,
+    all: &mut SegmentedSlice<'_, B>,
+    len: usize,
+) -> Result<Bytes, CopyRefused> {
+    assert!(rt; len <= all.remaining());
+    all.copy_to_bytes(alloc, len)
 }
 
 pub(super) fn assert_bytes(rt: &impl Abort, found: &[u8], wanted: &str) {

@@ -1,5 +1,5 @@
 //! How often buffers are advanced and looked at.
-use super::fixtures::{assert_reads, gather, lend, skip, take_out, thousand};
+use super::fixtures::{assert_reads, gather, hold, lend, skip, take_out, thousand};
 use super::odd::Asked;
 use crate::parts::BufParts;
 use crate::segmented::SegmentedBuf;
@@ -139,7 +139,7 @@ fn lent_copy_looks_at_no_more(rt: HostRuntime) -> Result<(), Fail> {
 #[test]
 fn trait_advances_once(rt: HostRuntime) -> Result<(), Fail> {
     let asked = Asked::new(Bytes::from_static(b"ab"));
-    let mut buf = gather(rt.alloc(), vec![in rt.alloc(); asked]?)?;
+    let mut buf = hold(&rt, rt.alloc(), asked)?;
     skip(&rt, &mut buf, 1);
     let left = buf.into_inner();
     assert_eq!(rt; left.len(), 1);

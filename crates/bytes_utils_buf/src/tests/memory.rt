@@ -3,7 +3,7 @@
 //! can't make its buffers ends well.
 use super::fixtures::{
     FOUR, JOINED, assert_bytes, assert_fills, assert_reads, bytes_of, collect, gather, lend, skip,
-    slices_of,
+    slices_of, take_held, take_lent, take_out,
 };
 use crate::parts::{BufParts, CopyRefused};
 use crate::segmented::{SegmentedBuf, SegmentedSlice};
@@ -177,7 +177,7 @@ fn copies_out<B: BufParts>(
     let mut rest = JOINED.as_bytes();
     for len in PIECES {
         let len = buf.remaining().min(len);
-        let copy = buf.copy_out(alloc, len);
+        let copy = take_out(rt, alloc, buf, len);
         rest = behind(rt, call, copy, len, rest)?;
         assert_eq!(rt; buf.remaining(), rest.len());
     }
@@ -209,7 +209,7 @@ fn copies_held<B: BufParts + Drop>(
     let mut rest = JOINED.as_bytes();
     for len in PIECES {
         let len = buf.remaining().min(len);
-        let copy = buf.copy_to_bytes(alloc, len);
+        let copy = take_held(rt, alloc, &mut buf, len);
         rest = behind(rt, "SegmentedBuf::copy_to_bytes", copy, len, rest)?;
         assert_eq!(rt; buf.remaining(), rest.len());
     }
@@ -271,7 +271,7 @@ fn copies_lent<B: BufParts>(
     let mut rest = JOINED.as_bytes();
     for len in PIECES {
         let len = all.remaining().min(len);
-        let copy = all.copy_to_bytes(alloc, len);
+        let copy = take_lent(rt, alloc, &mut all, len);
         rest = behind(rt, "SegmentedSlice::copy_to_bytes", copy, len, rest)?;
         assert_eq!(rt; all.remaining(), rest.len());
     }

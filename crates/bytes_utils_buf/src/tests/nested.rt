@@ -1,7 +1,7 @@
 //! Segmented buffers in segmented buffers.
 use super::fixtures::{
     FIVE, FOUR, assert_bytes, assert_fills, assert_hold, assert_reads, assert_shows, bytes_of,
-    gather, held_each, lend, skip, take_out,
+    gather, held_each, hold, lend, skip, take_out,
 };
 use crate::parts::BufParts;
 use crate::segmented::SegmentedBuf;
@@ -56,17 +56,23 @@ fn reads_two<B: BufParts>(rt: &impl Abort, alloc: Global, bufs: &mut [B]) -> Res
     Ok(())
 }
 
+fn reads_two_lent<B: BufParts>(
+    rt: &impl Abort,
+    alloc: Global,
+    upper: &mut [B],
+    lower: &mut [B],
+) -> Result<(), Fail> {
+    let mut slices = Vec::new(alloc);
+    slices.push(lend(rt, upper))?;
+    slices.push(lend(rt, lower))?;
+    reads_two(rt, alloc, &mut slices)
+}
+
 #[test]
 fn reads_slices_in_a_slice(rt: HostRuntime) -> Result<(), Fail> {
-    let alloc = rt.alloc();
-    let mut upper = bytes_of(alloc, &FIVE)?;
-    let mut lower = bytes_of(alloc, &FOUR)?;
-    {
-        let mut slices = Vec::new(alloc);
-        slices.push(lend(&rt, &mut upper))?;
-        slices.push(lend(&rt, &mut lower))?;
-        reads_two(&rt, alloc, &mut slices)?;
-    }
+    let mut upper = bytes_of(rt.alloc(), &FIVE)?;
+    let mut lower = bytes_of(rt.alloc(), &FOUR)?;
+    reads_two_lent(&rt, rt.alloc(), &mut upper, &mut lower)?;
     assert_hold(&rt, &upper, &["", "", "", "", ""]);
     assert_hold(&rt, &lower, &["ello", " ", "", "World"]);
     Ok(())
@@ -74,9 +80,7 @@ fn reads_slices_in_a_slice(rt: HostRuntime) -> Result<(), Fail> {
 
 // A buffer of `Hello World` in a segmented one.
 fn reads_one<B: BufParts + Drop>(rt: &impl Abort, alloc: Global, buf: B) -> Result<(), Fail> {
-    let mut held = SegmentedBuf::new(alloc);
-    assert!(rt; held.fits(buf.remaining()));
-    held.push(buf).ok().ok_or("refused")?;
+    let mut held = hold(rt, alloc, buf)?;
     assert_shows(rt, &held, (11, 1, "Hello"));
     let copy = take_out(rt, alloc, &mut held, 7)?;
     assert_bytes(rt, copy.as_slice(), "Hello W");

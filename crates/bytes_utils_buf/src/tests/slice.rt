@@ -1,10 +1,9 @@
 //! Reading a `SegmentedSlice`.
 use super::fixtures::{
-    FIVE, assert_bytes, assert_hold, assert_reads, bytes_of, lend, reads_nothing, skip, slices_of,
-    take_out,
+    FIVE, assert_bytes, assert_hold, assert_reads, bytes_of, lend, reads_nothing, skip, skip_lent,
+    slices_of, take_lent,
 };
 use super::odd::Zeros;
-use crate::parts::BufParts;
 use crate::segmented::SegmentedSlice;
 use bytes::{Buf, Bytes};
 use std::alloc::Global;
@@ -22,8 +21,7 @@ fn skips_itself(rt: &impl Abort, alloc: Global, cnt: usize, left: Left) -> Resul
     let mut bufs = bytes_of(alloc, &FIVE)?;
     {
         let mut all = lend(rt, &mut bufs);
-        assert!(rt; cnt <= all.remaining());
-        all.advance(cnt);
+        skip_lent(rt, &mut all, cnt);
         assert_reads(rt, &all, left, chunk);
     }
     assert_hold(rt, &bufs, &texts);
@@ -104,8 +102,7 @@ fn copies(
     let mut bufs = bytes_of(alloc, &FIVE)?;
     let mut all = lend(rt, &mut bufs);
     skip(rt, &mut all, cnt);
-    assert!(rt; piece.len() <= all.remaining());
-    let copy = all.copy_to_bytes(alloc, piece.len())?;
+    let copy = take_lent(rt, alloc, &mut all, piece.len())?;
     assert_bytes(rt, copy.as_slice(), piece);
     assert_reads(rt, &all, left, chunk);
     Ok(())
