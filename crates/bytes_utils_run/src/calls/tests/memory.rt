@@ -1,6 +1,6 @@
 //! What is answered, and what stands, where a request for memory is refused. With ample memory none
 //! is: a run that refuses one prints a line for it.
-use super::{Row, Want, assert_reads, four, reads};
+use super::{Row, Want, four, reads};
 use crate::{Call, ReadCall, Replies, Reply, drive, read_calls};
 use bytes::{Buf, Bytes};
 use bytes_utils::parts::BufParts;

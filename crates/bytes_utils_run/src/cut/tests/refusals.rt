@@ -1,6 +1,4 @@
 //! Texts over storages that refuse their splits.
-ghost use Rattle.bytes_utils_run.specs.Cutting.{IsAllowed};
-
 use super::{begins, is_allowed};
 use crate::odd::RefuseAfter;
 use crate::{How, cut_all};

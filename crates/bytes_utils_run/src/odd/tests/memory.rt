@@ -9,8 +9,8 @@ use std::alloc::Global;
 use std::process::Abort;
 use std::test::Fail;
 
-/// Asserts that so many bytes are taken out. Where a request was refused it tells of it, and asserts
-/// that the bytes are there and then taken out.
+/// Asserts that these bytes are taken out. Where a request was refused it tells of it, and asserts
+/// that they are still there and then taken out.
 fn assert_copies<B: BufParts>(
     rt: &(impl Abort + Print),
     alloc: Global,

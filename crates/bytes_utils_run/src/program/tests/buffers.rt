@@ -15,7 +15,7 @@ advance 9
 chunks 3
 ";
 
-pub(super) const REPLIES: &[u8] = b"ok
+const REPLIES: &[u8] = b"ok
 ok
 ok
 ok
