@@ -5,7 +5,7 @@ use Rattle.bytes_utils.specs.Outcome.{Outcome}
 use Rattle.bytes_utils.specs.Parts.{ArePartsFromFront, ArePartsFromBack}
 use Rattle.bytes_utils.proofs.Unique.{forward_same, backward_same, inclusive_same}
 use Rattle.bytes_utils_run.specs.Cutting.{Cutting, ArePartsBy, ByWords, ByAsciiWords, ByLines, FromFront, FromBack, Keeping}
-use Rattle.bytes_utils_run.specs.Laws.{HasSeparator, OwnedAsLentLaw}
+use Rattle.bytes_utils_run.specs.Borrowed.{HasSeparator, OwnedAsLentLaw}
 
 -- one list is right from the front, and one from the back
 front_same : (t p : List ℕ) (limit : Option ℕ) (parts others : List (List ℕ)) → ArePartsFromFront t p limit parts → ArePartsFromFront t p limit others → parts ≡ others

@@ -1,11 +1,14 @@
 -- What std's iterators over a text that lend its parts give, and what the patterns find by which they cut.
-use Rattle.std.specs.Prelude.{◌≡◌, ℕ, List, [], ◌∷◌, ◌++◌, map, Bool, true, Option}
+use Rattle.std.specs.Prelude.{◌≡◌, ℕ, ◌<◌, List, [], ◌∷◌, ◌++◌, length, map, Bool, true, Option, ⊤}
 use denote.Param.Members.{Mut}
 use denote.Ref.{Bor}
 use Rattle.std.specs.Fn.{AlwaysReturns}
 use Rattle.std.specs.Iterator.{Yields, Drains}
 use Rattle.std.specs.Str.{chars, NonePass}
 use Rattle.std.specs.Str.Pattern.{FindsText, RFindsText, FindsBy}
+use Rattle.bytes_utils_buf.specs.declared.refused.Reason.{Reason}
+use Rattle.bytes_utils.specs.Outcome.{Outcome}
+use Rattle.bytes_utils_run.specs.Cutting.{Cutting, ArePartsBy, ByWords, ByAsciiWords, ByLines, FromFront, FromBack, Keeping}
 
 -- each of these texts as its characters
 abbrev pub characters_of : List (Bor (List ℕ)) → List (List ℕ)
@@ -50,3 +53,19 @@ ArePartsByTest passes t [] = ⊥
 ArePartsByTest passes t (part ∷ []) = (t ≡ part) × NonePass passes part
 ArePartsByTest passes t (part ∷ next ∷ parts) = (c : ℕ) × (rest : List ℕ) × (t ≡ part ++ c ∷ rest) × (passes c ≡ true) × NonePass passes part
     × ArePartsByTest passes rest (next ∷ parts)
+
+-- where parts keep their separator, it isn't empty
+abbrev pub HasSeparator : Cutting → Type 0
+HasSeparator ByWords = ⊤
+HasSeparator ByAsciiWords = ⊤
+HasSeparator ByLines = ⊤
+HasSeparator (FromFront p limit) = ⊤
+HasSeparator (FromBack p limit) = ⊤
+HasSeparator (Keeping p) = 0 < length p
+
+-- Lists of parts as their characters: what came of cutting the text t in a way that may be refused, and parts that are right for that way,
+-- as those are that a method of `str` lends. Without a refusal they are the same list, and with one the first is a beginning of the
+-- second that isn't the whole.
+abbrev pub OwnedAsLentLaw : Type 0
+OwnedAsLentLaw = (how : Cutting) (t : List ℕ) (owned lent : List (List ℕ)) (refused : Option Reason) → HasSeparator how
+    → Outcome (ArePartsBy how t) owned refused → ArePartsBy how t lent → Outcome (λ parts. parts ≡ lent) owned refused

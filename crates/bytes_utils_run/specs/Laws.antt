@@ -1,11 +1,8 @@
 -- What follows from the definitions of lists of parts, for lists of elements of any type X. A text is such a list, of characters.
-use Rattle.std.specs.Prelude.{◌≡◌, ◌⊎◌, ◌↔◌, ℕ, ◌-◌, ◌<◌, List, [], ◌∷◌, ◌++◌, length, map, take, drop, reverse, Option, None, Some, IfSome, if◌then◌else◌, nat_lt, ⊤}
+use Rattle.std.specs.Prelude.{◌≡◌, ◌⊎◌, ◌↔◌, ℕ, ◌-◌, ◌<◌, List, [], ◌∷◌, ◌++◌, length, map, take, drop, reverse, Option, None, Some, IfSome, if◌then◌else◌, nat_lt}
 use Rattle.std.specs.Str.{chars, IsAscii}
 use Rattle.bytes_utils.specs.Occurrence.{NoneOverlap}
-use Rattle.bytes_utils_buf.specs.declared.refused.Reason.{Reason}
-use Rattle.bytes_utils.specs.Outcome.{Outcome}
 use Rattle.bytes_utils.specs.Parts.{join, AreForwardParts, AreBackwardParts, AreInclusiveParts, ArePartsFromFront, ArePartsFromBack}
-use Rattle.bytes_utils_run.specs.Cutting.{Cutting, ArePartsBy, ByWords, ByAsciiWords, ByLines, FromFront, FromBack, Keeping}
 
 -- any two elements are the same or they aren't, as any two characters are: without this nobody could say where a separator occurs
 abbrev pub CanBeToldApart : Type 0 → Type 0
@@ -72,18 +69,3 @@ ForwardLimitLaw X = (t p : List X) (most : ℕ) (parts : List (List X)) → 0 < 
 abbrev pub BackwardLimitLaw : Type 0 → Type 0
 BackwardLimitLaw X = (t p : List X) (most : ℕ) (parts : List (List X)) → 0 < length p → 0 < most
     → AreBackwardParts t p None parts → AreBackwardParts t p (Some most) (limited (λ rest. join p (reverse rest)) most parts)
-
--- where parts keep their separator, that isn't empty
-abbrev pub HasSeparator : Cutting → Type 0
-HasSeparator ByWords = ⊤
-HasSeparator ByAsciiWords = ⊤
-HasSeparator ByLines = ⊤
-HasSeparator (FromFront p limit) = ⊤
-HasSeparator (FromBack p limit) = ⊤
-HasSeparator (Keeping p) = 0 < length p
-
--- Of all the parts that a method of `str` lends, the owned parts that came of the same way to cut are each one, in order, or, where cutting
--- was refused, a beginning that isn't the whole.
-abbrev pub OwnedAsLentLaw : Type 0
-OwnedAsLentLaw = (how : Cutting) (t : List ℕ) (owned lent : List (List ℕ)) (refused : Option Reason) → HasSeparator how
-    → Outcome (ArePartsBy how t) owned refused → ArePartsBy how t lent → Outcome (λ parts. parts ≡ lent) owned refused

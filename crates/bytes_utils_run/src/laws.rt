@@ -2,16 +2,18 @@
 //!
 //! A law is a function without parameters that does nothing. Its contract is a statement about the
 //! definitions that the contracts of the working functions cite, so a call of it lets a caller
-//! conclude more from those contracts. The type parameter is the type of the elements.
+//! conclude more from those contracts. The type parameter is the type of the elements; a law without
+//! one is of texts.
 ghost use Rattle.bytes_utils_run.specs.Laws.{UniqueForwardLaw, UniqueBackwardLaw};
 ghost use Rattle.bytes_utils_run.specs.Laws.{UniqueInclusiveLaw, MirrorLaw, AgreeLaw};
-ghost use Rattle.bytes_utils_run.specs.Laws.{ForwardLimitLaw, BackwardLimitLaw, OwnedAsLentLaw};
+ghost use Rattle.bytes_utils_run.specs.Laws.{ForwardLimitLaw, BackwardLimitLaw};
 ghost use Rattle.bytes_utils_run.specs.Laws.{JoinForwardLaw, JoinBackwardLaw, OneToComeLaw, AsciiLaw};
 ghost use Rattle.std.specs.Prelude.{ℕ, Bool};
 ghost use Rattle.bytes_utils.specs.Keeping.{AreInclusivePartsToCome};
 ghost use Rattle.bytes_utils.specs.Lines.{AreLinesToCome};
 ghost use Rattle.bytes_utils.specs.Splitting.{AreForwardPartsToCome, AreBackwardPartsToCome};
 ghost use Rattle.bytes_utils.specs.Words.{AreWordsToCome};
+ghost use Rattle.bytes_utils_run.specs.Borrowed.{OwnedAsLentLaw};
 ghost use Rattle.bytes_utils_run.specs.Readings.{WordsLaw, LinesLaw};
 
 #[cfg(test)]
