@@ -27,7 +27,7 @@ IsWithoutReturn-stripped (Some x) all line line_is stripped = inl (stripped ∙ 
 abbrev pub LacksFeed : List ℕ → Type 0
 LacksFeed cs = (front back : List ℕ) → cs ≡ front ++ line_feed ∷ back → ⊥
 
-pub LacksFeed-tail : (c : ℕ) (cs : List ℕ) → LacksFeed (c ∷ cs) → LacksFeed cs
+LacksFeed-tail : (c : ℕ) (cs : List ℕ) → LacksFeed (c ∷ cs) → LacksFeed cs
 LacksFeed-tail c cs lacks front back e = lacks (c ∷ front) back (ap (λ z. c ∷ z) e)
 
 not_feed : (c : ℕ) (cs : List ℕ) → LacksFeed (c ∷ cs) → c ≢ 10

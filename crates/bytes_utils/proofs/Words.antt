@@ -15,7 +15,7 @@ use Rattle.bytes_utils.proofs.Search.{chars-some}
 pub NonePass-chars : (p : ℕ → Bool) (text : List ℕ) → IsUtf8 text → NoCharPasses p text → NonePass p (chars text)
 NonePass-chars p text text_is none = subst (NonePass p) (chars_from_encodes none.0 text text_is none.1) none.2
 
-pub from_not_false : (b : Bool) → not b ≡ false → b ≡ true
+from_not_false : (b : Bool) → not b ≡ false → b ≡ true
 from_not_false true e = refl
 from_not_false false e = cc
 
