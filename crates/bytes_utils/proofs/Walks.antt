@@ -1,8 +1,9 @@
 -- A whole run of an iterator that cuts at the places that a closure answers.
-use Rattle.std.proofs.Common.{◌≡◌, refl, sym, ap, subst, ◌∙◌, ℕ, zero, suc, ◌≤◌, List, [], ◌∷◌, ◌++◌, take, drop, take-append-drop, Option, None, Some, Result, Ok, Err, MatchOption, IsUtf8, All, arith}
+use Rattle.std.proofs.Common.{◌≡◌, refl, sym, ap, subst, ◌∙◌, ℕ, zero, suc, ◌≤◌, List, [], ◌∷◌, ◌++◌, map, take, drop, take-append-drop, Option, None, Some, Result, Ok, Err, MatchOption, MatchResult, IsUtf8, All, arith}
 use Rattle.std.specs.Option.{IsSomeAnd}
 use Rattle.std.specs.Fn.{Mut, CalledAt}
 use Rattle.std.specs.Iterator.{Yields, Drains}
+use Rattle.std.proofs.lemmas.List.{map-append}
 use Rattle.std.proofs.lemmas.List.Elements.{All-nil, All-cons}
 use Rattle.std.proofs.lemmas.Str.{IsUtf8-take, IsUtf8-drop}
 use denote.Ref.{Bor}
@@ -116,3 +117,109 @@ each-taken direction P meets (cut ∷ cuts) last are =
     subst (λ c. P c cut.gap) (sym first.chunk) (subst (λ g. P (chunk_at direction text first.chunk_edge first.separator_edge) g) (sym first.gap)
     (meets first.state first.after text first.chunk_edge first.separator_edge first.called)) in
     All-cons (λ c. P c.chunk c.gap) cut cuts here (each-taken direction P meets cuts last are.1)
+
+-- the items of a run without a refusal are the chunks of its cuts, and then what these left
+all_ok : {E : Type 0} (chunks : List (List ℕ)) (cuts : List Taken) (end : Result (List ℕ) E) (last : List ℕ) → map (λ chunk. Ok chunk) chunks ≡ map (λ cut. Ok cut.chunk) cuts ++ (end ∷ [])
+    → ((chunk : List ℕ) → end ≡ Ok chunk → chunk ≡ last) → chunks ≡ map (λ cut. cut.chunk) cuts ++ (last ∷ [])
+all_ok [] [] end last e is = cc
+all_ok (chunk ∷ []) [] end last e is = ap (λ c. c ∷ []) (is chunk (cc))
+all_ok (chunk ∷ next ∷ chunks) [] end last e is = cc
+all_ok [] (cut ∷ cuts) end last e is = cc
+all_ok (chunk ∷ chunks) (cut ∷ cuts) end last e is =
+    let same : chunk ≡ cut.chunk = cc in
+    let more = all_ok chunks cuts end last (cc) is in
+    λ k. same k ∷ more k
+
+-- Without a refusal none is missing: the chunks are those of cuts that the closure answered, and at last what these left; with what was left
+-- out, joined in order, they are the text.
+pub none-missing : {F E : Type 0} {f : Mut F (Bor (List ℕ) × Unit {0}) (Option (ℕ × ℕ))} {refuses : E → Type 0} {direction : Direction} {text : List ℕ} (chunks : List (List ℕ))
+    → IsWholeWalk f refuses direction text (map (λ chunk. Ok chunk) chunks)
+    → (cuts : List Taken) × (last : List ℕ) × (laid_out direction cuts last ≡ text) × AreAnswered f direction cuts last × (chunks ≡ map (λ cut. cut.chunk) cuts ++ (last ∷ []))
+none-missing {F} {E} {f} {refuses} chunks run =
+    let is = λ (chunk : List ℕ) (e : run.end ≡ Ok chunk).
+    (subst (λ r. MatchResult r (λ c. (c ≡ run.last) × (state : F) × (after : F) × CalledAt f state run.last None after) refuses) e run.ends).0 in
+    (run.cuts, run.last, run.joined, run.answered, all_ok chunks run.cuts run.end run.last run.gives is)
+
+-- What a loop over such an iterator keeps: the chunks so far are those of cuts which, with what they left, laid out, are the text. What they
+-- left is still to be cut, or was the last chunk.
+pub record HasTaken (direction : Direction) (text : List ℕ) (chunks : List (List ℕ)) (rest : Option (List ℕ)) : Type 0 where
+  pub cuts : List Taken
+  pub left : List ℕ
+  pub left_text : IsUtf8 left
+  pub joined : laid_out direction cuts left ≡ text
+  pub taken : MatchOption rest (chunks ≡ map (λ cut. cut.chunk) cuts ++ (left ∷ [])) (λ more. (more ≡ left) × (chunks ≡ map (λ cut. cut.chunk) cuts))
+
+-- before the first step
+pub HasTaken-none : (direction : Direction) (text : List ℕ) (rest : Option (List ℕ)) → IsUtf8 text → rest ≡ Some text → HasTaken direction text [] rest
+HasTaken-none direction text rest text_is is = let none : List (List ℕ) = [] in record {
+  cuts = [];
+  left = text;
+  left_text = text_is;
+  joined = refl;
+  taken = subst (λ r. MatchOption r (none ≡ text ∷ []) (λ more. (more ≡ text) × (none ≡ []))) (sym is) (refl, refl);
+}
+
+laid_out-push : (direction : Direction) (cuts : List Taken) (cut : Taken) (left : List ℕ)
+    → laid_out direction (cuts ++ (cut ∷ [])) left ≡ laid_out direction cuts (laid_out direction (cut ∷ []) left)
+laid_out-push direction [] cut left = refl
+laid_out-push Forward (first ∷ cuts) cut left = ap (λ l. first.chunk ++ (first.gap ++ l)) (laid_out-push Forward cuts cut left)
+laid_out-push Backward (first ∷ cuts) cut left = ap (λ l. l ++ (first.gap ++ first.chunk)) (laid_out-push Backward cuts cut left)
+
+-- behind a step that gave a chunk
+module _ {F : Type 0} {f : Mut F (Bor (List ℕ) × Unit {0}) (Option (ℕ × ℕ))} {direction : Direction} (lawful : IsLawfulClosure f direction) {text : List ℕ} {chunks : List (List ℕ)} where
+  one_more : {E : Type 0} (refuses : E → Type 0) (chunk left : List ℕ) (h : HasTaken direction text chunks (Some left)) (state after : F) (answer : Option (ℕ × ℕ)) (new : Option (List ℕ))
+      → CalledAt f state left answer after → FollowsAnswer refuses direction left answer (Ok chunk) new → HasTaken direction text (chunks ++ (chunk ∷ [])) new
+  one_more refuses chunk left h state after None new called follows =
+      let is = follows.0 in
+      let old = h.taken.0 in
+      let same : chunk ≡ h.left = cc in
+      let all : chunks ++ (chunk ∷ []) ≡ map (λ cut. cut.chunk) h.cuts ++ (h.left ∷ []) = λ k. h.taken.1 k ++ (same k ∷ []) in
+      record {
+        cuts = h.cuts;
+        left = h.left;
+        left_text = h.left_text;
+        joined = h.joined;
+        taken = subst (λ r. MatchOption r (chunks ++ (chunk ∷ []) ≡ map (λ cut. cut.chunk) h.cuts ++ (h.left ∷ []))
+            (λ more. (more ≡ h.left) × (chunks ++ (chunk ∷ []) ≡ map (λ cut. cut.chunk) h.cuts))) (sym follows.1) all;
+      }
+  one_more refuses chunk left h state after (Some (a, b)) new called follows =
+      let text_is = subst IsUtf8 (sym h.taken.0) h.left_text in
+      let cut = lawful.lawful state left a b after text_is called in
+      let taken : Taken = record { chunk = chunk; gap = gap_at direction left a b } in
+      let cuts : List Taken = h.cuts ++ (taken ∷ []) in
+      let rest : List ℕ = rest_at direction left a b in
+      let all : chunks ++ (chunk ∷ []) ≡ map (λ c. c.chunk) cuts = ap (λ l. l ++ (chunk ∷ [])) h.taken.1 ∙ sym (map-append (λ (c : Taken). c.chunk) h.cuts (taken ∷ [])) in
+      record {
+        cuts = cuts;
+        left = rest;
+        left_text = rest-text direction left a b text_is cut;
+        joined = laid_out-push direction h.cuts taken rest ∙ ap (laid_out direction h.cuts) (laid_out-more direction left a b cut chunk follows.0 [] rest refl ∙ h.taken.0) ∙ h.joined;
+        taken = subst (λ r. MatchOption r (chunks ++ (chunk ∷ []) ≡ map (λ c. c.chunk) cuts ++ (rest ∷ []))
+            (λ more. (more ≡ rest) × (chunks ++ (chunk ∷ []) ≡ map (λ c. c.chunk) cuts))) (sym follows.1) (refl, all);
+      }
+
+pub HasTaken-more : {F E : Type 0} {f : Mut F (Bor (List ℕ) × Unit {0}) (Option (ℕ × ℕ))} {refuses : E → Type 0} {text : List ℕ} {chunks : List (List ℕ)} {s t : Walk F} {item : Result (List ℕ) E} {chunk : List ℕ}
+    → IsWalkStep f refuses s (Some item) t → item ≡ Ok chunk → IsLawfulClosure f s.direction → HasTaken s.direction text chunks s.rest
+    → HasTaken t.direction text (chunks ++ (chunk ∷ [])) t.rest
+HasTaken-more {F} {E} {f} {refuses} {text} {chunks} {s} {t} {item} {chunk} step is lawful h =
+    let follows = subst (λ i. Steps f refuses s.direction s.closure (Some i) t.rest t.closure s.rest) is step.follows in
+    subst (λ d. HasTaken d text (chunks ++ (chunk ∷ [])) t.rest) (sym step.direction) (from s.rest h follows)
+  where
+    from : (rest : Option (List ℕ)) → HasTaken s.direction text chunks rest → Steps f refuses s.direction s.closure (Some (Ok chunk)) t.rest t.closure rest
+        → HasTaken s.direction text (chunks ++ (chunk ∷ [])) t.rest
+    from None old taken = let no_item = taken.0 in cc
+    from (Some left) old taken = one_more lawful refuses chunk left old s.closure t.closure taken.0 t.rest taken.1 taken.2
+
+-- behind the last step: the chunks, with what was left out, joined in order, are the text
+pub HasTaken-all : {direction : Direction} {text : List ℕ} {chunks : List (List ℕ)} {rest : Option (List ℕ)} → HasTaken direction text chunks rest → rest ≡ None
+    → (cuts : List Taken) × (last : List ℕ) × (laid_out direction cuts last ≡ text) × (chunks ≡ map (λ cut. cut.chunk) cuts ++ (last ∷ []))
+HasTaken-all {chunks = chunks} h none =
+    (h.cuts, h.left, h.joined, subst (λ r. MatchOption r (chunks ≡ map (λ cut. cut.chunk) h.cuts ++ (h.left ∷ [])) (λ more. (more ≡ h.left) × (chunks ≡ map (λ cut. cut.chunk) h.cuts))) none h.taken)
+
+-- a step that gave no item had nothing left
+pub nothing-left : {F E : Type 0} {f : Mut F (Bor (List ℕ) × Unit {0}) (Option (ℕ × ℕ))} {refuses : E → Type 0} {s t : Walk F} → IsWalkStep f refuses s None t → s.rest ≡ None
+nothing-left {F} {E} {f} {refuses} {s} {t} step = from s.rest refl step.follows
+  where
+    from : (rest : Option (List ℕ)) → s.rest ≡ rest → Steps f refuses s.direction s.closure None t.rest t.closure rest → s.rest ≡ None
+    from None is left = is
+    from (Some text) is left = absurd left.2
