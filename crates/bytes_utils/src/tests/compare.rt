@@ -5,7 +5,9 @@ use std::cmp::Ordering;
 use std::hash::{DefaultHasher, Hash, Hasher};
 use std::test::Fail;
 
-const TEXTS: [&str; 7] = ["", "a", "aa", "z", "Ä", "😈", "😉"];
+fn texts() -> [&'static str; 7] {
+    ["", "a", "aa", "z", "Ä", "😈", "😉"]
+}
 
 fn hash_of<T: Hash>(value: &T) -> u64 {
     let mut hasher = DefaultHasher::new();
@@ -39,8 +41,8 @@ fn compare(rt: HostRuntime) -> Result<(), Fail> {
 #[test]
 fn compares_as_str(rt: HostRuntime) -> Result<(), Fail> {
     let alloc = rt.alloc();
-    for one in TEXTS {
-        for other in TEXTS {
+    for one in texts() {
+        for other in texts() {
             let want = (
                 one == other,
                 one.cmp(other),
@@ -61,7 +63,7 @@ fn compares_as_str(rt: HostRuntime) -> Result<(), Fail> {
 #[test]
 fn hashes_as_str(rt: HostRuntime) -> Result<(), Fail> {
     let alloc = rt.alloc();
-    for text in TEXTS {
+    for text in texts() {
         let want = hash_of(&text);
         assert_eq!(rt; hash_of(&shared(alloc, text)?), want);
         assert_eq!(rt; hash_of(&growing(alloc, text)?), want);

@@ -28,13 +28,11 @@ fn lines_documented(rt: HostRuntime) -> Result<(), Fail> {
 #[test]
 fn lines_in_a_loop(rt: HostRuntime) -> Result<(), Fail> {
     let lines = shared(rt.alloc(), "α\nα\r\nα")?.lines_bytes();
-    let (least, most) = lines.size_hint();
     let mut count = 0_usize;
     for line in lines {
         assert_eq!(rt; line?.as_str(), "α");
         count = count.saturating_add(1);
     }
     assert_eq!(rt; count, 3);
-    assert!(rt; least <= count && count <= most.unwrap_or(count));
     Ok(())
 }

@@ -13,11 +13,25 @@ use std::io::Print;
 use std::process::Abort;
 use std::test::Fail;
 
+/// What texts are made of, piece by piece: more than has room at first, so they grow on the way.
+fn items() -> &'static str {
+    "aβ,0123456789abcdef,😈,"
+}
+
+fn two_characters() -> &'static str {
+    "aβ"
+}
+
+/// Says that the call was refused.
+fn say<R: Print>(rt: &R, call: &str) -> Result<(), Fail> {
+    println!(rt; "refused {call}")?;
+    Ok(())
+}
+
 /// Asserts that the call was refused for want of memory, and says so.
 fn tell<R: Abort + Print>(rt: &R, call: &str, reason: Reason) -> Result<(), Fail> {
     assert_eq!(rt; reason, Reason::OutOfMemory);
-    println!(rt; "refused {call}")?;
-    Ok(())
+    say(rt, call)
 }
 
 /// What the call gave, or `None` where it was refused, which is told.

@@ -1,22 +1,12 @@
 //! The calls that build, over a storage that grants two requests.
-use super::growing;
 use super::refusing::Refusing;
+use super::{growing, strings};
 use crate::Reason;
 use crate::string::StrInner;
-use std::alloc::{AllocError, Global};
 use std::fmt::Write;
 use std::test::Fail;
 
 type Text = StrInner<Refusing>;
-
-/// The pieces between commas.
-fn pieces(alloc: Global, text: &str) -> Result<Vec<String>, AllocError> {
-    let mut pieces = Vec::new(alloc);
-    for piece in text.split(',') {
-        pieces.push(String::from_str(alloc, piece)?)?;
-    }
-    Ok(pieces)
-}
 
 #[test]
 fn a_refused_append_leaves_the_text(rt: HostRuntime) -> Result<(), Fail> {
@@ -52,10 +42,10 @@ fn a_refused_str_comes_back(rt: HostRuntime) -> Result<(), Fail> {
 #[test]
 fn a_refused_string_comes_back(rt: HostRuntime) -> Result<(), Fail> {
     let mut text = Text::new(rt.alloc())?;
-    let items = pieces(rt.alloc(), "a,b,c")?.into_iter();
+    let items = strings(rt.alloc(), "a,b,c")?.into_iter();
     let refused = text.extend_strings(items).err().ok_or("all")?;
     assert!(rt; refused.reason == Reason::TooLong && refused.back.as_str() == "c");
-    assert_eq!(rt; text.as_str(), "ab");
+    assert_eq!(rt; text.as_str(), "a,b,");
     Ok(())
 }
 
@@ -64,11 +54,8 @@ fn a_text_that_is_made(rt: HostRuntime) -> Result<(), Fail> {
     let alloc = rt.alloc();
     assert_eq!(rt; Text::from_str(alloc, "a")?.as_str(), "a");
     assert_eq!(rt; Text::from_chars(alloc, "β".chars())?.as_str(), "β");
-    let strings = pieces(alloc, "a")?;
-    assert_eq!(rt;
-        Text::from_strings(alloc, strings.into_iter())?.as_str(),
-        "a"
-    );
+    let items = strings(alloc, "a")?.into_iter();
+    assert_eq!(rt; Text::from_strings(alloc, items)?.as_str(), "a");
     Ok(())
 }
 

@@ -3,9 +3,12 @@ use super::{growing, shared};
 use crate::{Str, StrMut, format_bytes, format_bytes_mut};
 use std::alloc::{AllocError, Global};
 use std::fmt;
+use std::process::Abort;
 use std::test::Fail;
 
-const TEXTS: [&str; 5] = ["", "a", "aβ\n\"", "😈😉 \0", "longer than it"];
+fn texts() -> [&'static str; 5] {
+    ["", "a", "aβ\n\"", "😈😉 \0", "longer than it"]
+}
 
 /// The value as each form of a hole writes it.
 fn shown<T: fmt::Display + fmt::Debug>(alloc: Global, value: &T) -> Result<String, AllocError> {
@@ -15,19 +18,23 @@ fn shown<T: fmt::Display + fmt::Debug>(alloc: Global, value: &T) -> Result<Strin
     )
 }
 
+/// Asserts that the value is written as its `str`.
+fn assert_shows<T: fmt::Display + fmt::Debug>(
+    rt: &impl Abort,
+    alloc: Global,
+    value: &T,
+    text: &str,
+) -> Result<(), Fail> {
+    let want = shown(alloc, &text)?;
+    assert_eq!(rt; shown(alloc, value)?.as_str(), want.as_str());
+    Ok(())
+}
+
 #[test]
 fn shows_as_str(rt: HostRuntime) -> Result<(), Fail> {
-    let alloc = rt.alloc();
-    for text in TEXTS {
-        let want = shown(alloc, &text)?;
-        assert_eq!(rt;
-            shown(alloc, &shared(alloc, text)?)?.as_str(),
-            want.as_str()
-        );
-        assert_eq!(rt;
-            shown(alloc, &growing(alloc, text)?)?.as_str(),
-            want.as_str()
-        );
+    for text in texts() {
+        assert_shows(&rt, rt.alloc(), &shared(rt.alloc(), text)?, text)?;
+        assert_shows(&rt, rt.alloc(), &growing(rt.alloc(), text)?, text)?;
     }
     Ok(())
 }
@@ -50,7 +57,12 @@ fn format(rt: HostRuntime) -> Result<(), Fail> {
     text.push('!')?;
     assert_eq!(rt; text.as_str(), "Hello world,   12!");
     assert_eq!(rt; format_bytes!(alloc; "")?.as_str(), "");
+    Ok(())
+}
+
+#[test]
+fn format_of_a_fault(rt: HostRuntime) {
+    let alloc = rt.alloc();
     assert!(rt; format_bytes!(alloc; "before {}", Faulty).is_err());
     assert!(rt; format_bytes_mut!(alloc; "before {}", Faulty).is_err());
-    Ok(())
 }

@@ -1,23 +1,20 @@
 //! Calls that put something behind a text.
-use super::{given, tell};
+use super::super::strings;
+use super::{given, items, say, tell};
 use crate::StrMut;
-use std::alloc::{AllocError, Global};
 use std::fmt::Write;
 use std::test::Fail;
-
-/// What is put behind a text. It is more than is there at first, so the text grows on the way.
-const ITEMS: &str = "aβ,0123456789abcdef,😈,";
 
 #[test]
 fn push_str(rt: HostRuntime) -> Result<(), Fail> {
     let Ok(mut text) = StrMut::from_str(rt.alloc(), "a") else {
         return Ok(());
     };
-    if given(&rt, "StrInner::push_str", text.push_str(ITEMS))?.is_none() {
+    if given(&rt, "StrInner::push_str", text.push_str(items()))?.is_none() {
         assert_eq!(rt; text.as_str(), "a");
-        text.push_str(ITEMS)?;
+        text.push_str(items())?;
     }
-    assert_eq!(rt; text.as_str().strip_prefix('a'), Some(ITEMS));
+    assert_eq!(rt; text.as_str().strip_prefix('a'), Some(items()));
     Ok(())
 }
 
@@ -39,65 +36,56 @@ fn write_str(rt: HostRuntime) -> Result<(), Fail> {
     let Ok(mut text) = StrMut::from_str(rt.alloc(), "a") else {
         return Ok(());
     };
-    if text.write_str(ITEMS).is_err() {
-        println!(rt; "refused StrInner::write_str")?;
+    if text.write_str(items()).is_err() {
+        say(&rt, "StrInner::write_str")?;
         assert_eq!(rt; text.as_str(), "a");
-        text.write_str(ITEMS)?;
+        text.write_str(items())?;
     }
-    assert_eq!(rt; text.as_str().strip_prefix('a'), Some(ITEMS));
+    assert_eq!(rt; text.as_str().strip_prefix('a'), Some(items()));
     Ok(())
 }
 
 #[test]
 fn extend_chars(rt: HostRuntime) -> Result<(), Fail> {
     let mut text = StrMut::new(rt.alloc())?;
-    if let Err(refused) = text.extend_chars(ITEMS.chars()) {
+    if let Err(refused) = text.extend_chars(items().chars()) {
         tell(&rt, "StrInner::extend_chars", refused.reason)?;
-        assert!(rt; ITEMS.starts_with(text.as_str()));
+        assert!(rt; items().starts_with(text.as_str()));
         text.push(refused.back)?;
-        assert!(rt; ITEMS.starts_with(text.as_str()));
+        assert!(rt; items().starts_with(text.as_str()));
         return Ok(());
     }
-    assert_eq!(rt; text.as_str(), ITEMS);
+    assert_eq!(rt; text.as_str(), items());
     Ok(())
 }
 
 #[test]
 fn extend_strs(rt: HostRuntime) -> Result<(), Fail> {
     let mut text = StrMut::new(rt.alloc())?;
-    if let Err(refused) = text.extend_strs(ITEMS.split_inclusive(',')) {
+    if let Err(refused) = text.extend_strs(items().split_inclusive(',')) {
         tell(&rt, "StrInner::extend_strs", refused.reason)?;
-        assert!(rt; ITEMS.starts_with(text.as_str()));
+        assert!(rt; items().starts_with(text.as_str()));
         text.push_str(refused.back)?;
-        assert!(rt; ITEMS.starts_with(text.as_str()));
+        assert!(rt; items().starts_with(text.as_str()));
         return Ok(());
     }
-    assert_eq!(rt; text.as_str(), ITEMS);
+    assert_eq!(rt; text.as_str(), items());
     Ok(())
-}
-
-/// The items as strings.
-pub(super) fn strings(alloc: Global, items: &str) -> Result<Vec<String>, AllocError> {
-    let mut strings = Vec::new(alloc);
-    for item in items.split_inclusive(',') {
-        strings.push(String::from_str(alloc, item)?)?;
-    }
-    Ok(strings)
 }
 
 #[test]
 fn extend_strings(rt: HostRuntime) -> Result<(), Fail> {
-    let Ok(strings) = strings(rt.alloc(), ITEMS) else {
+    let Ok(strings) = strings(rt.alloc(), items()) else {
         return Ok(());
     };
     let mut text = StrMut::new(rt.alloc())?;
     if let Err(refused) = text.extend_strings(strings.into_iter()) {
         tell(&rt, "StrInner::extend_strings", refused.reason)?;
-        assert!(rt; ITEMS.starts_with(text.as_str()));
+        assert!(rt; items().starts_with(text.as_str()));
         text.push_str(refused.back.as_str())?;
-        assert!(rt; ITEMS.starts_with(text.as_str()));
+        assert!(rt; items().starts_with(text.as_str()));
         return Ok(());
     }
-    assert_eq!(rt; text.as_str(), ITEMS);
+    assert_eq!(rt; text.as_str(), items());
     Ok(())
 }

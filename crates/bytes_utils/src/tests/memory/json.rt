@@ -1,7 +1,7 @@
 //! Texts written as JSON and read from it.
 ghost use Rattle.std.specs.Prelude.{◌≡◌};
 
-use super::given;
+use super::{given, say};
 use crate::json::JsonRefused;
 use crate::string::{Storage, StorageMut, StrInner};
 use crate::{Str, StrMut};
@@ -55,7 +55,7 @@ where
 {
     let mut read = StrInner::<S>::from_json(alloc, json);
     if let Err(JsonRefused::OutOfMemory) = read {
-        println!(rt; "refused from_json")?;
+        say(rt, "from_json")?;
         read = StrInner::from_json(alloc, json);
     }
     match read {

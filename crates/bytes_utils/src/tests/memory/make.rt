@@ -1,8 +1,8 @@
 //! Calls that make a text of something else.
 ghost use Rattle.std.specs.Prelude.{◌≡◌};
 
-use super::append::strings;
-use super::given;
+use super::super::strings;
+use super::{given, items, say};
 use crate::string::{Storage, StorageMut, StrInner};
 use crate::{format_bytes, format_bytes_mut};
 use bytes::{Bytes, BytesMut};
@@ -11,21 +11,18 @@ use std::io::Print;
 use std::process::Abort;
 use std::test::Fail;
 
-/// What the texts are made of.
-const ITEMS: &str = "aβ,0123456789abcdef,😈,";
-
 /// Asserts what `from_str` gives, the second time where the first is refused.
 fn from_str<S: Storage, R: Abort + Print>(rt: &R, alloc: Global) -> Result<(), Fail>
 where
     S::Creator: StorageMut,
     requires creator { (c : S.Creator) → S.created c ≡ S.Creator.stored c }
 {
-    let made = StrInner::<S>::from_str(alloc, ITEMS);
+    let made = StrInner::<S>::from_str(alloc, items());
     let text = match given(rt, "StrInner::from_str", made)? {
         Some(text) => text,
-        None => StrInner::from_str(alloc, ITEMS)?,
+        None => StrInner::from_str(alloc, items())?,
     };
-    assert_eq!(rt; text.as_str(), ITEMS);
+    assert_eq!(rt; text.as_str(), items());
     Ok(())
 }
 
@@ -35,12 +32,12 @@ where
     S::Creator: StorageMut,
     requires creator { (c : S.Creator) → S.created c ≡ S.Creator.stored c }
 {
-    let made = StrInner::<S>::from_chars(alloc, ITEMS.chars());
+    let made = StrInner::<S>::from_chars(alloc, items().chars());
     let text = match given(rt, "StrInner::from_chars", made)? {
         Some(text) => text,
-        None => StrInner::from_chars(alloc, ITEMS.chars())?,
+        None => StrInner::from_chars(alloc, items().chars())?,
     };
-    assert_eq!(rt; text.as_str(), ITEMS);
+    assert_eq!(rt; text.as_str(), items());
     Ok(())
 }
 
@@ -50,12 +47,12 @@ where
     S::Creator: StorageMut,
     requires creator { (c : S.Creator) → S.created c ≡ S.Creator.stored c }
 {
-    let made = StrInner::<S>::from_strs(alloc, ITEMS.split_inclusive(','));
+    let made = StrInner::<S>::from_strs(alloc, items().split_inclusive(','));
     let text = match given(rt, "StrInner::from_strs", made)? {
         Some(text) => text,
-        None => StrInner::from_strs(alloc, ITEMS.split_inclusive(','))?,
+        None => StrInner::from_strs(alloc, items().split_inclusive(','))?,
     };
-    assert_eq!(rt; text.as_str(), ITEMS);
+    assert_eq!(rt; text.as_str(), items());
     Ok(())
 }
 
@@ -65,7 +62,7 @@ where
     S::Creator: StorageMut,
     requires creator { (c : S.Creator) → S.created c ≡ S.Creator.stored c }
 {
-    let (Ok(first), Ok(again)) = (strings(alloc, ITEMS), strings(alloc, ITEMS)) else {
+    let (Ok(first), Ok(again)) = (strings(alloc, items()), strings(alloc, items())) else {
         return Ok(());
     };
     let made = StrInner::<S>::from_strings(alloc, first.into_iter());
@@ -73,7 +70,7 @@ where
         Some(text) => text,
         None => StrInner::from_strings(alloc, again.into_iter())?,
     };
-    assert_eq!(rt; text.as_str(), ITEMS);
+    assert_eq!(rt; text.as_str(), items());
     Ok(())
 }
 
@@ -120,27 +117,27 @@ fn growing_from_strings(rt: HostRuntime) -> Result<(), Fail> {
 #[test]
 fn format_shared(rt: HostRuntime) -> Result<(), Fail> {
     let alloc = rt.alloc();
-    let text = match format_bytes!(alloc; "{ITEMS}{}", 12) {
+    let text = match format_bytes!(alloc; "{0}{1}", items(), 12) {
         Ok(text) => text,
         Err(_) => {
-            println!(rt; "refused format_bytes!")?;
-            format_bytes!(alloc; "{ITEMS}{}", 12)?
+            say(&rt, "format_bytes!")?;
+            format_bytes!(alloc; "{0}{1}", items(), 12)?
         }
     };
-    assert_eq!(rt; text.as_str().strip_prefix(ITEMS), Some("12"));
+    assert_eq!(rt; text.as_str().strip_prefix(items()), Some("12"));
     Ok(())
 }
 
 #[test]
 fn format_growing(rt: HostRuntime) -> Result<(), Fail> {
     let alloc = rt.alloc();
-    let text = match format_bytes_mut!(alloc; "{ITEMS}{}", 12) {
+    let text = match format_bytes_mut!(alloc; "{0}{1}", items(), 12) {
         Ok(text) => text,
         Err(_) => {
-            println!(rt; "refused format_bytes_mut!")?;
-            format_bytes_mut!(alloc; "{ITEMS}{}", 12)?
+            say(&rt, "format_bytes_mut!")?;
+            format_bytes_mut!(alloc; "{0}{1}", items(), 12)?
         }
     };
-    assert_eq!(rt; text.as_str().strip_prefix(ITEMS), Some("12"));
+    assert_eq!(rt; text.as_str().strip_prefix(items()), Some("12"));
     Ok(())
 }
