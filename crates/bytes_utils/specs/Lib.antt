@@ -7,7 +7,17 @@ pub mod Words
 pub mod Outcome
 pub mod Step
 pub mod Splitting
+pub mod Search
 pub mod Keeping
 pub mod Walk
 pub mod Errors
 pub mod Json
+-- the definitions on buffers, for callers that name them
+pub use Rattle.bytes_utils_buf.specs.Segments
+pub use Rattle.bytes_utils_buf.specs.Tally
+pub use Rattle.bytes_utils_buf.specs.Lent
+pub use Rattle.bytes_utils_buf.specs.Copies
+pub use Rattle.bytes_utils_buf.specs.Log
+pub use Rattle.bytes_utils_buf.specs.Refusals
+pub use Rattle.bytes_utils_buf.specs.Parts as Slices
+pub use Rattle.bytes_utils_buf.specs.declared.refused.Reason as Reason

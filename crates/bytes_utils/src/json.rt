@@ -5,6 +5,8 @@ ghost use Rattle.serde_json.specs.Read.{read};
 ghost use Rattle.serde_json.specs.View.{view};
 ghost use Rattle.bytes_utils.specs.Json.{json_string, whole_number, StandsFor, IsRefusedFor, HoldsText, IsNotJson, HoldsNoBytes, HoldsOtherBytes};
 
+mod show;
+
 use crate::string::{Storage, StorageMut, StrInner};
 use bytes_utils_buf::Reason;
 use serde_json::Value;

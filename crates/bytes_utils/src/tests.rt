@@ -19,6 +19,7 @@ mod show;
 mod slices;
 mod storages;
 mod texts;
+mod ways;
 mod words;
 
 use crate::string::{Storage, StrInner};
@@ -47,6 +48,11 @@ fn strings(alloc: Global, items: &str) -> Result<Vec<String>, AllocError> {
         strings.push(String::from_str(alloc, item)?)?;
     }
     Ok(strings)
+}
+
+/// Asserts that the text is the one that is wanted.
+fn assert_text(rt: &impl Abort, text: &str, want: &str) {
+    assert_eq!(rt; text, want);
 }
 
 /// Asserts that the parts are those wanted and then the end, or a beginning of them, one refusal
@@ -82,13 +88,11 @@ where
     P::Item: Drop,
     requires { (s : P) → P.can_next s }
 {
-    assert!(rt; parts.next().is_none());
-    assert!(rt; parts.next().is_none());
-    assert!(rt; parts.next().is_none());
+    assert!(rt; parts.next().is_none() && parts.next().is_none() && parts.next().is_none());
 }
 
-/// Asserts that these are the parts, and then the end.
-fn assert_parts<'t, S, P, W>(rt: &impl Abort, mut parts: P, wanted: W)
+/// As `taken`, of parts that have ended then, at each further call.
+fn taken_to_end<'t, S, P, W>(rt: &impl Abort, mut parts: P, wanted: W) -> (usize, Option<Reason>)
 where
     S: Storage,
     P: Iterator<Item = Result<StrInner<S>, Reason>> + Drop,
@@ -96,7 +100,7 @@ where
     requires can { (s : P) → P.can_next s }
     requires wanted { W.can_next wanted × IsFinite (W.remaining wanted) }
 {
-    let (_, refused) = taken(rt, &mut parts, wanted);
-    assert_eq!(rt; refused, None);
+    let answer = taken(rt, &mut parts, wanted);
     assert_end(rt, parts);
+    answer
 }

@@ -4,3 +4,4 @@ pub mod Segments
 pub mod Tally
 pub mod Lent
 pub mod Copies
+pub mod Refusals

@@ -1,5 +1,8 @@
 //! What is told where a call is refused.
 
+mod convert;
+mod show;
+
 /// Why a call was refused.
 #[derive(Clone, Copy, Debug, Eq, PartialEq)]
 pub enum Reason {

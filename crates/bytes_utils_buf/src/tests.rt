@@ -10,5 +10,6 @@ mod nested;
 mod odd;
 mod parts;
 mod random;
+mod refused;
 mod slice;
 mod tables;

@@ -26,3 +26,7 @@ pub mod WordRuns
 pub mod LineEnds
 pub mod OwnedAsLent
 pub mod BorrowedWords
+pub mod Writing
+pub mod Separators
+pub mod TokenParts
+pub mod HeaderLines

@@ -2,8 +2,11 @@
 #![tactic(auto)]
 
 pub mod borrowed;
+pub mod callers;
 mod calls;
 mod cut;
+#[cfg(test)]
+mod fakes;
 pub mod laws;
 pub mod odd;
 mod program;

@@ -9,8 +9,6 @@ mod answer;
 mod call_line;
 mod command;
 mod entry;
-#[cfg(test)]
-mod fakes;
 mod fault;
 mod input;
 mod number;
@@ -78,7 +76,7 @@ fn print_answer<W: Write>(writer: &mut W, answer: Answer<'_>) -> Result<(), Faul
     flush_out(writer)?;
     match refused {
         None => Ok(()),
-        Some(_) => Err(Fault::OutOfMemory),
+        Some(reason) => Err(reason.into()),
     }
 }
 

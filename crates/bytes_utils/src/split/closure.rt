@@ -100,6 +100,7 @@ impl<S: Storage, F: FnMut(&str) -> Option<(usize, usize)> + Drop> Iterator for B
 
     ghost remaining = { λ s. at_most (most_chunks s) };
 
+    #[inline]
     fn next(&mut self) -> Option<Self::Item> {
         let text = self.rest.take()?;
         let Some((chunk_edge, separator_edge)) = (self.closure)(text.as_str()) else {

@@ -21,8 +21,8 @@ pub(super) fn cut_at<S: Storage>(
     text.split_at_bytes(at).map_err(|refused| refused.reason)
 }
 
-/// The text before the byte place `end` and that from `next` on, by two splits, the later place
-/// first.
+/// The text before the byte place `end` and that from `next` on, by one split at the later place,
+/// and then the front of its first piece.
 #[inline(always)]
 pub(super) fn cut_out<S: Storage>(
     text: StrInner<S>,
@@ -37,7 +37,7 @@ pub(super) fn cut_out<S: Storage>(
     ensures reason { IfErr result S.refuses }
 {
     let (front, after) = cut_at(text, next)?;
-    let (before, _) = cut_at(front, end)?;
+    let before = front.into_front(end)?;
     Ok((before, after))
 }
 
@@ -58,7 +58,7 @@ pub(super) fn cut_behind<S: Storage>(text: StrInner<S>, end: usize) -> Result<Cu
     Ok((front, Some(rest)))
 }
 
-/// The text from a byte place on: from its start on no split is made.
+/// The text from a byte place on: from its start on no cut is made.
 #[inline(always)]
 pub(super) fn cut_before<S: Storage>(text: StrInner<S>, start: usize) -> Result<StrInner<S>, Reason>
     requires { IsCharBoundary text start }
@@ -69,8 +69,7 @@ pub(super) fn cut_before<S: Storage>(text: StrInner<S>, start: usize) -> Result<
     if start == 0 {
         return Ok(text);
     }
-    let (_, rest) = cut_at(text, start)?;
-    Ok(rest)
+    text.into_back(start)
 }
 
 /// Gives the part of a cut and keeps what is left; a refused cut gives its reason, and keeps

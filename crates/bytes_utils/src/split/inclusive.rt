@@ -79,6 +79,7 @@ impl<'s, S: Storage> Iterator for SplitInclusiveBytes<'s, S> {
 
     ghost remaining = { λ s. at_most (most_inclusive_parts s) };
 
+    #[inline]
     fn next(&mut self) -> Option<Self::Item> {
         let text = self.rest.take()?;
         if text.as_str().is_empty() {

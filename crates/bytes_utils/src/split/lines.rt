@@ -77,6 +77,7 @@ impl<S: Storage> Iterator for LinesBytes<S> {
 
     ghost remaining = { λ s. at_most (option_map_or length s 0) };
 
+    #[inline]
     fn next(&mut self) -> Option<Self::Item> {
         let text = self.rest.take()?;
         if text.as_str().is_empty() {

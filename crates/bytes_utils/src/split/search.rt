@@ -1,22 +1,67 @@
 //! The search for a separator, in bytes and by `memchr` alone.
-ghost use Rattle.std.specs.Prelude.{◌<◌, length};
+ghost use Rattle.std.specs.Prelude.{◌≡◌, ◌<◌, length, IsUtf8};
 ghost use Rattle.std.specs.Str.{chars};
 ghost use Rattle.bytes_utils.specs.Occurrence.{FindsFirst, FindsLast};
+ghost use Rattle.bytes_utils.specs.Search.{end_of, needle_of};
 
-use memchr::memmem;
+use super::direction::Direction;
+use memchr::memmem::{self, Finder, FinderRev};
 
-/// The byte place at which the separator occurs first.
+/// The search for one separator from one end, made once for every step.
+#[derive(Drop)]
+pub(super) enum Search<'s> {
+    First(Finder<'s>),
+    Last(FinderRev<'s>),
+}
+
+impl<'s> Search<'s> {
+    #[inline]
+    pub(super) fn new(separator: &'s str, from: Direction) -> Search<'s>
+        ensures needle { needle_of result ≡ separator.now }
+        ensures end { end_of result ≡ from }
+    {
+        match from {
+            Direction::Forward => Search::First(Finder::new(separator.as_bytes())),
+            Direction::Backward => Search::Last(FinderRev::new(separator.as_bytes())),
+        }
+    }
+
+    /// The end at which it begins.
+    #[inline]
+    pub(super) fn end(&self) -> Direction
+        ensures { result ≡ end_of self.now }
+    {
+        match self {
+            Search::First(_) => Direction::Forward,
+            Search::Last(_) => Direction::Backward,
+        }
+    }
+}
+
+/// The byte place at which the separator of a finder occurs first.
+#[inline]
+pub(super) fn find_by(finder: &Finder, text: &str) -> Option<usize>
+    requires some { 0 < length finder.now }
+    requires utf8 { IsUtf8 finder.now }
+    ensures { FindsFirst (chars finder.now) (chars text.now) result }
+{
+    finder.find(text.as_bytes())
+}
+
+/// The byte place at which the separator of a finder occurs last.
+#[inline]
+pub(super) fn rfind_by(finder: &FinderRev, text: &str) -> Option<usize>
+    requires some { 0 < length finder.now }
+    requires utf8 { IsUtf8 finder.now }
+    ensures { FindsLast (chars finder.now) (chars text.now) result }
+{
+    finder.rfind(text.as_bytes())
+}
+
+/// The byte place at which the separator occurs first, by a finder made for this search alone.
 pub(super) fn find(text: &str, separator: &str) -> Option<usize>
     requires { 0 < length separator.now }
     ensures { FindsFirst (chars separator.now) (chars text.now) result }
 {
     memmem::find(text.as_bytes(), separator.as_bytes())
-}
-
-/// The byte place at which the separator occurs last.
-pub(super) fn rfind(text: &str, separator: &str) -> Option<usize>
-    requires { 0 < length separator.now }
-    ensures { FindsLast (chars separator.now) (chars text.now) result }
-{
-    memmem::rfind(text.as_bytes(), separator.as_bytes())
 }

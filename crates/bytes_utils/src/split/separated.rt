@@ -3,22 +3,29 @@ ghost use Rattle.std.specs.Prelude.{◌≡◌, ◌≢◌, ◌<◌, ◌==◌, ℕ
 ghost use Rattle.std.specs.Bool.{OnTrue};
 ghost use Rattle.std.specs.Str.{chars};
 ghost use Rattle.bytes_utils.specs.Occurrence.{Occurs};
+ghost use Rattle.bytes_utils.specs.Search.{end_of, needle_of};
 ghost use Rattle.bytes_utils.specs.Splitting.{ArePartsToCome, AreForwardPartsToCome, AreBackwardPartsToCome, CutsNext, LeavesMore, one_less, most_parts, splitting, all_of};
 ghost use Rattle.bytes_utils.specs.Step.{GivesFirst, IsStep};
 
 use super::cut::{Cut, cut_out, hand_out};
 use super::direction::Direction;
 use super::each_character::cut_character;
-use super::search::{find, rfind};
+use super::search::{Search, find_by, rfind_by};
 use crate::string::{Storage, StrInner};
 use bytes_utils_buf::Reason;
+use memchr::memmem::{Finder, FinderRev};
 use std::marker::Model;
 
 /// The part before the first separator and the text behind it, or the whole text where there is
 /// none.
 #[inline(always)]
-fn first_part<S: Storage>(text: StrInner<S>, separator: &str) -> Result<Cut<S>, Reason>
-    requires { 0 < length separator.now }
+fn first_part<S: Storage>(
+    text: StrInner<S>,
+    separator: &str,
+    finder: &Finder,
+) -> Result<Cut<S>, Reason>
+    requires some { 0 < length separator.now }
+    requires needle { finder.now ≡ separator.now }
     ensures gives { IfOk result (λ cut. (limit : Option ℕ) → LeavesMore limit
         → GivesFirst AreForwardPartsToCome
         (splitting (Some text) separator.now limit false) (chars cut.0)
@@ -27,7 +34,7 @@ fn first_part<S: Storage>(text: StrInner<S>, separator: &str) -> Result<Cut<S>, 
     ensures err { OnErr result (Occurs (chars separator.now) (chars text)) }
     ensures reason { IfErr result S.refuses }
 {
-    let Some(at) = find(text.as_str(), separator) else {
+    let Some(at) = find_by(finder, text.as_str()) else {
         return Ok((text, None));
     };
     let (part, rest) = cut_out(text, at, at + separator.len())?;
@@ -37,8 +44,13 @@ fn first_part<S: Storage>(text: StrInner<S>, separator: &str) -> Result<Cut<S>, 
 /// The part behind the last separator and the text before it, or the whole text where there is
 /// none.
 #[inline(always)]
-fn last_part<S: Storage>(text: StrInner<S>, separator: &str) -> Result<Cut<S>, Reason>
-    requires { 0 < length separator.now }
+fn last_part<S: Storage>(
+    text: StrInner<S>,
+    separator: &str,
+    finder: &FinderRev,
+) -> Result<Cut<S>, Reason>
+    requires some { 0 < length separator.now }
+    requires needle { finder.now ≡ separator.now }
     ensures gives { IfOk result (λ cut. (limit : Option ℕ) → LeavesMore limit
         → GivesFirst AreBackwardPartsToCome
         (splitting (Some text) separator.now limit false) (chars cut.0)
@@ -47,7 +59,7 @@ fn last_part<S: Storage>(text: StrInner<S>, separator: &str) -> Result<Cut<S>, R
     ensures err { OnErr result (Occurs (chars separator.now) (chars text)) }
     ensures reason { IfErr result S.refuses }
 {
-    let Some(at) = rfind(text.as_str(), separator) else {
+    let Some(at) = rfind_by(finder, text.as_str()) else {
         return Ok((text, None));
     };
     let (rest, part) = cut_out(text, at, at + separator.len())?;
@@ -60,12 +72,13 @@ fn last_part<S: Storage>(text: StrInner<S>, separator: &str) -> Result<Cut<S>, R
 fn cut_next<S: Storage>(
     text: StrInner<S>,
     separator: &str,
+    search: &Search,
     begun: bool,
-    from: Direction,
 ) -> Result<Cut<S>, Reason>
-    requires { OnTrue begun (length separator.now ≡ 0) }
+    requires begun { OnTrue begun (length separator.now ≡ 0) }
+    requires needle { needle_of search.now ≡ separator.now }
     ensures gives { IfOk result (λ cut. (limit : Option ℕ) → LeavesMore limit
-        → GivesFirst (ArePartsToCome from)
+        → GivesFirst (ArePartsToCome (end_of search.now))
         (splitting (Some text) separator.now limit begun) (chars cut.0)
         (splitting cut.1 separator.now (one_less limit) (length separator.now == 0))) }
     ensures fewer { IfOk result (λ cut. most_parts
@@ -76,11 +89,11 @@ fn cut_next<S: Storage>(
     ensures reason { IfErr result S.refuses }
 {
     if separator.is_empty() {
-        return cut_character(text, begun, from);
+        return cut_character(text, begun, search.end());
     }
-    match from {
-        Direction::Forward => first_part(text, separator),
-        Direction::Backward => last_part(text, separator),
+    match search {
+        Search::First(finder) => first_part(text, separator, finder),
+        Search::Last(finder) => last_part(text, separator, finder),
     }
 }
 
@@ -89,13 +102,14 @@ fn cut_next<S: Storage>(
 fn next_part<S: Storage>(
     text: StrInner<S>,
     separator: &str,
+    search: &Search,
     limit: Option<usize>,
     begun: bool,
-    from: Direction,
 ) -> Result<Cut<S>, Reason>
     requires some { limit ≢ Some 0 }
     requires begun { OnTrue begun (length separator.now ≡ 0) }
-    ensures gives { IfOk result (λ cut. GivesFirst (ArePartsToCome from)
+    requires needle { needle_of search.now ≡ separator.now }
+    ensures gives { IfOk result (λ cut. GivesFirst (ArePartsToCome (end_of search.now))
         (splitting (Some text) separator.now limit begun) (chars cut.0)
         (splitting cut.1 separator.now (one_less limit) (length separator.now == 0))) }
     ensures fewer { IfOk result (λ cut. most_parts
@@ -110,7 +124,7 @@ fn next_part<S: Storage>(
     if limit == Some(1) {
         return Ok((text, None));
     }
-    cut_next(text, separator, begun, from)
+    cut_next(text, separator, search, begun)
 }
 
 /// What is left of a text that is cut by a separator, and how many parts may still be given. A
@@ -119,6 +133,7 @@ fn next_part<S: Storage>(
 pub(super) struct Separated<'s, S: Storage> {
     rest: Option<StrInner<S>>,
     separator: &'s str,
+    search: Search<'s>,
     limit: Option<usize>,
     begun: bool,
 }
@@ -126,46 +141,58 @@ pub(super) struct Separated<'s, S: Storage> {
 impl<'s, S: Storage> Model for Separated<'s, S> {
     ghost use Rattle.std.specs.Prelude.{◌≡◌, ◌≢◌, length, Some, IfSome};
     ghost use Rattle.std.specs.Bool.{OnTrue};
-    ghost use Rattle.bytes_utils.specs.Splitting.{Splitting};
+    ghost use Rattle.bytes_utils.specs.Search.{SplittingFrom, end_of, needle_of};
 
-    ghost Value = { Splitting };
+    ghost Value = { SplittingFrom };
 
     ghost view = { λ s. record {
-      rest = s.rest;
-      separator = s.separator.now;
-      limit = s.limit;
-      begun = s.begun;
+      state = record {
+        rest = s.rest;
+        separator = s.separator.now;
+        limit = s.limit;
+        begun = s.begun;
+      };
+      end = end_of s.search;
     } };
 
-    ghost invariant = { λ s. IfSome s.rest
+    ghost invariant = { λ s. (needle_of s.search ≡ s.separator.now) × IfSome s.rest
         (λ _. OnTrue s.begun ((length s.separator.now ≡ 0) × (s.limit ≢ Some 0))) };
 }
 
 impl<'s, S: Storage> Separated<'s, S> {
-    /// All of a text, with at most so many parts.
+    /// All of a text, from an end, with at most so many parts.
     #[inline(always)]
-    pub(super) fn new(text: StrInner<S>, separator: &'s str, limit: Option<usize>) -> Self
-        ensures { result ≡ all_of text separator.now limit }
+    pub(super) fn new(
+        text: StrInner<S>,
+        separator: &'s str,
+        limit: Option<usize>,
+        from: Direction,
+    ) -> Self
+        ensures state { result.state ≡ all_of text separator.now limit }
+        ensures end { result.end ≡ from }
     {
         Separated {
             rest: Some(text),
             separator,
+            search: Search::new(separator, from),
             limit,
             begun: false,
         }
     }
 
-    /// The next part from an end.
+    /// The next part from its end.
     #[inline(always)]
-    pub(super) fn next_from(&mut self, from: Direction) -> Option<Result<StrInner<S>, Reason>>
-        ensures step { IsStep (ArePartsToCome from) CutsNext S.refuses self.old result self.new }
-        ensures fewer { OnSome result (most_parts self.new < most_parts self.old) }
+    pub(super) fn next(&mut self) -> Option<Result<StrInner<S>, Reason>>
+        ensures step { IsStep (ArePartsToCome self.old.end) CutsNext S.refuses
+            self.old.state result self.new.state }
+        ensures end { self.new.end ≡ self.old.end }
+        ensures fewer { OnSome result (most_parts self.new.state < most_parts self.old.state) }
     {
         if self.limit == Some(0) {
             return None;
         }
         let text = self.rest.take()?;
-        let cut = next_part(text, self.separator, self.limit, self.begun, from);
+        let cut = next_part(text, self.separator, &self.search, self.limit, self.begun);
         self.limit = self.limit.map(|most| most.saturating_sub(1));
         self.begun = self.separator.is_empty();
         hand_out!(self.rest, cut)

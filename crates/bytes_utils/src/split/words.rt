@@ -1,11 +1,11 @@
 //! A text cut into its words.
-ghost use Rattle.std.specs.Prelude.{◌≡◌, ◌<◌, ◌≤◌, ◌⊎◌, ℕ, Bool, List, [], ◌∷◌, Some, MatchOption, length, take, drop, IsCharBoundary, IfOk, IfErr, OnErr, IfSome, OnSome};
-ghost use Rattle.std.specs.Char.{is_ascii_whitespace, is_whitespace};
+ghost use Rattle.std.specs.Prelude.{◌≡◌, ◌<◌, ◌≤◌, ◌⊎◌, ◌||◌, not, position, true, ℕ, Bool, List, [], ◌∷◌, Some, MatchOption, length, take, drop, IsCharBoundary, IfOk, IfErr, OnErr, IfSome, OnSome};
+ghost use Rattle.std.specs.Char.{is_ascii, is_ascii_whitespace, is_whitespace};
 ghost use Rattle.std.specs.Iterator.{at_most};
 ghost use Rattle.std.specs.Option.{option_map_or};
-ghost use Rattle.std.specs.Str.{chars};
+ghost use Rattle.std.specs.Str.{chars, NoCharPasses};
 ghost use Rattle.bytes_utils.specs.Step.{IsStep};
-ghost use Rattle.bytes_utils.specs.Words.{AreWordsToCome, HoldsSpace, words};
+ghost use Rattle.bytes_utils.specs.Words.{AreWordsToCome, HoldsSpace, ends_word, words};
 
 use super::cut::{Cut, cut_before, cut_behind, hand_out};
 use crate::string::{Storage, StrInner};
@@ -44,6 +44,36 @@ impl WhiteSpace for Ascii {
     }
 }
 
+/// Whether a byte is no ASCII character, or white space.
+#[inline]
+fn ends_run<W: WhiteSpace>(byte: u8) -> bool
+    ensures { result ≡ (not (is_ascii byte) || W.is_space byte) }
+{
+    !byte.is_ascii() || W::has(byte as char)
+}
+
+/// Where the ASCII characters at the front that aren't white space end, if not with the text.
+#[inline]
+fn run_end<W: WhiteSpace>(text: &str) -> Option<usize>
+    ensures { result ≡ position (λ b. not (is_ascii b) || W.is_space b) text.now }
+{
+    text.as_bytes().iter().position(|byte| ends_run::<W>(*byte))
+}
+
+/// Where white space begins, or the text ends. An ASCII character is one byte, so those in front
+/// are passed by bytes.
+#[inline]
+fn word_length<W: WhiteSpace>(text: &str) -> usize
+    ensures boundary { IsCharBoundary text.now result }
+    ensures none { NoCharPasses W.is_space (take result text.now) }
+    ensures ends { ends_word W.is_space (chars (drop result text.now)) ≡ true }
+{
+    let ascii = run_end::<W>(text).unwrap_or(text.len());
+    let rest = &text[ascii..];
+    let length = rest.find(|c: char| W::has(c)).unwrap_or(rest.len());
+    ascii + length
+}
+
 /// Where the first word begins, and where it ends.
 fn word_place<W: WhiteSpace>(text: &str) -> Option<(usize, usize)>
     ensures order { IfSome result (λ place. place.0 < place.1) }
@@ -59,8 +89,7 @@ fn word_place<W: WhiteSpace>(text: &str) -> Option<(usize, usize)>
         ∷ words W.is_space (chars (drop place.1 text.now))) }
 {
     let start = text.find(|c: char| !W::has(c))?;
-    let rest = &text[start..];
-    let length = rest.find(|c: char| W::has(c)).unwrap_or(rest.len());
+    let length = word_length::<W>(&text[start..]);
     Some((start, start + length))
 }
 
@@ -155,6 +184,7 @@ impl<S: Storage> Iterator for SplitWhitespaceBytes<S> {
 
     ghost remaining = { λ s. at_most (option_map_or length s 0) };
 
+    #[inline]
     fn next(&mut self) -> Option<Self::Item> {
         next_word::<Unicode, S>(&mut self.rest)
     }
@@ -168,6 +198,7 @@ impl<S: Storage> Iterator for SplitAsciiWhitespaceBytes<S> {
 
     ghost remaining = { λ s. at_most (option_map_or length s 0) };
 
+    #[inline]
     fn next(&mut self) -> Option<Self::Item> {
         next_word::<Ascii, S>(&mut self.rest)
     }

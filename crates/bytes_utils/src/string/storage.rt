@@ -45,6 +45,31 @@ pub trait Storage: Sized + Drop {
         ensures right { IfOk result (λ pieces. stored pieces.1 ≡ drop at (stored self)) }
         ensures err { IfErr result (λ e. stored e.back ≡ stored self) }
         ensures reason { IfErr result (λ e. refuses e.reason) };
+
+    /// The bytes before `at` alone, or the storage back. A storage may have a cheaper way to them
+    /// than a split.
+    #[inline]
+    fn into_front(self, at: usize) -> Result<Self, Refused<Self>>
+        requires { at ≤ length (stored self) }
+        ensures front { IfOk result (λ front. stored front ≡ take at (stored self)) }
+        ensures err { IfErr result (λ e. stored e.back ≡ stored self) }
+        ensures reason { IfErr result (λ e. refuses e.reason) }
+    {
+        let (front, _) = self.split_at(at)?;
+        Ok(front)
+    }
+
+    /// The bytes from `at` on alone, or the storage back, as `into_front`.
+    #[inline]
+    fn into_back(self, at: usize) -> Result<Self, Refused<Self>>
+        requires { at ≤ length (stored self) }
+        ensures back { IfOk result (λ back. stored back ≡ drop at (stored self)) }
+        ensures err { IfErr result (λ e. stored e.back ≡ stored self) }
+        ensures reason { IfErr result (λ e. refuses e.reason) }
+    {
+        let (_, back) = self.split_at(at)?;
+        Ok(back)
+    }
 }
 
 /// A storage that text is built in.

@@ -5,7 +5,7 @@ ghost use Rattle.std.specs.Str.Lossy.{utf8_valid_len, utf8_error_len};
 ghost use Rattle.bytes_utils.specs.Errors.{refused_storage, fault_of};
 
 use crate::string::{Storage, Utf8Error};
-use bytes_utils_buf::Refused;
+use bytes_utils_buf::{Reason, Refused};
 use std::marker::Model;
 use std::str;
 
@@ -105,6 +105,34 @@ impl<S: Storage> StrInner<S> {
                 reason,
                 back: StrInner { storage: back },
             }),
+        }
+    }
+
+    /// The text before the byte place `at` alone.
+    #[inline(always)]
+    pub(crate) fn into_front(self, at: usize) -> Result<Self, Reason>
+        requires { IsCharBoundary self at }
+        ensures ok { IfOk result (λ front. front ≡ take at self) }
+        ensures reason { IfErr result S.refuses }
+    {
+        let StrInner { storage } = self;
+        match storage.into_front(at) {
+            Ok(storage) => Ok(StrInner { storage }),
+            Err(refused) => Err(refused.reason),
+        }
+    }
+
+    /// The text from the byte place `at` on alone.
+    #[inline(always)]
+    pub(crate) fn into_back(self, at: usize) -> Result<Self, Reason>
+        requires { IsCharBoundary self at }
+        ensures ok { IfOk result (λ back. back ≡ drop at self) }
+        ensures reason { IfErr result S.refuses }
+    {
+        let StrInner { storage } = self;
+        match storage.into_back(at) {
+            Ok(storage) => Ok(StrInner { storage }),
+            Err(refused) => Err(refused.reason),
         }
     }
 }

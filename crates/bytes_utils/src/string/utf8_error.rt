@@ -36,10 +36,21 @@ impl<S> Utf8Error<S> {
     }
 }
 
-/// The text of the inner fault.
+/// The text that std has for such a fault.
 impl<S> fmt::Display for Utf8Error<S> {
+    ghost use Rattle.std.specs.Prelude.{Some};
+    ghost use Rattle.std.specs.Str.{valid_up_to, error_len};
+    ghost use Rattle.bytes_utils.specs.Errors.{utf8_error_text};
+
+    ghost output = { λ e.
+        Some (utf8_error_text (valid_up_to (fault_of e)) (error_len (fault_of e))) };
+
     fn fmt<W: fmt::Write>(&self, f: &mut fmt::Formatter<W>) -> fmt::Result {
-        fmt::Display::fmt(&self.fault, f)
+        let at = self.fault.valid_up_to();
+        match self.fault.error_len() {
+            Some(len) => write!(f, "invalid utf-8 sequence of {len} bytes from index {at}"),
+            None => write!(f, "incomplete utf-8 byte sequence from index {at}"),
+        }
     }
 }
 

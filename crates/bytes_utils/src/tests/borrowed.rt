@@ -1,7 +1,12 @@
 //! Splitters beside the methods of `str` of the same names, which lend their parts: over the texts of
 //! the worked cases and over all short texts of a few letters.
-use super::{assert_parts, shared};
+use super::ways::{
+    Lines, RSplit, RSplitN, Split, SplitAsciiWhitespace, SplitInclusive, SplitN, SplitWhitespace,
+    StrWay,
+};
+use super::{assert_text, shared};
 use std::alloc::{AllocError, Global};
+use std::process::Abort;
 use std::test::Fail;
 
 /// Texts of worked cases, with a bar between them.
@@ -60,118 +65,106 @@ fn separators() -> [&'static str; 6] {
     ["", "a", "aa", "aba", ",", "β"]
 }
 
-#[test]
-fn texts_are_counted(rt: HostRuntime) -> Result<(), Fail> {
-    assert_eq!(rt; NAMED.split('|').count(), NAMED_TEXTS as usize);
-    let rows = [
+/// Counted texts, with their numbers.
+fn counted_texts() -> [(u32, &'static str); 6] {
+    [
         (0, ""),
         (1, "a"),
         (8, "\u{3000}"),
         (9, "aa"),
         (73, "aaa"),
         (585, "aaaa"),
-    ];
-    for (number, want) in rows {
-        assert_eq!(rt; counted(rt.alloc(), number)?.as_str(), want);
+    ]
+}
+
+#[test]
+fn texts_are_counted(rt: HostRuntime) -> Result<(), Fail> {
+    assert!(rt; NAMED.split('|').count() == NAMED_TEXTS as usize);
+    for (number, want) in counted_texts() {
+        assert_text(&rt, counted(rt.alloc(), number)?.as_str(), want);
     }
     let last = numbered(rt.alloc(), TEXTS - 1)?;
-    assert_eq!(rt; last.as_str(), "\u{3000}\u{3000}\u{3000}\u{3000}\u{3000}");
+    assert_text(
+        &rt,
+        last.as_str(),
+        "\u{3000}\u{3000}\u{3000}\u{3000}\u{3000}",
+    );
+    Ok(())
+}
+
+/// Asserts that the parts of so many texts, by each separator, are those that `str` lends.
+fn assert_as_str<W: StrWay, R: Abort>(
+    rt: &R,
+    alloc: Global,
+    texts: u32,
+    most: usize,
+    separators: &[&str],
+) -> Result<(), Fail> {
+    for number in 0..texts {
+        let text = numbered(alloc, number)?;
+        assert_each_as_str::<W, R>(rt, alloc, text.as_str(), most, separators)?;
+    }
+    Ok(())
+}
+
+/// As `assert_as_str`, of one text.
+fn assert_each_as_str<W: StrWay, R: Abort>(
+    rt: &R,
+    alloc: Global,
+    text: &str,
+    most: usize,
+    separators: &[&str],
+) -> Result<(), Fail> {
+    for separator in separators {
+        let answer = W::beside(rt, shared(alloc, text)?, most, separator, text);
+        assert!(rt; answer.1.is_none());
+    }
     Ok(())
 }
 
 #[test]
 fn split(rt: HostRuntime) -> Result<(), Fail> {
-    for number in 0..SHORT_TEXTS {
-        let text = numbered(rt.alloc(), number)?;
-        for separator in separators() {
-            let parts = shared(rt.alloc(), text.as_str())?.split_bytes(separator);
-            assert_parts(&rt, parts, text.as_str().split(separator));
-        }
-    }
-    Ok(())
+    assert_as_str::<Split, HostRuntime>(&rt, rt.alloc(), SHORT_TEXTS, 0, &separators())
 }
 
 #[test]
 fn rsplit(rt: HostRuntime) -> Result<(), Fail> {
-    for number in 0..SHORT_TEXTS {
-        let text = numbered(rt.alloc(), number)?;
-        for separator in separators() {
-            let parts = shared(rt.alloc(), text.as_str())?.rsplit_bytes(separator);
-            assert_parts(&rt, parts, text.as_str().rsplit(separator));
-        }
-    }
-    Ok(())
+    assert_as_str::<RSplit, HostRuntime>(&rt, rt.alloc(), SHORT_TEXTS, 0, &separators())
 }
 
 #[test]
 fn split_n(rt: HostRuntime) -> Result<(), Fail> {
-    for number in 0..SHORT_TEXTS {
-        let text = numbered(rt.alloc(), number)?;
-        for separator in separators() {
-            for most in 0..5 {
-                let parts = shared(rt.alloc(), text.as_str())?.splitn_bytes(most, separator);
-                assert_parts(&rt, parts, text.as_str().splitn(most, separator));
-            }
-        }
+    for most in 0..5 {
+        assert_as_str::<SplitN, HostRuntime>(&rt, rt.alloc(), SHORT_TEXTS, most, &separators())?;
     }
     Ok(())
 }
 
 #[test]
 fn rsplit_n(rt: HostRuntime) -> Result<(), Fail> {
-    for number in 0..SHORT_TEXTS {
-        let text = numbered(rt.alloc(), number)?;
-        for separator in separators() {
-            for most in 0..5 {
-                let parts = shared(rt.alloc(), text.as_str())?.rsplitn_bytes(most, separator);
-                assert_parts(&rt, parts, text.as_str().rsplitn(most, separator));
-            }
-        }
+    for most in 0..5 {
+        assert_as_str::<RSplitN, HostRuntime>(&rt, rt.alloc(), SHORT_TEXTS, most, &separators())?;
     }
     Ok(())
 }
 
 #[test]
 fn split_inclusive(rt: HostRuntime) -> Result<(), Fail> {
-    for number in 0..SHORT_TEXTS {
-        let text = numbered(rt.alloc(), number)?;
-        for separator in separators() {
-            if separator.is_empty() {
-                continue;
-            }
-            let parts = shared(rt.alloc(), text.as_str())?.split_inclusive_bytes(separator);
-            assert_parts(&rt, parts, text.as_str().split_inclusive(separator));
-        }
-    }
-    Ok(())
+    let separators = ["a", "aa", "aba", ",", "β"];
+    assert_as_str::<SplitInclusive, HostRuntime>(&rt, rt.alloc(), SHORT_TEXTS, 0, &separators)
 }
 
 #[test]
 fn lines(rt: HostRuntime) -> Result<(), Fail> {
-    for number in 0..TEXTS {
-        let text = numbered(rt.alloc(), number)?;
-        let parts = shared(rt.alloc(), text.as_str())?.lines_bytes();
-        assert_parts(&rt, parts, text.as_str().lines());
-    }
-    Ok(())
+    assert_as_str::<Lines, HostRuntime>(&rt, rt.alloc(), TEXTS, 0, &[""])
 }
 
 #[test]
 fn split_whitespace(rt: HostRuntime) -> Result<(), Fail> {
-    for number in 0..TEXTS {
-        let text = numbered(rt.alloc(), number)?;
-        let parts = shared(rt.alloc(), text.as_str())?.split_whitespace_bytes();
-        assert_parts(&rt, parts, text.as_str().split_whitespace());
-    }
-    Ok(())
+    assert_as_str::<SplitWhitespace, HostRuntime>(&rt, rt.alloc(), TEXTS, 0, &[""])
 }
 
 #[test]
 fn split_ascii_whitespace(rt: HostRuntime) -> Result<(), Fail> {
-    for number in 0..TEXTS {
-        let text = numbered(rt.alloc(), number)?;
-        let parts = shared(rt.alloc(), text.as_str())?.split_ascii_whitespace_bytes();
-        assert_parts(&rt, parts, text.as_str().split_ascii_whitespace());
-    }
-    Ok(())
+    assert_as_str::<SplitAsciiWhitespace, HostRuntime>(&rt, rt.alloc(), TEXTS, 0, &[""])
 }

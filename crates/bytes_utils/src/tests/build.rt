@@ -1,7 +1,7 @@
 //! Texts that are built, frozen and sliced.
 ghost use Rattle.std.specs.Prelude.{◌≡◌};
 
-use super::strings;
+use super::{assert_text, strings};
 use crate::string::{Storage, StorageMut, StrInner};
 use crate::{Reason, Str, StrMut};
 use bytes::{Bytes, BytesMut};
@@ -10,72 +10,90 @@ use std::fmt::Write;
 use std::process::Abort;
 use std::test::Fail;
 
-/// Each call that appends, in turn.
-fn append_all<S: StorageMut>(text: &mut StrInner<S>, alloc: Global) -> Result<(), Fail> {
-    text.push_str("Hello")?;
-    text.push(' ')?;
-    text.extend_chars("Wörld".chars())?;
-    text.extend_strs(", ||😈".split('|'))?;
-    text.extend_strings(strings(alloc, "!,αβ")?.into_iter())?;
-    text.write_str("-")?;
-    Ok(())
+/// Whether each call that appends the items of an iterator, in turn, appended them all.
+fn is_extended<S: StorageMut>(text: &mut StrInner<S>, strings: Vec<String>) -> bool {
+    text.extend_chars("Wörld".chars()).is_ok()
+        && text.extend_strs(", ||😈".split('|')).is_ok()
+        && text.extend_strings(strings.into_iter()).is_ok()
 }
 
 /// Asserts that the text was made.
-fn assert_text<S: Storage>(
+fn assert_made<S: Storage>(
     rt: &impl Abort,
     made: Result<StrInner<S>, Reason>,
     want: &str,
 ) -> Result<(), Fail> {
-    assert_eq!(rt; made?.as_str(), want);
+    assert_text(rt, made?.as_str(), want);
     Ok(())
 }
 
-/// Asserts what each call that makes a text of something else gives.
+/// Asserts what is made of a text, of its characters and of a format that writes it.
 fn assert_makes<S: Storage>(rt: &impl Abort, alloc: Global, want: &str) -> Result<(), Fail>
 where
     S::Creator: StorageMut,
     requires creator { (c : S.Creator) → S.created c ≡ S.Creator.stored c }
 {
-    assert_text(rt, StrInner::<S>::from_str(alloc, want), want)?;
-    assert_text(rt, StrInner::<S>::from_chars(alloc, want.chars()), want)?;
-    assert_text(
-        rt,
-        StrInner::<S>::from_strs(alloc, want.split_inclusive(',')),
-        want,
-    )?;
-    let items = strings(alloc, want)?.into_iter();
-    assert_text(rt, StrInner::<S>::from_strings(alloc, items), want)?;
+    assert_made(rt, StrInner::<S>::from_str(alloc, want), want)?;
+    assert_made(rt, StrInner::<S>::from_chars(alloc, want.chars()), want)?;
     let written = StrInner::<S>::format(alloc, format_args!("{want}"))?;
-    assert_eq!(rt; written.as_str(), want);
+    assert_text(rt, written.as_str(), want);
+    Ok(())
+}
+
+/// Asserts what is made of the text's pieces, borrowed and owned.
+fn assert_joins<S: Storage>(rt: &impl Abort, alloc: Global, want: &str) -> Result<(), Fail>
+where
+    S::Creator: StorageMut,
+    requires creator { (c : S.Creator) → S.created c ≡ S.Creator.stored c }
+{
+    let made = StrInner::<S>::from_strs(alloc, want.split_inclusive(','));
+    assert_made(rt, made, want)?;
+    let pieces = strings(alloc, want)?;
+    assert_made(
+        rt,
+        StrInner::<S>::from_strings(alloc, pieces.into_iter()),
+        want,
+    )
+}
+
+/// Three pieces, pushed behind one another.
+fn pushed(alloc: Global) -> Result<StrMut, Fail> {
+    let mut builder = StrMut::new(alloc)?;
+    for part in ["Hello", " ", "World"] {
+        builder.push_str(part)?;
+    }
+    Ok(builder)
+}
+
+/// Asserts that the text is `Hello World` once it is frozen, and a slice of it.
+fn assert_frozen(rt: &impl Abort, built: StrMut) -> Result<(), Fail> {
+    let frozen = built.freeze()?;
+    assert_text(rt, frozen.as_str(), "Hello World");
+    assert!(rt; frozen.as_str().is_char_boundary(1) && frozen.as_str().is_char_boundary(5));
+    assert_text(rt, frozen.slice(1..5)?.as_str(), "ello");
     Ok(())
 }
 
 #[test]
 fn build_and_slice(rt: HostRuntime) -> Result<(), Fail> {
-    let mut builder = StrMut::new(rt.alloc())?;
-    for part in ["Hello", " ", "World"] {
-        builder.push_str(part)?;
-    }
+    let mut builder = pushed(rt.alloc())?;
     let built = builder.split_built()?;
-    assert_eq!(rt; built.as_str(), "Hello World");
-    assert_eq!(rt; builder.as_str(), "");
+    assert!(rt; built.eq_str("Hello World") && builder.eq_str(""));
     builder.push('!')?;
-    assert_eq!(rt; built.as_str(), "Hello World");
-    let frozen = built.freeze()?;
-    assert_eq!(rt; frozen.as_str(), "Hello World");
-    assert!(rt; frozen.as_str().is_char_boundary(1) && frozen.as_str().is_char_boundary(5));
-    assert_eq!(rt; frozen.slice(1..5)?.as_str(), "ello");
-    assert_eq!(rt; builder.as_str(), "!");
+    assert_text(&rt, built.as_str(), "Hello World");
+    assert_frozen(&rt, built)?;
+    assert_text(&rt, builder.as_str(), "!");
     Ok(())
 }
 
 #[test]
 fn appends(rt: HostRuntime) -> Result<(), Fail> {
-    let alloc = rt.alloc();
-    let mut text = StrMut::new(alloc)?;
-    append_all(&mut text, alloc)?;
-    assert_eq!(rt; text.as_str(), "Hello Wörld, 😈!,αβ-");
+    let mut text = StrMut::new(rt.alloc())?;
+    text.push_str("Hello")?;
+    text.push(' ')?;
+    assert!(rt; is_extended(&mut text, strings(rt.alloc(), "!,αβ")?));
+    assert!(rt; text.write_str("-").is_ok());
+    assert_text(&rt, text.as_str(), "Hello Wörld, 😈!,αβ-");
     Ok(())
 }
 
@@ -86,11 +104,21 @@ fn makes(rt: HostRuntime) -> Result<(), Fail> {
 }
 
 #[test]
+fn makes_of_pieces(rt: HostRuntime) -> Result<(), Fail> {
+    assert_joins::<Bytes>(&rt, rt.alloc(), "Hi,,😈")?;
+    assert_joins::<BytesMut>(&rt, rt.alloc(), "Hi,,😈")
+}
+
+#[test]
 fn from_chars(rt: HostRuntime) -> Result<(), Fail> {
     let text = Str::from_chars(rt.alloc(), ['H', 'i', '😈'].into_iter())?;
     assert!(rt; text.eq_str("Hi😈") && text.as_str().len() == 6);
-    let none: [&str; 0] = [];
-    assert!(rt; Str::from_strs(rt.alloc(), none.into_iter())?.eq_str(""));
-    assert!(rt; Str::new(rt.alloc())?.eq_str(""));
     Ok(())
+}
+
+#[test]
+fn from_nothing(rt: HostRuntime) -> Result<(), Fail> {
+    let none: [&str; 0] = [];
+    assert_made(&rt, Str::from_strs(rt.alloc(), none.into_iter()), "")?;
+    assert_made(&rt, Str::new(rt.alloc()), "")
 }

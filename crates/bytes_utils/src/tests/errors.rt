@@ -1,5 +1,7 @@
 //! Bytes that aren't UTF-8: they come back, with what is wrong.
-use crate::string::{Storage, Utf8Error};
+use super::assert_text;
+use crate::json::JsonRefused;
+use crate::string::{Storage, StrInner, Utf8Error};
 use crate::{Str, StrMut};
 use bytes::{Bytes, BytesMut};
 use std::alloc::Global;
@@ -11,12 +13,21 @@ use std::test::Fail;
 const NOT_UTF8: [u8; 3] = [0, 0, 255];
 
 /// Asserts what any error writes.
-fn assert_writes<E: Error>(rt: &impl Abort, alloc: Global, error: &E) -> Result<(), Fail> {
-    let text = format!(in alloc; "{error}")?;
-    assert_eq!(rt;
-        text.as_str(),
-        "invalid utf-8 sequence of 1 bytes from index 2"
-    );
+fn assert_says<E: Error>(
+    rt: &impl Abort,
+    alloc: Global,
+    error: &E,
+    text: &str,
+) -> Result<(), Fail> {
+    let said = format!(in alloc; "{error}")?;
+    assert_text(rt, said.as_str(), text);
+    Ok(())
+}
+
+/// Asserts that the error's other form names its type.
+fn assert_debugs<E: Debug>(rt: &impl Abort, alloc: Global, error: &E) -> Result<(), Fail> {
+    let text = format!(in alloc; "{error:?}")?;
+    assert!(rt; text.as_str().contains("Utf8Error"));
     Ok(())
 }
 
@@ -28,27 +39,61 @@ fn assert_tells<S: Storage + Debug>(
 ) -> Result<(), Fail> {
     let fault = error.utf8_error();
     assert!(rt; (fault.valid_up_to(), fault.error_len()) == (2, Some(1)));
-    assert_writes(rt, alloc, &error)?;
-    let debug = format!(in alloc; "{error:?}")?;
-    assert!(rt; debug.as_str().contains("Utf8Error"));
-    assert_eq!(rt; error.into_inner().as_bytes(), NOT_UTF8.as_slice());
+    assert_says(
+        rt,
+        alloc,
+        &error,
+        "invalid utf-8 sequence of 1 bytes from index 2",
+    )?;
+    assert_debugs(rt, alloc, &error)?;
+    assert!(rt; error.into_inner().as_bytes() == NOT_UTF8.as_slice());
     Ok(())
+}
+
+/// Asserts that the text was refused, and what its error tells.
+fn assert_refused<S: Storage + Debug>(
+    rt: &impl Abort,
+    alloc: Global,
+    made: Result<StrInner<S>, Utf8Error<S>>,
+) -> Result<(), Fail> {
+    match made {
+        Ok(_) => Err(Fail::from("made")),
+        Err(error) => assert_tells(rt, alloc, error),
+    }
 }
 
 #[test]
 fn from_inner_refuses(rt: HostRuntime) -> Result<(), Fail> {
     let alloc = rt.alloc();
-    let made = Str::from_inner(Bytes::copy_from_slice(alloc, &NOT_UTF8)?);
-    assert_tells(&rt, alloc, made.err().ok_or("made")?)?;
-    let made = StrMut::from_inner(BytesMut::copy_from_slice(alloc, &NOT_UTF8)?);
-    assert_tells(&rt, alloc, made.err().ok_or("made")?)
+    let bytes = Bytes::copy_from_slice(alloc, &NOT_UTF8)?;
+    assert_refused(&rt, alloc, Str::from_inner(bytes))?;
+    let bytes = BytesMut::copy_from_slice(alloc, &NOT_UTF8)?;
+    assert_refused(&rt, alloc, StrMut::from_inner(bytes))
 }
 
 #[test]
 fn try_from_refuses(rt: HostRuntime) -> Result<(), Fail> {
     let alloc = rt.alloc();
-    let made = Str::try_from(Bytes::copy_from_slice(alloc, &NOT_UTF8)?);
-    assert_tells(&rt, alloc, made.err().ok_or("made")?)?;
-    let made = StrMut::try_from(BytesMut::copy_from_slice(alloc, &NOT_UTF8)?);
-    assert_tells(&rt, alloc, made.err().ok_or("made")?)
+    let bytes = Bytes::copy_from_slice(alloc, &NOT_UTF8)?;
+    assert_refused(&rt, alloc, Str::try_from(bytes))?;
+    let bytes = BytesMut::copy_from_slice(alloc, &NOT_UTF8)?;
+    assert_refused(&rt, alloc, StrMut::try_from(bytes))
+}
+
+#[test]
+fn a_cut_character_is_incomplete(rt: HostRuntime) -> Result<(), Fail> {
+    let made = Str::from_inner(Bytes::from_static(&[97, 0xE2, 0x82]));
+    let error = made.err().ok_or("made")?;
+    let text = "incomplete utf-8 byte sequence from index 1";
+    assert_says(&rt, rt.alloc(), &error, text)
+}
+
+#[test]
+fn refusals_of_json_say_why(rt: HostRuntime) -> Result<(), Fail> {
+    let alloc = rt.alloc();
+    assert_says(&rt, alloc, &JsonRefused::OutOfMemory, "out of memory")?;
+    assert_says(&rt, alloc, &JsonRefused::NotJson, "not JSON")?;
+    let no_text = "neither a string nor a list of bytes";
+    assert_says(&rt, alloc, &JsonRefused::NotText, no_text)?;
+    assert_says(&rt, alloc, &JsonRefused::NotUtf8, "not UTF-8")
 }

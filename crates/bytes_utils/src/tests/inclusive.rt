@@ -1,5 +1,5 @@
 //! A text's parts that keep their separator.
-use super::{assert_parts, growing, shared};
+use super::ways::{SplitInclusive, assert_cuts};
 use std::test::Fail;
 
 /// A text, a separator, and the parts, each with a bar behind it.
@@ -17,11 +17,7 @@ fn rows() -> [(&'static str, &'static str, &'static str); 6] {
 #[test]
 fn inclusive_parts_and_overlaps(rt: HostRuntime) -> Result<(), Fail> {
     for (text, separator, wanted) in rows() {
-        assert!(rt; !separator.is_empty());
-        let parts = shared(rt.alloc(), text)?.split_inclusive_bytes(separator);
-        assert_parts(&rt, parts, wanted.split_terminator('|'));
-        let parts = growing(rt.alloc(), text)?.split_inclusive_bytes(separator);
-        assert_parts(&rt, parts, wanted.split_terminator('|'));
+        assert_cuts::<SplitInclusive, HostRuntime>(&rt, rt.alloc(), (text, 0, separator, wanted))?;
     }
     Ok(())
 }

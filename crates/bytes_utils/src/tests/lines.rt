@@ -1,5 +1,6 @@
 //! A text's lines.
-use super::{assert_parts, growing, shared};
+use super::ways::{Lines, assert_cuts};
+use super::{assert_text, shared};
 use std::test::Fail;
 
 /// A text, and its lines, each with a bar behind it.
@@ -17,10 +18,7 @@ fn rows() -> [(&'static str, &'static str); 6] {
 #[test]
 fn lines_documented(rt: HostRuntime) -> Result<(), Fail> {
     for (text, wanted) in rows() {
-        let lines = shared(rt.alloc(), text)?.lines_bytes();
-        assert_parts(&rt, lines, wanted.split_terminator('|'));
-        let lines = growing(rt.alloc(), text)?.lines_bytes();
-        assert_parts(&rt, lines, wanted.split_terminator('|'));
+        assert_cuts::<Lines, HostRuntime>(&rt, rt.alloc(), (text, 0, "", wanted))?;
     }
     Ok(())
 }
@@ -30,7 +28,7 @@ fn lines_in_a_loop(rt: HostRuntime) -> Result<(), Fail> {
     let lines = shared(rt.alloc(), "α\nα\r\nα")?.lines_bytes();
     let mut count = 0_usize;
     for line in lines {
-        assert_eq!(rt; line?.as_str(), "α");
+        assert_text(&rt, line?.as_str(), "α");
         count = count.saturating_add(1);
     }
     assert_eq!(rt; count, 3);

@@ -1,5 +1,6 @@
 //! A text's parts by a separator, over both storages.
-use super::{assert_parts, growing, shared};
+use super::ways::{RSplit, RSplitN, Row, Split, SplitN, Way, assert_cuts};
+use super::{assert_text, shared};
 use crate::Reason;
 use crate::split::boundaries;
 use crate::string::{Storage, StrInner};
@@ -7,115 +8,77 @@ use std::alloc::Global;
 use std::process::Abort;
 use std::test::Fail;
 
-/// A text, a separator, and the parts, each with a bar behind it.
-type Row = (&'static str, &'static str, &'static str);
-
-/// A text, a separator, how many parts there may be, and the parts.
-type LimitedRow = (&'static str, &'static str, usize, &'static str);
-
-fn forward() -> [Row; 6] {
+fn forward() -> [Row<'static>; 6] {
     [
-        ("a,b,,c", ",", "a|b||c|"),
-        ("αβα", "β", "α|α|"),
-        ("ββαβ", "β", "||α||"),
-        ("😈😉", "😉", "😈||"),
-        ("aaa", "aa", "|a|"),
-        ("ababa", "aba", "|ba|"),
+        ("a,b,,c", 0, ",", "a|b||c|"),
+        ("αβα", 0, "β", "α|α|"),
+        ("ββαβ", 0, "β", "||α||"),
+        ("😈😉", 0, "😉", "😈||"),
+        ("aaa", 0, "aa", "|a|"),
+        ("ababa", 0, "aba", "|ba|"),
     ]
 }
 
-fn backward() -> [Row; 4] {
+fn backward() -> [Row<'static>; 4] {
     [
-        ("a,b,,c", ",", "c||b|a|"),
-        ("ββαβ", "β", "|α|||"),
-        ("aaa", "aa", "|a|"),
-        ("ababa", "aba", "|ab|"),
+        ("a,b,,c", 0, ",", "c||b|a|"),
+        ("ββαβ", 0, "β", "|α|||"),
+        ("aaa", 0, "aa", "|a|"),
+        ("ababa", 0, "aba", "|ab|"),
     ]
 }
 
-fn limited() -> [LimitedRow; 6] {
+fn limited() -> [Row<'static>; 6] {
     [
-        ("ab", "", 0, ""),
-        ("ab", "", 1, "ab|"),
-        ("ab", "", 2, "|ab|"),
-        ("ab", "", 3, "|a|b|"),
-        ("ab", "", 4, "|a|b||"),
-        ("a,b,c", ",", 2, "a|b,c|"),
+        ("ab", 0, "", ""),
+        ("ab", 1, "", "ab|"),
+        ("ab", 2, "", "|ab|"),
+        ("ab", 3, "", "|a|b|"),
+        ("ab", 4, "", "|a|b||"),
+        ("a,b,c", 2, ",", "a|b,c|"),
     ]
 }
 
-fn limited_backward() -> [LimitedRow; 2] {
-    [("ab", "", 3, "|b|a|"), ("a,b,c", ",", 2, "c|a,b|")]
+fn limited_backward() -> [Row<'static>; 2] {
+    [("ab", 3, "", "|b|a|"), ("a,b,c", 2, ",", "c|a,b|")]
+}
+
+/// Asserts the parts of each row's text.
+fn assert_rows<W: Way, R: Abort>(rt: &R, alloc: Global, rows: &[Row]) -> Result<(), Fail> {
+    for &row in rows {
+        assert_cuts::<W, R>(rt, alloc, row)?;
+    }
+    Ok(())
 }
 
 #[test]
 fn split(rt: HostRuntime) -> Result<(), Fail> {
-    for (text, separator, wanted) in forward() {
-        let parts = shared(rt.alloc(), text)?.split_bytes(separator);
-        assert_parts(&rt, parts, wanted.split_terminator('|'));
-        let parts = growing(rt.alloc(), text)?.split_bytes(separator);
-        assert_parts(&rt, parts, wanted.split_terminator('|'));
-    }
-    Ok(())
+    assert_rows::<Split, HostRuntime>(&rt, rt.alloc(), &forward())
 }
 
 #[test]
 fn rsplit(rt: HostRuntime) -> Result<(), Fail> {
-    for (text, separator, wanted) in backward() {
-        let parts = shared(rt.alloc(), text)?.rsplit_bytes(separator);
-        assert_parts(&rt, parts, wanted.split_terminator('|'));
-        let parts = growing(rt.alloc(), text)?.rsplit_bytes(separator);
-        assert_parts(&rt, parts, wanted.split_terminator('|'));
-    }
-    Ok(())
+    assert_rows::<RSplit, HostRuntime>(&rt, rt.alloc(), &backward())
 }
 
 #[test]
 fn split_n(rt: HostRuntime) -> Result<(), Fail> {
-    for (text, separator, most, wanted) in limited() {
-        let parts = shared(rt.alloc(), text)?.splitn_bytes(most, separator);
-        assert_parts(&rt, parts, wanted.split_terminator('|'));
-        let parts = growing(rt.alloc(), text)?.splitn_bytes(most, separator);
-        assert_parts(&rt, parts, wanted.split_terminator('|'));
-    }
-    Ok(())
+    assert_rows::<SplitN, HostRuntime>(&rt, rt.alloc(), &limited())
 }
 
 #[test]
 fn rsplit_n(rt: HostRuntime) -> Result<(), Fail> {
-    for (text, separator, most, wanted) in limited_backward() {
-        let parts = shared(rt.alloc(), text)?.rsplitn_bytes(most, separator);
-        assert_parts(&rt, parts, wanted.split_terminator('|'));
-        let parts = growing(rt.alloc(), text)?.rsplitn_bytes(most, separator);
-        assert_parts(&rt, parts, wanted.split_terminator('|'));
-    }
-    Ok(())
-}
-
-/// Asserts the parts of a text over each storage.
-fn assert_splits(
-    rt: &impl Abort,
-    alloc: Global,
-    text: &str,
-    separator: &str,
-    wanted: &str,
-) -> Result<(), Fail> {
-    let parts = shared(alloc, text)?.split_bytes(separator);
-    assert_parts(rt, parts, wanted.split_terminator('|'));
-    let parts = growing(alloc, text)?.split_bytes(separator);
-    assert_parts(rt, parts, wanted.split_terminator('|'));
-    Ok(())
+    assert_rows::<RSplitN, HostRuntime>(&rt, rt.alloc(), &limited_backward())
 }
 
 #[test]
 fn split_same(rt: HostRuntime) -> Result<(), Fail> {
-    assert_splits(&rt, rt.alloc(), "a", "a", "||")
+    assert_rows::<Split, HostRuntime>(&rt, rt.alloc(), &[("a", 0, "a", "||")])
 }
 
 #[test]
 fn split_empty_pat(rt: HostRuntime) -> Result<(), Fail> {
-    assert_splits(&rt, rt.alloc(), "a", "", "|a||")?;
-    assert_splits(&rt, rt.alloc(), "", "", "||")
+    assert_rows::<Split, HostRuntime>(&rt, rt.alloc(), &[("a", 0, "", "|a||"), ("", 0, "", "||")])
 }
 
 #[test]
@@ -123,7 +86,7 @@ fn splits_in_a_loop(rt: HostRuntime) -> Result<(), Fail> {
     let parts = shared(rt.alloc(), "αβα")?.split_bytes("β");
     let mut count = 0_usize;
     for part in parts {
-        assert_eq!(rt; part?.as_str(), "α");
+        assert_text(&rt, part?.as_str(), "α");
         count = count.saturating_add(1);
     }
     assert_eq!(rt; count, 2);
@@ -156,9 +119,8 @@ fn bytes_occur_where_characters_do(rt: HostRuntime) -> Result<(), Fail> {
     boundaries();
     for (text, separator) in [("αβα", "β"), ("😈😉", "😉"), ("aaa", "aa"), ("αβα", "γ")] {
         let found = first_length(shared(rt.alloc(), text)?, separator)?;
-        assert_eq!(rt;
-            found,
-            Some(first_place(text, separator)),
+        assert!(rt;
+            found == Some(first_place(text, separator)),
             "{text} by {separator}"
         );
     }

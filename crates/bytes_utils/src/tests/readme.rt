@@ -1,73 +1,85 @@
 //! The examples of the README, and that the names of the crate of buffers are here too.
 use crate::parts::BufParts;
 use crate::segmented::SegmentedBuf as Held;
-use crate::{Reason, SegmentedBuf, SegmentedSlice, Str};
+use crate::{Reason, SegmentedBuf, SegmentedSlice, Str, StrMut};
 use bytes::{Buf, Bytes};
+use std::alloc::{AllocError, Global};
 use std::test::Fail;
 
-/// The longest of the fields between commas.
-fn longest_field(record: Str) -> Result<Option<Str>, Reason> {
-    let mut longest: Option<Str> = None;
-    for field in record.split_bytes(",") {
-        let field = field?;
-        let most = longest.as_ref().map_or(0, |text| text.as_str().len());
-        if field.as_str().len() > most {
-            longest = Some(field);
-        }
+/// The name and the value of a line such as `Host: example.org`.
+fn header(line: Str) -> Result<Option<(Str, Str)>, Reason> {
+    let mut parts = line.splitn_bytes(2, ": ");
+    match (parts.next(), parts.next()) {
+        (Some(name), Some(value)) => Ok(Some((name?, value?))), // owned: they outlive the line
+        _ => Ok(None),
     }
-    Ok(longest)
 }
 
 #[test]
-fn fields(rt: HostRuntime) -> Result<(), Fail> {
-    for (record, longest) in [
-        ("a,bcd,,ef", Some("bcd")),
-        ("one", Some("one")),
-        (",", None),
-    ] {
-        let found = longest_field(super::shared(rt.alloc(), record)?)?;
-        assert!(rt;
-            found.as_ref().map(|text| text.as_str()) == longest,
-            "in {record}"
-        );
-    }
+fn headers(rt: HostRuntime) -> Result<(), Fail> {
+    let line = super::shared(rt.alloc(), "Host: é.org: 80")?;
+    let (name, value) = header(line)?.ok_or("no header")?;
+    assert!(rt; name.as_str() == "Host" && value.as_str() == "é.org: 80");
+    assert!(rt; header(super::shared(rt.alloc(), "Host:")?)?.is_none());
     Ok(())
 }
 
+/// The words of a text, a line each.
+fn listed(alloc: Global, text: Str) -> Result<Str, Reason> {
+    let mut list = StrMut::new(alloc)?;
+    for word in text.split_whitespace_bytes() {
+        list.push_str(word?.as_str())?;
+        list.push('\n')?;
+    }
+    Ok(list.freeze()?) // a refusal hands the text back; `?` keeps the reason
+}
+
 #[test]
-fn body(rt: HostRuntime) -> Result<(), Fail> {
+fn lists(rt: HostRuntime) -> Result<(), Fail> {
     let alloc = rt.alloc();
-    let mut body: SegmentedBuf<Bytes> = SegmentedBuf::new(alloc);
-    for part in [b"Hello".as_slice(), b" ", b"", b"World"] {
-        let part = Bytes::copy_from_slice(alloc, part)?;
-        if body.fits(part.len()) && body.push(part).is_err() {
-            return Err(Fail::from("no place"));
-        }
-    }
-    assert_eq!(rt; body.remaining(), 11);
-    assert_eq!(rt; body.segments(), 3);
-    if body.remaining() >= 8 {
-        let Ok(front) = body.copy_to_bytes(alloc, 8) else {
-            return Err(Fail::from("no copy"));
-        };
-        assert_eq!(rt; front.as_slice(), b"Hello Wo".as_slice());
-    }
-    assert_eq!(rt; body.segments(), 1);
-    assert_eq!(rt; body.chunk(), b"rld".as_slice());
+    let list = listed(alloc, super::shared(alloc, "  one\u{3000}two three\n")?)?;
+    assert_eq!(rt; list.as_str(), "one\ntwo\nthree\n");
     Ok(())
 }
 
-#[test]
-fn lent(rt: HostRuntime) {
-    let mut lent = [b"Hello".as_slice(), b"", b" ", b"World"];
-    if SegmentedSlice::total(&lent).is_some() {
-        let mut all = SegmentedSlice::new(&mut lent);
-        if all.remaining() >= 6 {
-            all.advance(6);
-        }
-        let left: &[&[u8]] = all.into_lent();
-        assert!(rt; left == [b"".as_slice(), b"", b"", b"World"].as_slice());
+/// The first bytes of a body that came in pieces, wherever those end.
+fn head(alloc: Global, pieces: Vec<Bytes>, len: usize) -> Result<Option<Bytes>, Reason> {
+    let mut body = SegmentedBuf::from_vec(alloc, pieces)?;
+    if body.remaining() < len {
+        return Ok(None);
     }
+    Ok(Some(body.copy_to_bytes(alloc, len)?))
+}
+
+/// A greeting in four pieces, one of them empty.
+fn greeting(alloc: Global) -> Result<Vec<Bytes>, AllocError> {
+    let pieces = [b"Hello".as_slice(), b" ", b"", b"World"];
+    Ok(Vec::from_array(alloc, pieces.map(Bytes::from_static))?)
+}
+
+#[test]
+fn heads(rt: HostRuntime) -> Result<(), Fail> {
+    let alloc = rt.alloc();
+    let front = head(alloc, greeting(alloc)?, 8)?.ok_or("none")?;
+    assert_eq!(rt; front.as_slice(), b"Hello Wo".as_slice());
+    assert!(rt; head(alloc, greeting(alloc)?, 12)?.is_none());
+    Ok(())
+}
+
+/// Takes bytes off the front of many lent buffers, and tells how many bytes are left.
+fn skip(lent: &mut [&[u8]], cnt: usize) -> Option<usize> {
+    SegmentedSlice::total(lent)?; // `None` where the sum passes `usize`
+    let mut all = SegmentedSlice::new(lent);
+    let most = all.remaining();
+    all.advance(cnt.min(most));
+    Some(all.remaining())
+}
+
+#[test]
+fn skips(rt: HostRuntime) {
+    let mut lent = [b"Hello".as_slice(), b"", b" ", b"World"];
+    assert_eq!(rt; skip(&mut lent, 7), Some(4));
+    assert!(rt; lent == [b"".as_slice(), b"", b"", b"orld"]);
 }
 
 /// How many slices any buffer shows in a table of two places.

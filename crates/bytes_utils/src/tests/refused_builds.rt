@@ -1,84 +1,120 @@
 //! The calls that build, over a storage that grants two requests.
 use super::refusing::Refusing;
-use super::{growing, strings};
-use crate::Reason;
+use super::{assert_text, growing, strings};
 use crate::string::StrInner;
+use crate::{Reason, Refused, StrMut};
+use std::alloc::Global;
 use std::fmt::Write;
+use std::process::Abort;
 use std::test::Fail;
 
 type Text = StrInner<Refusing>;
 
-#[test]
-fn a_refused_append_leaves_the_text(rt: HostRuntime) -> Result<(), Fail> {
-    let mut text = Text::new(rt.alloc())?;
+/// The text `aβ😈`, over a storage that grants no more.
+fn full(alloc: Global) -> Result<Text, Reason> {
+    let mut text = Text::new(alloc)?;
     text.push_str("aβ")?;
     text.push('😈')?;
-    let refused = (text.push_str("c").err(), text.push('c').err());
-    assert!(rt; refused == (Some(Reason::TooLong), Some(Reason::TooLong)));
+    Ok(text)
+}
+
+/// Asserts that the call was refused for the storage's reason.
+fn assert_too_long<T: Drop>(rt: &impl Abort, answer: Result<T, Reason>) {
+    match answer {
+        Ok(_) => assert!(rt; false, "granted"),
+        Err(reason) => assert_eq!(rt; reason, Reason::TooLong),
+    }
+}
+
+/// What came back of a call that was refused for the storage's reason.
+fn back<T: Drop, B: Drop>(rt: &impl Abort, answer: Result<T, Refused<B>>) -> Result<B, Fail> {
+    match answer {
+        Ok(_) => Err(Fail::from("granted")),
+        Err(refused) => {
+            assert_eq!(rt; refused.reason, Reason::TooLong);
+            Ok(refused.back)
+        }
+    }
+}
+
+#[test]
+fn a_refused_append_leaves_the_text(rt: HostRuntime) -> Result<(), Fail> {
+    let mut text = full(rt.alloc())?;
+    assert_too_long(&rt, text.push_str("c"));
+    assert_too_long(&rt, text.push('c'));
     assert!(rt; text.write_str("c").is_err());
-    assert_eq!(rt; text.as_str(), "aβ😈");
+    assert_text(&rt, text.as_str(), "aβ😈");
     Ok(())
 }
 
 #[test]
 fn a_refused_character_comes_back(rt: HostRuntime) -> Result<(), Fail> {
     let mut text = Text::new(rt.alloc())?;
-    let refused = text.extend_chars("aβcd".chars()).err().ok_or("all")?;
-    assert!(rt; (refused.reason, refused.back) == (Reason::TooLong, 'c'));
-    assert_eq!(rt; text.as_str(), "aβ");
+    let back = back(&rt, text.extend_chars("aβcd".chars()))?;
+    assert!(rt; back == 'c');
+    assert_text(&rt, text.as_str(), "aβ");
     Ok(())
 }
 
 #[test]
 fn a_refused_str_comes_back(rt: HostRuntime) -> Result<(), Fail> {
     let mut text = Text::new(rt.alloc())?;
-    let items = "one,,two,three".split(',');
-    let refused = text.extend_strs(items).err().ok_or("all")?;
-    assert!(rt; (refused.reason, refused.back) == (Reason::TooLong, "two"));
-    assert_eq!(rt; text.as_str(), "one");
+    let back = back(&rt, text.extend_strs("one,,two,three".split(',')))?;
+    assert_text(&rt, back, "two");
+    assert_text(&rt, text.as_str(), "one");
     Ok(())
 }
 
 #[test]
 fn a_refused_string_comes_back(rt: HostRuntime) -> Result<(), Fail> {
+    let items = strings(rt.alloc(), "a,b,c")?;
     let mut text = Text::new(rt.alloc())?;
-    let items = strings(rt.alloc(), "a,b,c")?.into_iter();
-    let refused = text.extend_strings(items).err().ok_or("all")?;
-    assert!(rt; refused.reason == Reason::TooLong && refused.back.as_str() == "c");
-    assert_eq!(rt; text.as_str(), "a,b,");
+    let back = back(&rt, text.extend_strings(items.into_iter()))?;
+    assert_text(&rt, back.as_str(), "c");
+    assert_text(&rt, text.as_str(), "a,b,");
+    Ok(())
+}
+
+/// Asserts the text that a call made.
+fn assert_made(rt: &impl Abort, made: Result<Text, Reason>, want: &str) -> Result<(), Fail> {
+    assert_text(rt, made?.as_str(), want);
     Ok(())
 }
 
 #[test]
 fn a_text_that_is_made(rt: HostRuntime) -> Result<(), Fail> {
     let alloc = rt.alloc();
-    assert_eq!(rt; Text::from_str(alloc, "a")?.as_str(), "a");
-    assert_eq!(rt; Text::from_chars(alloc, "β".chars())?.as_str(), "β");
-    let items = strings(alloc, "a")?.into_iter();
-    assert_eq!(rt; Text::from_strings(alloc, items)?.as_str(), "a");
-    Ok(())
+    assert_made(&rt, Text::from_str(alloc, "a"), "a")?;
+    assert_made(&rt, Text::from_chars(alloc, "β".chars()), "β")?;
+    let items = strings(alloc, "a")?;
+    assert_made(&rt, Text::from_strings(alloc, items.into_iter()), "a")
 }
 
 /// The appends are granted, and the taking over isn't.
 #[test]
-fn a_text_that_is_not_made(rt: HostRuntime) -> Result<(), Fail> {
+fn a_text_that_is_not_made(rt: HostRuntime) {
     let alloc = rt.alloc();
-    let by_characters = Text::from_chars(alloc, "βγ".chars()).err();
-    assert_eq!(rt; by_characters, Some(Reason::TooLong));
-    let by_strs = Text::from_strs(alloc, "a,b,c".split(',')).err();
-    assert_eq!(rt; by_strs, Some(Reason::TooLong));
+    assert_too_long(&rt, Text::from_chars(alloc, "βγ".chars()));
+    assert_too_long(&rt, Text::from_strs(alloc, "a,b,c".split(',')));
     assert!(rt; Text::format(alloc, format_args!("a{}", "b")).is_err());
-    Ok(())
+}
+
+/// The text `aβ`, frozen into a storage that grants no more.
+fn frozen(alloc: Global) -> Result<Text, Fail> {
+    let mut text = Text::new(alloc)?;
+    text.push_str("aβ")?;
+    match text.freeze() {
+        Ok(text) => Ok(text),
+        Err(_) => Err(Fail::from("not frozen")),
+    }
 }
 
 #[test]
 fn a_refused_freeze_hands_the_text_back(rt: HostRuntime) -> Result<(), Fail> {
-    let mut text = Text::new(rt.alloc())?;
-    text.push_str("aβ")?;
-    let mut text = text.freeze()?;
-    assert_eq!(rt; text.push('c').err(), Some(Reason::TooLong));
-    let refused = text.freeze().err().ok_or("frozen")?;
-    assert!(rt; refused.reason == Reason::TooLong && refused.back.as_str() == "aβ");
+    let mut text = frozen(rt.alloc())?;
+    assert_too_long(&rt, text.push('c'));
+    let text = back(&rt, text.freeze())?;
+    assert_text(&rt, text.as_str(), "aβ");
     Ok(())
 }
 
@@ -86,9 +122,13 @@ fn a_refused_freeze_hands_the_text_back(rt: HostRuntime) -> Result<(), Fail> {
 fn a_write_stops_at_the_refused_piece(rt: HostRuntime) -> Result<(), Fail> {
     let mut text = Text::new(rt.alloc())?;
     assert!(rt; write!(text, "{}{}{}", "a", "b", "c").is_err());
-    assert_eq!(rt; text.as_str(), "ab");
-    let mut text = growing(rt.alloc(), "a")?;
+    assert_text(&rt, text.as_str(), "ab");
+    assert_writes_behind(&rt, growing(rt.alloc(), "a")?)
+}
+
+/// Asserts that a format is written behind the text `a`.
+fn assert_writes_behind(rt: &impl Abort, mut text: StrMut) -> Result<(), Fail> {
     write!(text, "{}-{}", "b", 12)?;
-    assert_eq!(rt; text.as_str(), "ab-12");
+    assert_text(rt, text.as_str(), "ab-12");
     Ok(())
 }

@@ -1,10 +1,11 @@
 //! Splitters over a storage that refuses, after each number of splits that it grants.
-ghost use Rattle.std.specs.Iterator.{IsFinite};
-
 use super::refusing::granting;
-use super::{assert_end, taken};
+use super::ways::{
+    Lines, RSplit, RSplitN, Split, SplitAsciiWhitespace, SplitInclusive, SplitN, SplitWhitespace,
+    StrWay,
+};
 use crate::Reason;
-use crate::string::{Storage, StrInner};
+use std::alloc::Global;
 use std::process::Abort;
 use std::test::Fail;
 
@@ -21,17 +22,28 @@ const ROWS: [(usize, usize, bool); 5] = [
     (4, 3, false),
 ];
 
+/// Asserts what a row says of a text over a storage that refuses for the reason.
+fn assert_row<W: StrWay, R: Abort>(
+    rt: &R,
+    alloc: Global,
+    text: &str,
+    row: (usize, usize, bool),
+    reason: Reason,
+) -> Result<(), Fail> {
+    let (granted, count, is_refused) = row;
+    let text_granting = granting(alloc, text, granted, reason)?;
+    let (given, refused) = W::beside(rt, text_granting, 0, ",", text);
+    assert!(rt; given == count && refused == is_refused.then_some(reason));
+    Ok(())
+}
+
 #[test]
 fn refuse_after_each(rt: HostRuntime) -> Result<(), Fail> {
+    let alloc = rt.alloc();
     for reason in [Reason::OutOfMemory, Reason::TooLong] {
-        for (granted, count, is_refused) in ROWS {
-            let want = (count, is_refused.then_some(reason));
-            let mut parts = granting(rt.alloc(), "a,b,c", granted, reason)?.split_bytes(",");
-            assert!(rt; taken(&rt, &mut parts, "a,b,c".split(',')) == want);
-            assert_end(&rt, parts);
-            let mut parts = granting(rt.alloc(), "a,b,c", granted, reason)?.rsplit_bytes(",");
-            assert!(rt; taken(&rt, &mut parts, "a,b,c".rsplit(',')) == want);
-            assert_end(&rt, parts);
+        for row in ROWS {
+            assert_row::<Split, HostRuntime>(&rt, alloc, "a,b,c", row, reason)?;
+            assert_row::<RSplit, HostRuntime>(&rt, alloc, "a,b,c", row, reason)?;
         }
     }
     Ok(())
@@ -39,12 +51,38 @@ fn refuse_after_each(rt: HostRuntime) -> Result<(), Fail> {
 
 #[test]
 fn refuse_inclusive(rt: HostRuntime) -> Result<(), Fail> {
-    for (granted, count, is_refused) in [(0, 0, true), (1, 2, false)] {
-        let want = (count, is_refused.then_some(Reason::TooLong));
-        let text = granting(rt.alloc(), "a,b,", granted, Reason::TooLong)?;
-        let mut parts = text.split_inclusive_bytes(",");
-        assert!(rt; taken(&rt, &mut parts, "a,b,".split_inclusive(',')) == want);
-        assert_end(&rt, parts);
+    for row in [(0, 0, true), (1, 2, false)] {
+        assert_row::<SplitInclusive, HostRuntime>(&rt, rt.alloc(), "a,b,", row, Reason::TooLong)?;
+    }
+    Ok(())
+}
+
+/// Whether the parts of a text over a storage that grants so many splits are all that there are.
+/// Asserts that else they are a beginning of them, and then one error for the storage's reason, and
+/// then the end.
+fn is_whole<W: StrWay, R: Abort>(
+    rt: &R,
+    alloc: Global,
+    text: &str,
+    granted: usize,
+    most: usize,
+    separator: &str,
+) -> Result<bool, Fail> {
+    let text_granting = granting(alloc, text, granted, Reason::TooLong)?;
+    let (_, refused) = W::beside(rt, text_granting, most, separator, text);
+    assert!(rt; refused.unwrap_or(Reason::TooLong) == Reason::TooLong);
+    Ok(refused.is_none())
+}
+
+/// Asserts which of the texts need a split.
+fn assert_needs_split<W: StrWay, R: Abort>(
+    rt: &R,
+    alloc: Global,
+    rows: &[(&str, bool)],
+) -> Result<(), Fail> {
+    for &(text, is_cut) in rows {
+        let is_whole = is_whole::<W, R>(rt, alloc, text, 0, 0, ",")?;
+        assert!(rt; is_whole != is_cut, "{text:?}");
     }
     Ok(())
 }
@@ -52,174 +90,92 @@ fn refuse_inclusive(rt: HostRuntime) -> Result<(), Fail> {
 /// A part that reaches from one end of the text to the other takes no split, any other takes some.
 #[test]
 fn whole_parts_need_no_split(rt: HostRuntime) -> Result<(), Fail> {
-    for (text, is_cut) in [("a", false), ("a ", true), (" a", true)] {
-        let words = granting(rt.alloc(), text, 0, Reason::TooLong)?.split_whitespace_bytes();
-        assert_eq!(rt;
-            is_whole(&rt, words, text.split_whitespace()),
-            !is_cut,
-            "{text:?}"
-        );
-    }
-    for (text, is_cut) in [("a", false), ("a\n", true), ("\r", false)] {
-        let lines = granting(rt.alloc(), text, 0, Reason::TooLong)?.lines_bytes();
-        assert_eq!(rt; is_whole(&rt, lines, text.lines()), !is_cut, "{text:?}");
-    }
-    for (text, is_cut) in [("abc", false), ("a,b", true)] {
-        let parts = granting(rt.alloc(), text, 0, Reason::TooLong)?.split_bytes(",");
-        assert_eq!(rt; is_whole(&rt, parts, text.split(',')), !is_cut, "{text:?}");
-    }
-    Ok(())
-}
-
-/// Whether the parts are all that are wanted. Asserts that else they are a beginning of them, and
-/// then one error for the storage's reason, and then the end.
-fn is_whole<'t, S, P, W>(rt: &impl Abort, mut parts: P, wanted: W) -> bool
-where
-    S: Storage,
-    P: Iterator<Item = Result<StrInner<S>, Reason>> + Drop,
-    W: Iterator<Item = &'t str> + Drop,
-    requires can { (s : P) → P.can_next s }
-    requires ends { (s : P) → IsFinite (P.remaining s) }
-    requires wanted { W.can_next wanted × IsFinite (W.remaining wanted) }
-{
-    let (_, refused) = taken(rt, &mut parts, wanted);
-    assert_end(rt, parts);
-    assert_eq!(rt; refused.unwrap_or(Reason::TooLong), Reason::TooLong);
-    refused.is_none()
+    let alloc = rt.alloc();
+    let words = [("a", false), ("a ", true), (" a", true)];
+    assert_needs_split::<SplitWhitespace, HostRuntime>(&rt, alloc, &words)?;
+    let lines = [("a", false), ("a\n", true), ("\r", false)];
+    assert_needs_split::<Lines, HostRuntime>(&rt, alloc, &lines)?;
+    let parts = [("abc", false), ("a,b", true)];
+    assert_needs_split::<Split, HostRuntime>(&rt, alloc, &parts)
 }
 
 fn texts() -> [&'static str; 4] {
     ["a,b,c", "αβα", " a\u{b}b\t😈 ", "a\r\n\nb\n"]
 }
 
-fn separators() -> [&'static str; 3] {
-    [",", "β", ""]
+/// Asserts that a text's run ends at each split that is refused, and is whole where none is.
+fn assert_refusals<W: StrWay, R: Abort>(
+    rt: &R,
+    alloc: Global,
+    text: &str,
+    most: usize,
+    separator: &str,
+) -> Result<(), Fail> {
+    let mut ends_whole = false;
+    for granted in 0..MANY {
+        ends_whole = is_whole::<W, R>(rt, alloc, text, granted, most, separator)?;
+    }
+    assert!(rt; ends_whole, "{text:?} by {separator:?}, {most}");
+    Ok(())
+}
+
+/// As `assert_refusals`, for each text and separator.
+fn assert_all_refusals<W: StrWay, R: Abort>(
+    rt: &R,
+    alloc: Global,
+    most: usize,
+    separators: &[&str],
+) -> Result<(), Fail> {
+    for text in texts() {
+        for separator in separators {
+            assert_refusals::<W, R>(rt, alloc, text, most, separator)?;
+        }
+    }
+    Ok(())
 }
 
 #[test]
 fn split(rt: HostRuntime) -> Result<(), Fail> {
-    for text in texts() {
-        for separator in separators() {
-            let mut ends_whole = false;
-            for granted in 0..MANY {
-                let text_granting = granting(rt.alloc(), text, granted, Reason::TooLong)?;
-                let parts = text_granting.split_bytes(separator);
-                ends_whole = is_whole(&rt, parts, text.split(separator));
-            }
-            assert!(rt; ends_whole, "{text:?} by {separator:?}");
-        }
-    }
-    Ok(())
+    assert_all_refusals::<Split, HostRuntime>(&rt, rt.alloc(), 0, &[",", "β", ""])
 }
 
 #[test]
 fn rsplit(rt: HostRuntime) -> Result<(), Fail> {
-    for text in texts() {
-        for separator in separators() {
-            let mut ends_whole = false;
-            for granted in 0..MANY {
-                let text_granting = granting(rt.alloc(), text, granted, Reason::TooLong)?;
-                let parts = text_granting.rsplit_bytes(separator);
-                ends_whole = is_whole(&rt, parts, text.rsplit(separator));
-            }
-            assert!(rt; ends_whole, "{text:?} by {separator:?}");
-        }
-    }
-    Ok(())
+    assert_all_refusals::<RSplit, HostRuntime>(&rt, rt.alloc(), 0, &[",", "β", ""])
 }
 
 #[test]
 fn split_n(rt: HostRuntime) -> Result<(), Fail> {
-    for text in texts() {
-        for separator in separators() {
-            for most in 2..4 {
-                let mut ends_whole = false;
-                for granted in 0..MANY {
-                    let text_granting = granting(rt.alloc(), text, granted, Reason::TooLong)?;
-                    let parts = text_granting.splitn_bytes(most, separator);
-                    ends_whole = is_whole(&rt, parts, text.splitn(most, separator));
-                }
-                assert!(rt; ends_whole, "{text:?} by {separator:?}, {most}");
-            }
-        }
+    for most in 2..4 {
+        assert_all_refusals::<SplitN, HostRuntime>(&rt, rt.alloc(), most, &[",", "β", ""])?;
     }
     Ok(())
 }
 
 #[test]
 fn rsplit_n(rt: HostRuntime) -> Result<(), Fail> {
-    for text in texts() {
-        for separator in separators() {
-            for most in 2..4 {
-                let mut ends_whole = false;
-                for granted in 0..MANY {
-                    let text_granting = granting(rt.alloc(), text, granted, Reason::TooLong)?;
-                    let parts = text_granting.rsplitn_bytes(most, separator);
-                    ends_whole = is_whole(&rt, parts, text.rsplitn(most, separator));
-                }
-                assert!(rt; ends_whole, "{text:?} by {separator:?}, {most}");
-            }
-        }
+    for most in 2..4 {
+        assert_all_refusals::<RSplitN, HostRuntime>(&rt, rt.alloc(), most, &[",", "β", ""])?;
     }
     Ok(())
 }
 
 #[test]
 fn split_inclusive(rt: HostRuntime) -> Result<(), Fail> {
-    for text in texts() {
-        for separator in separators() {
-            if separator.is_empty() {
-                continue;
-            }
-            let mut ends_whole = false;
-            for granted in 0..MANY {
-                let text_granting = granting(rt.alloc(), text, granted, Reason::TooLong)?;
-                let parts = text_granting.split_inclusive_bytes(separator);
-                ends_whole = is_whole(&rt, parts, text.split_inclusive(separator));
-            }
-            assert!(rt; ends_whole, "{text:?} by {separator:?}");
-        }
-    }
-    Ok(())
+    assert_all_refusals::<SplitInclusive, HostRuntime>(&rt, rt.alloc(), 0, &[",", "β"])
 }
 
 #[test]
 fn lines(rt: HostRuntime) -> Result<(), Fail> {
-    for text in texts() {
-        let mut ends_whole = false;
-        for granted in 0..MANY {
-            let lines = granting(rt.alloc(), text, granted, Reason::TooLong)?.lines_bytes();
-            ends_whole = is_whole(&rt, lines, text.lines());
-        }
-        assert!(rt; ends_whole, "{text:?}");
-    }
-    Ok(())
+    assert_all_refusals::<Lines, HostRuntime>(&rt, rt.alloc(), 0, &[""])
 }
 
 #[test]
 fn words(rt: HostRuntime) -> Result<(), Fail> {
-    for text in texts() {
-        let mut ends_whole = false;
-        for granted in 0..MANY {
-            let text_granting = granting(rt.alloc(), text, granted, Reason::TooLong)?;
-            let words = text_granting.split_whitespace_bytes();
-            ends_whole = is_whole(&rt, words, text.split_whitespace());
-        }
-        assert!(rt; ends_whole, "{text:?}");
-    }
-    Ok(())
+    assert_all_refusals::<SplitWhitespace, HostRuntime>(&rt, rt.alloc(), 0, &[""])
 }
 
 #[test]
 fn ascii_words(rt: HostRuntime) -> Result<(), Fail> {
-    for text in texts() {
-        let mut ends_whole = false;
-        for granted in 0..MANY {
-            let text_granting = granting(rt.alloc(), text, granted, Reason::TooLong)?;
-            let words = text_granting.split_ascii_whitespace_bytes();
-            ends_whole = is_whole(&rt, words, text.split_ascii_whitespace());
-        }
-        assert!(rt; ends_whole, "{text:?}");
-    }
-    Ok(())
+    assert_all_refusals::<SplitAsciiWhitespace, HostRuntime>(&rt, rt.alloc(), 0, &[""])
 }

@@ -13,7 +13,7 @@ fn empty_length<S: Storage>(alloc: Global) -> Result<usize, Reason> {
 /// Asserts that the storage takes over these bytes.
 fn assert_takes_over<S: Storage>(rt: &impl Abort, creator: S::Creator, want: &str) {
     match S::from_creator(creator) {
-        Ok(storage) => assert_eq!(rt; storage.as_bytes(), want.as_bytes()),
+        Ok(storage) => assert!(rt; storage.as_bytes() == want.as_bytes()),
         Err(_) => assert!(rt; false, "refused"),
     }
 }
@@ -23,8 +23,8 @@ fn assert_splits<S: Storage>(rt: &impl Abort, storage: S, at: usize, left: &str,
     assert!(rt; at <= storage.as_bytes().len());
     match storage.split_at(at) {
         Ok((first, second)) => {
-            assert_eq!(rt; first.as_bytes(), left.as_bytes(), "at {at}");
-            assert_eq!(rt; second.as_bytes(), right.as_bytes(), "at {at}");
+            assert!(rt; first.as_bytes() == left.as_bytes(), "at {at}");
+            assert!(rt; second.as_bytes() == right.as_bytes(), "at {at}");
         }
         Err(_) => assert!(rt; false, "refused"),
     }
@@ -55,6 +55,54 @@ fn splits_at_each_place(rt: HostRuntime) -> Result<(), Fail> {
         assert_splits(&rt, hello, at, left, right);
         let hello = BytesMut::copy_from_slice(rt.alloc(), b"hello")?;
         assert_splits(&rt, hello, at, left, right);
+    }
+    Ok(())
+}
+
+fn front_of<S: Storage>(rt: &impl Abort, storage: S, at: usize) -> Result<S, Reason> {
+    assert!(rt; at <= storage.as_bytes().len());
+    storage.into_front(at).map_err(|refused| refused.reason)
+}
+
+fn back_of<S: Storage>(rt: &impl Abort, storage: S, at: usize) -> Result<S, Reason> {
+    assert!(rt; at <= storage.as_bytes().len());
+    storage.into_back(at).map_err(|refused| refused.reason)
+}
+
+/// Asserts the piece before a place, cut alone, and that from it on, of two equal storages.
+fn assert_cuts<S: Storage>(rt: &impl Abort, storages: (S, S), at: usize, want: (&str, &str)) {
+    match (front_of(rt, storages.0, at), back_of(rt, storages.1, at)) {
+        (Ok(front), Ok(back)) => {
+            assert_eq!(rt; front.as_bytes(), want.0.as_bytes(), "at {at}");
+            assert_eq!(rt; back.as_bytes(), want.1.as_bytes(), "at {at}");
+        }
+        _ => assert!(rt; false, "refused"),
+    }
+}
+
+#[test]
+fn cuts_one_piece_alone(rt: HostRuntime) -> Result<(), Fail> {
+    for (at, front, back) in [(0, "", "hello"), (2, "he", "llo"), (5, "hello", "")] {
+        let shared = Bytes::copy_from_slice(rt.alloc(), b"hello")?;
+        assert_cuts(&rt, (shared.clone()?, shared), at, (front, back));
+        let first = BytesMut::copy_from_slice(rt.alloc(), b"hello")?;
+        let second = BytesMut::copy_from_slice(rt.alloc(), b"hello")?;
+        assert_cuts(&rt, (first, second), at, (front, back));
+    }
+    Ok(())
+}
+
+// An empty piece of shared bytes keeps no block, and any other piece does.
+#[test]
+fn an_empty_piece_keeps_no_block(rt: HostRuntime) -> Result<(), Fail> {
+    for (at, front_keeps, back_keeps) in [(0, false, true), (2, true, true), (5, true, false)] {
+        let shared = Bytes::copy_from_slice(rt.alloc(), b"hello")?;
+        let front = front_of(&rt, shared.clone()?, at)?;
+        assert_eq!(rt; shared.is_unique(), !front_keeps, "at {at}");
+        drop(front);
+        let back = back_of(&rt, shared.clone()?, at)?;
+        assert_eq!(rt; shared.is_unique(), !back_keeps, "at {at}");
+        drop(back);
     }
     Ok(())
 }

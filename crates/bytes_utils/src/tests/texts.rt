@@ -1,5 +1,5 @@
 //! A text: made of its storage, read, cut at a place, and turned back into its storage.
-use super::shared;
+use super::{assert_text, shared};
 use crate::Str;
 use crate::string::{Storage, StrInner};
 use bytes::{Bytes, BytesMut};
@@ -12,13 +12,17 @@ fn texts() -> [&'static str; 5] {
     ["", "hello", "αβα", "😈😉", "a\0b"]
 }
 
+/// Asserts what a text reads as, and its storage.
+fn assert_reads(rt: &impl Abort, text: Str, want: &str) {
+    assert_text(rt, text.as_str(), want);
+    assert!(rt; text.inner().as_slice() == want.as_bytes());
+    assert!(rt; text.into_inner().as_slice() == want.as_bytes());
+}
+
 #[test]
 fn reads_as_its_storage(rt: HostRuntime) -> Result<(), Fail> {
     for want in texts() {
-        let text = shared(rt.alloc(), want)?;
-        assert_eq!(rt; text.as_str(), want);
-        assert_eq!(rt; text.inner().as_slice(), want.as_bytes());
-        assert_eq!(rt; text.into_inner().as_slice(), want.as_bytes());
+        assert_reads(&rt, shared(rt.alloc(), want)?, want);
     }
     Ok(())
 }
@@ -27,7 +31,7 @@ fn reads_as_its_storage(rt: HostRuntime) -> Result<(), Fail> {
 fn unchecked_keeps_the_text(rt: HostRuntime) {
     for want in texts() {
         let text = Str::from_inner_unchecked(Bytes::from_static(want.as_bytes()));
-        assert_eq!(rt; text.as_str(), want);
+        assert_text(&rt, text.as_str(), want);
     }
 }
 
@@ -40,13 +44,13 @@ where
     E: Debug + Drop,
 {
     let text = StrInner::try_from(storage)?;
-    assert_eq!(rt; text.as_str(), want);
+    assert_text(rt, text.as_str(), want);
     let storage = S::from(text);
-    assert_eq!(rt; storage.as_bytes(), want.as_bytes());
+    assert!(rt; storage.as_bytes() == want.as_bytes());
     let text: StrInner<S> = storage.try_into()?;
-    assert_eq!(rt; text.as_str(), want);
+    assert_text(rt, text.as_str(), want);
     let storage: S = text.into();
-    assert_eq!(rt; storage.as_bytes(), want.as_bytes());
+    assert!(rt; storage.as_bytes() == want.as_bytes());
     Ok(())
 }
 

@@ -1,5 +1,6 @@
 //! A text's words.
-use super::{assert_parts, growing, shared};
+use super::shared;
+use super::ways::{SplitAsciiWhitespace, SplitWhitespace, assert_cuts};
 use std::test::Fail;
 
 /// A text, its words, each with a bar behind it, and its words between ASCII white space.
@@ -16,23 +17,19 @@ fn rows() -> [(&'static str, &'static str, &'static str); 5] {
 #[test]
 fn words_white_space(rt: HostRuntime) -> Result<(), Fail> {
     for (text, wanted, wanted_ascii) in rows() {
-        let words = shared(rt.alloc(), text)?.split_whitespace_bytes();
-        assert_parts(&rt, words, wanted.split_terminator('|'));
-        let words = growing(rt.alloc(), text)?.split_whitespace_bytes();
-        assert_parts(&rt, words, wanted.split_terminator('|'));
-        let words = shared(rt.alloc(), text)?.split_ascii_whitespace_bytes();
-        assert_parts(&rt, words, wanted_ascii.split_terminator('|'));
-        let words = growing(rt.alloc(), text)?.split_ascii_whitespace_bytes();
-        assert_parts(&rt, words, wanted_ascii.split_terminator('|'));
+        assert_cuts::<SplitWhitespace, HostRuntime>(&rt, rt.alloc(), (text, 0, "", wanted))?;
+        assert_cuts::<SplitAsciiWhitespace, HostRuntime>(
+            &rt,
+            rt.alloc(),
+            (text, 0, "", wanted_ascii),
+        )?;
     }
     Ok(())
 }
 
 #[test]
 fn split_w_byte_index(rt: HostRuntime) -> Result<(), Fail> {
-    let words = shared(rt.alloc(), "😈 ")?.split_whitespace_bytes();
-    assert_parts(&rt, words, "😈|".split_terminator('|'));
-    Ok(())
+    assert_cuts::<SplitWhitespace, HostRuntime>(&rt, rt.alloc(), ("😈 ", 0, "", "😈|"))
 }
 
 /// The characters with the property White_Space, from the Unicode Character Database's PropList:

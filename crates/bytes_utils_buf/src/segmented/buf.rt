@@ -100,6 +100,7 @@ impl<B: Buf + Drop> SegmentedBuf<B> {
 
     /// Takes `cnt` bytes off the front. A segment that is passed is dropped, and isn't advanced
     /// before. `remaining` tests the condition.
+    #[inline]
     pub fn advance(&mut self, cnt: usize)
         requires { cnt ≤ length (concat self.old.segments) }
         ensures skips { Skips cnt self.old.segments self.new.segments }
@@ -118,6 +119,7 @@ impl<B: Buf + Drop> SegmentedBuf<B> {
     }
 
     /// The chunk of the first segment.
+    #[inline]
     fn front_chunk(&self) -> &[u8]
         ensures bytes { IsChunkOf result.now (concat self.now.segments) }
         ensures front { IsChunkOf result.now (front_of self.now.segments) }
@@ -167,14 +169,17 @@ impl<B: Buf + Drop> Buf for SegmentedBuf<B> {
     // What no read changes: how many segments were given.
     ghost kept = { λ q. ([], q.tally.given) ∷ [] };
 
+    #[inline]
     fn remaining(&self) -> usize {
         self.remaining
     }
 
+    #[inline]
     fn chunk(&self) -> &[u8] {
         self.front_chunk()
     }
 
+    #[inline]
     fn advance(&mut self, cnt: usize) {
         SegmentedBuf::advance(self, cnt)
     }

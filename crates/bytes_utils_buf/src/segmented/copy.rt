@@ -6,6 +6,7 @@ use crate::parts::CopyRefused;
 use bytes::Bytes;
 
 /// How many bytes a copy of `len` bytes took.
+#[inline]
 pub(super) fn bytes_taken(copy: &Result<Bytes, CopyRefused>, len: usize) -> usize
     ensures { result ≡ taken_by len copy.now }
 {
@@ -17,6 +18,7 @@ pub(super) fn bytes_taken(copy: &Result<Bytes, CopyRefused>, len: usize) -> usiz
 
 /// Appends the bytes of `chunk` to a copy that is to hold `len` bytes, or as many as it still
 /// wants, and answers how many. There is room for them.
+#[inline]
 pub(super) fn append_chunk(copy: &mut Vec<u8>, chunk: &[u8], len: usize) -> usize
     requires { (length copy.old.items ≤ len) × (len ≤ vec_capacity copy.old) }
     ensures count { result ≡ min (length chunk.now) (len - length copy.old.items) }

@@ -9,6 +9,7 @@ use std::collections::VecDeque;
 
 /// Takes `cnt` bytes off the held segments: those that are passed are counted first and dropped
 /// together, and the next one is advanced.
+#[inline]
 pub(super) fn skip_held<B: Buf + Drop>(segments: &mut VecDeque<B>, tally: &mut Tally, cnt: usize)
     requires { cnt ≤ length (concat (map B.unread segments.old.items)) }
     ensures skips { Skips cnt (map B.unread segments.old.items) (map B.unread segments.new.items) }
@@ -23,6 +24,7 @@ pub(super) fn skip_held<B: Buf + Drop>(segments: &mut VecDeque<B>, tally: &mut T
 }
 
 /// Counts the held segments that `cnt` bytes step past, and what is left to take off the next one.
+#[inline]
 fn count_held<B: Buf>(segments: &VecDeque<B>, tally: &mut Tally, cnt: usize) -> (usize, usize)
     requires { cnt ≤ length (concat (map B.unread segments.now.items)) }
     ensures passed { result.0 ≤ length segments.now.items }
@@ -42,6 +44,7 @@ fn count_held<B: Buf>(segments: &VecDeque<B>, tally: &mut Tally, cnt: usize) -> 
 }
 
 /// Drops the first `passed` segments, none of which is advanced.
+#[inline]
 fn drop_held<B: Buf + Drop>(segments: &mut VecDeque<B>, tally: &mut Tally, passed: usize)
     requires { passed ≤ length segments.old.items }
     ensures segments { segments.new.items ≡ drop passed segments.old.items }
@@ -54,6 +57,7 @@ fn drop_held<B: Buf + Drop>(segments: &mut VecDeque<B>, tally: &mut Tally, passe
 }
 
 /// Takes `left` bytes off the first segment, if there is one.
+#[inline]
 fn advance_front<B: Buf>(segments: &mut VecDeque<B>, left: usize)
     requires { 0 < length segments.old.items
         → left ≤ length (slice_index_or (map B.unread segments.old.items) 0 []) }

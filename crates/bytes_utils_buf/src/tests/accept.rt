@@ -1,6 +1,6 @@
 //! Buffers that come into a `SegmentedBuf`.
 use super::fixtures::{
-    FOUR, Shown, assert_bytes, assert_shows, bytes_of, collect, extend, gather, held, hold, skip,
+    FOUR, Shown, assert_bytes, assert_shows, bytes_of, collect, extend, gather, hold, push, skip,
     take_out,
 };
 use super::odd::Zeros;
@@ -16,13 +16,6 @@ use std::test::Fail;
 /// is shown.
 type Step = (&'static str, usize, &'static str, Shown);
 
-fn push(rt: &impl Abort, buf: &mut SegmentedBuf<Bytes>, text: &'static str) -> Result<(), Fail> {
-    let text = Bytes::from_static(text.as_bytes());
-    assert!(rt; buf.fits(text.len()));
-    buf.push(text)?;
-    Ok(())
-}
-
 fn take_step(
     rt: &impl Abort,
     alloc: Global,
@@ -30,7 +23,7 @@ fn take_step(
     step: Step,
 ) -> Result<(), Fail> {
     let (text, cnt, piece, shown) = step;
-    push(rt, buf, text)?;
+    push(rt, buf, Bytes::from_static(text.as_bytes()))?;
     skip(rt, buf, cnt);
     let copy = take_out(rt, alloc, buf, piece.len())?;
     assert_bytes(rt, copy.as_slice(), piece);
@@ -46,37 +39,51 @@ fn take_steps(rt: &impl Abort, alloc: Global, steps: &[Step]) -> Result<(), Fail
     Ok(())
 }
 
+const ADVANCED: &[Step] = &[
+    ("Hello", 0, "", (5, 1, "Hello")),
+    (" ", 0, "", (6, 2, "Hello")),
+    ("", 0, "", (6, 2, "Hello")),
+    ("World", 0, "", (11, 3, "Hello")),
+    ("", 3, "", (8, 3, "lo")),
+    ("", 4, "", (4, 1, "orld")),
+    ("", 0, "", (4, 1, "orld")),
+    ("", 4, "", (0, 0, "")),
+    ("", 0, "", (0, 0, "")),
+    ("Hello", 0, "", (5, 1, "Hello")),
+];
+
 #[test]
 fn push_and_advance(rt: HostRuntime) -> Result<(), Fail> {
-    let steps: [Step; 10] = [
-        ("Hello", 0, "", (5, 1, "Hello")),
-        (" ", 0, "", (6, 2, "Hello")),
-        ("", 0, "", (6, 2, "Hello")),
-        ("World", 0, "", (11, 3, "Hello")),
-        ("", 3, "", (8, 3, "lo")),
-        ("", 4, "", (4, 1, "orld")),
-        ("", 0, "", (4, 1, "orld")),
-        ("", 4, "", (0, 0, "")),
-        ("", 0, "", (0, 0, "")),
-        ("Hello", 0, "", (5, 1, "Hello")),
-    ];
-    take_steps(&rt, rt.alloc(), &steps)
+    take_steps(&rt, rt.alloc(), ADVANCED)
 }
+
+const COPIED: &[Step] = &[
+    ("Hello", 0, "", (5, 1, "Hello")),
+    ("", 0, "Hel", (2, 1, "lo")),
+    ("World", 0, "", (7, 2, "lo")),
+    ("", 0, "loW", (4, 1, "orld")),
+];
 
 #[test]
 fn push_and_copy(rt: HostRuntime) -> Result<(), Fail> {
-    let steps: [Step; 4] = [
-        ("Hello", 0, "", (5, 1, "Hello")),
-        ("", 0, "Hel", (2, 1, "lo")),
-        ("World", 0, "", (7, 2, "lo")),
-        ("", 0, "loW", (4, 1, "orld")),
-    ];
-    take_steps(&rt, rt.alloc(), &steps)
+    take_steps(&rt, rt.alloc(), COPIED)
 }
 
-fn hands_back(rt: &impl Abort, buf: SegmentedBuf<Bytes>, shown: Shown) {
+fn hands_back<B: Buf + Drop>(rt: &impl Abort, buf: SegmentedBuf<B>, shown: Shown) {
     assert_shows(rt, &buf, shown);
     assert_eq!(rt; buf.into_inner().len(), shown.1);
+}
+
+// Buffers that come in behind an empty one.
+fn extended<B: Buf + Drop>(
+    rt: &impl Abort,
+    alloc: Global,
+    empty: B,
+    bufs: Vec<B>,
+) -> Result<SegmentedBuf<B>, Fail> {
+    let mut buf = hold(rt, alloc, empty)?;
+    extend(&mut buf, bufs)?;
+    Ok(buf)
 }
 
 // However these come in, so much is shown.
@@ -86,12 +93,10 @@ fn comes_in(
     texts: &[&'static str],
     shown: Shown,
 ) -> Result<(), Fail> {
-    hands_back(rt, held(alloc, texts)?, shown);
+    hands_back(rt, gather(alloc, bytes_of(alloc, texts)?)?, shown);
     hands_back(rt, collect(alloc, bytes_of(alloc, texts)?)?, shown);
-    let mut buf = SegmentedBuf::new(alloc);
-    push(rt, &mut buf, "")?;
-    extend(&mut buf, bytes_of(alloc, texts)?)?;
-    hands_back(rt, buf, shown);
+    let bufs = bytes_of(alloc, texts)?;
+    hands_back(rt, extended(rt, alloc, Bytes::new(), bufs)?, shown);
     Ok(())
 }
 

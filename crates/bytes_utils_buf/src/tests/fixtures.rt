@@ -1,5 +1,6 @@
 //! Buffers that many tests read, and what is asserted of any buffer.
 use super::odd::Asked;
+use crate::Refused;
 use crate::parts::{BufParts, CopyRefused};
 use crate::segmented::{SegmentedBuf, SegmentedSlice};
 use bytes::{Buf, Bytes};
@@ -68,9 +69,18 @@ pub(super) fn hold<B: Buf + Drop>(
     buf: B,
 ) -> Result<SegmentedBuf<B>, Fail> {
     let mut held = SegmentedBuf::new(alloc);
-    assert!(rt; held.fits(buf.remaining()));
-    held.push(buf).ok().ok_or("refused")?;
+    push(rt, &mut held, buf).ok().ok_or("refused")?;
     Ok(held)
+}
+
+/// One more buffer behind those that are held.
+pub(super) fn push<B: Buf + Drop>(
+    rt: &impl Abort,
+    held: &mut SegmentedBuf<B>,
+    buf: B,
+) -> Result<(), Refused<B>> {
+    assert!(rt; held.fits(buf.remaining()));
+    held.push(buf)
 }
 
 /// More buffers behind those that are held.
@@ -179,12 +189,20 @@ pub(super) fn reads_nothing<B: BufParts + Drop>(
     mut buf: B,
 ) -> Result<(), Fail> {
     assert_reads(rt, &buf, 0, "");
-    buf.copy_to_slice(&mut [0; 0]);
-    skip(rt, &mut buf, 0);
-    assert_eq!(rt; take_out(rt, alloc, &mut buf, 0)?.len(), 0);
+    takes_nothing(rt, alloc, &mut buf)?;
     assert_reads(rt, &buf, 0, "");
-    let mut ten = [0; 10];
-    assert_eq!(rt; buf.reader().read(&mut ten)?, 0);
+    assert_eq!(rt; buf.reader().read(&mut [0; 10])?, 0);
+    Ok(())
+}
+
+fn takes_nothing<B: BufParts>(
+    rt: &impl Abort,
+    alloc: Global,
+    buf: &mut B,
+) -> Result<(), CopyRefused> {
+    buf.copy_to_slice(&mut [0; 0]);
+    skip(rt, buf, 0);
+    assert_eq!(rt; take_out(rt, alloc, buf, 0)?.len(), 0);
     Ok(())
 }
 
@@ -198,11 +216,17 @@ pub(super) fn assert_fills<B: BufParts>(
     let mut table: [&[u8]; 10] = [b"-"; 10];
     assert!(rt; places <= 10);
     assert_eq!(rt; buf.chunks_into(&mut table[..places]), slices.len());
-    assert!(rt; slices.len() <= 10);
+    assert_table(rt, &table, slices);
+}
+
+fn assert_table(rt: &impl Abort, table: &[&[u8]], slices: &[&'static str]) {
+    assert!(rt; slices.len() <= table.len());
     for (place, slice) in table.iter().zip(slices) {
         assert_bytes(rt, *place, slice);
     }
-    for place in &table[slices.len()..] {
-        assert_bytes(rt, *place, "-");
-    }
+    assert!(rt;
+        table[slices.len()..]
+            .iter()
+            .all(|place| *place == b"-".as_slice())
+    );
 }

@@ -107,9 +107,11 @@ fn push_looks_at_no_segment(rt: HostRuntime) -> Result<(), Fail> {
     Ok(())
 }
 
+const TEN: &[usize] = &[1, 1, 2, 1, 3, 1, 1];
+
 // Ten bytes are copied. The buffer behind them may be looked at, to see that it isn't empty.
 fn copies<B: BufParts>(rt: &impl Abort, alloc: Global, buf: &mut B) -> Result<(), Fail> {
-    for len in [1, 1, 2, 1, 3, 1, 1] {
+    for &len in TEN {
         let _ = take_out(rt, alloc, buf, len)?;
     }
     Ok(())

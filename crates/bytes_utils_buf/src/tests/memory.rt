@@ -1,6 +1,7 @@
 //! What a call answers and leaves where its request for memory is refused. Each of these tests
 //! passes whichever single request of its run is refused, and then says whose it was. A test that
 //! can't make its buffers ends well.
+use super::fixtures;
 use super::fixtures::{
     FOUR, JOINED, assert_bytes, assert_fills, assert_reads, bytes_of, collect, gather, lend, skip,
     slices_of, take_held, take_lent, take_out,
@@ -15,10 +16,10 @@ use std::process::Abort;
 use std::test::Fail;
 
 /// Six buffers: a deque grows twice while they come in.
-const LETTERS: [&str; 6] = ["a", "b", "c", "d", "e", "f"];
+const LETTERS: &[&str] = &["a", "b", "c", "d", "e", "f"];
 
 fn letters(alloc: Global) -> Result<Vec<Bytes>, AllocError> {
-    bytes_of(alloc, &LETTERS)
+    bytes_of(alloc, LETTERS)
 }
 
 fn tell_refused(rt: &impl Print, call: &str) -> Result<(), Fail> {
@@ -42,12 +43,16 @@ fn pushes_again(
     held: usize,
 ) -> Result<(), Fail> {
     assert_holds(rt, buf, held);
-    assert!(rt; held < LETTERS.len() && refused.reason == Reason::OutOfMemory);
-    assert_bytes(rt, refused.back.as_slice(), LETTERS[held]);
-    assert!(rt; buf.fits(refused.back.len()));
-    buf.push(refused.back)?;
+    assert_refused(rt, &refused, held);
+    fixtures::push(rt, buf, refused.back)?;
     assert_holds(rt, buf, held.saturating_add(1));
     Ok(())
+}
+
+// The letter behind the `held` first ones was refused.
+fn assert_refused(rt: &impl Abort, refused: &Refused<Bytes>, held: usize) {
+    assert!(rt; held < LETTERS.len() && refused.reason == Reason::OutOfMemory);
+    assert_bytes(rt, refused.back.as_slice(), LETTERS[held]);
 }
 
 fn pushes(
@@ -56,8 +61,7 @@ fn pushes(
     letter: Bytes,
 ) -> Result<(), Fail> {
     let held = buf.segments();
-    assert!(rt; buf.fits(letter.len()));
-    if let Err(refused) = buf.push(letter) {
+    if let Err(refused) = fixtures::push(rt, buf, letter) {
         tell_refused(rt, "SegmentedBuf::push")?;
         pushes_again(rt, buf, refused, held)?;
     }
@@ -141,15 +145,16 @@ fn try_clone(rt: HostRuntime) -> Result<(), Fail> {
 
 /// So many bytes are copied in turn. Where one copy is refused, the last but one or the last gives
 /// what it left.
-const PIECES: [usize; 6] = [3, 4, 0, 2, 11, 11];
+const PIECES: &[usize] = &[3, 4, 0, 2, 11, 11];
 
 /// What is left of `rest` behind a copy of its first `len` bytes: it is right, or it is refused and
-/// tells how many bytes are gone.
+/// tells how many bytes are gone. So many bytes are left in the buffer.
 fn behind<'a>(
     rt: &(impl Abort + Print),
     call: &str,
     copy: Result<Bytes, CopyRefused>,
     len: usize,
+    left: usize,
     rest: &'a [u8],
 ) -> Result<&'a [u8], Fail> {
     assert!(rt; len <= rest.len());
@@ -164,7 +169,9 @@ fn behind<'a>(
         }
     };
     assert!(rt; taken <= len);
-    Ok(&rest[taken..])
+    let rest = &rest[taken..];
+    assert_eq!(rt; left, rest.len());
+    Ok(rest)
 }
 
 /// Copies `JOINED` out of a buffer by `copy_out`.
@@ -175,11 +182,10 @@ fn copies_out<B: BufParts>(
     buf: &mut B,
 ) -> Result<(), Fail> {
     let mut rest = JOINED.as_bytes();
-    for len in PIECES {
+    for &len in PIECES {
         let len = buf.remaining().min(len);
         let copy = take_out(rt, alloc, buf, len);
-        rest = behind(rt, call, copy, len, rest)?;
-        assert_eq!(rt; buf.remaining(), rest.len());
+        rest = behind(rt, call, copy, len, buf.remaining(), rest)?;
     }
     assert!(rt; rest.is_empty());
     Ok(())
@@ -206,12 +212,12 @@ fn copies_held<B: BufParts + Drop>(
     bufs: Vec<B>,
 ) -> Result<(), Fail> {
     let mut buf = gather(alloc, bufs)?;
+    let call = "SegmentedBuf::copy_to_bytes";
     let mut rest = JOINED.as_bytes();
-    for len in PIECES {
+    for &len in PIECES {
         let len = buf.remaining().min(len);
         let copy = take_held(rt, alloc, &mut buf, len);
-        rest = behind(rt, "SegmentedBuf::copy_to_bytes", copy, len, rest)?;
-        assert_eq!(rt; buf.remaining(), rest.len());
+        rest = behind(rt, call, copy, len, buf.remaining(), rest)?;
     }
     assert!(rt; rest.is_empty());
     Ok(())
@@ -268,12 +274,12 @@ fn copies_lent<B: BufParts>(
     bufs: &mut [B],
 ) -> Result<(), Fail> {
     let mut all = lend(rt, bufs);
+    let call = "SegmentedSlice::copy_to_bytes";
     let mut rest = JOINED.as_bytes();
-    for len in PIECES {
+    for &len in PIECES {
         let len = all.remaining().min(len);
         let copy = take_lent(rt, alloc, &mut all, len);
-        rest = behind(rt, "SegmentedSlice::copy_to_bytes", copy, len, rest)?;
-        assert_eq!(rt; all.remaining(), rest.len());
+        rest = behind(rt, call, copy, len, all.remaining(), rest)?;
     }
     assert!(rt; rest.is_empty());
     Ok(())
@@ -338,8 +344,7 @@ fn no_memory_needed_by_deques(rt: HostRuntime) -> Result<(), Fail> {
     let mut buf = SegmentedBuf::from_deque(VecDeque::from_vec(letters))
         .ok()
         .ok_or("too long")?;
-    assert!(rt; buf.fits(0));
-    buf.push(Bytes::new())?;
+    fixtures::push(&rt, &mut buf, Bytes::new())?;
     assert_holds(&rt, &buf, 6);
     skip(&rt, &mut buf, 5);
     assert_reads(&rt, &buf, 1, "f");

@@ -19,6 +19,23 @@ fn gives<B: BufParts>(
     Ok(())
 }
 
+// Both give the next bytes of a third.
+fn give_next<A: BufParts, B: BufParts, C: BufParts>(
+    rt: &impl Abort,
+    alloc: Global,
+    bytes: &mut A,
+    held: &mut B,
+    lent: &mut C,
+    cut: usize,
+) -> Result<(), Fail> {
+    let len = bytes.remaining().min(cut);
+    let piece = take_out(rt, alloc, bytes, len)?;
+    gives(rt, alloc, held, piece.as_slice(), bytes.remaining())?;
+    gives(rt, alloc, lent, piece.as_slice(), bytes.remaining())
+}
+
+const CUTS: &[usize] = &[0, 3, 5, 1, 9];
+
 // Cuts both like one `Bytes`, but no further than to the end.
 fn gives_alike<B: BufParts, C: BufParts>(
     rt: &impl Abort,
@@ -27,11 +44,8 @@ fn gives_alike<B: BufParts, C: BufParts>(
     lent: &mut C,
 ) -> Result<(), Fail> {
     let mut bytes = Bytes::from_static(JOINED.as_bytes());
-    for cut in [0, 3, 5, 1, 9] {
-        let len = bytes.len().min(cut);
-        let piece = take_out(rt, alloc, &mut bytes, len)?;
-        gives(rt, alloc, held, piece.as_slice(), bytes.len())?;
-        gives(rt, alloc, lent, piece.as_slice(), bytes.len())?;
+    for &cut in CUTS {
+        give_next(rt, alloc, &mut bytes, held, lent, cut)?;
     }
     assert_eq!(rt; bytes.len(), 0);
     Ok(())

@@ -13,7 +13,7 @@ use std::test::Fail;
 
 /// How many bytes are left behind those that are skipped, the chunk then, and what the lent
 /// buffers hold.
-type Left = (usize, &'static str, [&'static str; 5]);
+type Left = (usize, &'static str, &'static [&'static str]);
 
 // Skips bytes of `FIVE` by the type's own call, until the borrow ends.
 fn skips_itself(rt: &impl Abort, alloc: Global, cnt: usize, left: Left) -> Result<(), Fail> {
@@ -24,7 +24,7 @@ fn skips_itself(rt: &impl Abort, alloc: Global, cnt: usize, left: Left) -> Resul
         skip_lent(rt, &mut all, cnt);
         assert_reads(rt, &all, left, chunk);
     }
-    assert_hold(rt, &bufs, &texts);
+    assert_hold(rt, &bufs, texts);
     Ok(())
 }
 
@@ -35,36 +35,46 @@ fn skips_by_the_trait(rt: &impl Abort, alloc: Global, cnt: usize, left: Left) ->
     let mut all = lend(rt, &mut bufs);
     skip(rt, &mut all, cnt);
     assert_reads(rt, &all, left, chunk);
-    assert_hold(rt, all.into_lent(), &texts);
+    assert_hold(rt, all.into_lent(), texts);
     Ok(())
 }
 
-fn skips(rt: &impl Abort, alloc: Global, cnt: usize, left: Left) -> Result<(), Fail> {
-    skips_itself(rt, alloc, cnt, left)?;
-    skips_by_the_trait(rt, alloc, cnt, left)
+fn skips(rt: &impl Abort, alloc: Global, rows: &[(usize, Left)]) -> Result<(), Fail> {
+    for (cnt, left) in rows {
+        skips_itself(rt, alloc, *cnt, *left)?;
+        skips_by_the_trait(rt, alloc, *cnt, *left)?;
+    }
+    Ok(())
 }
+
+const INSIDE: &[(usize, Left)] = &[
+    (0, (11, "Hello", &["Hello", "", " ", "", "World"])),
+    (3, (8, "lo", &["lo", "", " ", "", "World"])),
+];
 
 #[test]
 fn slice_advance_inside(rt: HostRuntime) -> Result<(), Fail> {
-    skips(
-        &rt,
-        rt.alloc(),
-        0,
-        (11, "Hello", ["Hello", "", " ", "", "World"]),
-    )?;
-    skips(&rt, rt.alloc(), 3, (8, "lo", ["lo", "", " ", "", "World"]))
+    skips(&rt, rt.alloc(), INSIDE)
 }
+
+const TO_A_BORDER: &[(usize, Left)] = &[
+    (5, (6, " ", &["", "", " ", "", "World"])),
+    (6, (5, "World", &["", "", "", "", "World"])),
+];
 
 #[test]
 fn slice_advance_to_a_border(rt: HostRuntime) -> Result<(), Fail> {
-    skips(&rt, rt.alloc(), 5, (6, " ", ["", "", " ", "", "World"]))?;
-    skips(&rt, rt.alloc(), 6, (5, "World", ["", "", "", "", "World"]))
+    skips(&rt, rt.alloc(), TO_A_BORDER)
 }
+
+const ACROSS: &[(usize, Left)] = &[
+    (7, (4, "orld", &["", "", "", "", "orld"])),
+    (11, (0, "", &["", "", "", "", ""])),
+];
 
 #[test]
 fn slice_advance_across(rt: HostRuntime) -> Result<(), Fail> {
-    skips(&rt, rt.alloc(), 7, (4, "orld", ["", "", "", "", "orld"]))?;
-    skips(&rt, rt.alloc(), 11, (0, "", ["", "", "", "", ""]))
+    skips(&rt, rt.alloc(), ACROSS)
 }
 
 #[test]

@@ -24,33 +24,44 @@ fn fills_lent_by_itself<B: BufParts>(rt: &impl Abort, all: &SegmentedSlice<'_, B
     assert_bytes(rt, fourth, "-");
 }
 
+/// How many bytes are skipped, how many places a table has then, and the slices that it gets.
+type Row = (usize, usize, &'static [&'static str]);
+
+fn fills<B: BufParts>(rt: &impl Abort, buf: &mut B, rows: &[Row]) {
+    for (cnt, places, slices) in rows {
+        skip(rt, buf, *cnt);
+        assert_fills(rt, buf, *places, slices);
+    }
+}
+
+const FOUR_FILL: &[Row] = &[
+    (0, 0, &[]),
+    (0, 2, &["Hello", " "]),
+    (0, 5, &["Hello", " ", "World"]),
+    (2, 1, &["llo"]),
+];
+
 #[test]
 fn chunk_vectored(rt: HostRuntime) -> Result<(), Fail> {
     let mut buf = held(rt.alloc(), &FOUR)?;
-    assert_fills(&rt, &buf, 0, &[]);
-    assert_fills(&rt, &buf, 2, &["Hello", " "]);
-    assert_fills(&rt, &buf, 5, &["Hello", " ", "World"]);
-    skip(&rt, &mut buf, 2);
-    assert_fills(&rt, &buf, 1, &["llo"]);
+    fills(&rt, &mut buf, FOUR_FILL);
     fills_by_itself(&rt, &buf);
     Ok(())
 }
 
 // Twice four buffers, which nest.
-fn fills_by_two<B: BufParts>(rt: &impl Abort, bufs: &mut [B]) {
-    let mut all = lend(rt, bufs);
-    assert_fills(rt, &all, 0, &[]);
-    assert_fills(rt, &all, 4, &["Hello", " ", "World", "Hello"]);
-    let six = ["Hello", " ", "World", "Hello", " ", "World"];
-    assert_fills(rt, &all, 10, &six);
-    skip(rt, &mut all, 2);
-    assert_fills(rt, &all, 1, &["llo"]);
-}
+const EIGHT_FILL: &[Row] = &[
+    (0, 0, &[]),
+    (0, 4, &["Hello", " ", "World", "Hello"]),
+    (0, 10, &["Hello", " ", "World", "Hello", " ", "World"]),
+    (2, 1, &["llo"]),
+];
 
 #[test]
 fn chunk_vectored_nested(rt: HostRuntime) -> Result<(), Fail> {
     let alloc = rt.alloc();
-    fills_by_two(&rt, &mut held_each(alloc, &[&FOUR, &FOUR])?);
+    let mut both = held_each(alloc, &[&FOUR, &FOUR])?;
+    fills(&rt, &mut lend(&rt, &mut both), EIGHT_FILL);
     let mut bufs = bytes_of(alloc, &FOUR)?;
     fills_lent_by_itself(&rt, &lend(&rt, &mut bufs));
     Ok(())

@@ -1,5 +1,6 @@
 //! Why a run of the program ended early.
 
+use bytes_utils::Reason;
 use std::error::Error;
 use std::fmt;
 
@@ -51,3 +52,15 @@ impl fmt::Display for Fault {
 }
 
 impl Error for Fault {}
+
+/// Either way there is no room for what was to be held.
+impl From<Reason> for Fault {
+    ghost use Rattle.std.specs.Prelude.{◌≡◌};
+    ghost use Rattle.bytes_utils_run.specs.declared.program.fault.Fault.TheVariants.{OutOfMemory};
+
+    ghost from_gives = { λ _ fault. fault ≡ OutOfMemory };
+
+    fn from(_reason: Reason) -> Fault {
+        Fault::OutOfMemory
+    }
+}

@@ -3,7 +3,7 @@ mod buffers;
 mod commands;
 mod memory;
 
-use crate::program::fakes::{
+use crate::fakes::{
     EndlessReader, NotingReader, SlowReader, SlowWriter, StuckWriter, UnflushedWriter,
 };
 use crate::program::input::read_all;

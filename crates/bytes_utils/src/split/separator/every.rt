@@ -19,11 +19,15 @@ pub struct SplitBytes<'s, S: Storage> {
 }
 
 impl<'s, S: Storage> Model for SplitBytes<'s, S> {
+    ghost use Rattle.std.specs.Prelude.{◌≡◌};
     ghost use Rattle.bytes_utils.specs.Splitting.{Splitting};
+    ghost use Rattle.bytes_utils.specs.declared.split.direction.Direction.TheVariants.{Forward};
 
     ghost Value = { Splitting };
 
-    ghost view = { λ s. s.parts };
+    ghost view = { λ s. s.parts.state };
+
+    ghost invariant = { λ s. s.parts.end ≡ Forward };
 }
 
 impl<S: Storage> StrInner<S> {
@@ -34,7 +38,7 @@ impl<S: Storage> StrInner<S> {
         ensures coming { (parts : List (List ℕ)) × AreForwardPartsToCome result parts }
     {
         SplitBytes {
-            parts: Separated::new(self, separator, None),
+            parts: Separated::new(self, separator, None, Direction::Forward),
         }
     }
 }
@@ -48,7 +52,7 @@ impl<'s, S: Storage> Iterator for SplitBytes<'s, S> {
 
     #[inline]
     fn next(&mut self) -> Option<Self::Item> {
-        self.parts.next_from(Direction::Forward)
+        self.parts.next()
     }
 }
 
@@ -60,11 +64,15 @@ pub struct RSplitBytes<'s, S: Storage> {
 }
 
 impl<'s, S: Storage> Model for RSplitBytes<'s, S> {
+    ghost use Rattle.std.specs.Prelude.{◌≡◌};
     ghost use Rattle.bytes_utils.specs.Splitting.{Splitting};
+    ghost use Rattle.bytes_utils.specs.declared.split.direction.Direction.TheVariants.{Backward};
 
     ghost Value = { Splitting };
 
-    ghost view = { λ s. s.parts };
+    ghost view = { λ s. s.parts.state };
+
+    ghost invariant = { λ s. s.parts.end ≡ Backward };
 }
 
 impl<S: Storage> StrInner<S> {
@@ -75,7 +83,7 @@ impl<S: Storage> StrInner<S> {
         ensures coming { (parts : List (List ℕ)) × AreBackwardPartsToCome result parts }
     {
         RSplitBytes {
-            parts: Separated::new(self, separator, None),
+            parts: Separated::new(self, separator, None, Direction::Backward),
         }
     }
 }
@@ -89,6 +97,6 @@ impl<'s, S: Storage> Iterator for RSplitBytes<'s, S> {
 
     #[inline]
     fn next(&mut self) -> Option<Self::Item> {
-        self.parts.next_from(Direction::Backward)
+        self.parts.next()
     }
 }

@@ -1,5 +1,5 @@
 //! Bytes with one owner as a storage.
-ghost use Rattle.std.specs.Prelude.{◌≡◌, [], IsOk, IfOk};
+ghost use Rattle.std.specs.Prelude.{◌≡◌, ◌≤◌, [], length, take, drop, IsOk, IfOk};
 ghost use Rattle.bytes_utils_buf.specs.declared.refused.Reason.TheVariants.{OutOfMemory};
 
 use crate::string::{Storage, StorageMut};
@@ -46,6 +46,27 @@ impl Storage for BytesMut {
                 back: self,
             }),
         }
+    }
+
+    #[inline]
+    fn into_front(mut self, at: usize) -> Result<Self, Refused<Self>>
+        ensures value { IfOk result (λ front. front.items ≡ take at self.items) }
+        // It takes no memory.
+        ensures succeeds { IsOk result }
+    {
+        self.truncate(at);
+        Ok(self)
+    }
+
+    #[inline]
+    fn into_back(mut self, at: usize) -> Result<Self, Refused<Self>>
+        requires { at ≤ length self.items }
+        ensures value { IfOk result (λ back. back.items ≡ drop at self.items) }
+        // It takes no memory.
+        ensures succeeds { IsOk result }
+    {
+        self.advance(at);
+        Ok(self)
     }
 }
 

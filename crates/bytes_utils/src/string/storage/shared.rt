@@ -1,5 +1,5 @@
 //! Shared bytes as a storage.
-ghost use Rattle.std.specs.Prelude.{◌≡◌, [], IsOk, IfOk};
+ghost use Rattle.std.specs.Prelude.{◌≡◌, ◌≤◌, [], length, take, drop, IsOk, IfOk};
 ghost use Rattle.bytes_utils_buf.specs.declared.refused.Reason.TheVariants.{OutOfMemory};
 
 use crate::string::Storage;
@@ -48,5 +48,34 @@ impl Storage for Bytes {
                 back: self,
             }),
         }
+    }
+
+    #[inline]
+    fn into_front(mut self, at: usize) -> Result<Self, Refused<Self>>
+        ensures value { IfOk result (λ front. front ≡ take at self) }
+        // It takes no memory.
+        ensures succeeds { IsOk result }
+    {
+        if at == 0 {
+            // What is empty keeps no block.
+            return Ok(Bytes::new());
+        }
+        self.truncate(at);
+        Ok(self)
+    }
+
+    #[inline]
+    fn into_back(mut self, at: usize) -> Result<Self, Refused<Self>>
+        requires { at ≤ length self }
+        ensures value { IfOk result (λ back. back ≡ drop at self) }
+        // It takes no memory.
+        ensures succeeds { IsOk result }
+    {
+        if at == self.len() {
+            // What is empty keeps no block.
+            return Ok(Bytes::new());
+        }
+        self.advance(at);
+        Ok(self)
     }
 }

@@ -1,20 +1,39 @@
 //! Calls that put something behind a text.
-use super::super::strings;
+use super::super::{assert_text, strings};
 use super::{given, items, say, tell};
-use crate::StrMut;
+use crate::{Reason, StrMut};
 use std::fmt::Write;
+use std::io::Print;
+use std::process::Abort;
 use std::test::Fail;
+
+/// Whether the call was refused, which is told. Asserts that it left the text `a` then.
+fn is_refused<R: Abort + Print>(
+    rt: &R,
+    call: &str,
+    answer: Result<(), Reason>,
+    text: &str,
+) -> Result<bool, Fail> {
+    let is_refused = given(rt, call, answer)?.is_none();
+    assert!(rt; !is_refused || text == "a");
+    Ok(is_refused)
+}
+
+/// Asserts that this is behind the text `a`.
+fn assert_behind(rt: &impl Abort, text: &str, want: &str) {
+    assert_eq!(rt; text.strip_prefix('a'), Some(want));
+}
 
 #[test]
 fn push_str(rt: HostRuntime) -> Result<(), Fail> {
     let Ok(mut text) = StrMut::from_str(rt.alloc(), "a") else {
         return Ok(());
     };
-    if given(&rt, "StrInner::push_str", text.push_str(items()))?.is_none() {
-        assert_eq!(rt; text.as_str(), "a");
+    let answer = text.push_str(items());
+    if is_refused(&rt, "StrInner::push_str", answer, text.as_str())? {
         text.push_str(items())?;
     }
-    assert_eq!(rt; text.as_str().strip_prefix('a'), Some(items()));
+    assert_behind(&rt, text.as_str(), items());
     Ok(())
 }
 
@@ -23,11 +42,11 @@ fn push(rt: HostRuntime) -> Result<(), Fail> {
     let Ok(mut text) = StrMut::from_str(rt.alloc(), "a") else {
         return Ok(());
     };
-    if given(&rt, "StrInner::push", text.push('😈'))?.is_none() {
-        assert_eq!(rt; text.as_str(), "a");
+    let answer = text.push('😈');
+    if is_refused(&rt, "StrInner::push", answer, text.as_str())? {
         text.push('😈')?;
     }
-    assert_eq!(rt; text.as_str(), "a😈");
+    assert_behind(&rt, text.as_str(), "😈");
     Ok(())
 }
 
@@ -38,10 +57,30 @@ fn write_str(rt: HostRuntime) -> Result<(), Fail> {
     };
     if text.write_str(items()).is_err() {
         say(&rt, "StrInner::write_str")?;
-        assert_eq!(rt; text.as_str(), "a");
+        assert_text(&rt, text.as_str(), "a");
         text.write_str(items())?;
     }
-    assert_eq!(rt; text.as_str().strip_prefix('a'), Some(items()));
+    assert_behind(&rt, text.as_str(), items());
+    Ok(())
+}
+
+/// Asserts that the text is a beginning of the items.
+fn assert_begun(rt: &impl Abort, text: &str) {
+    assert!(rt; items().starts_with(text));
+}
+
+/// Tells the refusal. Asserts that the piece that came back goes behind the text.
+fn assert_goes_on<R: Abort + Print>(
+    rt: &R,
+    call: &str,
+    text: &mut StrMut,
+    reason: Reason,
+    back: &str,
+) -> Result<(), Fail> {
+    tell(rt, call, reason)?;
+    assert_begun(rt, text.as_str());
+    text.push_str(back)?;
+    assert_begun(rt, text.as_str());
     Ok(())
 }
 
@@ -50,42 +89,37 @@ fn extend_chars(rt: HostRuntime) -> Result<(), Fail> {
     let mut text = StrMut::new(rt.alloc())?;
     if let Err(refused) = text.extend_chars(items().chars()) {
         tell(&rt, "StrInner::extend_chars", refused.reason)?;
-        assert!(rt; items().starts_with(text.as_str()));
+        assert_begun(&rt, text.as_str());
         text.push(refused.back)?;
-        assert!(rt; items().starts_with(text.as_str()));
+        assert_begun(&rt, text.as_str());
         return Ok(());
     }
-    assert_eq!(rt; text.as_str(), items());
+    assert_text(&rt, text.as_str(), items());
     Ok(())
 }
 
 #[test]
 fn extend_strs(rt: HostRuntime) -> Result<(), Fail> {
+    let call = "StrInner::extend_strs";
     let mut text = StrMut::new(rt.alloc())?;
     if let Err(refused) = text.extend_strs(items().split_inclusive(',')) {
-        tell(&rt, "StrInner::extend_strs", refused.reason)?;
-        assert!(rt; items().starts_with(text.as_str()));
-        text.push_str(refused.back)?;
-        assert!(rt; items().starts_with(text.as_str()));
-        return Ok(());
+        return assert_goes_on(&rt, call, &mut text, refused.reason, refused.back);
     }
-    assert_eq!(rt; text.as_str(), items());
+    assert_text(&rt, text.as_str(), items());
     Ok(())
 }
 
 #[test]
 fn extend_strings(rt: HostRuntime) -> Result<(), Fail> {
+    let call = "StrInner::extend_strings";
     let Ok(strings) = strings(rt.alloc(), items()) else {
         return Ok(());
     };
     let mut text = StrMut::new(rt.alloc())?;
     if let Err(refused) = text.extend_strings(strings.into_iter()) {
-        tell(&rt, "StrInner::extend_strings", refused.reason)?;
-        assert!(rt; items().starts_with(text.as_str()));
-        text.push_str(refused.back.as_str())?;
-        assert!(rt; items().starts_with(text.as_str()));
-        return Ok(());
+        let back = refused.back.as_str();
+        return assert_goes_on(&rt, call, &mut text, refused.reason, back);
     }
-    assert_eq!(rt; text.as_str(), items());
+    assert_text(&rt, text.as_str(), items());
     Ok(())
 }

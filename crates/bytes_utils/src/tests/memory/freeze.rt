@@ -1,22 +1,46 @@
 //! Calls that make shared text of what is text already.
+use super::super::assert_text;
 use super::{tell, two_characters};
-use crate::{Str, StrMut};
+use crate::{Refused, Str, StrMut};
+use std::io::Print;
+use std::process::Abort;
 use std::test::Fail;
+
+/// What came back of a call that was refused, which is told. Asserts the text that it gave else.
+fn back<B: Drop, R: Abort + Print>(
+    rt: &R,
+    call: &str,
+    answer: Result<Str, Refused<B>>,
+) -> Result<Option<B>, Fail> {
+    match answer {
+        Ok(text) => {
+            assert_text(rt, text.as_str(), two_characters());
+            Ok(None)
+        }
+        Err(refused) => {
+            tell(rt, call, refused.reason)?;
+            Ok(Some(refused.back))
+        }
+    }
+}
+
+/// Asserts that there is the text.
+fn assert_given(rt: &impl Abort, text: Option<Str>) {
+    match text {
+        Some(text) => assert_text(rt, text.as_str(), two_characters()),
+        None => assert!(rt; false, "refused again"),
+    }
+}
 
 #[test]
 fn freeze(rt: HostRuntime) -> Result<(), Fail> {
     let Ok(text) = StrMut::from_str(rt.alloc(), two_characters()) else {
         return Ok(());
     };
-    let frozen = match text.freeze() {
-        Ok(frozen) => frozen,
-        Err(refused) => {
-            tell(&rt, "StrInner::freeze", refused.reason)?;
-            assert_eq!(rt; refused.back.as_str(), two_characters());
-            refused.back.freeze()?
-        }
-    };
-    assert_eq!(rt; frozen.as_str(), two_characters());
+    if let Some(text) = back(&rt, "StrInner::freeze", text.freeze())? {
+        assert_text(&rt, text.as_str(), two_characters());
+        assert_given(&rt, text.freeze().ok());
+    }
     Ok(())
 }
 
@@ -25,15 +49,10 @@ fn from_mut(rt: HostRuntime) -> Result<(), Fail> {
     let Ok(text) = StrMut::from_str(rt.alloc(), two_characters()) else {
         return Ok(());
     };
-    let frozen = match Str::from_mut(text) {
-        Ok(frozen) => frozen,
-        Err(refused) => {
-            tell(&rt, "Str::from_mut", refused.reason)?;
-            assert_eq!(rt; refused.back.as_str(), two_characters());
-            Str::from_mut(refused.back)?
-        }
-    };
-    assert_eq!(rt; frozen.as_str(), two_characters());
+    if let Some(text) = back(&rt, "Str::from_mut", Str::from_mut(text))? {
+        assert_text(&rt, text.as_str(), two_characters());
+        assert_given(&rt, Str::from_mut(text).ok());
+    }
     Ok(())
 }
 
@@ -42,14 +61,10 @@ fn from_string(rt: HostRuntime) -> Result<(), Fail> {
     let Ok(text) = String::from_str(rt.alloc(), two_characters()) else {
         return Ok(());
     };
-    let made = match Str::from_string(rt.alloc(), text) {
-        Ok(made) => made,
-        Err(refused) => {
-            tell(&rt, "Str::from_string", refused.reason)?;
-            assert_eq!(rt; refused.back.as_str(), two_characters());
-            Str::from_string(rt.alloc(), refused.back)?
-        }
-    };
-    assert_eq!(rt; made.as_str(), two_characters());
+    let answer = Str::from_string(rt.alloc(), text);
+    if let Some(text) = back(&rt, "Str::from_string", answer)? {
+        assert_text(&rt, text.as_str(), two_characters());
+        assert_given(&rt, Str::from_string(rt.alloc(), text).ok());
+    }
     Ok(())
 }

@@ -1,15 +1,28 @@
 //! Texts written as JSON and read from it.
 ghost use Rattle.std.specs.Prelude.{◌≡◌};
 
+use super::super::assert_text;
+use super::super::json::is_answer;
 use super::{given, say};
 use crate::json::JsonRefused;
 use crate::string::{Storage, StorageMut, StrInner};
-use crate::{Str, StrMut};
+use crate::{Reason, Str, StrMut};
 use bytes::{Bytes, BytesMut};
 use std::alloc::Global;
 use std::io::Print;
 use std::process::Abort;
 use std::test::Fail;
+
+/// Whether the writing was refused, which is told. Asserts the JSON that it gave else.
+fn is_refused<R: Abort + Print>(rt: &R, written: Result<String, Reason>) -> Result<bool, Fail> {
+    match given(rt, "to_json", written)? {
+        Some(json) => {
+            assert_text(rt, json.as_str(), "\"aβ\\n\"");
+            Ok(false)
+        }
+        None => Ok(true),
+    }
+}
 
 /// Asserts what is written, the second time where the first is refused.
 fn assert_writes<S: Storage, R: Abort + Print>(
@@ -17,12 +30,10 @@ fn assert_writes<S: Storage, R: Abort + Print>(
     alloc: Global,
     text: &StrInner<S>,
 ) -> Result<(), Fail> {
-    let json = match given(rt, "to_json", text.to_json(alloc))? {
-        Some(json) => json,
-        None => text.to_json(alloc)?,
-    };
-    assert_eq!(rt; json.as_str(), "\"aβ\\n\"");
-    assert_eq!(rt; text.as_str(), "aβ\n");
+    if is_refused(rt, text.to_json(alloc))? {
+        assert!(rt; !is_refused(rt, text.to_json(alloc))?);
+    }
+    assert_text(rt, text.as_str(), "aβ\n");
     Ok(())
 }
 
@@ -42,6 +53,19 @@ fn growing_to_json(rt: HostRuntime) -> Result<(), Fail> {
     assert_writes(&rt, rt.alloc(), &text)
 }
 
+/// Asserts the text or the refusal.
+fn assert_read<S: Storage>(
+    rt: &impl Abort,
+    read: Result<StrInner<S>, JsonRefused>,
+    want: Result<&str, JsonRefused>,
+) {
+    let is_as_wanted = match read {
+        Ok(text) => is_answer(Ok(text.as_str()), want),
+        Err(refused) => is_answer(Err(refused), want),
+    };
+    assert!(rt; is_as_wanted);
+}
+
 /// Asserts what is read, the second time where the first is refused.
 fn assert_reads<S: Storage, R: Abort + Print>(
     rt: &R,
@@ -53,15 +77,13 @@ where
     S::Creator: StorageMut,
     requires creator { (c : S.Creator) → S.created c ≡ S.Creator.stored c }
 {
-    let mut read = StrInner::<S>::from_json(alloc, json);
+    let read = StrInner::<S>::from_json(alloc, json);
     if let Err(JsonRefused::OutOfMemory) = read {
         say(rt, "from_json")?;
-        read = StrInner::from_json(alloc, json);
+        assert_read(rt, StrInner::<S>::from_json(alloc, json), want);
+        return Ok(());
     }
-    match read {
-        Ok(text) => assert_eq!(rt; Ok(text.as_str()), want),
-        Err(refused) => assert_eq!(rt; Err(refused), want),
-    }
+    assert_read(rt, read, want);
     Ok(())
 }
 

@@ -1,15 +1,31 @@
 //! Calls that make a text of something else.
 ghost use Rattle.std.specs.Prelude.{◌≡◌};
 
-use super::super::strings;
+use super::super::{assert_text, strings};
 use super::{given, items, say};
 use crate::string::{Storage, StorageMut, StrInner};
-use crate::{format_bytes, format_bytes_mut};
+use crate::{Reason, Str, StrMut, format_bytes, format_bytes_mut};
 use bytes::{Bytes, BytesMut};
 use std::alloc::Global;
+use std::fmt;
 use std::io::Print;
 use std::process::Abort;
 use std::test::Fail;
+
+/// Whether the call was refused, which is told. Asserts the text that it gave else.
+fn is_refused<S: Storage, R: Abort + Print>(
+    rt: &R,
+    call: &str,
+    made: Result<StrInner<S>, Reason>,
+) -> Result<bool, Fail> {
+    match given(rt, call, made)? {
+        Some(text) => {
+            assert_text(rt, text.as_str(), items());
+            Ok(false)
+        }
+        None => Ok(true),
+    }
+}
 
 /// Asserts what `from_str` gives, the second time where the first is refused.
 fn from_str<S: Storage, R: Abort + Print>(rt: &R, alloc: Global) -> Result<(), Fail>
@@ -17,12 +33,11 @@ where
     S::Creator: StorageMut,
     requires creator { (c : S.Creator) → S.created c ≡ S.Creator.stored c }
 {
-    let made = StrInner::<S>::from_str(alloc, items());
-    let text = match given(rt, "StrInner::from_str", made)? {
-        Some(text) => text,
-        None => StrInner::from_str(alloc, items())?,
-    };
-    assert_eq!(rt; text.as_str(), items());
+    let call = "StrInner::from_str";
+    if is_refused(rt, call, StrInner::<S>::from_str(alloc, items()))? {
+        let again = StrInner::<S>::from_str(alloc, items());
+        assert!(rt; !is_refused(rt, call, again)?);
+    }
     Ok(())
 }
 
@@ -32,13 +47,21 @@ where
     S::Creator: StorageMut,
     requires creator { (c : S.Creator) → S.created c ≡ S.Creator.stored c }
 {
-    let made = StrInner::<S>::from_chars(alloc, items().chars());
-    let text = match given(rt, "StrInner::from_chars", made)? {
-        Some(text) => text,
-        None => StrInner::from_chars(alloc, items().chars())?,
-    };
-    assert_eq!(rt; text.as_str(), items());
+    let call = "StrInner::from_chars";
+    if is_refused(rt, call, StrInner::<S>::from_chars(alloc, items().chars()))? {
+        let again = StrInner::<S>::from_chars(alloc, items().chars());
+        assert!(rt; !is_refused(rt, call, again)?);
+    }
     Ok(())
+}
+
+/// What `from_strs` gives of borrowed pieces.
+fn of_strs<S: Storage>(alloc: Global) -> Result<StrInner<S>, Reason>
+where
+    S::Creator: StorageMut,
+    requires creator { (c : S.Creator) → S.created c ≡ S.Creator.stored c }
+{
+    StrInner::from_strs(alloc, items().split_inclusive(','))
 }
 
 /// As `from_str`, of borrowed pieces.
@@ -47,13 +70,21 @@ where
     S::Creator: StorageMut,
     requires creator { (c : S.Creator) → S.created c ≡ S.Creator.stored c }
 {
-    let made = StrInner::<S>::from_strs(alloc, items().split_inclusive(','));
-    let text = match given(rt, "StrInner::from_strs", made)? {
-        Some(text) => text,
-        None => StrInner::from_strs(alloc, items().split_inclusive(','))?,
-    };
-    assert_eq!(rt; text.as_str(), items());
+    let call = "StrInner::from_strs";
+    if is_refused(rt, call, of_strs::<S>(alloc))? {
+        assert!(rt; !is_refused(rt, call, of_strs::<S>(alloc))?);
+    }
     Ok(())
+}
+
+/// What `from_strings` gives of owned pieces, unless these are refused.
+fn of_strings<S: Storage>(alloc: Global) -> Option<Result<StrInner<S>, Reason>>
+where
+    S::Creator: StorageMut,
+    requires creator { (c : S.Creator) → S.created c ≡ S.Creator.stored c }
+{
+    let pieces = strings(alloc, items()).ok()?;
+    Some(StrInner::from_strings(alloc, pieces.into_iter()))
 }
 
 /// As `from_str`, of owned pieces.
@@ -62,15 +93,14 @@ where
     S::Creator: StorageMut,
     requires creator { (c : S.Creator) → S.created c ≡ S.Creator.stored c }
 {
-    let (Ok(first), Ok(again)) = (strings(alloc, items()), strings(alloc, items())) else {
+    let call = "StrInner::from_strings";
+    let Some(made) = of_strings::<S>(alloc) else {
         return Ok(());
     };
-    let made = StrInner::<S>::from_strings(alloc, first.into_iter());
-    let text = match given(rt, "StrInner::from_strings", made)? {
-        Some(text) => text,
-        None => StrInner::from_strings(alloc, again.into_iter())?,
-    };
-    assert_eq!(rt; text.as_str(), items());
+    if is_refused(rt, call, made)? {
+        let again = of_strings::<S>(alloc).ok_or("no pieces")?;
+        assert!(rt; !is_refused(rt, call, again)?);
+    }
     Ok(())
 }
 
@@ -114,30 +144,39 @@ fn growing_from_strings(rt: HostRuntime) -> Result<(), Fail> {
     from_strings::<BytesMut, HostRuntime>(&rt, rt.alloc())
 }
 
+/// The items and a number.
+fn formatted(alloc: Global) -> Result<Str, fmt::Error> {
+    format_bytes!(alloc; "{0}{1}", items(), 12)
+}
+
+/// As `formatted`, in bytes that may grow.
+fn formatted_mut(alloc: Global) -> Result<StrMut, fmt::Error> {
+    format_bytes_mut!(alloc; "{0}{1}", items(), 12)
+}
+
+/// Asserts that these are the items and the number.
+fn assert_formatted(rt: &impl Abort, text: &str) {
+    assert_eq!(rt; text.strip_prefix(items()), Some("12"));
+}
+
 #[test]
 fn format_shared(rt: HostRuntime) -> Result<(), Fail> {
-    let alloc = rt.alloc();
-    let text = match format_bytes!(alloc; "{0}{1}", items(), 12) {
-        Ok(text) => text,
-        Err(_) => {
-            say(&rt, "format_bytes!")?;
-            format_bytes!(alloc; "{0}{1}", items(), 12)?
-        }
-    };
-    assert_eq!(rt; text.as_str().strip_prefix(items()), Some("12"));
+    if let Ok(text) = formatted(rt.alloc()) {
+        assert_formatted(&rt, text.as_str());
+        return Ok(());
+    }
+    say(&rt, "format_bytes!")?;
+    assert_formatted(&rt, formatted(rt.alloc())?.as_str());
     Ok(())
 }
 
 #[test]
 fn format_growing(rt: HostRuntime) -> Result<(), Fail> {
-    let alloc = rt.alloc();
-    let text = match format_bytes_mut!(alloc; "{0}{1}", items(), 12) {
-        Ok(text) => text,
-        Err(_) => {
-            say(&rt, "format_bytes_mut!")?;
-            format_bytes_mut!(alloc; "{0}{1}", items(), 12)?
-        }
-    };
-    assert_eq!(rt; text.as_str().strip_prefix(items()), Some("12"));
+    if let Ok(text) = formatted_mut(rt.alloc()) {
+        assert_formatted(&rt, text.as_str());
+        return Ok(());
+    }
+    say(&rt, "format_bytes_mut!")?;
+    assert_formatted(&rt, formatted_mut(rt.alloc())?.as_str());
     Ok(())
 }

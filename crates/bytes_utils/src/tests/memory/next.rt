@@ -1,11 +1,12 @@
 //! Each splitter's `next`: a refused cut is one item, and then the end.
-ghost use Rattle.std.specs.Iterator.{IsFinite};
-
-use super::super::closure::{taken_characters, taken_fields};
-use super::super::{assert_end, taken};
+use super::super::closure::{Characters, Fields};
+use super::super::ways::{
+    Lines, RSplit, RSplitN, Row, Split, SplitAsciiWhitespace, SplitInclusive, SplitN,
+    SplitWhitespace, Way,
+};
 use super::tell;
-use crate::string::{Storage, StrInner};
 use crate::{Reason, Str, StrMut};
+use std::alloc::Global;
 use std::io::Print;
 use std::process::Abort;
 use std::test::Fail;
@@ -22,169 +23,93 @@ fn tell_taken<R: Abort + Print>(
     }
 }
 
-/// Asserts that the parts are those between bars, or a beginning of them, a refusal, which is told,
-/// and the end.
-fn assert_taken<S, P, R>(rt: &R, call: &str, mut parts: P, wanted: &str) -> Result<(), Fail>
-where
-    S: Storage,
-    P: Iterator<Item = Result<StrInner<S>, Reason>> + Drop,
-    R: Abort + Print,
-    requires can { (s : P) → P.can_next s }
-    requires ends { (s : P) → IsFinite (P.remaining s) }
-{
-    let answer = taken(rt, &mut parts, wanted.split_terminator('|'));
-    assert_end(rt, parts);
-    tell_taken(rt, call, answer)
+/// Asserts what a way gives of the row's text over each storage, unless that text is refused: the
+/// parts, or a beginning of them, a refusal, which is told, and the end.
+fn assert_next<W: Way, R: Abort + Print>(
+    rt: &R,
+    alloc: Global,
+    call: &str,
+    row: Row,
+) -> Result<(), Fail> {
+    let (text, most, separator, wanted) = row;
+    if let Ok(shared) = Str::from_str(alloc, text) {
+        tell_taken(rt, call, W::taken(rt, shared, most, separator, wanted))?;
+    }
+    if let Ok(growing) = StrMut::from_str(alloc, text) {
+        tell_taken(rt, call, W::taken(rt, growing, most, separator, wanted))?;
+    }
+    Ok(())
 }
 
 #[test]
 fn split(rt: HostRuntime) -> Result<(), Fail> {
-    if let Ok(text) = Str::from_str(rt.alloc(), "a,b,c") {
-        assert_taken(&rt, "SplitBytes::next", text.split_bytes(","), "a|b|c|")?;
-    }
-    if let Ok(text) = StrMut::from_str(rt.alloc(), "a,b,c") {
-        assert_taken(&rt, "SplitBytes::next", text.split_bytes(","), "a|b|c|")?;
-    }
-    Ok(())
+    let row = ("a,b,c", 0, ",", "a|b|c|");
+    assert_next::<Split, HostRuntime>(&rt, rt.alloc(), "SplitBytes::next", row)
 }
 
 #[test]
 fn rsplit(rt: HostRuntime) -> Result<(), Fail> {
-    if let Ok(text) = Str::from_str(rt.alloc(), "a,b,c") {
-        assert_taken(&rt, "RSplitBytes::next", text.rsplit_bytes(","), "c|b|a|")?;
-    }
-    if let Ok(text) = StrMut::from_str(rt.alloc(), "a,b,c") {
-        assert_taken(&rt, "RSplitBytes::next", text.rsplit_bytes(","), "c|b|a|")?;
-    }
-    Ok(())
+    let row = ("a,b,c", 0, ",", "c|b|a|");
+    assert_next::<RSplit, HostRuntime>(&rt, rt.alloc(), "RSplitBytes::next", row)
 }
 
 #[test]
 fn splitn(rt: HostRuntime) -> Result<(), Fail> {
-    if let Ok(text) = Str::from_str(rt.alloc(), "a,b,c") {
-        assert_taken(
-            &rt,
-            "SplitNBytes::next",
-            text.splitn_bytes(2, ","),
-            "a|b,c|",
-        )?;
-    }
-    if let Ok(text) = StrMut::from_str(rt.alloc(), "a,b,c") {
-        assert_taken(
-            &rt,
-            "SplitNBytes::next",
-            text.splitn_bytes(2, ","),
-            "a|b,c|",
-        )?;
-    }
-    Ok(())
+    let row = ("a,b,c", 2, ",", "a|b,c|");
+    assert_next::<SplitN, HostRuntime>(&rt, rt.alloc(), "SplitNBytes::next", row)
 }
 
 #[test]
 fn rsplitn(rt: HostRuntime) -> Result<(), Fail> {
-    if let Ok(text) = Str::from_str(rt.alloc(), "a,b,c") {
-        assert_taken(
-            &rt,
-            "RSplitNBytes::next",
-            text.rsplitn_bytes(2, ","),
-            "c|a,b|",
-        )?;
-    }
-    if let Ok(text) = StrMut::from_str(rt.alloc(), "a,b,c") {
-        assert_taken(
-            &rt,
-            "RSplitNBytes::next",
-            text.rsplitn_bytes(2, ","),
-            "c|a,b|",
-        )?;
-    }
-    Ok(())
+    let row = ("a,b,c", 2, ",", "c|a,b|");
+    assert_next::<RSplitN, HostRuntime>(&rt, rt.alloc(), "RSplitNBytes::next", row)
 }
 
 /// By the empty separator, from either end.
 #[test]
 fn characters(rt: HostRuntime) -> Result<(), Fail> {
-    if let Ok(text) = Str::from_str(rt.alloc(), "αβ") {
-        assert_taken(&rt, "SplitBytes::next", text.split_bytes(""), "|α|β||")?;
-    }
-    if let Ok(text) = StrMut::from_str(rt.alloc(), "αβ") {
-        assert_taken(&rt, "RSplitBytes::next", text.rsplit_bytes(""), "|β|α||")?;
-    }
-    Ok(())
+    let alloc = rt.alloc();
+    assert_next::<Split, HostRuntime>(&rt, alloc, "SplitBytes::next", ("αβ", 0, "", "|α|β||"))?;
+    assert_next::<RSplit, HostRuntime>(&rt, alloc, "RSplitBytes::next", ("αβ", 0, "", "|β|α||"))
 }
 
 #[test]
 fn split_inclusive(rt: HostRuntime) -> Result<(), Fail> {
-    if let Ok(text) = Str::from_str(rt.alloc(), "a,b,") {
-        let parts = text.split_inclusive_bytes(",");
-        assert_taken(&rt, "SplitInclusiveBytes::next", parts, "a,|b,|")?;
-    }
-    if let Ok(text) = StrMut::from_str(rt.alloc(), "a,b,") {
-        let parts = text.split_inclusive_bytes(",");
-        assert_taken(&rt, "SplitInclusiveBytes::next", parts, "a,|b,|")?;
-    }
-    Ok(())
+    let row = ("a,b,", 0, ",", "a,|b,|");
+    assert_next::<SplitInclusive, HostRuntime>(&rt, rt.alloc(), "SplitInclusiveBytes::next", row)
 }
 
 #[test]
 fn lines(rt: HostRuntime) -> Result<(), Fail> {
-    if let Ok(text) = Str::from_str(rt.alloc(), "a\r\nb\n") {
-        assert_taken(&rt, "LinesBytes::next", text.lines_bytes(), "a|b|")?;
-    }
-    if let Ok(text) = StrMut::from_str(rt.alloc(), "a\r\nb\n") {
-        assert_taken(&rt, "LinesBytes::next", text.lines_bytes(), "a|b|")?;
-    }
-    Ok(())
+    let row = ("a\r\nb\n", 0, "", "a|b|");
+    assert_next::<Lines, HostRuntime>(&rt, rt.alloc(), "LinesBytes::next", row)
 }
 
 #[test]
 fn split_whitespace(rt: HostRuntime) -> Result<(), Fail> {
-    if let Ok(text) = Str::from_str(rt.alloc(), " a b ") {
-        let words = text.split_whitespace_bytes();
-        assert_taken(&rt, "SplitWhitespaceBytes::next", words, "a|b|")?;
-    }
-    if let Ok(text) = StrMut::from_str(rt.alloc(), " a b ") {
-        let words = text.split_whitespace_bytes();
-        assert_taken(&rt, "SplitWhitespaceBytes::next", words, "a|b|")?;
-    }
-    Ok(())
+    let row = (" a b ", 0, "", "a|b|");
+    assert_next::<SplitWhitespace, HostRuntime>(&rt, rt.alloc(), "SplitWhitespaceBytes::next", row)
 }
 
 #[test]
 fn split_ascii_whitespace(rt: HostRuntime) -> Result<(), Fail> {
-    if let Ok(text) = Str::from_str(rt.alloc(), " a b ") {
-        let words = text.split_ascii_whitespace_bytes();
-        assert_taken(&rt, "SplitAsciiWhitespaceBytes::next", words, "a|b|")?;
-    }
-    if let Ok(text) = StrMut::from_str(rt.alloc(), " a b ") {
-        let words = text.split_ascii_whitespace_bytes();
-        assert_taken(&rt, "SplitAsciiWhitespaceBytes::next", words, "a|b|")?;
-    }
-    Ok(())
+    let row = (" a b ", 0, "", "a|b|");
+    assert_next::<SplitAsciiWhitespace, HostRuntime>(
+        &rt,
+        rt.alloc(),
+        "SplitAsciiWhitespaceBytes::next",
+        row,
+    )
 }
 
 #[test]
 fn by_a_closure(rt: HostRuntime) -> Result<(), Fail> {
-    if let Ok(text) = Str::from_str(rt.alloc(), "a,b,c") {
-        let answer = taken_fields(&rt, text, "a|b|c|");
-        tell_taken(&rt, "BytesIter::next", answer)?;
-    }
-    if let Ok(text) = StrMut::from_str(rt.alloc(), "a,b,c") {
-        let answer = taken_fields(&rt, text, "a|b|c|");
-        tell_taken(&rt, "BytesIter::next", answer)?;
-    }
-    Ok(())
+    let row = ("a,b,c", 0, ",", "a|b|c|");
+    assert_next::<Fields, HostRuntime>(&rt, rt.alloc(), "BytesIter::next", row)
 }
 
 #[test]
 fn by_a_closure_backward(rt: HostRuntime) -> Result<(), Fail> {
-    if let Ok(text) = Str::from_str(rt.alloc(), "aβ") {
-        let answer = taken_characters(&rt, text, "β|a||");
-        tell_taken(&rt, "BytesIter::next", answer)?;
-    }
-    if let Ok(text) = StrMut::from_str(rt.alloc(), "aβ") {
-        let answer = taken_characters(&rt, text, "β|a||");
-        tell_taken(&rt, "BytesIter::next", answer)?;
-    }
-    Ok(())
+    let row = ("aβ", 0, "", "β|a||");
+    assert_next::<Characters, HostRuntime>(&rt, rt.alloc(), "BytesIter::next", row)
 }

@@ -1,28 +1,37 @@
 //! Calls that give a piece or a copy of a text.
+use super::super::assert_text;
 use super::{given, tell, two_characters};
 use crate::string::{Storage, StrInner};
 use crate::{Reason, Str, StrMut};
-use std::fmt::Debug;
 use std::io::Print;
 use std::process::Abort;
 use std::test::Fail;
 
-/// Asserts the two pieces behind the first character, the second time where the first is refused.
-fn assert_splits<S: Storage + Debug, R: Abort + Print>(
+/// The text, where its cut behind the first character was refused, which is told. Asserts the two
+/// pieces else.
+fn back<S: Storage, R: Abort + Print>(
     rt: &R,
     text: StrInner<S>,
-) -> Result<(), Fail> {
+) -> Result<Option<StrInner<S>>, Fail> {
     assert!(rt; text.as_str().is_char_boundary(1));
-    let (left, right) = match text.split_at_bytes(1) {
-        Ok(pieces) => pieces,
+    match text.split_at_bytes(1) {
+        Ok((left, right)) => {
+            assert!(rt; left.eq_str("a") && right.eq_str("β"));
+            Ok(None)
+        }
         Err(refused) => {
             tell(rt, "StrInner::split_at_bytes", refused.reason)?;
-            assert_eq!(rt; refused.back.as_str(), two_characters());
-            assert!(rt; refused.back.as_str().is_char_boundary(1));
-            refused.back.split_at_bytes(1)?
+            Ok(Some(refused.back))
         }
-    };
-    assert!(rt; left.eq_str("a") && right.eq_str("β"));
+    }
+}
+
+/// Asserts the two pieces behind the first character, the second time where the first is refused.
+fn assert_splits<S: Storage, R: Abort + Print>(rt: &R, text: StrInner<S>) -> Result<(), Fail> {
+    if let Some(text) = back(rt, text)? {
+        assert_text(rt, text.as_str(), two_characters());
+        assert!(rt; back(rt, text)?.is_none());
+    }
     Ok(())
 }
 
@@ -34,32 +43,46 @@ fn split_at_bytes(rt: HostRuntime) -> Result<(), Fail> {
     assert_splits(&rt, text)
 }
 
+/// Whether the call was refused, which is told. Asserts the text that it gave else.
+fn is_refused<R: Abort + Print>(
+    rt: &R,
+    call: &str,
+    answer: Result<StrMut, Reason>,
+) -> Result<bool, Fail> {
+    match given(rt, call, answer)? {
+        Some(text) => {
+            assert_text(rt, text.as_str(), two_characters());
+            Ok(false)
+        }
+        None => Ok(true),
+    }
+}
+
 #[test]
 fn clone_growing(rt: HostRuntime) -> Result<(), Fail> {
+    let call = "StrMut::try_clone";
     let Ok(text) = StrMut::from_str(rt.alloc(), two_characters()) else {
         return Ok(());
     };
-    let copy = match given(&rt, "StrMut::try_clone", text.try_clone())? {
-        Some(copy) => copy,
-        None => text.try_clone()?,
-    };
-    assert!(rt; copy.eq_str(two_characters()) && text.eq_str(two_characters()));
+    if is_refused(&rt, call, text.try_clone())? {
+        assert!(rt; !is_refused(&rt, call, text.try_clone())?);
+    }
+    assert_text(&rt, text.as_str(), two_characters());
     Ok(())
 }
 
 #[test]
 fn split_built(rt: HostRuntime) -> Result<(), Fail> {
+    let call = "StrMut::split_built";
     let Ok(mut text) = StrMut::from_str(rt.alloc(), two_characters()) else {
         return Ok(());
     };
-    let built = match given(&rt, "StrMut::split_built", text.split_built())? {
-        Some(built) => built,
-        None => {
-            assert_eq!(rt; text.as_str(), two_characters());
-            text.split_built()?
-        }
-    };
-    assert!(rt; built.eq_str(two_characters()) && text.eq_str(""));
+    let built = text.split_built();
+    if is_refused(&rt, call, built)? {
+        assert_text(&rt, text.as_str(), two_characters());
+        assert!(rt; !is_refused(&rt, call, text.split_built())?);
+    }
+    assert_text(&rt, text.as_str(), "");
     Ok(())
 }
 
@@ -85,10 +108,15 @@ fn no_memory_needed_for_shared_pieces(rt: HostRuntime) -> Result<(), Fail> {
     let Ok(text) = Str::from_str(rt.alloc(), two_characters()) else {
         return Ok(());
     };
-    assert!(rt; text.as_str().is_char_boundary(1) && text.as_str().is_char_boundary(3));
-    assert!(rt; is_given(text.slice(1..3), "β"));
-    assert!(rt; is_given(text.slice_from(1), "β"));
-    assert!(rt; is_given(text.slice_to(1), "a"));
+    assert_pieces(&rt, &text);
     assert!(rt; is_given(text.try_clone(), two_characters()));
     assert_splits(&rt, text)
+}
+
+/// Asserts the pieces of the two characters.
+fn assert_pieces(rt: &impl Abort, text: &Str) {
+    let str = text.as_str();
+    assert!(rt; str.is_char_boundary(1) && str.is_char_boundary(3));
+    assert!(rt; is_given(text.slice(1..3), "β"));
+    assert!(rt; is_given(text.slice_from(1), "β") && is_given(text.slice_to(1), "a"));
 }

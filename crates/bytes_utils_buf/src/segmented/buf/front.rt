@@ -10,6 +10,7 @@ use std::alloc::Global;
 use std::collections::VecDeque;
 
 /// Whether the first held segment alone holds at least `len` bytes.
+#[inline]
 pub(super) fn front_holds<B: Buf>(segments: &VecDeque<B>, len: usize) -> bool
     ensures { IsTrue result
         ↔ ((0 < length segments.now.items) × (len ≤ length (front_of (map B.unread segments.now.items)))) }
@@ -21,6 +22,7 @@ pub(super) fn front_holds<B: Buf>(segments: &VecDeque<B>, len: usize) -> bool
 }
 
 /// Copies `len` bytes out of the first held segment alone.
+#[inline]
 pub(super) fn copy_front<B: BufParts>(
     segments: &mut VecDeque<B>,
     alloc: Global,
@@ -40,6 +42,7 @@ pub(super) fn copy_front<B: BufParts>(
 }
 
 /// Drops the first segment where it is read out.
+#[inline]
 pub(super) fn drop_read_out_front<B: Buf + Drop>(segments: &mut VecDeque<B>)
     ensures { NoneEmpty (drop 1 (map B.unread segments.old.items))
         → Skips 0 (map B.unread segments.old.items) (map B.unread segments.new.items) }
@@ -50,6 +53,7 @@ pub(super) fn drop_read_out_front<B: Buf + Drop>(segments: &mut VecDeque<B>)
 }
 
 /// Whether there is a first held segment and it is read out.
+#[inline]
 fn front_is_read_out<B: Buf>(segments: &VecDeque<B>) -> bool
     ensures yes { OnTrue result
         ((0 < length segments.now.items) × (length (front_of (map B.unread segments.now.items)) ≡ 0)) }

@@ -1,10 +1,10 @@
 //! What the program answers, and has written, where a request for memory is refused. With ample
 //! memory none is: a run that refuses one prints a line for it.
 use super::{PRINTED, print_four};
+use crate::fakes::SlowReader;
 use crate::odd::RefuseAfter;
 use crate::program::answer::Answer;
 use crate::program::entry::print_parts;
-use crate::program::fakes::SlowReader;
 use crate::program::tests::buffers::CALLS;
 use crate::program::{Fault, print_answer, script};
 use crate::splitter::AnySplitter;

@@ -2,7 +2,7 @@
 use Rattle.std.proofs.Common.{rules, arith, drop, Some}
 use Rattle.std.proofs.lemmas.List.Sorted.{answers_always}
 use Rattle.std.specs.Str.Pattern.{FindsBy}
-use Rattle.bytes_utils.proofs.Words.{is_other, words-none, EndsWord, EndsWord-from_find, word-some, space-before, space-behind, words-first}
+use Rattle.bytes_utils.proofs.Words.{is_other, words-none, EndsWord, word-some, space-before, space-behind, words-first}
 use Rattle.bytes_utils.proofs.split.words.word_place.Goals as goal
 
 pub returns-in_err-start-clause-word : goal.returns-in_err-start-clause-word
@@ -10,14 +10,13 @@ returns-in_err-start-clause-word g c =
     let is_space = g.W.WhiteSpace.is_space in
     rw c.from_residual.ensures (words-none is_space _ c.utf8.text (c.in_err-start.ensures.cases (is_other is_space) (answers_always _ _ _ (λ f a r f' k. search rules))))
 
-found : (g : _) (c : goal.After-unwrap_or-length g) → FindsBy (is_other g.W.WhiteSpace.is_space) c.args.text.now (Some (c.in_ok-start.start, c.in_ok-start.ensures.cases.0))
+found : (g : _) (c : goal.After-word_length-length g) → FindsBy (is_other g.W.WhiteSpace.is_space) c.args.text.now (Some (c.in_ok-start.start, c.in_ok-start.ensures.cases.0))
 found g c = c.in_ok-start.ensures.cases.1 (is_other g.W.WhiteSpace.is_space) (answers_always _ _ _ (λ f a r f' k. search rules))
 
-ends : (g : _) (c : goal.After-unwrap_or-length g) → EndsWord g.W.WhiteSpace.is_space (drop c.in_ok-start.start c.args.text.now) c.unwrap_or-length.result
+ends : (g : _) (c : goal.After-word_length-length g) → EndsWord g.W.WhiteSpace.is_space (drop c.in_ok-start.start c.args.text.now) c.word_length-length.result
 ends g c =
-    let is_space = g.W.WhiteSpace.is_space in
-    let from_find = EndsWord-from_find is_space _ _ _ c.range_from-rest.utf8 (answers_always _ _ _ (λ f a r f' k. search rules)) c.find-2.ensures.cases in
-    rw (← c.range_from-rest.ensures.value, c.unwrap_or-length.ensures) from_find
+    let is = c.word_length-length.ensures in
+    rw (← c.range_from.ensures.value) (record { boundary = is.boundary; none = is.none; ends = is.ends })
 
 pub returns-clause-order : goal.returns-clause-order
 returns-clause-order g c =

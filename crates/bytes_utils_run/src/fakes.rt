@@ -23,7 +23,7 @@ impl Calls {
 
 /// Gives at most `most` bytes a call, and fails at one call.
 #[derive(Drop)]
-pub(super) struct SlowReader<'a> {
+pub(crate) struct SlowReader<'a> {
     rest: &'a [u8],
     most: usize,
     calls: Calls,
@@ -31,7 +31,7 @@ pub(super) struct SlowReader<'a> {
 }
 
 impl<'a> SlowReader<'a> {
-    pub(super) fn new(input: &'a [u8], most: usize, fails_at: usize) -> Self
+    pub(crate) fn new(input: &'a [u8], most: usize, fails_at: usize) -> Self
         requires { 0 < most }
     {
         SlowReader {
@@ -41,7 +41,7 @@ impl<'a> SlowReader<'a> {
         }
     }
 
-    pub(super) fn rest(&self) -> &'a [u8] {
+    pub(crate) fn rest(&self) -> &'a [u8] {
         self.rest
     }
 }
@@ -61,14 +61,14 @@ impl Read for SlowReader<'_> {
 /// Gives its input by as few calls as may be, and notes the shortest and the longest place that it
 /// was to fill.
 #[derive(Drop)]
-pub(super) struct NotingReader<'a> {
+pub(crate) struct NotingReader<'a> {
     rest: &'a [u8],
     shortest: usize,
     longest: usize,
 }
 
 impl<'a> NotingReader<'a> {
-    pub(super) fn new(input: &'a [u8]) -> Self {
+    pub(crate) fn new(input: &'a [u8]) -> Self {
         NotingReader {
             rest: input,
             shortest: usize::MAX,
@@ -77,7 +77,7 @@ impl<'a> NotingReader<'a> {
     }
 
     /// The shortest and the longest place.
-    pub(super) fn places(&self) -> (usize, usize) {
+    pub(crate) fn places(&self) -> (usize, usize) {
         (self.shortest, self.longest)
     }
 }
@@ -96,8 +96,8 @@ impl Read for NotingReader<'_> {
 
 /// Gives one `a` a call, never ends, and counts its calls.
 #[derive(Drop)]
-pub(super) struct EndlessReader {
-    pub(super) calls: usize,
+pub(crate) struct EndlessReader {
+    pub(crate) calls: usize,
 }
 
 impl Read for EndlessReader {
@@ -117,14 +117,14 @@ impl Read for EndlessReader {
 
 /// Takes at most `most` bytes a call, and fails at one call.
 #[derive(Drop)]
-pub(super) struct SlowWriter {
+pub(crate) struct SlowWriter {
     held: Vec<u8>,
     most: usize,
     calls: Calls,
 }
 
 impl SlowWriter {
-    pub(super) fn new(held: Vec<u8>, most: usize, fails_at: usize) -> Self {
+    pub(crate) fn new(held: Vec<u8>, most: usize, fails_at: usize) -> Self {
         SlowWriter {
             held,
             most,
@@ -132,7 +132,7 @@ impl SlowWriter {
         }
     }
 
-    pub(super) fn held(&self) -> &[u8] {
+    pub(crate) fn held(&self) -> &[u8] {
         self.held.as_slice()
     }
 }
@@ -156,7 +156,7 @@ impl Write for SlowWriter {
 
 /// Answers 0 to every call, and so holds nothing.
 #[derive(Drop)]
-pub(super) struct StuckWriter;
+pub(crate) struct StuckWriter;
 
 impl Write for StuckWriter {
     ghost use Rattle.std.specs.Prelude.{Some, []};
@@ -174,8 +174,8 @@ impl Write for StuckWriter {
 
 /// Takes all it is given, and can't be flushed.
 #[derive(Drop)]
-pub(super) struct UnflushedWriter {
-    pub(super) held: Vec<u8>,
+pub(crate) struct UnflushedWriter {
+    pub(crate) held: Vec<u8>,
 }
 
 impl Write for UnflushedWriter {

@@ -1,7 +1,0 @@
-use Rattle.bytes_utils.proofs.Search.{FindsLast-from_needle}
-use Rattle.bytes_utils.proofs.split.search.rfind.Goals as goal
-
-pub returns : goal.returns
-returns c =
-    let found = rw (c.as_bytes.ensures.value, c.as_bytes-2.ensures.value) at c.rfind.ensures in
-    FindsLast-from_needle _ _ c.utf8.text c.utf8.separator c.requires _ found

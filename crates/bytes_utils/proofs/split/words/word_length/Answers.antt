@@ -1,0 +1,28 @@
+-- The ASCII characters that are passed by bytes, and from there on a search for white space.
+use Rattle.std.proofs.Common.{rules, ◌≡◌, ◌+◌, drop}
+use Rattle.std.proofs.lemmas.List.Sorted.{answers_always}
+use Rattle.bytes_utils.proofs.Words.{ascii_run, is-run, run-boundary, EndsWord, EndsWord-from_find, EndsWord-behind_run}
+use Rattle.bytes_utils.proofs.split.words.word_length.Goals as goal
+
+pub range_from-rest-requires : goal.range_from-rest-requires
+range_from-rest-requires g c =
+    let is_space = g.W.WhiteSpace.is_space in
+    rw (is-run is_space _ _ _ c.run_end.ensures c.unwrap_or-ascii.ensures) (λ some. run-boundary is_space _ c.utf8.text)
+
+ends : (g : _) (c : goal.After-unwrap_or-length g) → EndsWord g.W.WhiteSpace.is_space c.args.text.now (c.unwrap_or-ascii.result + c.unwrap_or-length.result)
+ends g c =
+    let is_space = g.W.WhiteSpace.is_space in
+    let run_is : c.unwrap_or-ascii.result ≡ ascii_run is_space c.args.text.now = is-run is_space _ _ _ c.run_end.ensures c.unwrap_or-ascii.ensures in
+    let from_find = EndsWord-from_find is_space _ _ _ c.range_from-rest.utf8 (answers_always _ _ _ (λ f a r f' k. search rules)) c.find.ensures.cases in
+    let behind : EndsWord is_space (drop (ascii_run is_space c.args.text.now) c.args.text.now) c.unwrap_or-length.result =
+    rw (← run_is, ← c.range_from-rest.ensures.value, c.unwrap_or-length.ensures) from_find in
+    rw run_is (EndsWord-behind_run is_space _ _ c.utf8.text behind)
+
+pub returns-clause-boundary : goal.returns-clause-boundary
+returns-clause-boundary g c = (ends g c).boundary
+
+pub returns-clause-none : goal.returns-clause-none
+returns-clause-none g c = (ends g c).none
+
+pub returns-clause-ends : goal.returns-clause-ends
+returns-clause-ends g c = (ends g c).ends

@@ -1,0 +1,6 @@
+-- The back of a text, cut between two characters, is text.
+use Rattle.std.proofs.lemmas.Str.{IsUtf8-drop}
+use Rattle.bytes_utils.proofs.string.text.StrInner.into_back.Goals as goal
+
+pub invariant_of-result : goal.invariant_of-result
+invariant_of-result g c = rw c.in-Ok.ensures.back (IsUtf8-drop _ _ c.self.invariant (rw c.self.view_is c.requires))

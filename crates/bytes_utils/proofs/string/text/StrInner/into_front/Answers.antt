@@ -1,0 +1,6 @@
+-- The front of a text, cut between two characters, is text.
+use Rattle.std.proofs.lemmas.Str.{IsUtf8-take}
+use Rattle.bytes_utils.proofs.string.text.StrInner.into_front.Goals as goal
+
+pub invariant_of-result : goal.invariant_of-result
+invariant_of-result g c = rw c.in-Ok.ensures.front (IsUtf8-take _ _ c.self.invariant (rw c.self.view_is c.requires))

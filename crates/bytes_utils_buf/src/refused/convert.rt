@@ -1,0 +1,41 @@
+//! What `?` makes of a refusal.
+ghost use Rattle.std.specs.Prelude.{◌≡◌};
+ghost use Rattle.bytes_utils_buf.specs.declared.refused.Reason.TheVariants.{OutOfMemory};
+
+use super::{Reason, Refused};
+use crate::parts::CopyRefused;
+use std::alloc::{AllocError, AllocFailed};
+
+/// Why; what was handed in is dropped.
+impl<T: Drop> From<Refused<T>> for Reason {
+    ghost from_gives = { λ refused reason. reason ≡ refused.reason };
+
+    fn from(refused: Refused<T>) -> Reason {
+        refused.reason
+    }
+}
+
+impl From<CopyRefused> for Reason {
+    ghost from_gives = { λ _ reason. reason ≡ OutOfMemory };
+
+    fn from(_refused: CopyRefused) -> Reason {
+        Reason::OutOfMemory
+    }
+}
+
+impl From<AllocError> for Reason {
+    ghost from_gives = { λ _ reason. reason ≡ OutOfMemory };
+
+    fn from(_refused: AllocError) -> Reason {
+        Reason::OutOfMemory
+    }
+}
+
+/// What wasn't stored is dropped.
+impl<T: Drop> From<AllocFailed<T>> for Reason {
+    ghost from_gives = { λ _ reason. reason ≡ OutOfMemory };
+
+    fn from(_refused: AllocFailed<T>) -> Reason {
+        Reason::OutOfMemory
+    }
+}

@@ -1,0 +1,42 @@
+//! What a refusal says of itself.
+ghost use Rattle.std.specs.Prelude.{Some};
+ghost use Rattle.bytes_utils_buf.specs.Refusals.{reason_text, copy_refused_text};
+
+use super::{Reason, Refused};
+use crate::parts::CopyRefused;
+use std::error::Error;
+use std::fmt;
+
+impl fmt::Display for Reason {
+    ghost output = { λ reason. Some (reason_text reason) };
+
+    fn fmt<W: fmt::Write>(&self, f: &mut fmt::Formatter<W>) -> fmt::Result {
+        match self {
+            Reason::OutOfMemory => f.write_str("out of memory"),
+            Reason::TooLong => f.write_str("too long"),
+        }
+    }
+}
+
+impl Error for Reason {}
+
+/// The text of its reason.
+impl<T> fmt::Display for Refused<T> {
+    ghost output = { λ refused. Some (reason_text refused.reason) };
+
+    fn fmt<W: fmt::Write>(&self, f: &mut fmt::Formatter<W>) -> fmt::Result {
+        fmt::Display::fmt(&self.reason, f)
+    }
+}
+
+impl<T: fmt::Debug + Drop> Error for Refused<T> {}
+
+impl fmt::Display for CopyRefused {
+    ghost output = { λ refused. Some (copy_refused_text refused.taken) };
+
+    fn fmt<W: fmt::Write>(&self, f: &mut fmt::Formatter<W>) -> fmt::Result {
+        write!(f, "out of memory, bytes lost: {}", self.taken)
+    }
+}
+
+impl Error for CopyRefused {}

@@ -1,0 +1,60 @@
+//! What refusals say of themselves, and what `?` makes of them.
+use crate::parts::CopyRefused;
+use crate::{Reason, Refused};
+use std::alloc::{AllocError, AllocFailed, Global};
+use std::error::Error;
+use std::process::Abort;
+use std::test::Fail;
+
+/// Asserts what any error writes.
+fn assert_says<E: Error>(
+    rt: &impl Abort,
+    alloc: Global,
+    error: &E,
+    text: &str,
+) -> Result<(), Fail> {
+    let said = format!(in alloc; "{error}")?;
+    assert_eq!(rt; said.as_str(), text);
+    Ok(())
+}
+
+/// The refusal of a value that was handed in.
+fn too_long() -> Refused<u8> {
+    Refused {
+        reason: Reason::TooLong,
+        back: 7,
+    }
+}
+
+#[test]
+fn refusals_say_why(rt: HostRuntime) -> Result<(), Fail> {
+    let alloc = rt.alloc();
+    assert_says(&rt, alloc, &Reason::OutOfMemory, "out of memory")?;
+    assert_says(&rt, alloc, &too_long().reason, "too long")?;
+    assert_says(&rt, alloc, &too_long(), "too long")?;
+    assert_says(
+        &rt,
+        alloc,
+        &CopyRefused { taken: 12 },
+        "out of memory, bytes lost: 12",
+    )
+}
+
+/// What `?` makes of a refusal.
+fn reason_of<E>(refused: E) -> Result<(), Reason>
+where
+    Reason: From<E>,
+{
+    Err(refused)?
+}
+
+#[test]
+fn question_mark_gives_the_reason(rt: HostRuntime) {
+    let value = AllocFailed { value: 7_u8 };
+    assert!(rt;
+        reason_of(too_long()) == Err(Reason::TooLong)
+            && reason_of(CopyRefused { taken: 3 }) == Err(Reason::OutOfMemory)
+            && reason_of(AllocError) == Err(Reason::OutOfMemory)
+            && reason_of(value) == Err(Reason::OutOfMemory)
+    );
+}

@@ -1,0 +1,22 @@
+-- Bodies behind their lengths.
+use Rattle.std.specs.Prelude.{◌≡◌, ℕ, List, [], ◌++◌, length, take, Bool, Option, None, Some}
+use Rattle.std.specs.Int.{w32, from_be_bytes}
+
+-- what clauses see of an `Inbox`: the bytes that came in and weren't handed out, and whether some of them are lost
+pub record Pending : Type 0 where
+  pub bytes : List ℕ
+  pub broken : Bool
+
+-- the bytes of a prefix that was read; for the view of an `Inbox`
+abbrev pub prefix_bytes : Option (List ℕ) → List ℕ
+prefix_bytes None = []
+prefix_bytes (Some prefix) = prefix
+
+-- the length that the first four bytes tell, the greatest first
+abbrev pub told_len : List ℕ → ℕ
+told_len bytes = from_be_bytes w32 (take 4 bytes)
+
+-- the bytes of before are a prefix, the body, as long as the prefix tells, and the bytes that are left
+pub record HandsOut (old body new : List ℕ) : Type 0 where
+  pub len : length body ≡ told_len old
+  pub bytes : old ≡ take 4 old ++ body ++ new

@@ -1,0 +1,8 @@
+//! What a user of the library writes over it, to copy from: each does one thing, with a contract.
+
+pub mod headers;
+pub mod inbox;
+#[cfg(test)]
+mod tests;
+pub mod tokens;
+pub mod writer;

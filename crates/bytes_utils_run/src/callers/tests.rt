@@ -1,0 +1,6 @@
+//! Each caller on an input of the kind that it serves, and where something refuses.
+mod headers;
+mod inbox;
+mod memory;
+mod tokens;
+mod writer;
