@@ -1,5 +1,6 @@
 //! A text cut into all of its parts.
-ghost use Rattle.std.specs.Prelude.{◌≡◌, ◌+◌, ◌≤◌, ◌⊎◌, ℕ, List, IfNone, IfSome, length, map};
+ghost use Rattle.std.specs.Prelude.{◌≡◌, ◌+◌, ◌≤◌, ◌⊎◌, ℕ, List, [], IfErr, IfNone, IfSome, length, map};
+ghost use Rattle.std.specs.Result.{result_err};
 ghost use Rattle.std.specs.Str.{chars};
 ghost use Rattle.bytes_utils.specs.Outcome.{Outcome};
 ghost use Rattle.bytes_utils_run.specs.Coming.{AreToCome};
@@ -43,36 +44,21 @@ pub struct Parts<S: Storage> {
     pub refused: Option<Reason>,
 }
 
-/// Takes all the parts that a splitter gives.
-fn gather<S: Storage>(alloc: Global, splitter: AnySplitter<'_, S>) -> Parts<S>
-    requires { (parts : List (List ℕ)) × AreToCome splitter parts }
-    ensures outcome { Outcome (AreToCome splitter.entry) (map chars result.given.items)
-        result.refused }
-    ensures reason { IfSome result.refused
+/// Puts all the parts that a splitter gives into an empty list.
+fn gather<S: Storage>(
+    given: &mut Vec<StrInner<S>>,
+    splitter: &mut AnySplitter<'_, S>,
+) -> Result<(), Reason>
+    requires empty { given.now.items ≡ [] }
+    requires some { (parts : List (List ℕ)) × AreToCome splitter.now parts }
+    ensures outcome { Outcome (AreToCome splitter.old) (map chars given.new.items) (result_err result) }
+    ensures reason { IfErr result
         (λ reason. S.refuses reason ⊎ (reason ≡ Reason.OutOfMemory)) }
 {
-    let mut given = Vec::new(alloc);
     for item in splitter {
-        let part = match item {
-            Ok(part) => part,
-            Err(reason) => {
-                return Parts {
-                    given,
-                    refused: Some(reason),
-                };
-            }
-        };
-        if given.push(part).is_err() {
-            return Parts {
-                given,
-                refused: Some(Reason::OutOfMemory),
-            };
-        }
+        given.push(item?)?;
     }
-    Parts {
-        given,
-        refused: None,
-    }
+    Ok(())
 }
 
 /// Cuts a text into all of its parts. `is_empty` of the separator tests the condition on
@@ -88,5 +74,7 @@ pub fn cut_all<S: Storage>(alloc: Global, text: StrInner<S>, how: How<'_>) -> Pa
     ensures reason { IfSome result.refused
         (λ reason. S.refuses reason ⊎ (reason ≡ Reason.OutOfMemory)) }
 {
-    gather(alloc, AnySplitter::new(text, how))
+    let mut given = Vec::new(alloc);
+    let refused = gather(&mut given, &mut AnySplitter::new(text, how)).err();
+    Parts { given, refused }
 }

@@ -52,7 +52,7 @@ fn print_given<W: Write>(writer: &mut W, answer: Answer<'_>) -> Result<Option<Re
     ensures fault { IsOkUnless result Fault.Io }
 {
     match answer {
-        Answer::Parts(splitter) => print_parts(writer, splitter),
+        Answer::Parts(mut splitter) => print_parts(writer, &mut splitter),
         Answer::Replies(replies) => {
             print_all(writer, &replies.given)?;
             Ok(replies.refused)

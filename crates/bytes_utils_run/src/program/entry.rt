@@ -94,14 +94,14 @@ pub(super) fn print_all<E: Entry, W: Write>(writer: &mut W, entries: &[E]) -> Re
 /// there should be.
 pub(super) fn print_parts<S: Storage, W: Write>(
     writer: &mut W,
-    splitter: AnySplitter<'_, S>,
+    splitter: &mut AnySplitter<'_, S>,
 ) -> Result<Option<Reason>, Fault>
-    requires { (parts : List (List ℕ)) × AreToCome splitter parts }
+    requires { (parts : List (List ℕ)) × AreToCome splitter.now parts }
     ensures ok { IfOk result (λ refused. (parts : List (List ℕ))
-        × Outcome (AreToCome splitter.entry) parts refused
+        × Outcome (AreToCome splitter.old) parts refused
         × Appends (W.contents writer.old) (W.contents writer.new)
         (concat (map printed_part parts))) }
-    ensures err { OnErr result ((parts : List (List ℕ)) × AreToCome splitter.entry parts
+    ensures err { OnErr result ((parts : List (List ℕ)) × AreToCome splitter.old parts
         × AppendsBeginning (W.contents writer.old) (W.contents writer.new)
         (concat (map printed_part parts))) }
     ensures fault { IsOkUnless result Fault.Io }

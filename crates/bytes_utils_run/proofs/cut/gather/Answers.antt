@@ -1,28 +1,38 @@
-use Rattle.std.proofs.Common.{◌≡◌, sym, subst, List, [], ◌∷◌, ◌++◌, ℕ, ◌<◌, length, map, arith, rules}
+use Rattle.std.proofs.Common.{sym, subst, ◌∷◌, ◌++◌, map, arith}
 use Rattle.std.specs.Str.{chars}
 use Rattle.bytes_utils_run.specs.Coming.{AreToCome}
+use Rattle.bytes_utils_run.proofs.Outcomes.{Outcome-refused, map-between, some-of}
 use Rattle.bytes_utils_run.proofs.cut.gather.Goals as goal
 
-some_parts : (coming : List (List ℕ) → Type 0) → ¬ coming [] → (parts : List (List ℕ)) → coming parts → 0 < length parts
-some_parts coming none [] is = absurd (none is)
-some_parts coming none (part ∷ parts) is = omega arith
-
 -- a cut was refused: those that were to come are missing
-pub returns-in-Err-clause-outcome : goal.returns-in-Err-clause-outcome
-returns-in-Err-clause-outcome g c =
+pub returns-in_err-item-clause-outcome : goal.returns-in_err-item-clause-outcome
+returns-in_err-item-clause-outcome g c =
     let before = c.loop-item.invariant in
     let others = before.some in
-    let step = rw c.in-Err.is at c.in-Some.ensures.steps in
-    (others.0, some_parts (AreToCome c.loop-item.item-iterator) step.some others.0 others.1, before.each others.0 others.1)
+    let step = rw c.in_err-item.was at c.in-Some.ensures.steps in
+    let some = some-of (AreToCome c.loop-item.item-iterator.now) step.some others.0 others.1 in
+    Outcome-refused (AreToCome c.args.splitter.now) (map chars c.loop-item.given.items) c.from_residual.result c.from_residual.ensures.0 others.0 some (before.each others.0 others.1)
+
+pub loop-item-preserved : goal.loop-item-preserved
+loop-item-preserved g c =
+    let before = c.loop-item.invariant in
+    let part = c.in_ok-item.field-0 in
+    let step = rw c.in_ok-item.was at c.in-Some.ensures.steps in
+    record {
+      some = step.gives.some;
+      each = λ more to_come.
+          subst (λ given. AreToCome c.args.splitter.now (map chars given ++ more)) (sym c.in_ok-push.ensures.items)
+          (subst (AreToCome c.args.splitter.now) (map-between chars c.loop-item.given.items part more)
+          (before.each (chars part ∷ more) (step.gives.each more to_come)));
+    }
 
 -- the place for a part was refused: that part is missing, and those behind it
-pub returns-then-is_err-clause-outcome : goal.returns-then-is_err-clause-outcome
-returns-then-is_err-clause-outcome g c =
+pub returns-in_err-push-clause-outcome : goal.returns-in_err-push-clause-outcome
+returns-in_err-push-clause-outcome g c =
     let before = c.loop-item.invariant in
-    let part = chars c.in-Ok.part in
-    let step = rw c.in-Ok.is at c.in-Some.ensures.steps in
+    let step = rw c.in_ok-item.was at c.in-Some.ensures.steps in
     let others = step.gives.some in
-    let missing = part ∷ others.0 in
-    let right = before.each missing (step.gives.each others.0 others.1) in
-    let none_pushed : c.push.new.self.items ≡ c.loop-item.given.items = search rules in
-    (missing, omega arith, subst (λ given. AreToCome c.args.splitter (map chars given ++ missing)) (sym none_pushed) right)
+    let parts = chars c.in_ok-item.field-0 ∷ others.0 in
+    let right = before.each parts (step.gives.each others.0 others.1) in
+    let behind = subst (λ given. AreToCome c.args.splitter.now (map chars given ++ parts)) (sym c.in_err-push.ensures.items) right in
+    Outcome-refused (AreToCome c.args.splitter.now) (map chars c.push.new.self.items) c.from_residual-in_err-push.result c.from_residual-in_err-push.ensures.0 parts (omega arith) behind

@@ -105,10 +105,10 @@ fn parts_before_a_refusal(rt: HostRuntime) -> Result<(), Fail> {
         return Ok(());
     };
     let text = StrInner::from_inner(RefuseAfter::new(bytes, 2)).ok();
-    let splitter = AnySplitter::new(text.ok_or("not UTF-8")?, How::Split(","));
+    let mut splitter = AnySplitter::new(text.ok_or("not UTF-8")?, How::Split(","));
     let mut place = [0; 4];
     let mut writer = place.as_mut_slice();
-    let refused = print_parts(&mut writer, splitter);
+    let refused = print_parts(&mut writer, &mut splitter);
     assert!(rt; refused == Ok(Some(Reason::OutOfMemory)) && writer.is_empty());
     assert!(rt; place.as_slice() == b"1:a\n".as_slice());
     Ok(())

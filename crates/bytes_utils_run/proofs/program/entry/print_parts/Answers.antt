@@ -6,6 +6,7 @@ use Rattle.bytes_utils_run.specs.Coming.{AreToCome}
 use Rattle.bytes_utils_run.specs.Moves.{AppendsBeginning}
 use Rattle.bytes_utils_run.specs.Printed.{printed_part}
 use Rattle.bytes_utils_run.proofs.Beginnings.{OnErr-always}
+use Rattle.bytes_utils_run.proofs.Outcomes.{some-of}
 use Rattle.bytes_utils_run.proofs.Printing.{print_behind, print_begun_behind}
 use Rattle.bytes_utils_run.proofs.program.entry.print_parts.Goals as goal
 
@@ -15,9 +16,18 @@ loop-item-init g c =
     record {
       parts = [];
       some = rw same c.requires;
-      each = λ more to_come. subst (λ s. AreToCome s more) same to_come;
+      each = λ more to_come. subst (λ s. AreToCome s.now more) same to_come;
       printed = Appends-nil _;
     }
+
+-- a cut was refused: those that were to come are missing
+pub returns-in-Err-clause-ok : goal.returns-in-Err-clause-ok
+returns-in-Err-clause-ok g c =
+    let before = c.loop-item.invariant in
+    let others = before.some in
+    let step = rw c.in-Err.is at c.in-Some.ensures.steps in
+    let some = some-of (AreToCome c.loop-item.item-iterator.now) step.some others.0 others.1 in
+    (before.parts, (others.0, some, before.each others.0 others.1), before.printed)
 
 -- the part was begun, and others are to come
 pub returns-in_err-print-in-Ok-clause-err : goal.returns-in_err-print-in-Ok-clause-err
@@ -26,7 +36,7 @@ returns-in_err-print-in-Ok-clause-err g c =
     let part = chars c.in-Ok.part in
     let step = rw c.in-Ok.is at c.in-Some.ensures.steps in
     let others = step.gives.some in
-    let begun : (parts : List (List ℕ)) × AreToCome c.args.splitter parts
+    let begun : (parts : List (List ℕ)) × AreToCome c.args.splitter.now parts
     × AppendsBeginning (g.W.Write.contents c.args.writer.now) (g.W.Write.contents c.print.new.writer) (concat (map printed_part parts)) = (
       before.parts ++ part ∷ others.0,
       before.each (part ∷ others.0) (step.gives.each others.0 others.1),
@@ -43,6 +53,6 @@ loop-item-preserved g c =
       parts = before.parts ++ part ∷ [];
       some = step.gives.some;
       each = λ more to_come.
-          subst (AreToCome c.args.splitter) (sym (append_assoc before.parts (part ∷ []) more)) (before.each (part ∷ more) (step.gives.each more to_come));
+          subst (AreToCome c.args.splitter.now) (sym (append_assoc before.parts (part ∷ []) more)) (before.each (part ∷ more) (step.gives.each more to_come));
       printed = print_behind printed_part before.parts part _ _ _ before.printed c.in_ok-print-in-Ok.ensures.ok;
     }
