@@ -73,11 +73,11 @@ where
                 assert!(rt; parts.next().is_none(), "an item behind the refusal");
                 return (count, Some(reason));
             }
-            None => assert!(rt; false, "no part {want:?}"),
+            None => assert!(rt; false, "a part is missing"),
         }
         count = count.saturating_add(1);
     }
-    assert!(rt; parts.next().is_none(), "more than {count} parts");
+    assert!(rt; parts.next().is_none(), "more parts than are wanted");
     (count, None)
 }
 
