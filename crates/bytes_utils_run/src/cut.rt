@@ -75,6 +75,8 @@ pub fn cut_all<S: Storage>(alloc: Global, text: StrInner<S>, how: How<'_>) -> Pa
         (λ reason. S.refuses reason ⊎ (reason ≡ Reason.OutOfMemory)) }
 {
     let mut given = Vec::new(alloc);
-    let refused = gather(&mut given, &mut AnySplitter::new(text, how)).err();
+    let mut splitter = AnySplitter::new(text, how);
+    let refused = gather(&mut given, &mut splitter).err();
+    drop(splitter); // by its own proof, and not by each of its cases once more here
     Parts { given, refused }
 }

@@ -11,14 +11,14 @@ use Rattle.bytes_utils_run.proofs.cut.cut_all.Goals as goal
 pub returns-clause-outcome : goal.returns-clause-outcome
 returns-clause-outcome g c =
     subst (Outcome (ArePartsBy (cutting c.args.how) (chars c.args.text)) (map chars c.gather.new.given.items)) (sym c.err-refused.ensures.value)
-    (Outcome-right _ _ c.new.ensures.right _ _ c.gather.ensures.outcome)
+    (Outcome-right _ _ c.new-splitter.ensures.right _ _ c.gather.ensures.outcome)
 
 pub returns-clause-few : goal.returns-clause-few
 returns-clause-few g c =
-    let outcome = Outcome-right _ _ c.new.ensures.right _ _ c.gather.ensures.outcome in
+    let outcome = Outcome-right _ _ c.new-splitter.ensures.right _ _ c.gather.ensures.outcome in
     omega (arith, length-outcome _ _ _ _ outcome, length-map c.gather.new.given.items chars)
 
 pub returns-clause-joined : goal.returns-clause-joined
 returns-clause-joined g c =
     outcome_joins _ _ _ _ (subst (Outcome (ArePartsBy (cutting c.args.how) (chars c.args.text)) (map chars c.gather.new.given.items)) (sym c.err-refused.ensures.value)
-    (Outcome-right _ _ c.new.ensures.right _ _ c.gather.ensures.outcome))
+    (Outcome-right _ _ c.new-splitter.ensures.right _ _ c.gather.ensures.outcome))
