@@ -1,5 +1,5 @@
 -- What a segmented value counted so far, and what pays for the turns of its loops.
-use Rattle.std.specs.Prelude.{◌≡◌, ℕ, ◌+◌, ◌*◌, ◌≤◌, List, length}
+use Rattle.std.specs.Prelude.{ℕ, ◌+◌, ◌*◌, ◌≤◌, List, length}
 
 -- segments given, counted calls, and turns: runs of the body of a loop that steps past segments
 pub record Tallied : Type 0 where

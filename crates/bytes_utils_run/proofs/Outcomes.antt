@@ -1,5 +1,5 @@
 -- What follows from an outcome.
-use Rattle.std.proofs.Common.{ℕ, List, [], ◌∷◌, ◌++◌, ◌≡◌, ◌<◌, length, Option, None, Some, Result, Ok, Err, map, subst, refl, arith}
+use Rattle.std.proofs.Common.{List, [], ◌∷◌, ◌++◌, ◌≡◌, ◌<◌, length, Option, None, Some, Result, Ok, Err, map, subst, refl, arith}
 use Rattle.std.proofs.lemmas.Bool.{false≢true}
 use Rattle.std.proofs.lemmas.List.{map-append, length-map}
 use Rattle.std.specs.Result.{IsErr, result_err}
