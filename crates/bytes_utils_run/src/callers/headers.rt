@@ -1,5 +1,5 @@
 //! Headers, each with a name and a value, which are owned.
-ghost use Rattle.std.specs.Prelude.{◌≡◌, ⊤, IfOk, IfErr, IfSome, MatchOption};
+ghost use Rattle.std.specs.Prelude.{◌≡◌, ◌⊎◌, ⊤, IfOk, IfErr, IfSome, MatchOption};
 ghost use Rattle.std.specs.Str.{chars};
 ghost use Rattle.bytes_utils.specs.Lines.{lines};
 ghost use Rattle.bytes_utils.specs.Occurrence.{Occurs};
@@ -40,6 +40,7 @@ impl<T: Drop> From<AllocFailed<T>> for HeaderFault {
 fn header_of<S: Storage>(line: StrInner<S>) -> Result<Option<(StrInner<S>, StrInner<S>)>, Reason>
     ensures some { IfOk result (λ o. IfSome o (λ header. IsHeader (chars line) header)) }
     ensures none { IfOk result (λ o. MatchOption o (¬ Occurs colon (chars line)) (λ _. ⊤)) }
+    ensures reason { IfErr result S.refuses }
 {
     let mut parts = line.splitn_bytes(2, ": ");
     let Some(name) = parts.next() else {
@@ -61,6 +62,10 @@ pub fn headers<S: Storage>(
     ensures no_separator { IfErr result
         (λ fault. (number : _) → fault ≡ HeaderFault.NoSeparator number
         → LacksSeparator (lines (chars text)) number) }
+    // The storage refused a cut, or memory refused the place for the next header.
+    ensures reason { IfErr result
+        (λ fault. (reason : _) → fault ≡ HeaderFault.Refused reason
+        → S.refuses reason ⊎ (reason ≡ OutOfMemory)) }
 {
     let mut headers = Vec::new(alloc);
     for line in text.lines_bytes() {

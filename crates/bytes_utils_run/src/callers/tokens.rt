@@ -1,5 +1,5 @@
 //! A text cut into tokens at the bytes that a test picks out.
-ghost use Rattle.std.specs.Prelude.{◌≡◌, ◌++◌, [], ◌∷◌, OnOk, IfOk, IfSome};
+ghost use Rattle.std.specs.Prelude.{◌≡◌, ◌++◌, [], ◌∷◌, OnOk, IfOk, IfErr, IfSome};
 ghost use Rattle.std.specs.List.{position};
 ghost use Rattle.bytes_utils.specs.Walk.{IsLawfulCut};
 ghost use Rattle.bytes_utils.specs.Segments.{without_empty};
@@ -29,7 +29,8 @@ fn first_separator(text: &str) -> Option<(usize, usize)>
 
 /// Puts a token behind the others, unless it is empty.
 fn keep(tokens: &mut Vec<Str>, token: Str) -> Result<(), Reason>
-    ensures { OnOk result (tokens.new.items ≡ tokens.old.items ++ without_empty (token ∷ [])) }
+    ensures ok { OnOk result (tokens.new.items ≡ tokens.old.items ++ without_empty (token ∷ [])) }
+    ensures reason { IfErr result (λ reason. reason ≡ Reason.OutOfMemory) }
 {
     if !token.as_str().is_empty() {
         tokens.push(token)?;
@@ -42,6 +43,7 @@ fn keep(tokens: &mut Vec<Str>, token: Str) -> Result<(), Reason>
 pub fn tokens(alloc: Global, text: Str) -> Result<Vec<Str>, Reason>
     ensures exact { IfOk result (λ tokens. tokens.items ≡ tokens_of text) }
     ensures are { IfOk result (λ tokens. AreTokens (plain text) tokens.items) }
+    ensures reason { IfErr result (λ reason. reason ≡ Reason.OutOfMemory) }
 {
     let mut tokens = Vec::new(alloc);
     for part in BytesIter::new(text, Direction::Forward, |rest: &str| first_separator(rest)) {

@@ -11,7 +11,7 @@ loop-part-preserved c =
     let gives = part-given (λ state after text answer called. subst (λ t. CutsAtFirst t answer) called.shows (search rules)) before.forward c.in_ok-part.was step in
     record {
       forward = step.direction ∙ before.forward;
-      whole = one_more _ _ _ _ _ _ c.in_ok-keep.ensures gives before.whole;
+      whole = one_more _ _ _ _ _ _ c.in_ok-keep.ensures.ok gives before.whole;
     }
 
 pub returns-clause-are : goal.returns-clause-are
