@@ -42,7 +42,10 @@ impl BufParts for Bytes {
         ensures refused { IfErr result (λ e. e.taken ≡ 0) }
         ensures same { OnErr result (self.new ≡ self.old) }
     {
-        self.split_to(len).map_err(|_| CopyRefused { taken: 0 })
+        match self.split_to(len) {
+            Ok(copy) => Ok(copy),
+            Err(_) => Err(CopyRefused { taken: 0 }),
+        }
     }
 
     fn chunks_into<'s>(&'s self, dst: &mut [&'s [u8]]) -> usize {
@@ -65,9 +68,9 @@ impl BufParts for &[u8] {
         ensures same { OnErr result (self.new.now ≡ self.old.now) }
     {
         let all: &[u8] = *self;
-        let copy = Bytes::copy_from_slice(alloc, &all[..len]).map_err(|_| CopyRefused {
-            taken: 0,
-        })?;
+        let Ok(copy) = Bytes::copy_from_slice(alloc, &all[..len]) else {
+            return Err(CopyRefused { taken: 0 });
+        };
         *self = &all[len..];
         Ok(copy)
     }

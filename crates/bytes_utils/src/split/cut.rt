@@ -18,7 +18,10 @@ pub(super) fn cut_at<S: Storage>(
     ensures after { IfOk result (λ pieces. pieces.1 ≡ drop at text) }
     ensures reason { IfErr result S.refuses }
 {
-    text.split_at_bytes(at).map_err(|refused| refused.reason)
+    match text.split_at_bytes(at) {
+        Ok(pieces) => Ok(pieces),
+        Err(refused) => Err(refused.reason),
+    }
 }
 
 /// The text before the byte place `end` and that from `next` on, by one split at the later place,

@@ -50,7 +50,7 @@ impl Storage for Bytes {
         }
     }
 
-    #[inline]
+    #[inline(always)]
     fn into_front(mut self, at: usize) -> Result<Self, Refused<Self>>
         ensures value { IfOk result (λ front. front ≡ take at self) }
         // It takes no memory.

@@ -89,7 +89,10 @@ impl<B: BufParts + Drop> SegmentedBuf<B> {
             let count = append_chunk(&mut copy, self.front_chunk(), len);
             self.advance(count);
         }
-        Bytes::from_vec(copy).map_err(|_| CopyRefused { taken: len })
+        match Bytes::from_vec(copy) {
+            Ok(copy) => Ok(copy),
+            Err(_) => Err(CopyRefused { taken: len }),
+        }
     }
 }
 
