@@ -13,6 +13,7 @@ use bytes_utils_buf::Reason;
 use std::marker::Model;
 
 /// Where the first line ends, and where the text behind its line feed begins.
+#[inline]
 fn line_place(text: &str) -> Option<(usize, usize)>
     ensures order { IfSome result (λ place. place.0 < place.1) }
     ensures end { IfSome result (λ place. IsCharBoundary text.now place.0) }
@@ -77,7 +78,7 @@ impl<S: Storage> Iterator for LinesBytes<S> {
 
     ghost remaining = { λ s. at_most (option_map_or length s 0) };
 
-    #[inline]
+    #[inline(always)]
     fn next(&mut self) -> Option<Self::Item> {
         let text = self.rest.take()?;
         if text.as_str().is_empty() {
