@@ -4,10 +4,10 @@ use Rattle.std.proofs.lemmas.List.{length-map, length-replicate, map-append, tak
 use Rattle.std.proofs.Math.Seq.{take-add}
 use Rattle.std.specs.List.{concat}
 use borrow.Rule.Slice.PartMut.{put_mid}
-use Rattle.bytes_utils_buf.specs.Lent.{Lent, lists_of, lent_at, SkipsLent, IsLent}
+use Rattle.bytes_utils_buf.specs.Lent.{Lent, lists_of, lent_at, IsPassedOnce, SkipsLent, IsLent}
 use Rattle.bytes.specs.Unread.{IsChunkOf}
 use Rattle.bytes_utils_buf.specs.Segments.{cut_front, front_of, FrontUnread, Skips}
-use Rattle.bytes_utils_buf.specs.Tally.{Tallied, IsCovered, IsPaid}
+use Rattle.bytes_utils_buf.specs.Tally.{Tallied}
 use Rattle.bytes_utils_buf.proofs.Lists.{length-concat-take_more, read_at, concat_split, cut_front-none, Skips-from_count, Skips-more}
 
 -- ---- lists that are read out
@@ -46,10 +46,10 @@ map-put_mid f xs ys a h =
 
 -- ---- every value stays as it must be
 
--- a call that pays for itself and skips n bytes
+-- a call that skips n bytes, and turns once for each buffer that it passes
 pub IsLent-skip : (n remaining : ℕ) (now next : List (List ℕ)) (old new : Lent) → IsLent now remaining old → SkipsLent n old new
-    → next ≡ lists_of new → IsPaid old.segments old.tally new.segments new.tally → IsLent next (remaining - n) new
-IsLent-skip n remaining now next old new is skips lists paid =
+    → next ≡ lists_of new → IsPassedOnce new → IsLent next (remaining - n) new
+IsLent-skip n remaining now next old new is skips lists passed =
     record {
       lists = lists;
       sum = omega (arith, is.sum, ap length skips.segments.bytes, length-drop n (concat old.segments));
@@ -58,7 +58,7 @@ IsLent-skip n remaining now next old new is skips lists paid =
         skips = rw skips.handed_in (Skips-more is.reading.read n old.handed_in old.segments new.segments is.reading.skips skips.segments);
         place = omega (arith, is.reading.place, skips.place, ap length skips.handed_in);
       };
-      covered = omega (arith, is.covered, paid);
+      passed = passed;
     }
 
 -- the unread lists of the buffers from place k on
@@ -124,7 +124,6 @@ none_before (suc p) ((b ∷ s) ∷ now) inside none = absurd (omega (arith, leng
 -- what a loop that counts the empty lists at the front found
 pub record Trimmed (p : ℕ) (now : List (List ℕ)) : Type 0 where
   pub before : now ≡ replicate p [] ++ drop p now
-  pub within : p ≤ length now
   pub skips : Skips 0 now (drop p now)
 
 pub Trimmed-from_count : (now : List (List ℕ)) (p n : ℕ) → p ≤ length now → length (concat (take p now)) + n ≡ 0
@@ -133,24 +132,24 @@ Trimmed-from_count now p n inside none next =
     let zero_left : n ≡ 0 = omega (arith, none) in
     record {
       before = none_before p now inside (omega (arith, none));
-      within = inside;
       skips = Skips-from_count now (drop p now) p n 0 inside none (omega arith) next
           (cut_front-none (drop p now) ∙ ap (λ m. cut_front m (drop p now)) (sym zero_left));
     }
 
 -- a new value
-pub IsLent-new : (p remaining : ℕ) (now handed_in : List (List ℕ)) (tally : Tallied) (name : ℕ) → Trimmed p now → handed_in ≡ now → remaining ≡ length (concat now)
-    → IsCovered (drop p now) tally → IsLent now remaining (lent_at p handed_in now tally name)
-IsLent-new p remaining now handed_in tally name trimmed same sum covered =
+pub IsLent-new : (p remaining : ℕ) (now handed_in : List (List ℕ)) (tally : Tallied) (name : ℕ) → p ≤ length now
+    → now ≡ replicate p [] ++ drop p now → Skips 0 now (drop p now) → handed_in ≡ now → remaining ≡ length (concat now)
+    → IsPassedOnce (lent_at p handed_in now tally name) → IsLent now remaining (lent_at p handed_in now tally name)
+IsLent-new p remaining now handed_in tally name within before skips same sum passed =
     record {
-      lists = trimmed.before;
-      sum = omega (arith, sum, ap length trimmed.skips.bytes);
+      lists = before;
+      sum = omega (arith, sum, ap length skips.bytes);
       reading = record {
         read = 0;
-        skips = rw same trimmed.skips;
-        place = omega (arith, trimmed.within, length-drop p now, ap length same);
+        skips = rw same skips;
+        place = omega (arith, within, length-drop p now, ap length same);
       };
-      covered = covered;
+      passed = passed;
     }
 
 -- ---- the front

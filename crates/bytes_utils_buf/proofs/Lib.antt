@@ -1,4 +1,5 @@
 pub mod Accepting
+mod Ledger
 pub mod Lists
 pub mod Tables
 pub mod Lent

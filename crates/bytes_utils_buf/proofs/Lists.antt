@@ -1,6 +1,6 @@
 -- Lists of lists, seen from the front.
 use Rattle.std.proofs.Common.{◌≡◌, nat_lt, lt-ltb, cond, true, ◌⊎◌, inl, inr, ℕ, ◌+◌, ◌-◌, ◌<◌, ◌≤◌, List, [], ◌∷◌, ◌++◌, zero, suc, length, take, drop, map, get_or, set, replicate, ap, ◌∙◌, sym, refl, arith, length-append, append_assoc, length-drop}
-use Rattle.std.proofs.lemmas.List.{take_more, drop-append-le, drop-drop, take-append-drop, drop_all, nil_from_length, map-append}
+use Rattle.std.proofs.lemmas.List.{take_more, drop-append-le, drop-drop, take-append-drop, drop_all, map-append}
 use Rattle.std.proofs.lemmas.List.Elements.{All-nil, All-cons, All-head, All-tail, All-same, All-drop, All-append}
 use Rattle.std.specs.List.{concat, filter, AllZip}
 use Rattle.bytes.proofs.Chunks.{concat_push}
@@ -120,6 +120,12 @@ set-replicated (x ∷ xs) (suc i) h = ap (λ l. [] ∷ l) (set-replicated xs i (
 pub set-replicated_more : (xs : List (List ℕ)) (i : ℕ) → i < length xs → set (replicate i [] ++ drop i xs) i [] ≡ replicate (i + 1) [] ++ drop (i + 1) xs
 set-replicated_more xs i h = let e : i + 1 ≡ suc i = omega arith in rw e (set-replicated xs i h)
 
+-- what is behind those that are read out
+pub get_or-replicated : (xs : List (List ℕ)) (i : ℕ) → i < length xs → get_or (replicate i [] ++ drop i xs) i [] ≡ get_or xs i []
+get_or-replicated [] i h = absurd (omega arith)
+get_or-replicated (x ∷ xs) zero h = refl
+get_or-replicated (x ∷ xs) (suc i) h = get_or-replicated xs i (omega arith)
+
 -- the list at one place is cut
 pub set_cut : (xs : List (List ℕ)) (k n : ℕ) → k < length xs → set xs k (drop n (get_or xs k [])) ≡ cut_at k n xs
 set_cut [] k n h = absurd (omega arith)
@@ -169,7 +175,8 @@ concat-accepted xs ys = concat-append xs (without_empty ys) ∙ ap (λ l. concat
 pub length-concat-accepted : (xs ys : List (List ℕ)) → length (concat (xs ++ without_empty ys)) ≡ length (concat xs) + length (concat ys)
 length-concat-accepted xs ys = ap length (concat-accepted xs ys) ∙ length-append (concat xs) (concat ys)
 
-pub length-accepted : (xs ys : List (List ℕ)) → length (xs ++ without_empty ys) ≤ length xs + length ys
+-- each is held or was empty
+pub length-accepted : (xs ys : List (List ℕ)) → (length ys - count_unread ys) + length (xs ++ without_empty ys) ≡ length xs + length ys
 length-accepted xs ys = omega (arith, length-append xs (without_empty ys), length-without_empty ys)
 
 -- one more comes in
@@ -240,23 +247,6 @@ Skips-trimmed n xs ys zs fits same s =
 
 pub length-Skips : (n : ℕ) (xs ys : List (List ℕ)) → Skips n xs ys → length ys ≤ length xs
 length-Skips n xs ys s = omega (arith, ap length s.rest, length-cut_front s.cut (drop s.passed xs), length-drop s.passed xs)
-
-pub NoneEmpty-behind_cut : (xs : List (List ℕ)) (n : ℕ) → NoneEmpty xs → NoneEmpty (drop 1 (cut_front n xs))
-NoneEmpty-behind_cut [] n all = all
-NoneEmpty-behind_cut (x ∷ xs) n all = All-tail (λ s. 0 < length s) x xs all
-
--- a first list that is read out is dropped
-pub Skips-drop_front : (xs : List (List ℕ)) → 0 < length xs → length (front_of xs) ≡ 0 → NoneEmpty (drop 1 xs) → Skips 0 xs (drop 1 xs)
-Skips-drop_front [] some none all = absurd (omega arith)
-Skips-drop_front (x ∷ xs) some none all =
-    record {
-      passed = 1;
-      cut = 0;
-      within = omega arith;
-      rest = cut_front-none xs;
-      bytes = sym (ap (λ l. l ++ concat xs) (nil_from_length x none));
-      front = FrontUnread-from_none_empty xs all;
-    }
 
 -- ---- how many lists have bytes to read
 

@@ -2,7 +2,7 @@
 use Rattle.std.specs.Prelude.{◌≡◌, ℕ, ◌+◌, List, [], ◌++◌, length, drop, replicate}
 use Rattle.std.specs.List.{concat}
 use Rattle.bytes_utils_buf.specs.Segments.{Skips}
-use Rattle.bytes_utils_buf.specs.Tally.{Tallied, IsCovered}
+use Rattle.bytes_utils_buf.specs.Tally.{Tallied}
 
 -- what clauses see of a `SegmentedSlice`
 pub record Lent : Type 0 where
@@ -33,6 +33,12 @@ pub record SkipsLent (n : ℕ) (old new : Lent) : Type 0 where
   pub handed_in : new.handed_in ≡ old.handed_in
   pub name : new.name ≡ old.name
 
+-- all lent buffers were given, none is dropped, and each of those that are passed was passed by one turn
+pub record IsPassedOnce (lent : Lent) : Type 0 where
+  pub given : lent.tally.given ≡ length lent.handed_in
+  pub dropped : lent.tally.dropped ≡ 0
+  pub turns : lent.tally.turns ≡ lent.place
+
 -- lent buffers whose unread lists are `now`, read from a place on
 abbrev pub lent_at : ℕ → List (List ℕ) → List (List ℕ) → Tallied → ℕ → Lent
 lent_at place handed_in now tally name =
@@ -43,4 +49,4 @@ pub record IsLent (now : List (List ℕ)) (remaining : ℕ) (lent : Lent) : Type
   pub lists : now ≡ lists_of lent
   pub sum : remaining ≡ length (concat lent.segments)
   pub reading : IsReading lent
-  pub covered : IsCovered lent.segments lent.tally
+  pub passed : IsPassedOnce lent

@@ -6,6 +6,7 @@ use Rattle.bytes_utils_buf.specs.declared.segmented.tally.Log.{Log, Start, Given
 -- what a chain counts
 abbrev pub tallied : Log → Tallied
 tallied Start = nothing_counted
-tallied (Given' count m before) = let t = tallied before in record { given = t.given + count; calls = t.calls; turns = t.turns }
-tallied (Called' m before) = let t = tallied before in record { given = t.given; calls = t.calls + 1; turns = t.turns }
-tallied (Turned' m before) = let t = tallied before in record { given = t.given; calls = t.calls; turns = t.turns + 1 }
+tallied (Given' count dropped m before) =
+    let t = tallied before in record { given = t.given + count; dropped = t.dropped + dropped; calls = t.calls; turns = t.turns }
+tallied (Called' m before) = let t = tallied before in record { given = t.given; dropped = t.dropped; calls = t.calls + 1; turns = t.turns }
+tallied (Turned' m before) = let t = tallied before in record { given = t.given; dropped = t.dropped; calls = t.calls; turns = t.turns + 1 }

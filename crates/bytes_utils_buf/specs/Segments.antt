@@ -1,7 +1,7 @@
 -- Many buffers as one. Their unread lists, front first, are a list of byte lists, and the bytes to read are these joined.
-use Rattle.std.specs.Prelude.{◌≡◌, ℕ, zero, suc, ◌+◌, ◌<◌, ◌≤◌, List, [], ◌∷◌, ◌++◌, length, drop, All}
+use Rattle.std.specs.Prelude.{◌≡◌, ℕ, zero, suc, ◌+◌, ◌-◌, ◌<◌, ◌≤◌, List, [], ◌∷◌, ◌++◌, length, drop, All}
 use Rattle.std.specs.List.{concat}
-use Rattle.bytes_utils_buf.specs.Tally.{Tallied}
+use Rattle.bytes_utils_buf.specs.Tally.{Tallied, nothing_counted}
 
 -- what clauses see of a `SegmentedBuf`: the unread lists of the segments that it holds, and its tally
 pub record Held : Type 0 where
@@ -52,14 +52,19 @@ pub record Skips (n : ℕ) (old new : List (List ℕ)) : Type 0 where
   pub bytes : concat new ≡ drop n (concat old)
   pub front : FrontUnread new
 
--- after a counted call that accepts buffers with these unread lists, in order: empty ones are given too, but not held
+-- after a counted call that accepts buffers with these unread lists, in order: empty ones are given too, but dropped and not held
 abbrev pub after_accepting : Held → List (List ℕ) → Held
 after_accepting held lists =
     record {
       segments = held.segments ++ without_empty lists;
-      tally = record { given = held.tally.given + length lists; calls = held.tally.calls + 1; turns = held.tally.turns };
+      tally = record {
+        given = held.tally.given + length lists;
+        dropped = held.tally.dropped + (length lists - count_unread lists);
+        calls = held.tally.calls + 1;
+        turns = held.tally.turns;
+      };
     }
 
 -- a new value, which holds nothing
 abbrev pub nothing_held : Held
-nothing_held = record { segments = []; tally = record { given = 0; calls = 0; turns = 0 } }
+nothing_held = record { segments = []; tally = nothing_counted }

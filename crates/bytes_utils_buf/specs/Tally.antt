@@ -1,15 +1,27 @@
--- What a segmented value counted so far, and what pays for the turns of its loops.
-use Rattle.std.specs.Prelude.{ℕ, ◌+◌, ◌*◌, ◌≤◌, List, length}
+-- What a segmented value counted so far: a ledger in which each segment given stands once, and what pays for the turns of its loops.
+use Rattle.std.specs.Prelude.{◌≡◌, ℕ, ◌+◌, ◌*◌, ◌≤◌, List, length}
 
--- segments given, counted calls, and turns: runs of the body of a loop that steps past segments
 pub record Tallied : Type 0 where
+  -- segments given
   pub given : ℕ
+  -- those of them that were empty, and so dropped at once
+  pub dropped : ℕ
+  -- counted calls
   pub calls : ℕ
+  -- runs of the body of a loop that steps past segments
   pub turns : ℕ
 
 -- what the tally of a new value is
 abbrev pub nothing_counted : Tallied
-nothing_counted = record { given = 0; calls = 0; turns = 0 }
+nothing_counted = record { given = 0; dropped = 0; calls = 0; turns = 0 }
+
+-- the segments that were ever in the row: those passed, each by one turn, and those left
+abbrev pub lined_up : List (List ℕ) → Tallied → ℕ
+lined_up segments tally = tally.turns + length segments
+
+-- each segment given was dropped at once, or was passed by one turn, or is left
+abbrev pub IsBalanced : List (List ℕ) → Tallied → Type 0
+IsBalanced segments tally = tally.given ≡ tally.dropped + lined_up segments tally
 
 -- the turns so far, and two to come for each segment left
 abbrev pub cost_of : List (List ℕ) → Tallied → ℕ

@@ -7,7 +7,7 @@ use Rattle.std.proofs.lemmas.List.{length-map}
 use Rattle.std.proofs.lemmas.List.Elements.{All-cons, All-head, All-nil, All-tail}
 use Rattle.bytes.specs.Unread.{IsChunkOf}
 use Rattle.bytes_utils_buf.specs.Segments.{Held, NoneEmpty, Skips, after_accepting, count_unread, cut_front, front_of}
-use Rattle.bytes_utils_buf.specs.Tally.{cost_of}
+use Rattle.bytes_utils_buf.specs.Tally.{lined_up}
 use Rattle.bytes_utils_buf.proofs.Lists.{Skips-from_count, count_unread-Skips, length-Skips}
 use Rattle.bytes_utils_run.proofs.Fitting.{Fits, fits-accepting, fits-call, fits-skip}
 use Rattle.bytes_utils_run.specs.Calls.{AreSlices, CountsCopyOf, IsCall, IsRun}
@@ -107,13 +107,14 @@ counted advances old segments =
       segments = segments;
       tally = record {
         given = old.tally.given;
+        dropped = old.tally.dropped;
         calls = old.tally.calls + 1 + advances;
-        turns = old.tally.turns + 2 * (length old.segments - length segments);
+        turns = old.tally.turns + (length old.segments - length segments);
       };
     }
 
 cost-counted : (n advances : ℕ) (old : Held) (segments : List (List ℕ)) → Skips n old.segments segments
-    → cost_of segments (counted advances old segments).tally ≡ cost_of old.segments old.tally
+    → lined_up segments (counted advances old segments).tally ≡ lined_up old.segments old.tally
 cost-counted n advances old segments skips = omega (arith, length-Skips n old.segments segments skips)
 
 -- how many advances a copy of n bytes may be counted with
@@ -123,22 +124,24 @@ copies n old segments skips = elim (cases_lt (length (front_of old.segments)) n)
     count_unread old.segments - count_unread segments,
     record {
       given = refl;
+      dropped = refl;
       least = omega arith;
       most = omega (arith, count_unread-Skips n old.segments segments skips);
       alone = λ front. absurd (omega (arith, front, across));
       across = λ _. omega arith;
-      turns = λ _. cost-counted n (count_unread old.segments - count_unread segments) old segments skips;
+      turns = cost-counted n (count_unread old.segments - count_unread segments) old segments skips;
     },
   )
   | inr alone ↦ (
     0,
     record {
       given = refl;
+      dropped = refl;
       least = omega arith;
       most = omega arith;
       alone = λ _. omega arith;
       across = λ past. absurd (omega (arith, past, alone));
-      turns = λ past. absurd (omega (arith, past, alone));
+      turns = cost-counted n 0 old segments skips;
     },
   )
 ]
@@ -179,7 +182,7 @@ module _ {Y : Type 0} (like : Vec Y) where
         record {
           reply = Done;
           next = counted 0 old left.0;
-          is = ((within, left.1), (refl, omega arith, cost-counted n 0 old left.0 left.1));
+          is = ((within, left.1), (refl, refl, omega arith, cost-counted n 0 old left.0 left.1));
           whole = refl;
           fits = fits-skip n _ _ left.1 fits;
         })

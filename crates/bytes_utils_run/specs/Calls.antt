@@ -5,7 +5,7 @@ use Rattle.std.specs.List.{concat}
 use Rattle.bytes.specs.Unread.{IsChunkOf}
 use Rattle.bytes_utils_buf.specs.Copies.{CountsCopy}
 use Rattle.bytes_utils_buf.specs.Segments.{Held, NoneEmpty, Skips, after_accepting, without_empty}
-use Rattle.bytes_utils_buf.specs.Tally.{cost_of}
+use Rattle.bytes_utils_buf.specs.Tally.{lined_up}
 use Rattle.bytes_utils_run.specs.declared.calls.Call.{Call}
 use Rattle.bytes_utils_run.specs.declared.calls.Call.TheVariants.{Push, Segments, Read}
 use Rattle.bytes_utils_run.specs.declared.calls.ReadCall.{ReadCall}
@@ -43,13 +43,14 @@ IsRead call old reply new = ⊥
 abbrev pub CountsCopyOf : ℕ → ℕ → Held → Held → Type 0
 CountsCopyOf n taken old new = CountsCopy n taken old.segments old.tally new.segments new.tally
 
--- what a read adds to the tally: an advance that was done counts as a call, and turns twice for each segment that it passed, a copy that
+-- what a read adds to the tally: an advance that was done counts as a call, and takes one turn for each segment that it passed, a copy that
 -- was made or stopped counts as `CountsCopyOf` says, and nothing else counts
 abbrev pub CountsRead : ReadCall → Held → Reply → Held → Type 0
 CountsRead (Advance n) old Done new =
     (new.tally.given ≡ old.tally.given)
+    × (new.tally.dropped ≡ old.tally.dropped)
     × (new.tally.calls ≡ old.tally.calls + 1)
-    × (cost_of new.segments new.tally ≡ cost_of old.segments old.tally)
+    × (lined_up new.segments new.tally ≡ lined_up old.segments old.tally)
 CountsRead (CopyOut n) old (Piece piece) new = CountsCopyOf n n old new
 CountsRead (CopyOut n) old (CopyStopped taken) new = CountsCopyOf n taken old new
 CountsRead call old reply new = new.tally ≡ old.tally

@@ -1,6 +1,6 @@
 //! Lists of calls on a buffer, one reply a call.
 ghost use Rattle.std.specs.Prelude.{◌≡◌, [], Some, IfNone, OnSome, IfSome};
-ghost use Rattle.bytes_utils_buf.specs.Tally.{IsCovered, IsPaid};
+ghost use Rattle.bytes_utils_buf.specs.Tally.{IsBalanced, IsCovered, IsPaid};
 ghost use Rattle.bytes_utils_run.specs.Calls.{IsCall, IsRead, IsRun, lists_of};
 ghost use Rattle.bytes_utils_buf.specs.declared.refused.Reason.{Reason as WhyRefused};
 
@@ -102,20 +102,22 @@ pub fn drive<B: BufParts + Drop>(
     ensures none { OnSome result.refused (result.given.items ≡ []) }
     ensures same { OnSome result.refused (buf.new ≡ buf.old) }
 
-    // The turns of all the calls together are paid for, by these calls alone and since the
-    // beginning.
+    // Each segment given since the beginning was dropped at once, was passed by one turn, or is
+    // left. So the turns of all the calls together are paid for, by these calls alone and since
+    // the beginning.
+    ensures balanced { IsBalanced buf.new.segments buf.new.tally }
     ensures paid { IsPaid buf.old.segments buf.old.tally buf.new.segments buf.new.tally }
     ensures covered { IsCovered buf.new.segments buf.new.tally }
 {
     // No segment is empty, so there are no more segments than bytes.
     prove!(buf.segments() <= buf.remaining());
-
     let Ok(mut given) = Vec::with_capacity(alloc, calls.len()) else {
         return Replies::without_place(alloc);
     };
     for call in calls {
         given.push_reserved(make(alloc, buf, call));
     }
+    prove!(buf.segments() <= buf.remaining());
     Replies {
         given,
         refused: None,

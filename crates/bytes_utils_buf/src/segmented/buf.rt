@@ -3,7 +3,7 @@ ghost use Rattle.std.specs.Prelude.{◌≡◌, ◌+◌, ◌^◌, ◌<◌, ◌≤
 ghost use Rattle.std.specs.List.{concat};
 ghost use Rattle.bytes.specs.Unread.{IsChunkOf};
 ghost use Rattle.bytes_utils_buf.specs.Segments.{NoneEmpty, front_of, nothing_held, Skips};
-ghost use Rattle.bytes_utils_buf.specs.Tally.{IsCovered, IsPaid, cost_of};
+ghost use Rattle.bytes_utils_buf.specs.Tally.{IsBalanced, IsCovered, IsPaid, lined_up};
 
 mod accept;
 mod front;
@@ -43,7 +43,7 @@ impl<B: Buf + Drop> Model for SegmentedBuf<B> {
     ghost use Rattle.std.specs.Prelude.{◌≡◌, length, map};
     ghost use Rattle.std.specs.List.{concat};
     ghost use Rattle.bytes_utils_buf.specs.Segments.{Held, NoneEmpty};
-    ghost use Rattle.bytes_utils_buf.specs.Tally.{IsCovered};
+    ghost use Rattle.bytes_utils_buf.specs.Tally.{IsBalanced};
 
     ghost Value = { Held };
 
@@ -51,7 +51,7 @@ impl<B: Buf + Drop> Model for SegmentedBuf<B> {
 
     ghost invariant = { λ q. (q.remaining ≡ length (concat (map B.unread q.segments.items)))
         × NoneEmpty (map B.unread q.segments.items)
-        × IsCovered (map B.unread q.segments.items) q.tally };
+        × IsBalanced (map B.unread q.segments.items) q.tally };
 }
 
 impl<B: Buf + Drop> SegmentedBuf<B> {
@@ -73,6 +73,7 @@ impl<B: Buf + Drop> SegmentedBuf<B> {
 
         // What is true of every value, whatever was called before.
         ensures none_empty { NoneEmpty self.now.segments }
+        ensures balanced { IsBalanced self.now.segments self.now.tally }
         ensures covered { IsCovered self.now.segments self.now.tally }
     {
         self.segments.len()
@@ -106,10 +107,11 @@ impl<B: Buf + Drop> SegmentedBuf<B> {
         ensures skips { Skips cnt self.old.segments self.new.segments }
         ensures bytes { concat self.new.segments ≡ drop cnt (concat self.old.segments) }
 
-        // Each segment that is passed turns twice, on this value's own tally.
-        ensures turns { cost_of self.new.segments self.new.tally
-            ≡ cost_of self.old.segments self.old.tally }
+        // Each segment that is passed takes one turn, on this value's own tally.
+        ensures turns { lined_up self.new.segments self.new.tally
+            ≡ lined_up self.old.segments self.old.tally }
         ensures given { self.new.tally.given ≡ self.old.tally.given }
+        ensures dropped { self.new.tally.dropped ≡ self.old.tally.dropped }
         ensures calls { self.new.tally.calls ≡ self.old.tally.calls + 1 }
         ensures paid { IsPaid self.old.segments self.old.tally self.new.segments self.new.tally }
     {
@@ -138,7 +140,7 @@ impl<B: Buf + Clone> SegmentedBuf<B> {
         requires { (x y : B) → B.is_clone x y → B.unread y ≡ B.unread x }
         ensures ok { IfOk result (λ all. all ≡ record {
           segments = self.now.segments;
-          tally = record { given = length self.now.segments; calls = 0; turns = 0 };
+          tally = record { given = length self.now.segments; dropped = 0; calls = 0; turns = 0 };
         }) }
         ensures err { IfErr result (λ reason. reason ≡ Reason.OutOfMemory) }
     {
@@ -146,7 +148,7 @@ impl<B: Buf + Clone> SegmentedBuf<B> {
             return Err(Reason::OutOfMemory);
         };
         let mut tally = Tally::new();
-        tally.give(segments.len());
+        tally.give(segments.len(), 0);
         Ok(SegmentedBuf {
             segments,
             remaining: self.remaining,
@@ -166,8 +168,8 @@ impl<B: Buf + Drop> From<SegmentedBuf<B>> for VecDeque<B> {
 impl<B: Buf + Drop> Buf for SegmentedBuf<B> {
     ghost unread = { λ q. concat q.segments };
 
-    // What no read changes: how many segments were given.
-    ghost kept = { λ q. ([], q.tally.given) ∷ [] };
+    // What no read changes: how many segments were given, and how many of them were dropped at once.
+    ghost kept = { λ q. ([], q.tally.given) ∷ ([], q.tally.dropped) ∷ [] };
 
     #[inline]
     fn remaining(&self) -> usize {

@@ -3,15 +3,15 @@ ghost use Rattle.std.specs.Prelude.{◌≡◌, ◌+◌, ◌^◌, ◌<◌, ◌≤
 ghost use Rattle.std.specs.List.{concat};
 ghost use Rattle.std.specs.Option.{SomeIff};
 ghost use Rattle.bytes.specs.Unread.{IsChunkOf};
-ghost use Rattle.bytes_utils_buf.specs.Lent.{lists_of, IsReading, SkipsLent};
+ghost use Rattle.bytes_utils_buf.specs.Lent.{lists_of, IsPassedOnce, IsReading, SkipsLent};
 ghost use Rattle.bytes_utils_buf.specs.Segments.{front_of, Skips};
-ghost use Rattle.bytes_utils_buf.specs.Tally.{IsCovered, IsPaid, cost_of};
+ghost use Rattle.bytes_utils_buf.specs.Tally.{IsBalanced, IsCovered, IsPaid, lined_up};
 
 mod hand_out;
 
 use super::sum::sum_of;
 use super::tally::Tally;
-use super::walk::{count_lent, skip_lent};
+use super::walk::{count_empty, skip_lent};
 use bytes::Buf;
 use std::marker::Model;
 use std::snapshot::Snapshot;
@@ -83,19 +83,17 @@ impl<'a, B: Buf> SegmentedSlice<'a, B> {
         ensures bytes { concat result.segments ≡ concat (map B.unread bufs.old) }
         ensures place { result.place + length result.segments ≡ length bufs.old }
 
-        // The walk to the first buffer that isn't empty turns once for each that it passes.
-        ensures turns { result.tally.turns ≡ result.place }
         ensures given { result.tally.given ≡ length bufs.old }
         ensures calls { result.tally.calls ≡ 1 }
-        ensures covered { IsCovered result.segments result.tally }
+        ensures passed { IsPassedOnce result }
     {
         let mut tally = Tally::new();
-        tally.give(bufs.len());
+        tally.give(bufs.len(), 0);
         tally.call();
         let Some(remaining) = sum_of(bufs) else {
             unreachable!()
         };
-        let (place, _) = count_lent(bufs, &mut tally, 0);
+        let place = count_empty(bufs, &mut tally);
         let loan = Loan { bufs };
         let handed_in = Snapshot::of(&loan);
         let Loan { bufs } = loan;
@@ -133,10 +131,11 @@ impl<'a, B: Buf> SegmentedSlice<'a, B> {
         ensures skips { SkipsLent cnt self.old self.new }
         ensures bytes { concat self.new.segments ≡ drop cnt (concat self.old.segments) }
 
-        // Each buffer that is passed turns twice, on this value's own tally.
-        ensures turns { cost_of self.new.segments self.new.tally
-            ≡ cost_of self.old.segments self.old.tally }
+        // Each buffer that is passed takes one turn, on this value's own tally.
+        ensures turns { lined_up self.new.segments self.new.tally
+            ≡ lined_up self.old.segments self.old.tally }
         ensures given { self.new.tally.given ≡ self.old.tally.given }
+        ensures dropped { self.new.tally.dropped ≡ self.old.tally.dropped }
         ensures calls { self.new.tally.calls ≡ self.old.tally.calls + 1 }
         ensures paid { IsPaid self.old.segments self.old.tally self.new.segments self.new.tally }
     {
@@ -166,12 +165,16 @@ impl<B: Buf> Buf for SegmentedSlice<'_, B> {
     ghost unread = { λ q. concat q.segments };
 
     // What no read changes, packed into lists of bytes with a number each: the name of the borrow,
-    // how many buffers were given, and the unread list of each as it was handed in.
-    ghost kept = { λ q. ([], q.name) ∷ ([], q.tally.given) ∷ map (λ s. (s, 0)) q.handed_in };
+    // and the unread list of each buffer as it was handed in.
+    ghost kept = { λ q. ([], q.name) ∷ map (λ s. (s, 0)) q.handed_in };
 
     fn remaining(&self) -> usize
         ensures value { result ≡ length (concat self.now.segments) }
         ensures reading { IsReading self.now }
+
+        // What is true of every value, whatever was called before.
+        ensures passed { IsPassedOnce self.now }
+        ensures balanced { IsBalanced self.now.segments self.now.tally }
         ensures covered { IsCovered self.now.segments self.now.tally }
     {
         self.remaining

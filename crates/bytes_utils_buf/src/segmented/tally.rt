@@ -11,12 +11,12 @@ use std::snapshot::Snapshot;
 #[derive(Drop)]
 enum Log {
     Start,
-    Given(usize, Snapshot<Log>),
+    Given(usize, usize, Snapshot<Log>),
     Called(Snapshot<Log>),
     Turned(Snapshot<Log>),
 }
 
-/// Segments given, calls and turns. It has no bytes at run time, since a snapshot has none.
+/// Segments given, those dropped at once, calls and turns. It has no bytes at run time, since a snapshot has none.
 #[derive(Drop)]
 pub(crate) struct Tally {
     log: Snapshot<Log>,
@@ -40,12 +40,15 @@ impl Tally {
         }
     }
 
-    /// So many segments were accepted.
-    pub(crate) fn give(&mut self, count: usize)
-        ensures { self.new ≡ record self.old { given = self.old.given + count } }
+    /// So many segments were accepted, of which so many were empty and dropped at once.
+    pub(crate) fn give(&mut self, count: usize, dropped: usize)
+        ensures { self.new ≡ record self.old {
+          given = self.old.given + count;
+          dropped = self.old.dropped + dropped;
+        } }
     {
         let before = replace(&mut self.log, Snapshot::of(&Log::Start));
-        self.log = Snapshot::of(&Log::Given(count, before));
+        self.log = Snapshot::of(&Log::Given(count, dropped, before));
     }
 
     /// A counted call was made.

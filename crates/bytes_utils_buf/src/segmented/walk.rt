@@ -1,58 +1,43 @@
-//! The only loops that step past segments. Each run of their bodies is a turn of the tally.
-ghost use Rattle.std.specs.Prelude.{◌≡◌, ◌+◌, ◌*◌, ◌<◌, ◌≤◌, [], ◌++◌, length, map, take, drop, replicate, slice_index_or};
+//! The only loops that step past segments. Each run of their bodies is a turn of the tally, and steps
+//! past one segment.
+ghost use Rattle.std.specs.Prelude.{◌≡◌, ◌+◌, ◌<◌, ◌≤◌, [], length, map, take, drop, replicate, slice_index_or, ◌++◌, IfSome, IfNone};
 ghost use Rattle.std.specs.List.{concat};
-ghost use Rattle.bytes_utils_buf.specs.Segments.{cut_front, cut_at, Skips};
+ghost use Rattle.bytes_utils_buf.specs.Segments.{cut_front, cut_at, front_of, Skips};
 
 use super::tally::Tally;
 use bytes::Buf;
 use std::collections::VecDeque;
 
-/// Takes `cnt` bytes off the held segments: those that are passed are counted first and dropped
-/// together, and the next one is advanced.
+/// Takes `cnt` bytes off the held segments: each that is passed is dropped, and isn't advanced
+/// before, and the next one is advanced.
 #[inline]
 pub(super) fn skip_held<B: Buf + Drop>(segments: &mut VecDeque<B>, tally: &mut Tally, cnt: usize)
     requires { cnt ≤ length (concat (map B.unread segments.old.items)) }
     ensures skips { Skips cnt (map B.unread segments.old.items) (map B.unread segments.new.items) }
-    ensures turns { tally.new.turns + 2 * length segments.new.items
-        ≡ tally.old.turns + 2 * length segments.old.items }
-    ensures given { tally.new.given ≡ tally.old.given }
-    ensures calls { tally.new.calls ≡ tally.old.calls }
+    ensures turns { tally.new.turns + length segments.new.items
+        ≡ tally.old.turns + length segments.old.items }
+    ensures rest { tally.new ≡ record tally.old { turns = tally.new.turns } }
 {
-    let (passed, left) = count_held(segments, tally, cnt);
-    drop_held(segments, tally, passed);
+    let mut left = cnt;
+    while let Some(size) = front_within(segments, left) {
+        tally.turn();
+        left -= size;
+        let _ = segments.pop_front();
+    }
     advance_front(segments, left);
 }
 
-/// Counts the held segments that `cnt` bytes step past, and what is left to take off the next one.
+/// How many bytes the first held segment has, where it has no more than `left`.
 #[inline]
-fn count_held<B: Buf>(segments: &VecDeque<B>, tally: &mut Tally, cnt: usize) -> (usize, usize)
-    requires { cnt ≤ length (concat (map B.unread segments.now.items)) }
-    ensures passed { result.0 ≤ length segments.now.items }
-    ensures left { length (concat (take result.0 (map B.unread segments.now.items))) + result.1 ≡ cnt }
-    ensures next { result.0 < length segments.now.items
-        → result.1 < length (slice_index_or (map B.unread segments.now.items) result.0 []) }
-    ensures turns { tally.new ≡ record tally.old { turns = tally.old.turns + result.0 } }
+fn front_within<B: Buf>(segments: &VecDeque<B>, left: usize) -> Option<usize>
+    ensures some { IfSome result (λ size. (0 < length segments.now.items) × (size ≤ left)
+        × (size ≡ length (front_of (map B.unread segments.now.items)))) }
+    ensures none { IfNone result (0 < length segments.now.items
+        → left < length (front_of (map B.unread segments.now.items))) }
 {
-    let mut passed = 0;
-    let mut left = cnt;
-    while passed < segments.len() && segments[passed].remaining() <= left {
-        tally.turn();
-        left -= segments[passed].remaining();
-        passed += 1;
-    }
-    (passed, left)
-}
-
-/// Drops the first `passed` segments, none of which is advanced.
-#[inline]
-fn drop_held<B: Buf + Drop>(segments: &mut VecDeque<B>, tally: &mut Tally, passed: usize)
-    requires { passed ≤ length segments.old.items }
-    ensures segments { segments.new.items ≡ drop passed segments.old.items }
-    ensures turns { tally.new ≡ record tally.old { turns = tally.old.turns + passed } }
-{
-    for _ in 0..passed {
-        tally.turn();
-        let _ = segments.pop_front();
+    match segments.front() {
+        Some(front) if front.remaining() <= left => Some(front.remaining()),
+        _ => None,
     }
 }
 
@@ -60,59 +45,65 @@ fn drop_held<B: Buf + Drop>(segments: &mut VecDeque<B>, tally: &mut Tally, passe
 #[inline]
 fn advance_front<B: Buf>(segments: &mut VecDeque<B>, left: usize)
     requires { 0 < length segments.old.items
-        → left ≤ length (slice_index_or (map B.unread segments.old.items) 0 []) }
+        → left ≤ length (front_of (map B.unread segments.old.items)) }
     ensures { map B.unread segments.new.items ≡ cut_front left (map B.unread segments.old.items) }
 {
+    if left == 0 {
+        return;
+    }
     if let Some(front) = segments.front_mut() {
         front.advance(left);
     }
 }
 
-/// Takes `cnt` bytes off lent buffers: those that are passed are counted first and read out
-/// together, and the next one is advanced. Answers how many were passed.
+/// Takes `cnt` bytes off lent buffers: each that is passed is read out by one `advance`, and the
+/// next one is advanced. Answers how many were passed.
 pub(super) fn skip_lent<B: Buf>(bufs: &mut [B], tally: &mut Tally, cnt: usize) -> usize
     requires { cnt ≤ length (concat (map B.unread bufs.old)) }
     ensures passed { result ≤ length bufs.old }
     ensures read_out { take result (map B.unread bufs.new) ≡ replicate result [] }
     ensures skips { Skips cnt (map B.unread bufs.old) (drop result (map B.unread bufs.new)) }
-    ensures turns { tally.new ≡ record tally.old { turns = tally.old.turns + result + result } }
+    ensures turns { tally.new ≡ record tally.old { turns = tally.old.turns + result } }
 {
-    let (passed, left) = count_lent(bufs, tally, cnt);
-    read_out(bufs, tally, passed);
+    let mut passed = 0;
+    let mut left = cnt;
+    while let Some(size) = lent_within(bufs, passed, left) {
+        tally.turn();
+        bufs[passed].advance(size);
+        left -= size;
+        passed += 1;
+    }
     advance_at(bufs, passed, left);
     passed
 }
 
-/// Counts the lent buffers that `cnt` bytes step past, empty ones behind them too, and what is left
-/// to take off the next one. With `cnt` 0 it counts the empty ones at the front.
-pub(super) fn count_lent<B: Buf>(bufs: &[B], tally: &mut Tally, cnt: usize) -> (usize, usize)
-    requires { cnt ≤ length (concat (map B.unread bufs.now)) }
-    ensures passed { result.0 ≤ length bufs.now }
-    ensures left { length (concat (take result.0 (map B.unread bufs.now))) + result.1 ≡ cnt }
-    ensures next { result.0 < length bufs.now
-        → result.1 < length (slice_index_or (map B.unread bufs.now) result.0 []) }
-    ensures turns { tally.new ≡ record tally.old { turns = tally.old.turns + result.0 } }
+/// Counts the empty lent buffers at the front.
+pub(super) fn count_empty<B: Buf>(bufs: &[B], tally: &mut Tally) -> usize
+    ensures passed { result ≤ length bufs.now }
+    ensures read_out { map B.unread bufs.now
+        ≡ replicate result [] ++ drop result (map B.unread bufs.now) }
+    ensures skips { Skips 0 (map B.unread bufs.now) (drop result (map B.unread bufs.now)) }
+    ensures turns { tally.new ≡ record tally.old { turns = tally.old.turns + result } }
 {
-    let mut passed = 0;
-    let mut left = cnt;
-    while passed < bufs.len() && bufs[passed].remaining() <= left {
+    let mut empty = 0;
+    while let Some(_) = lent_within(bufs, empty, 0) {
         tally.turn();
-        left -= bufs[passed].remaining();
-        passed += 1;
+        empty += 1;
     }
-    (passed, left)
+    empty
 }
 
-/// Reads out the first `passed` lent buffers, each by one `advance`.
-fn read_out<B: Buf>(bufs: &mut [B], tally: &mut Tally, passed: usize)
-    requires { passed ≤ length bufs.old }
-    ensures bytes { map B.unread bufs.new ≡ replicate passed [] ++ drop passed (map B.unread bufs.old) }
-    ensures turns { tally.new ≡ record tally.old { turns = tally.old.turns + passed } }
+/// How many bytes the lent buffer at `at` has, where it has no more than `left`.
+#[inline]
+fn lent_within<B: Buf>(bufs: &[B], at: usize, left: usize) -> Option<usize>
+    ensures some { IfSome result (λ size. (at < length bufs.now) × (size ≤ left)
+        × (size ≡ length (slice_index_or (map B.unread bufs.now) at []))) }
+    ensures none { IfNone result (at < length bufs.now
+        → left < length (slice_index_or (map B.unread bufs.now) at [])) }
 {
-    for i in 0..passed {
-        tally.turn();
-        let size = bufs[i].remaining();
-        bufs[i].advance(size);
+    match bufs.get(at) {
+        Some(buf) if buf.remaining() <= left => Some(buf.remaining()),
+        _ => None,
     }
 }
 

@@ -1,8 +1,8 @@
 //! Buffers that come in: one, many, and whole collections.
-ghost use Rattle.std.specs.Prelude.{◌≡◌, ◌+◌, ◌^◌, ◌<◌, ◌≤◌, List, [], ◌∷◌, ◌++◌, length, map, ◌↔◌, Some, IsOk, IsErr, OnOk, OnErr, IfOk, IfErr};
+ghost use Rattle.std.specs.Prelude.{◌≡◌, ◌+◌, ◌-◌, ◌^◌, ◌<◌, ◌≤◌, List, [], ◌∷◌, ◌++◌, length, map, ◌↔◌, Some, IsOk, IsErr, OnOk, OnErr, IfOk, IfErr};
 ghost use Rattle.std.specs.Iterator.{IsFinite, Drains, YieldsThen};
 ghost use Rattle.std.specs.List.{concat};
-ghost use Rattle.bytes_utils_buf.specs.Segments.{after_accepting, nothing_held, without_empty};
+ghost use Rattle.bytes_utils_buf.specs.Segments.{after_accepting, count_unread, nothing_held, without_empty};
 ghost use Rattle.bytes_utils_buf.specs.Tally.{IsPaid};
 
 use super::SegmentedBuf;
@@ -28,9 +28,8 @@ impl<B: Buf + Drop> SegmentedBuf<B> {
         ensures paid { IsPaid self.old.segments self.old.tally self.new.segments self.new.tally }
     {
         let size = buf.remaining();
-        append(&mut self.segments, buf, size)?;
+        append(&mut self.segments, &mut self.tally, buf, size)?;
         self.remaining += size;
-        self.tally.give(1);
         self.tally.call();
         Ok(())
     }
@@ -73,7 +72,10 @@ impl<B: Buf + Drop> SegmentedBuf<B> {
     fn accept(&mut self, buf: B) -> Result<(), Refused<B>>
         ensures ok { OnOk result (self.new ≡ record {
           segments = self.old.segments ++ without_empty (B.unread buf ∷ []);
-          tally = record self.old.tally { given = self.old.tally.given + 1 };
+          tally = record self.old.tally {
+            given = self.old.tally.given + 1;
+            dropped = self.old.tally.dropped + (1 - count_unread (B.unread buf ∷ []));
+          };
         }) }
         ensures err { OnErr result (self.new ≡ self.old) }
         ensures back { IfErr result (λ e. e.back ≡ buf) }
@@ -88,9 +90,8 @@ impl<B: Buf + Drop> SegmentedBuf<B> {
                 back: buf,
             });
         };
-        append(&mut self.segments, buf, size)?;
+        append(&mut self.segments, &mut self.tally, buf, size)?;
         self.remaining = remaining;
-        self.tally.give(1);
         Ok(())
     }
 
@@ -123,9 +124,10 @@ impl<B: Buf + Drop> SegmentedBuf<B> {
             });
         };
         let mut tally = Tally::new();
-        tally.give(bufs.len());
-        tally.call();
+        let given = bufs.len();
         bufs.retain(|buf| buf.remaining() > 0);
+        tally.give(given, given - bufs.len());
+        tally.call();
         Ok(SegmentedBuf {
             segments: bufs,
             remaining,
@@ -160,18 +162,30 @@ impl<B: Buf + Drop> SegmentedBuf<B> {
     }
 }
 
-/// Puts `buf`, which has `size` bytes, behind the segments, or drops it where it is empty.
+/// Puts `buf`, which has `size` bytes, behind the segments, or drops it where it is empty. It is
+/// given in both cases.
 #[inline(always)]
-fn append<B: Buf + Drop>(segments: &mut VecDeque<B>, buf: B, size: usize) -> Result<(), Refused<B>>
+fn append<B: Buf + Drop>(
+    segments: &mut VecDeque<B>,
+    tally: &mut Tally,
+    buf: B,
+    size: usize,
+) -> Result<(), Refused<B>>
     requires { size ≡ length (B.unread buf) }
     ensures ok { OnOk result (map B.unread segments.new.items
         ≡ map B.unread segments.old.items ++ without_empty (B.unread buf ∷ [])) }
+    ensures tally { OnOk result (tally.new ≡ record tally.old {
+      given = tally.old.given + 1;
+      dropped = tally.old.dropped + (1 - count_unread (B.unread buf ∷ []));
+    }) }
     ensures err { OnErr result (segments.new.items ≡ segments.old.items) }
+    ensures same { OnErr result (tally.new ≡ tally.old) }
     ensures back { IfErr result (λ e. e.back ≡ buf) }
     ensures reason { IfErr result (λ e. e.reason ≡ Reason.OutOfMemory) }
     ensures empty { size ≡ 0 → IsOk result }
 {
     if size == 0 {
+        tally.give(1, 1);
         return Ok(());
     }
     if segments.reserve(1).is_err() {
@@ -181,5 +195,6 @@ fn append<B: Buf + Drop>(segments: &mut VecDeque<B>, buf: B, size: usize) -> Res
         });
     }
     segments.push_back_reserved(buf);
+    tally.give(1, 0);
     Ok(())
 }

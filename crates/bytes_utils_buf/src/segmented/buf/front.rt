@@ -1,8 +1,7 @@
-//! The first held segment: asked alone, and dropped where it is read out.
-ghost use Rattle.std.specs.Prelude.{◌≡◌, ◌<◌, ◌≤◌, length, map, take, drop, IsTrue, ◌↔◌, IfOk};
-ghost use Rattle.std.specs.Bool.{OnTrue, OnFalse};
+//! The first held segment, asked alone.
+ghost use Rattle.std.specs.Prelude.{◌≡◌, ◌<◌, ◌≤◌, length, map, take, IsTrue, ◌↔◌, IfOk};
 ghost use Rattle.bytes_utils_buf.specs.Parts.{taken_by};
-ghost use Rattle.bytes_utils_buf.specs.Segments.{NoneEmpty, cut_front, front_of, FrontUnread, Skips};
+ghost use Rattle.bytes_utils_buf.specs.Segments.{cut_front, front_of};
 
 use crate::parts::{BufParts, CopyRefused};
 use bytes::{Buf, Bytes};
@@ -39,28 +38,4 @@ pub(super) fn copy_front<B: BufParts>(
         unreachable!()
     };
     front.copy_out(alloc, len)
-}
-
-/// Drops the first segment where it is read out.
-#[inline]
-pub(super) fn drop_read_out_front<B: Buf + Drop>(segments: &mut VecDeque<B>)
-    ensures { NoneEmpty (drop 1 (map B.unread segments.old.items))
-        → Skips 0 (map B.unread segments.old.items) (map B.unread segments.new.items) }
-{
-    if front_is_read_out(segments) {
-        let _ = segments.pop_front();
-    }
-}
-
-/// Whether there is a first held segment and it is read out.
-#[inline]
-fn front_is_read_out<B: Buf>(segments: &VecDeque<B>) -> bool
-    ensures yes { OnTrue result
-        ((0 < length segments.now.items) × (length (front_of (map B.unread segments.now.items)) ≡ 0)) }
-    ensures no { OnFalse result (FrontUnread (map B.unread segments.now.items)) }
-{
-    match segments.front() {
-        Some(front) => front.remaining() == 0,
-        None => false,
-    }
 }

@@ -4,13 +4,14 @@ ghost use Rattle.std.specs.List.{concat};
 ghost use Rattle.bytes_utils_buf.specs.Copies.{CountsCopy};
 ghost use Rattle.bytes_utils_buf.specs.Parts.{taken_by, FillsTable};
 ghost use Rattle.bytes_utils_buf.specs.Segments.{NoneEmpty, count_unread, front_of, Skips};
-ghost use Rattle.bytes_utils_buf.specs.Tally.{IsPaid, cost_of};
+ghost use Rattle.bytes_utils_buf.specs.Tally.{IsPaid, lined_up};
 
 use super::SegmentedBuf;
-use super::front::{copy_front, drop_read_out_front, front_holds};
+use super::front::{copy_front, front_holds};
 use crate::parts::{BufParts, CopyRefused};
 use crate::segmented::copy::{append_chunk, bytes_taken};
 use crate::segmented::fill::fill_from_held;
+use crate::segmented::walk::skip_held;
 use bytes::Bytes;
 use std::alloc::Global;
 
@@ -31,8 +32,6 @@ impl<B: BufParts + Drop> SegmentedBuf<B> {
             → IfErr result (λ e. (e.taken ≡ 0) ⊎ (e.taken ≡ len)) }
         ensures counts { CountsCopy len (taken_by len result) self.old.segments self.old.tally
             self.new.segments self.new.tally }
-        ensures no_walk { len ≤ length (front_of self.old.segments)
-            → self.new.tally.turns ≡ self.old.tally.turns }
         ensures paid { IsPaid self.old.segments self.old.tally self.new.segments self.new.tally }
     {
         self.tally.call();
@@ -58,10 +57,14 @@ impl<B: BufParts + Drop> SegmentedBuf<B> {
         ensures value { IfOk result (λ copy. copy ≡ take len (concat self.old.segments)) }
         ensures taken { taken_by len result ≤ len }
         ensures skips { Skips (taken_by len result) self.old.segments self.new.segments }
-        ensures tally { self.new.tally ≡ self.old.tally }
+        ensures given { self.new.tally.given ≡ self.old.tally.given }
+        ensures dropped { self.new.tally.dropped ≡ self.old.tally.dropped }
+        ensures calls { self.new.tally.calls ≡ self.old.tally.calls }
+        ensures turns { lined_up self.new.segments self.new.tally
+            ≡ lined_up self.old.segments self.old.tally }
     {
         let copy = copy_front(&mut self.segments, alloc, len);
-        drop_read_out_front(&mut self.segments);
+        skip_held(&mut self.segments, &mut self.tally, 0);
         self.remaining -= bytes_taken(&copy, len);
         copy
     }
@@ -73,14 +76,14 @@ impl<B: BufParts + Drop> SegmentedBuf<B> {
         ensures taken { taken_by len result ≤ len }
         ensures skips { Skips (taken_by len result) self.old.segments self.new.segments }
         ensures given { self.new.tally.given ≡ self.old.tally.given }
+        ensures dropped { self.new.tally.dropped ≡ self.old.tally.dropped }
         ensures refused { IfErr result (λ e. (e.taken ≡ 0) ⊎ (e.taken ≡ len)) }
         ensures least { self.old.tally.calls ≤ self.new.tally.calls }
         ensures most { self.new.tally.calls ≤ self.old.tally.calls + taken_by len result }
         ensures each { self.old.tally.calls + count_unread self.old.segments
             ≤ self.new.tally.calls + count_unread self.new.segments }
-        ensures turns { cost_of self.new.segments self.new.tally
-            ≡ cost_of self.old.segments self.old.tally }
-        ensures paid { IsPaid self.old.segments self.old.tally self.new.segments self.new.tally }
+        ensures turns { lined_up self.new.segments self.new.tally
+            ≡ lined_up self.old.segments self.old.tally }
     {
         let Ok(mut copy) = Vec::with_capacity(alloc, len) else {
             return Err(CopyRefused { taken: 0 });

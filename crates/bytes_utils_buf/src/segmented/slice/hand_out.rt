@@ -5,14 +5,14 @@ ghost use Rattle.bytes_utils_buf.specs.Copies.{CountsCopy};
 ghost use Rattle.bytes_utils_buf.specs.Lent.{SkipsLent};
 ghost use Rattle.bytes_utils_buf.specs.Parts.{taken_by, FillsTable};
 ghost use Rattle.bytes_utils_buf.specs.Segments.{count_unread, front_of, FrontUnread, Skips};
-ghost use Rattle.bytes_utils_buf.specs.Tally.{IsPaid, cost_of};
+ghost use Rattle.bytes_utils_buf.specs.Tally.{IsPaid, lined_up};
 
 use super::SegmentedSlice;
 use crate::parts::{BufParts, CopyRefused};
 use crate::segmented::copy::{append_chunk, bytes_taken};
 use crate::segmented::fill::fill_from;
 use crate::segmented::tally::Tally;
-use crate::segmented::walk::count_lent;
+use crate::segmented::walk::count_empty;
 use bytes::{Buf, Bytes};
 use std::alloc::Global;
 
@@ -33,11 +33,6 @@ impl<B: BufParts> SegmentedSlice<'_, B> {
             → IfErr result (λ e. (e.taken ≡ 0) ⊎ (e.taken ≡ len)) }
         ensures counts { CountsCopy len (taken_by len result) self.old.segments self.old.tally
             self.new.segments self.new.tally }
-
-        // Behind a copy by the front alone, each buffer that is passed turns once.
-        ensures trims { len ≤ length (front_of self.old.segments)
-            → self.new.tally.turns + length self.new.segments
-            ≡ self.old.tally.turns + length self.old.segments }
         ensures paid { IsPaid self.old.segments self.old.tally self.new.segments self.new.tally }
     {
         self.tally.call();
@@ -73,10 +68,10 @@ impl<B: BufParts> SegmentedSlice<'_, B> {
         ensures taken { taken_by len result ≤ len }
         ensures skips { SkipsLent (taken_by len result) self.old self.new }
         ensures given { self.new.tally.given ≡ self.old.tally.given }
+        ensures dropped { self.new.tally.dropped ≡ self.old.tally.dropped }
         ensures calls { self.new.tally.calls ≡ self.old.tally.calls }
-        ensures turns { self.new.tally.turns + length self.new.segments
-            ≡ self.old.tally.turns + length self.old.segments }
-        ensures paid { IsPaid self.old.segments self.old.tally self.new.segments self.new.tally }
+        ensures turns { lined_up self.new.segments self.new.tally
+            ≡ lined_up self.old.segments self.old.tally }
     {
         let place = self.place;
         let bufs = &mut *self.bufs;
@@ -93,14 +88,14 @@ impl<B: BufParts> SegmentedSlice<'_, B> {
         ensures taken { taken_by len result ≤ len }
         ensures skips { SkipsLent (taken_by len result) self.old self.new }
         ensures given { self.new.tally.given ≡ self.old.tally.given }
+        ensures dropped { self.new.tally.dropped ≡ self.old.tally.dropped }
         ensures refused { IfErr result (λ e. (e.taken ≡ 0) ⊎ (e.taken ≡ len)) }
         ensures least { self.old.tally.calls ≤ self.new.tally.calls }
         ensures most { self.new.tally.calls ≤ self.old.tally.calls + taken_by len result }
         ensures each { self.old.tally.calls + count_unread self.old.segments
             ≤ self.new.tally.calls + count_unread self.new.segments }
-        ensures turns { cost_of self.new.segments self.new.tally
-            ≡ cost_of self.old.segments self.old.tally }
-        ensures paid { IsPaid self.old.segments self.old.tally self.new.segments self.new.tally }
+        ensures turns { lined_up self.new.segments self.new.tally
+            ≡ lined_up self.old.segments self.old.tally }
     {
         let Ok(mut copy) = Vec::with_capacity(alloc, len) else {
             return Err(CopyRefused { taken: 0 });
@@ -135,7 +130,7 @@ fn copy_of_first<B: BufParts>(
     ensures turns { tally.new ≡ record tally.old { turns = tally.old.turns + result.0 } }
 {
     let copy = bufs[0].copy_out(alloc, len);
-    let (empty, _) = count_lent(bufs, tally, 0);
+    let empty = count_empty(bufs, tally);
     (empty, copy)
 }
 

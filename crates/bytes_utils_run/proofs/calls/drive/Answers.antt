@@ -7,6 +7,10 @@ use Rattle.bytes_utils_run.proofs.calls.drive.Goals as goal
 pub prove-unreachable-requires : goal.prove-unreachable-requires
 prove-unreachable-requires g c = omega (arith, length-none_empty _ c.segments.ensures.none_empty, c.segments.ensures.count, c.remaining.ensures)
 
+pub prove-unreachable-requires-2 : goal.prove-unreachable-requires-2
+prove-unreachable-requires-2 g c =
+    omega (arith, length-none_empty _ c.segments-2.ensures.none_empty, c.segments-2.ensures.count, c.remaining-2.ensures, c.if-prove-2.true)
+
 pub push_reserved-requires : goal.push_reserved-requires
 push_reserved-requires g c =
     omega (arith, c.loop-call.invariant.count, c.loop-call.invariant.room, c.in-Some.ensures.steps.1)
@@ -23,5 +27,4 @@ loop-call-preserved g c =
       run = IsRun-push (IsCall g.B.Buf.unread) made c.args.buf.now c.loop-call.given.items c.loop-call.buf c.in-Some.call c.make.result c.make.new.buf _
           c.push_reserved.ensures.items old.run c.make.ensures.reply;
       paid = omega (arith, old.paid, c.make.ensures.paid);
-      covered = omega (arith, old.covered, c.make.ensures.paid);
     }

@@ -1,39 +1,42 @@
-use Rattle.std.proofs.Common.{◌<◌, length, map, get_or, [], arith, ap, ◌∙◌, sym, length-drop}
-use Rattle.std.proofs.lemmas.List.{length-map, drop-map}
-use Rattle.bytes_utils_buf.specs.Segments.{cut_front}
-use Rattle.bytes_utils_buf.proofs.Lists.{get_or-drop_first, length-cut_front, Skips-from_count}
+use Rattle.std.proofs.Common.{◌≡◌, ◌+◌, ◌-◌, [], length, map, drop, get_or, arith, rules, ap, ◌∙◌, sym, length-drop}
+use Rattle.std.proofs.lemmas.List.{length-map, drop-map, drop-drop}
+use Rattle.bytes_utils_buf.specs.Segments.{cut_front, front_of}
+use Rattle.bytes_utils_buf.proofs.Lists.{front_of_drop, length-concat-take_more, Skips-from_count}
 use Rattle.bytes_utils_buf.proofs.segmented.walk.skip_held.Goals as goal
 
-pub advance_front-requires : goal.advance_front-requires
-advance_front-requires g c some =
+pub loop-size-preserved-in-Some : goal.loop-size-preserved-in-Some
+loop-size-preserved-in-Some g c =
     let f = g.B.Buf.unread in
-    let items = c.args.segments.now.items in
-    let p = c.count_held-passed.result.0 in
-    let rest = c.drop_held.ensures.segments in
-    let inside : p < length items = omega (arith, ap length rest, length-drop p items, some) in
-    let lists = ap (map f) rest ∙ sym (drop-map f p items) in
-    let first = ap (λ l. length (get_or l 0 [])) lists ∙ ap length (get_or-drop_first (map f items) p) in
-    omega (arith, first, c.count_held-passed.ensures.next inside)
+    let all = c.args.segments.now.items in
+    let now = c.loop-size.segments.items in
+    let new = c.pop_front.new.self.items in
+    let passed = length all - length now in
+    let kept = c.loop-size.invariant in
+    let some = c.in-Some.ensures.some in
+    let fewer = ap length c.pop_front.ensures.rest in
+    let more : length all - length new ≡ passed + 1 = omega (arith, kept.fewer, some.0, fewer, length-drop 1 now) in
+    let front : front_of (map f now) ≡ get_or (map f all) passed []
+    = ap (λ l. front_of (map f l)) kept.rest ∙ ap front_of (sym (drop-map f passed all)) ∙ front_of_drop (map f all) passed in
+    let sum = length-concat-take_more (map f all) passed (omega (arith, length-map all f, kept.fewer, some.0)) in
+    let turns : c.turn.new.self ≡ record { given = c.args.tally.now.given; dropped = c.args.tally.now.dropped; calls = c.args.tally.now.calls; turns = c.args.tally.now.turns + (passed + 1) } =
+    search rules in
+    record {
+      fewer = omega (arith, kept.fewer, fewer, length-drop 1 now);
+      rest = c.pop_front.ensures.rest ∙ ap (drop 1) kept.rest ∙ drop-drop 1 passed all ∙ ap (λ n. drop n all) (sym more);
+      left = rw more (omega (arith, sum, ap length front, some.1, some.2, kept.left));
+      turns = rw more turns;
+    }
 
 pub returns-clause-skips : goal.returns-clause-skips
 returns-clause-skips g c =
     let f = g.B.Buf.unread in
-    let items = c.args.segments.now.items in
-    let p = c.count_held-passed.result.0 in
-    let n = c.count_held-passed.result.1 in
-    let size = length-map items f in
-    let lists = c.advance_front.ensures ∙ ap (λ l. cut_front n l) (ap (map f) c.drop_held.ensures.segments ∙ sym (drop-map f p items)) in
-    Skips-from_count (map f items) _ p n c.args.cnt (omega (arith, size, c.count_held-passed.ensures.passed)) c.count_held-passed.ensures.left c.requires
-    (λ h. c.count_held-passed.ensures.next (omega (arith, h, size))) lists
-
-pub returns-clause-turns : goal.returns-clause-turns
-returns-clause-turns g c =
-    let f = g.B.Buf.unread in
-    let items = c.args.segments.now.items in
-    let p = c.count_held-passed.result.0 in
-    let n = c.count_held-passed.result.1 in
-    let old = c.drop_held.new.segments.items in
-    let now = length-map c.advance_front.new.segments.items f in
-    let same = ap length c.advance_front.ensures ∙ length-cut_front n (map f old) ∙ length-map old f in
-    let gone = ap length c.drop_held.ensures.segments ∙ length-drop p items in
-    rw (c.drop_held.ensures.turns, c.count_held-passed.ensures.turns) (omega (arith, now, same, gone, c.count_held-passed.ensures.passed))
+    let all = c.args.segments.now.items in
+    let now = c.loop-size.segments.items in
+    let passed = length all - length now in
+    let kept = c.loop-size.invariant in
+    let size = length-map all f in
+    let lists : map f now ≡ drop passed (map f all) = ap (map f) kept.rest ∙ sym (drop-map f passed all) in
+    let front = ap (λ l. length (front_of l)) lists ∙ ap length (front_of_drop (map f all) passed) in
+    Skips-from_count (map f all) _ passed c.loop-size.left c.args.cnt (omega (arith, size)) kept.left c.requires
+    (λ h. omega (arith, front, c.in_default.ensures.none (omega (arith, h, size, kept.fewer))))
+    (c.advance_front.ensures ∙ ap (cut_front c.loop-size.left) lists)

@@ -29,7 +29,7 @@ returns-clause-lists g c =
     let left = c.advance.new.self in
     let reading = c.into_lent.ensures.reading in
     let skips = reading.skips in
-    let pairs = ap (λ (kept : List (List ℕ × ℕ)). map (λ (p : List ℕ × ℕ). p.0) (drop 2 kept)) c.get_u8.ensures.kept in
+    let pairs = ap (λ (kept : List (List ℕ × ℕ)). map (λ (p : List ℕ × ℕ). p.0) (drop 1 kept)) c.get_u8.ensures.kept in
     let read : c.get_u8.new.self.handed_in ≡ c.new-all.result.handed_in =
     sym (kept_lists c.get_u8.new.self.handed_in) ∙ pairs ∙ kept_lists c.new-all.result.handed_in in
     let handed_in = c.advance.ensures.skips.handed_in ∙ read ∙ c.new-all.ensures.handed_in in

@@ -12,5 +12,5 @@ invariant_of-self-2 g c =
     let lists = c.in_ok-append.ensures.ok in (
       omega (arith, ap (λ l. length (concat l)) lists ∙ length-concat-accepted old one, length-append (f c.args.buf) [], c.self.invariant.0, c.remaining-size.ensures),
       All-same (λ s. 0 < length s) _ _ lists (NoneEmpty-accepted old one c.self.invariant.1),
-      rw c.give.ensures (omega (arith, ap length lists, length-accepted old one, c.self.invariant.2)),
+      rw c.in_ok-append.ensures.tally (omega (arith, ap length lists, length-accepted old one, c.self.invariant.2)),
     )

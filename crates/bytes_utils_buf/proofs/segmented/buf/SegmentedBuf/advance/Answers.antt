@@ -1,6 +1,7 @@
-use Rattle.std.proofs.Common.{length, map, arith, ap, length-drop}
+use Rattle.std.proofs.Common.{length, map, arith, ap, ◌∙◌, length-drop}
 use Rattle.std.proofs.lemmas.List.{length-map}
 use Rattle.std.specs.List.{concat}
+use Rattle.bytes_utils_buf.proofs.Ledger.{IsPaid-passing}
 use Rattle.bytes_utils_buf.proofs.Lists.{NoneEmpty-Skips}
 use Rattle.bytes_utils_buf.proofs.segmented.buf.SegmentedBuf.advance.Goals as goal
 
@@ -15,13 +16,26 @@ invariant_of-self g c =
       omega (
         arith,
         s.turns,
-        s.given,
-        s.calls,
+        ap (λ t. t.given) s.rest,
+        ap (λ t. t.dropped) s.rest,
         ap (λ t. t.given) c.call.ensures,
-        ap (λ t. t.calls) c.call.ensures,
+        ap (λ t. t.dropped) c.call.ensures,
         ap (λ t. t.turns) c.call.ensures,
         length-map old f,
         length-map new f,
         c.self.invariant.2,
       ),
     )
+
+pub returns-clause-paid : goal.returns-clause-paid
+returns-clause-paid g c =
+    let f = g.B.Buf.unread in
+    let old = c.self.inside in
+    let new = c.skip_held.new in
+    let s = c.skip_held.ensures in
+    let counted = c.call.ensures in
+    rw (← c.self.view_is)
+    (IsPaid-passing c.args.cnt (map f old.segments.items) (map f new.segments.items) old.tally new.tally s.skips
+    (ap (λ t. t.given) s.rest ∙ ap (λ t. t.given) counted)
+    (omega (arith, ap (λ t. t.calls) s.rest, ap (λ t. t.calls) counted))
+    (omega (arith, s.turns, ap (λ t. t.turns) counted, length-map old.segments.items f, length-map new.segments.items f)))

@@ -31,9 +31,9 @@ loop-copy-preserved g c =
       bytes = a.bytes ∙ (λ j. i.bytes j ++ front j) ∙ sym (take-add k n all) ∙ ap (λ m. take m all) (sym size);
       skips = rw size (Skips-more k n _ _ _ i.skips v.skips);
       given = v.given ∙ i.given;
+      dropped = v.dropped ∙ i.dropped;
       least = omega (arith, i.least, v.calls);
       most = omega (arith, i.most, v.calls, size, taken);
       each = omega (arith, i.each, v.calls, count_unread-Skips_front n _ _ first v.skips);
       turns = v.turns ∙ i.turns;
-      paid = omega (arith, i.paid, v.paid);
     }

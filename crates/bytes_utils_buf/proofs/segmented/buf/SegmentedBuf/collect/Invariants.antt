@@ -1,7 +1,7 @@
 use Rattle.std.proofs.Common.{◌≡◌, ◌+◌, ◌-◌, ◌≤◌, length, take, vec_capacity}
 use Rattle.std.specs.List.{concat}
 use Rattle.bytes_utils_buf.specs.Segments.{Skips, count_unread}
-use Rattle.bytes_utils_buf.specs.Tally.{IsPaid, cost_of}
+use Rattle.bytes_utils_buf.specs.Tally.{lined_up}
 use Rattle.bytes_utils_buf.proofs.segmented.buf.SegmentedBuf.collect.Given as goal
 
 abbrev pub invariant-loop-copy : goal.invariant-loop-copy
@@ -14,11 +14,11 @@ invariant-loop-copy g l =
       bytes : l.copy.items ≡ take taken (concat old.segments);
       skips : Skips taken old.segments l.self.segments;
       given : l.self.tally.given ≡ old.tally.given;
+      dropped : l.self.tally.dropped ≡ old.tally.dropped;
       least : old.tally.calls ≤ l.self.tally.calls;
       most : l.self.tally.calls ≤ old.tally.calls + taken;
       each : old.tally.calls + count_unread old.segments ≤ l.self.tally.calls + count_unread l.self.segments;
-      turns : cost_of l.self.segments l.self.tally ≡ cost_of old.segments old.tally;
-      paid : IsPaid old.segments old.tally l.self.segments l.self.tally;
+      turns : lined_up l.self.segments l.self.tally ≡ lined_up old.segments old.tally;
     }
 
 abbrev pub decreases-loop-copy : goal.decreases-loop-copy

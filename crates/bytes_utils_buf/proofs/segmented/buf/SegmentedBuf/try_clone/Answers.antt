@@ -27,4 +27,4 @@ returns-clause-ok g c =
     let size : c.len.result ≡ length new = search rules in
     let given : 0 + c.len.result ≡ length c.args.self.now.segments = omega (arith, size, length-map new f, ap length held) in
     rw (c.give.ensures, c.new-tally.ensures)
-    (λ i. record { segments = held i; tally = record { given = given i; calls = 0; turns = 0 } })
+    (λ i. record { segments = held i; tally = record { given = given i; dropped = 0; calls = 0; turns = 0 } })

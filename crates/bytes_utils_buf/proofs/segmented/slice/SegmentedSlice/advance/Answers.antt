@@ -1,7 +1,6 @@
 use Rattle.std.proofs.Common.{◌+◌, ◌-◌, length, map, ap, ◌∙◌, arith}
 use borrow.Rule.Slice.PartMut.{put_mid}
-use Rattle.bytes_utils_buf.specs.Lent.{lent_at, SkipsLent}
-use Rattle.bytes_utils_buf.specs.Tally.{IsPaid}
+use Rattle.bytes_utils_buf.specs.Lent.{lent_at, IsPassedOnce, SkipsLent}
 use Rattle.bytes_utils_buf.proofs.Lent.{take_read_out, place_inside, map-part, IsLent-skip, SkipsLent-part, lists_of-part}
 use Rattle.bytes_utils_buf.proofs.segmented.slice.SegmentedSlice.advance.Goals as goal
 
@@ -25,10 +24,10 @@ invariant_of-self g c =
     let in_all = place_inside f xs s.place c.self.invariant.lists in
     let skips : SkipsLent c.args.cnt old new =
     SkipsLent-part f xs now.bufs c.args.cnt s.place p handed_in s.tally now.tally s.bufs.ghost_name in_all before e.passed c.skip_lent-passed.auto.bufs e.read_out e.skips in
-    let paid : IsPaid old.segments old.tally new.segments new.tally =
-    rw (e.turns, c.call.ensures) (omega (arith, skips.place)) in
+    let was = c.self.invariant.passed in
+    let passed : IsPassedOnce new = rw (e.turns, c.call.ensures) (record { given = was.given; dropped = was.dropped; turns = omega (arith, was.turns) }) in
     IsLent-skip c.args.cnt s.remaining (map f xs) _ old new c.self.invariant skips
-    (lists_of-part f xs now.bufs s.place p handed_in now.tally s.bufs.ghost_name in_all before e.read_out) paid
+    (lists_of-part f xs now.bufs s.place p handed_in now.tally s.bufs.ghost_name in_all before e.read_out) passed
 
 pub returns-clause-skips : goal.returns-clause-skips
 returns-clause-skips g c =

@@ -28,10 +28,10 @@ loop-copy-preserved g c =
           ∙ copy_more taken count (concat old.segments) (concat before.segments) c.loop-copy.copy.items chunk kept.bytes left c.front_chunk.ensures.bytes within
           ∙ ap (λ n. take n (concat old.segments)) (sym long);
       skips = rw long (SkipsLent-more taken count old before c.advance.new.self kept.skips advanced.skips);
-      given = advanced.given ∙ kept.given;
       least = omega (arith, kept.least, advanced.calls);
       most = omega (arith, kept.most, advanced.calls, long, appended.count, some, c.loop-copy-test.true);
       each = omega (arith, kept.each, advanced.calls, count_unread-Skips_front count before.segments c.advance.new.self.segments first advanced.skips.segments);
+      given = advanced.given ∙ kept.given;
+      dropped = advanced.dropped ∙ kept.dropped;
       turns = advanced.turns ∙ kept.turns;
-      paid = omega (arith, kept.paid, advanced.paid);
     }

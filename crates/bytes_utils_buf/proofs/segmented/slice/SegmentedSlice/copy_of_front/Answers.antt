@@ -1,8 +1,7 @@
 use Rattle.std.proofs.Common.{◌+◌, ◌-◌, length, map, ap, ◌∙◌, arith}
 use borrow.Rule.Slice.PartMut.{put_mid}
-use Rattle.bytes_utils_buf.specs.Lent.{lent_at, SkipsLent}
+use Rattle.bytes_utils_buf.specs.Lent.{lent_at, IsPassedOnce, SkipsLent}
 use Rattle.bytes_utils_buf.specs.Parts.{taken_by}
-use Rattle.bytes_utils_buf.specs.Tally.{IsPaid}
 use Rattle.bytes_utils_buf.proofs.Lent.{take_read_out, place_inside, map-part, IsLent-skip, SkipsLent-part, lists_of-part}
 use Rattle.bytes_utils_buf.proofs.segmented.slice.SegmentedSlice.copy_of_front.Goals as goal
 
@@ -27,10 +26,11 @@ invariant_of-self g c =
     let in_all = place_inside f xs s.place c.self.invariant.lists in
     let skips : SkipsLent taken old new =
     SkipsLent-part f xs now.bufs taken s.place p handed_in s.tally now.tally s.bufs.ghost_name in_all before e.passed c.copy_of_first-passed.auto.bufs e.read_out e.skips in
-    let paid : IsPaid old.segments old.tally new.segments new.tally = rw e.turns (omega (arith, skips.place)) in
+    let was = c.self.invariant.passed in
+    let passed : IsPassedOnce new = rw e.turns (record { given = was.given; dropped = was.dropped; turns = omega (arith, was.turns) }) in
     rw c.bytes_taken.ensures
     (IsLent-skip taken s.remaining (map f xs) _ old new c.self.invariant skips
-    (lists_of-part f xs now.bufs s.place p handed_in now.tally s.bufs.ghost_name in_all before e.read_out) paid)
+    (lists_of-part f xs now.bufs s.place p handed_in now.tally s.bufs.ghost_name in_all before e.read_out) passed)
 
 pub returns-clause-value : goal.returns-clause-value
 returns-clause-value g c =
@@ -51,9 +51,3 @@ returns-clause-skips g c =
     rw (← c.self.view_is)
     (SkipsLent-part f xs now.bufs taken s.place c.copy_of_first-passed.result.0 handed_in s.tally now.tally s.bufs.ghost_name in_all before e.passed
     c.copy_of_first-passed.auto.bufs e.read_out e.skips)
-
-pub returns-clause-turns : goal.returns-clause-turns
-returns-clause-turns g c =
-    let old = c.self.view_is in
-    rw c.copy_of_first-passed.ensures.turns
-    (omega (arith, (returns-clause-skips g c).place, ap (λ q. q.place) old, ap (λ q. q.tally.turns) old, ap (λ q. length q.segments) old))
