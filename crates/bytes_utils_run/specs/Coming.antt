@@ -7,7 +7,7 @@ use Rattle.bytes_utils.specs.Lines.{AreLinesToCome, HoldsLineFeed}
 use Rattle.bytes_utils.specs.Splitting.{AreForwardPartsToCome, AreBackwardPartsToCome, CutsNext, most_parts}
 use Rattle.bytes_utils.specs.Words.{AreWordsToCome, HoldsSpace}
 use Rattle.bytes_utils_run.specs.declared.splitter.AnySplitter.{AnySplitter}
-use Rattle.bytes_utils_run.specs.declared.splitter.AnySplitter.TheVariants.{Words, AsciiWords, Lines, Split, SplitN, RSplit, RSplitN, Inclusive}
+use Rattle.bytes_utils_run.specs.declared.splitter.AnySplitter.TheVariants.{Words, AsciiWords, Lines, Split, RSplit, Inclusive}
 
 -- these parts are to come
 abbrev pub AreToCome : {S C : Type 0} → AnySplitter S C → List (List ℕ) → Type 0
@@ -15,9 +15,7 @@ AreToCome (Words rest) = AreWordsToCome is_whitespace rest
 AreToCome (AsciiWords rest) = AreWordsToCome is_ascii_whitespace rest
 AreToCome (Lines rest) = AreLinesToCome rest
 AreToCome (Split s) = AreForwardPartsToCome s
-AreToCome (SplitN s) = AreForwardPartsToCome s
 AreToCome (RSplit s) = AreBackwardPartsToCome s
-AreToCome (RSplitN s) = AreBackwardPartsToCome s
 AreToCome (Inclusive s) = AreInclusivePartsToCome s
 
 -- the next step splits the storage
@@ -26,9 +24,7 @@ Cuts (Words rest) = HoldsSpace is_whitespace rest
 Cuts (AsciiWords rest) = HoldsSpace is_ascii_whitespace rest
 Cuts (Lines rest) = HoldsLineFeed rest
 Cuts (Split s) = CutsNext s
-Cuts (SplitN s) = CutsNext s
 Cuts (RSplit s) = CutsNext s
-Cuts (RSplitN s) = CutsNext s
 Cuts (Inclusive s) = CutsBehindNext s
 
 -- a bound on the parts to come
@@ -37,7 +33,5 @@ most_to_come (Words rest) = option_map_or length rest 0
 most_to_come (AsciiWords rest) = option_map_or length rest 0
 most_to_come (Lines rest) = option_map_or length rest 0
 most_to_come (Split s) = most_parts s
-most_to_come (SplitN s) = most_parts s
 most_to_come (RSplit s) = most_parts s
-most_to_come (RSplitN s) = most_parts s
 most_to_come (Inclusive s) = most_inclusive_parts s

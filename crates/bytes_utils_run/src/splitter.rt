@@ -9,8 +9,8 @@ ghost use Rattle.bytes_utils_run.specs.Cutting.{ArePartsBy, cutting, IsAllowed};
 use crate::How;
 use bytes_utils::Reason;
 use bytes_utils::split::{
-    LinesBytes, RSplitBytes, RSplitNBytes, SplitAsciiWhitespaceBytes, SplitBytes,
-    SplitInclusiveBytes, SplitNBytes, SplitWhitespaceBytes,
+    LinesBytes, RSplitBytes, SplitAsciiWhitespaceBytes, SplitBytes, SplitInclusiveBytes,
+    SplitWhitespaceBytes,
 };
 use bytes_utils::string::{Storage, StrInner};
 
@@ -23,14 +23,10 @@ pub(crate) enum AnySplitter<'s, S: Storage> {
     AsciiWords(SplitAsciiWhitespaceBytes<S>),
     /// That of `How::Lines`.
     Lines(LinesBytes<S>),
-    /// That of `How::Split`.
+    /// That of `How::Split` and of `How::SplitN`.
     Split(SplitBytes<'s, S>),
-    /// That of `How::SplitN`.
-    SplitN(SplitNBytes<'s, S>),
-    /// That of `How::RSplit`.
+    /// That of `How::RSplit` and of `How::RSplitN`.
     RSplit(RSplitBytes<'s, S>),
-    /// That of `How::RSplitN`.
-    RSplitN(RSplitNBytes<'s, S>),
     /// That of `How::Inclusive`.
     Inclusive(SplitInclusiveBytes<'s, S>),
 }
@@ -49,11 +45,11 @@ impl<'s, S: Storage> AnySplitter<'s, S> {
             How::Lines => AnySplitter::Lines(text.lines_bytes()),
             How::Split(separator) => AnySplitter::Split(text.split_bytes(separator)),
             How::SplitN(most, separator) => {
-                AnySplitter::SplitN(text.splitn_bytes(most, separator))
+                AnySplitter::Split(text.splitn_bytes(most, separator))
             }
             How::RSplit(separator) => AnySplitter::RSplit(text.rsplit_bytes(separator)),
             How::RSplitN(most, separator) => {
-                AnySplitter::RSplitN(text.rsplitn_bytes(most, separator))
+                AnySplitter::RSplit(text.rsplitn_bytes(most, separator))
             }
             How::Inclusive(separator) => {
                 AnySplitter::Inclusive(text.split_inclusive_bytes(separator))
@@ -75,9 +71,7 @@ impl<'s, S: Storage> Iterator for AnySplitter<'s, S> {
             AnySplitter::AsciiWords(splitter) => splitter.next(),
             AnySplitter::Lines(splitter) => splitter.next(),
             AnySplitter::Split(splitter) => splitter.next(),
-            AnySplitter::SplitN(splitter) => splitter.next(),
             AnySplitter::RSplit(splitter) => splitter.next(),
-            AnySplitter::RSplitN(splitter) => splitter.next(),
             AnySplitter::Inclusive(splitter) => splitter.next(),
         }
     }

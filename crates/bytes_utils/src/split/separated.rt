@@ -1,5 +1,5 @@
 //! A text that is cut by a separator, from either end.
-ghost use Rattle.std.specs.Prelude.{◌≡◌, ◌≢◌, ◌<◌, ◌==◌, ℕ, Option, Some, length, false, None, IfOk, IfErr, OnErr, OnSome, IfSome};
+ghost use Rattle.std.specs.Prelude.{◌≡◌, ◌≢◌, ◌<◌, ◌==◌, ℕ, List, Option, Some, length, false, None, IfOk, IfErr, OnErr, OnSome, IfSome};
 ghost use Rattle.std.specs.Bool.{OnTrue};
 ghost use Rattle.std.specs.Str.{chars};
 ghost use Rattle.bytes_utils.specs.Occurrence.{Occurs};
@@ -170,6 +170,7 @@ impl<'s, S: Storage> Separated<'s, S> {
     ) -> Self
         ensures state { result.state ≡ all_of text separator.now limit }
         ensures end { result.end ≡ from }
+        ensures coming { (parts : List (List ℕ)) × ArePartsToCome from result.state parts }
     {
         Separated {
             rest: Some(text),
