@@ -20,6 +20,11 @@ FillsTable-first (d ∷ ds) x all room is some =
       tail = refl;
     }
 
+-- it shows all there is
+pub joined-first : (dst : List (Bor (List ℕ))) (x : Bor (List ℕ)) (all : List ℕ) → 0 < length dst → x.now ≡ all → joined (take 1 (set dst 0 x)) ≡ all
+joined-first [] x all room is = absurd (omega arith)
+joined-first (d ∷ ds) x all room is = append-nil x.now ∙ is
+
 joined-append : (xs ys : List (Bor (List ℕ))) → joined (xs ++ ys) ≡ joined xs ++ joined ys
 joined-append [] ys = refl
 joined-append (x ∷ xs) ys = ap (λ l. x.now ++ l) (joined-append xs ys) ∙ sym (append_assoc x.now (joined xs) (joined ys))

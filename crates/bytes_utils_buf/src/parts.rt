@@ -1,6 +1,6 @@
 //! Buffers that hand out their unread bytes in parts.
-ghost use Rattle.std.specs.Prelude.{◌≡◌, ◌≤◌, length, take, drop, IfOk, IfErr, OnErr};
-ghost use Rattle.bytes_utils_buf.specs.Parts.{taken_by, FillsTable};
+ghost use Rattle.std.specs.Prelude.{ℕ, ⊤, ◌≡◌, ◌<◌, ◌≤◌, length, take, drop, IfOk, IfErr, OnErr};
+ghost use Rattle.bytes_utils_buf.specs.Parts.{taken_by, joined, FillsTable};
 
 use bytes::{Buf, Bytes};
 use std::alloc::Global;
@@ -17,12 +17,16 @@ pub struct CopyRefused {
 /// Generic code that reads segmented types asks for this trait. A type of the caller implements it
 /// by the laws that stand here as clauses.
 pub trait BufParts: Buf {
+    // How many bytes a refused copy of so many may have taken.
+    ghost loses: { ℕ → ℕ → Type 0 } = { λ _ _. ⊤ };
+
     /// Takes the first `len` unread bytes out. A refusal gives none, and tells how many are gone.
     /// `remaining` tests the condition.
     fn copy_out(&mut self, alloc: Global, len: usize) -> Result<Bytes, CopyRefused>
         requires { len ≤ length (Self.unread self.old) }
         ensures value { IfOk result (λ copy. copy ≡ take len (Self.unread self.old)) }
         ensures taken { taken_by len result ≤ len }
+        ensures lost { IfErr result (λ e. loses len e.taken) }
         ensures rest { Self.unread self.new ≡ drop (taken_by len result) (Self.unread self.old) }
         ensures kept { Self.kept self.new ≡ Self.kept self.old };
 
@@ -34,6 +38,8 @@ pub trait BufParts: Buf {
 
 /// `copy_out` shares the bytes. A refusal has taken none.
 impl BufParts for Bytes {
+    ghost loses = { λ _ taken. taken ≡ 0 };
+
     fn copy_out(&mut self, _alloc: Global, len: usize) -> Result<Bytes, CopyRefused>
         requires { len ≤ length self.old }
         ensures value { IfOk result (λ copy. copy ≡ take len self.old) }
@@ -48,7 +54,11 @@ impl BufParts for Bytes {
         }
     }
 
-    fn chunks_into<'s>(&'s self, dst: &mut [&'s [u8]]) -> usize {
+    fn chunks_into<'s>(&'s self, dst: &mut [&'s [u8]]) -> usize
+        ensures fills { FillsTable result dst.old dst.new self.now }
+        ensures one { result ≤ 1 }
+        ensures all { 0 < length dst.old → joined (take result dst.new) ≡ self.now }
+    {
         if self.is_empty() || dst.is_empty() {
             return 0;
         }
@@ -59,6 +69,8 @@ impl BufParts for Bytes {
 
 /// `copy_out` copies the bytes. A refusal has taken none.
 impl BufParts for &[u8] {
+    ghost loses = { λ _ taken. taken ≡ 0 };
+
     fn copy_out(&mut self, alloc: Global, len: usize) -> Result<Bytes, CopyRefused>
         requires { len ≤ length self.old.now }
         ensures value { IfOk result (λ copy. copy ≡ take len self.old.now) }
@@ -75,7 +87,11 @@ impl BufParts for &[u8] {
         Ok(copy)
     }
 
-    fn chunks_into<'s>(&'s self, dst: &mut [&'s [u8]]) -> usize {
+    fn chunks_into<'s>(&'s self, dst: &mut [&'s [u8]]) -> usize
+        ensures fills { FillsTable result dst.old dst.new self.now.now }
+        ensures one { result ≤ 1 }
+        ensures all { 0 < length dst.old → joined (take result dst.new) ≡ self.now.now }
+    {
         if self.is_empty() || dst.is_empty() {
             return 0;
         }

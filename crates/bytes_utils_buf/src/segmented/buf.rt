@@ -182,7 +182,16 @@ impl<B: Buf + Drop> Buf for SegmentedBuf<B> {
     }
 
     #[inline]
-    fn advance(&mut self, cnt: usize) {
+    fn advance(&mut self, cnt: usize)
+        requires { cnt ≤ length (concat self.old.segments) }
+        ensures skips { Skips cnt self.old.segments self.new.segments }
+        ensures value { concat self.new.segments ≡ drop cnt (concat self.old.segments) }
+        ensures turns { lined_up self.new.segments self.new.tally
+            ≡ lined_up self.old.segments self.old.tally }
+        ensures given { self.new.tally.given ≡ self.old.tally.given }
+        ensures dropped { self.new.tally.dropped ≡ self.old.tally.dropped }
+        ensures calls { self.new.tally.calls ≡ self.old.tally.calls + 1 }
+    {
         SegmentedBuf::advance(self, cnt)
     }
 }

@@ -86,6 +86,7 @@ impl<'a, B: Buf> SegmentedSlice<'a, B> {
         ensures given { result.tally.given ≡ length bufs.old }
         ensures calls { result.tally.calls ≡ 1 }
         ensures passed { IsPassedOnce result }
+        ensures covered { IsCovered result.segments result.tally }
     {
         let mut tally = Tally::new();
         tally.give(bufs.len(), 0);
@@ -184,7 +185,16 @@ impl<B: Buf> Buf for SegmentedSlice<'_, B> {
         self.front_chunk()
     }
 
-    fn advance(&mut self, cnt: usize) {
+    fn advance(&mut self, cnt: usize)
+        requires { cnt ≤ length (concat self.old.segments) }
+        ensures skips { SkipsLent cnt self.old self.new }
+        ensures value { concat self.new.segments ≡ drop cnt (concat self.old.segments) }
+        ensures turns { lined_up self.new.segments self.new.tally
+            ≡ lined_up self.old.segments self.old.tally }
+        ensures given { self.new.tally.given ≡ self.old.tally.given }
+        ensures dropped { self.new.tally.dropped ≡ self.old.tally.dropped }
+        ensures calls { self.new.tally.calls ≡ self.old.tally.calls + 1 }
+    {
         SegmentedSlice::advance(self, cnt)
     }
 }

@@ -1,5 +1,5 @@
 //! The first held segment, asked alone.
-ghost use Rattle.std.specs.Prelude.{◌≡◌, ◌<◌, ◌≤◌, length, map, take, IsTrue, ◌↔◌, IfOk};
+ghost use Rattle.std.specs.Prelude.{◌≡◌, ◌<◌, ◌≤◌, length, map, take, IsTrue, ◌↔◌, IfOk, IfErr};
 ghost use Rattle.bytes_utils_buf.specs.Parts.{taken_by};
 ghost use Rattle.bytes_utils_buf.specs.Segments.{cut_front, front_of};
 
@@ -31,6 +31,7 @@ pub(super) fn copy_front<B: BufParts>(
     requires holds { len ≤ length (front_of (map B.unread segments.old.items)) }
     ensures value { IfOk result (λ copy. copy ≡ take len (front_of (map B.unread segments.old.items))) }
     ensures taken { taken_by len result ≤ len }
+    ensures lost { IfErr result (λ e. B.loses len e.taken) }
     ensures rest { map B.unread segments.new.items
         ≡ cut_front (taken_by len result) (map B.unread segments.old.items) }
 {

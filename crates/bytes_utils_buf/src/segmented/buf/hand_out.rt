@@ -27,7 +27,10 @@ impl<B: BufParts + Drop> SegmentedBuf<B> {
         ensures bytes { concat self.new.segments
             ≡ drop (taken_by len result) (concat self.old.segments) }
 
-        // What a refusal across segments took is nothing or all.
+        // Where the front alone is asked, what a refusal took is what the front's own took; across
+        // segments it is nothing or all.
+        ensures lost { len ≤ length (front_of self.old.segments) → 0 < length self.old.segments
+            → IfErr result (λ e. B.loses len e.taken) }
         ensures refused { length (front_of self.old.segments) < len
             → IfErr result (λ e. (e.taken ≡ 0) ⊎ (e.taken ≡ len)) }
         ensures counts { CountsCopy len (taken_by len result) self.old.segments self.old.tally
@@ -56,6 +59,7 @@ impl<B: BufParts + Drop> SegmentedBuf<B> {
         requires holds { len ≤ length (front_of self.old.segments) }
         ensures value { IfOk result (λ copy. copy ≡ take len (concat self.old.segments)) }
         ensures taken { taken_by len result ≤ len }
+        ensures lost { IfErr result (λ e. B.loses len e.taken) }
         ensures skips { Skips (taken_by len result) self.old.segments self.new.segments }
         ensures given { self.new.tally.given ≡ self.old.tally.given }
         ensures dropped { self.new.tally.dropped ≡ self.old.tally.dropped }
@@ -100,7 +104,20 @@ impl<B: BufParts + Drop> SegmentedBuf<B> {
 }
 
 impl<B: BufParts + Drop> BufParts for SegmentedBuf<B> {
-    fn copy_out(&mut self, alloc: Global, len: usize) -> Result<Bytes, CopyRefused> {
+    // Nothing or all across segments, or what the front's own refusal may have taken.
+    ghost loses = { λ len taken. (taken ≡ 0) ⊎ (taken ≡ len) ⊎ B.loses len taken };
+
+    fn copy_out(&mut self, alloc: Global, len: usize) -> Result<Bytes, CopyRefused>
+        requires { len ≤ length (concat self.old.segments) }
+        ensures value { IfOk result (λ copy. copy ≡ take len (concat self.old.segments)) }
+        ensures taken { taken_by len result ≤ len }
+        ensures skips { Skips (taken_by len result) self.old.segments self.new.segments }
+        ensures rest { concat self.new.segments
+            ≡ drop (taken_by len result) (concat self.old.segments) }
+        ensures lost { IfErr result (λ e. (e.taken ≡ 0) ⊎ (e.taken ≡ len) ⊎ B.loses len e.taken) }
+        ensures counts { CountsCopy len (taken_by len result) self.old.segments self.old.tally
+            self.new.segments self.new.tally }
+    {
         self.copy_to_bytes(alloc, len)
     }
 

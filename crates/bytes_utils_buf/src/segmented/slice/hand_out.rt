@@ -28,7 +28,10 @@ impl<B: BufParts> SegmentedSlice<'_, B> {
         ensures bytes { concat self.new.segments
             ≡ drop (taken_by len result) (concat self.old.segments) }
 
-        // What a refusal across segments took is nothing or all.
+        // Where the front alone is asked, what a refusal took is what the front's own took; across
+        // segments it is nothing or all.
+        ensures lost { len ≤ length (front_of self.old.segments) → 0 < length self.old.segments
+            → IfErr result (λ e. B.loses len e.taken) }
         ensures refused { length (front_of self.old.segments) < len
             → IfErr result (λ e. (e.taken ≡ 0) ⊎ (e.taken ≡ len)) }
         ensures counts { CountsCopy len (taken_by len result) self.old.segments self.old.tally
@@ -66,6 +69,7 @@ impl<B: BufParts> SegmentedSlice<'_, B> {
         requires holds { len ≤ length (front_of self.old.segments) }
         ensures value { IfOk result (λ copy. copy ≡ take len (concat self.old.segments)) }
         ensures taken { taken_by len result ≤ len }
+        ensures lost { IfErr result (λ e. B.loses len e.taken) }
         ensures skips { SkipsLent (taken_by len result) self.old self.new }
         ensures given { self.new.tally.given ≡ self.old.tally.given }
         ensures dropped { self.new.tally.dropped ≡ self.old.tally.dropped }
@@ -123,6 +127,7 @@ fn copy_of_first<B: BufParts>(
     requires holds { len ≤ length (front_of (map B.unread bufs.old)) }
     ensures value { IfOk result.1 (λ copy. copy ≡ take len (concat (map B.unread bufs.old))) }
     ensures taken { taken_by len result.1 ≤ len }
+    ensures lost { IfErr result.1 (λ e. B.loses len e.taken) }
     ensures passed { result.0 ≤ length bufs.old }
     ensures read_out { take result.0 (map B.unread bufs.new) ≡ replicate result.0 [] }
     ensures skips { Skips (taken_by len result.1) (map B.unread bufs.old)
@@ -136,7 +141,20 @@ fn copy_of_first<B: BufParts>(
 
 /// As `copy_to_bytes` and `chunks_vectored`.
 impl<B: BufParts> BufParts for SegmentedSlice<'_, B> {
-    fn copy_out(&mut self, alloc: Global, len: usize) -> Result<Bytes, CopyRefused> {
+    // Nothing or all across segments, or what the front's own refusal may have taken.
+    ghost loses = { λ len taken. (taken ≡ 0) ⊎ (taken ≡ len) ⊎ B.loses len taken };
+
+    fn copy_out(&mut self, alloc: Global, len: usize) -> Result<Bytes, CopyRefused>
+        requires { len ≤ length (concat self.old.segments) }
+        ensures value { IfOk result (λ copy. copy ≡ take len (concat self.old.segments)) }
+        ensures taken { taken_by len result ≤ len }
+        ensures skips { SkipsLent (taken_by len result) self.old self.new }
+        ensures rest { concat self.new.segments
+            ≡ drop (taken_by len result) (concat self.old.segments) }
+        ensures lost { IfErr result (λ e. (e.taken ≡ 0) ⊎ (e.taken ≡ len) ⊎ B.loses len e.taken) }
+        ensures counts { CountsCopy len (taken_by len result) self.old.segments self.old.tally
+            self.new.segments self.new.tally }
+    {
         self.copy_to_bytes(alloc, len)
     }
 
