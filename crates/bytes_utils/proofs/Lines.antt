@@ -8,7 +8,7 @@ use Rattle.std.specs.Char.{encode_utf8}
 use Rattle.std.specs.Str.{chars, encode_utf8_all as encodes}
 use Rattle.bytes_utils.specs.Text.{byte_place}
 use Rattle.bytes_utils.specs.Occurrence.{OccursAt, Occurs, OccursFirstAt}
-use Rattle.bytes_utils.specs.Lines.{lines, line_feed, carriage_return, first_led_by}
+use Rattle.bytes_utils.specs.Lines.{lines, line_feed, carriage_return, first_led_by, text_behind}
 use Rattle.bytes_utils.proofs.Boundaries.{OccursAt-fits}
 use Rattle.bytes_utils.proofs.Occurrences.{cut_whole}
 use Rattle.bytes_utils.proofs.Places.{boundary_at_place, chars-take_place, chars-drop_place}
@@ -74,13 +74,29 @@ lines-at_feed (c ∷ d ∷ cs) t lacks no_return =
     lines-cons c (d ∷ cs ++ 10 ∷ t) (not_feed c (d ∷ cs) lacks) (inr (BeginsOtherwise-cons d (cs ++ 10 ∷ t) (not_feed d cs others)))
     ∙ ap (first_led_by c) (lines-at_feed (d ∷ cs) t others (λ front e. no_return (c ∷ front) (ap (λ z. c ∷ z) e)))
 
+-- the text behind the first line feed, and that of a text without one
+text_behind-feed : (cs t : List ℕ) → LacksFeed cs → text_behind (cs ++ line_feed ∷ t) ≡ t
+text_behind-feed [] t lacks = refl
+text_behind-feed (c ∷ cs) t lacks = rw (ne_eqb c 10 (not_feed c cs lacks)) (text_behind-feed cs t (LacksFeed-tail c cs lacks))
+
+text_behind-whole : (cs : List ℕ) → LacksFeed cs → text_behind cs ≡ []
+text_behind-whole [] lacks = refl
+text_behind-whole (c ∷ cs) lacks = rw (ne_eqb c 10 (not_feed c cs lacks)) (text_behind-whole cs (LacksFeed-tail c cs lacks))
+
 -- where a line feed stands, it occurs
 OccursAt-between : (front back : List ℕ) → OccursAt (line_feed ∷ []) (front ++ line_feed ∷ back) (length front)
 OccursAt-between front back = ap (take 1) (drop_at front (10 ∷ back) (length front) refl)
 
--- a text in which none occurs is its only line
+LacksFeed-none : (cs : List ℕ) → (¬ Occurs (line_feed ∷ []) cs) → LacksFeed cs
+LacksFeed-none cs none front back e = none (length front, subst (λ z. OccursAt (line_feed ∷ []) z (length front)) (sym e) (OccursAt-between front back))
+
+-- a text in which none occurs has nothing behind one
+pub text_behind-none : (cs : List ℕ) → (¬ Occurs (line_feed ∷ []) cs) → text_behind cs ≡ []
+text_behind-none cs none = text_behind-whole cs (LacksFeed-none cs none)
+
+-- it is its only line
 pub lines-last : (text : List ℕ) → IsUtf8 text → (¬ Occurs (line_feed ∷ []) (chars text)) → 0 < length text → lines (chars text) ≡ chars text ∷ []
-lines-last text text_is none some = only_line (chars text) (encodes-chars text text_is) (λ front back e. none (length front, subst (λ z. OccursAt (line_feed ∷ []) z (length front)) (sym e) (OccursAt-between front back)))
+lines-last text text_is none some = only_line (chars text) (encodes-chars text text_is) (LacksFeed-none (chars text) none)
   where
     only_line : (cs : List ℕ) → encodes cs ≡ text → LacksFeed cs → lines cs ≡ cs ∷ []
     only_line [] e lacks = absurd (omega (arith, ap length e, some))
@@ -155,6 +171,12 @@ module _ (text : List ℕ) (text_is : IsUtf8 text) (at : ℕ) (found : (i : ℕ)
   around_text : chars text ≡ chars (take at text) ++ line_feed ∷ chars (drop (at + 1) text)
   around_text = rw (front_chars, rest_chars) around
 
+  line_lacks : LacksFeed (chars (take at text))
+  line_lacks = subst LacksFeed (sym front_chars) front_lacks
+
+  pub text-at : chars (drop (at + 1) text) ≡ text_behind (chars text)
+  text-at = sym (ap text_behind around_text ∙ text_behind-feed (chars (take at text)) (chars (drop (at + 1) text)) line_lacks)
+
   -- no carriage return stands in front of the line feed
   line-at_feed : ((front : List ℕ) → take at text ≢ front ++ carriage_return ∷ [])
       → lines (chars text) ≡ chars (take at text) ∷ lines (chars (drop (at + 1) text))
@@ -164,8 +186,7 @@ module _ (text : List ℕ) (text_is : IsUtf8 text) (at : ℕ) (found : (i : ℕ)
       let line_is : IsUtf8 (take at text) = IsUtf8-take text at text_is feed-boundary in
       let no_return : (front : List ℕ) → line ≡ front ++ carriage_return ∷ [] → ⊥ = λ front e.
       other (encodes front) (sym (encodes-chars (take at text) line_is) ∙ ap encodes e ∙ encodes-append front (carriage_return ∷ [])) in
-      let lacks : LacksFeed line = subst LacksFeed (sym front_chars) front_lacks in
-      ap lines around_text ∙ lines-at_feed line (chars (drop (at + 1) text)) lacks no_return
+      ap lines around_text ∙ lines-at_feed line (chars (drop (at + 1) text)) line_lacks no_return
 
   -- one does
   line-at_return : (line : List ℕ) → IsUtf8 line → take at text ≡ line ++ carriage_return ∷ []
@@ -177,7 +198,7 @@ module _ (text : List ℕ) (text_is : IsUtf8 text) (at : ℕ) (found : (i : ℕ)
       let whole : chars text ≡ chars line ++ carriage_return ∷ line_feed ∷ t =
       around_text ∙ ap (λ z. z ++ line_feed ∷ t) split ∙ append_assoc (chars line) (carriage_return ∷ []) (line_feed ∷ t) in
       let lacks : LacksFeed (chars line) = λ front back e.
-      front_lacks front (back ++ carriage_return ∷ []) (sym front_chars ∙ split ∙ ap (λ z. z ++ carriage_return ∷ []) e ∙ append_assoc front (line_feed ∷ back) (carriage_return ∷ [])) in
+      line_lacks front (back ++ carriage_return ∷ []) (split ∙ ap (λ z. z ++ carriage_return ∷ []) e ∙ append_assoc front (line_feed ∷ back) (carriage_return ∷ [])) in
       ap lines whole ∙ lines-at_return (chars line) t lacks
 
   -- what of the text the line is, where it is what stands before the line feed without one carriage return

@@ -25,6 +25,11 @@ lines (c ∷ t) =
     else if c == carriage_return && starts_with nat_eq t (line_feed ∷ []) then lines t
     else first_led_by c (lines t)
 
+-- what follows the first line feed, empty where there is none
+abbrev pub text_behind : List ℕ → List ℕ
+text_behind [] = []
+text_behind (c ∷ t) = if c == line_feed then t else text_behind t
+
 -- The state of a splitter by lines is what is still to be cut, if anything: these lines of it are to come.
 abbrev pub AreLinesToCome : Option (List ℕ) → List (List ℕ) → Type 0
 AreLinesToCome rest parts = MatchOption rest (parts ≡ []) (λ text. parts ≡ lines (chars text))

@@ -17,6 +17,6 @@ pub use boundary::boundaries;
 pub use closure::BytesIter;
 pub use direction::Direction;
 pub use inclusive::SplitInclusiveBytes;
-pub use lines::LinesBytes;
+pub use lines::{LinesBytes, line_place};
 pub use separator::{RSplitBytes, RSplitNBytes, SplitBytes, SplitNBytes};
 pub use words::{SplitAsciiWhitespaceBytes, SplitWhitespaceBytes};

@@ -2,8 +2,9 @@
 use Rattle.std.proofs.Common.{◌≡◌, refl, sym, subst, ℕ, List, ◌++◌, Option, None, Some, map}
 use Rattle.std.proofs.lemmas.List.Folds.{concat-append}
 use Rattle.std.specs.List.{concat}
+use Rattle.bytes_utils.specs.Lines.{text_behind}
 use Rattle.bytes_utils.specs.Outcome.{Outcome}
-use Rattle.bytes_utils_run.specs.Command.{IsCommand, command_line, text_behind}
+use Rattle.bytes_utils_run.specs.Command.{IsCommand, command_line}
 use Rattle.bytes_utils_run.specs.Cutting.{Cutting, ArePartsBy}
 use Rattle.bytes_utils_run.specs.Moves.{AppendsBeginning}
 use Rattle.bytes_utils_run.specs.Printed.{printed_part, printed_reply}

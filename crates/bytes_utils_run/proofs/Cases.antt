@@ -1,5 +1,5 @@
 -- The definitions of the program beside worked cases: inputs and what they ask for, what is printed, whole runs, and faults.
-use Rattle.std.proofs.Common.{◌≡◌, refl, sym, ap, subst, ◌∙◌, ℕ, List, [], ◌∷◌, ◌++◌, inl, inr, true, false, length, map, get_or, append-nil, None, Some, codes, arith, lit<}
+use Rattle.std.proofs.Common.{◌≡◌, refl, sym, ap, subst, ◌∙◌, ℕ, List, [], ◌∷◌, ◌++◌, true, false, length, map, get_or, append-nil, None, Some, codes, arith, lit<}
 use Rattle.std.proofs.lemmas.List.{append_cancel_left, length-map}
 use Rattle.std.proofs.lemmas.Str.{is_utf8-from_IsUtf8}
 use Rattle.std.proofs.lemmas.List.Elements.{All-nil}
@@ -7,13 +7,13 @@ use Rattle.std.specs.Char.{encode_utf8}
 use Rattle.std.specs.Fmt.{digits}
 use Rattle.std.specs.List.{concat}
 use Rattle.std.specs.Str.{chars, is_utf8}
-use Rattle.bytes_utils.specs.Lines.{line_feed, carriage_return}
+use Rattle.bytes_utils.specs.Lines.{line_feed, carriage_return, text_behind}
 use Rattle.bytes_utils.specs.Parts.{AreForwardParts}
 use Rattle.bytes_utils.proofs.Unique.{forward_same}
 use Rattle.bytes_utils.proofs.Cases.{all_parts, split-comma, empty_text}
 use Rattle.bytes_utils_buf.specs.Segments.{nothing_held}
 use Rattle.bytes_utils_run.specs.CallLine.{IsCallLine}
-use Rattle.bytes_utils_run.specs.Command.{EndsLine, IsCommand, command_line, text_behind}
+use Rattle.bytes_utils_run.specs.Command.{IsCommand, command_line}
 use Rattle.bytes_utils_run.specs.Cutting.{Cutting, ByWords, ByAsciiWords, ByLines, FromFront, FromBack, Keeping, ArePartsBy}
 use Rattle.bytes_utils_run.specs.Fault.{fault_text, status_of}
 use Rattle.bytes_utils_run.specs.Number.{IsNumber}
@@ -80,17 +80,6 @@ empty-first-line = refl
 -- the text keeps its own line feeds
 pub text-of-two-lines : text_behind (codes "split ,\na\n,b\n") ≡ codes "a\n,b\n"
 text-of-two-lines = refl
-
--- the byte places at which the command lines end
-pub program-split-end : EndsLine program-split-input 7 7
-program-split-end = inr (λ some is. let comma : 44 ≡ 13 = is in omega (arith, comma), refl)
-
-pub program-return-end : EndsLine program-return-input 8 7
-program-return-end = inl (lit< tt, refl, refl)
-
-pub program-return-kept : ¬ EndsLine program-return-input 8 8
-program-return-kept (inl ends) = let same : 8 ≡ 7 = ends.2 in omega (arith, same)
-program-return-kept (inr ends) = ends.0 (lit< tt) refl
 
 -- Which lines are commands.
 

@@ -1,5 +1,4 @@
 pub mod Beginnings
-pub mod FirstLine
 pub mod CommandLine
 pub mod Outcomes
 pub mod Asked

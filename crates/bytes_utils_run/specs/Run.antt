@@ -4,7 +4,8 @@ use Rattle.std.specs.Prelude.{ℕ, ◌<◌, List, ◌++◌, length, Option, IsUt
 use Rattle.std.specs.List.{concat}
 use Rattle.std.specs.Io.KnownBytes.{Appends, Keeps}
 use Rattle.std.specs.Str.{chars}
-use Rattle.bytes_utils_run.specs.Command.{command_line, text_behind}
+use Rattle.bytes_utils.specs.Lines.{text_behind}
+use Rattle.bytes_utils_run.specs.Command.{command_line}
 use Rattle.bytes_utils_run.specs.Moves.{AppendsBeginning, ReadsWhole}
 use Rattle.bytes_utils_run.specs.Request.{AreAskedFor, IsRequest, Request}
 

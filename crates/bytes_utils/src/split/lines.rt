@@ -3,7 +3,7 @@ ghost use Rattle.std.specs.Prelude.{◌≡◌, ◌<◌, ℕ, List, [], ◌∷◌
 ghost use Rattle.std.specs.Iterator.{at_most};
 ghost use Rattle.std.specs.Option.{option_map_or};
 ghost use Rattle.std.specs.Str.{chars};
-ghost use Rattle.bytes_utils.specs.Lines.{AreLinesToCome, HoldsLineFeed, lines};
+ghost use Rattle.bytes_utils.specs.Lines.{AreLinesToCome, HoldsLineFeed, lines, text_behind};
 ghost use Rattle.bytes_utils.specs.Step.{GivesFirst, IsStep};
 
 use super::cut::{Cut, cut_out, hand_out};
@@ -12,17 +12,32 @@ use crate::string::{Storage, StrInner};
 use bytes_utils_buf::Reason;
 use std::marker::Model;
 
-/// Where the first line ends, and where the text behind its line feed begins.
+/// Where the first line of a text ends, and where the text behind its line feed begins; `None` where
+/// the text has no line feed, and so is a line by itself unless it's empty.
+///
+/// The line is the one that `str::lines` gives first: one carriage return directly in front of the
+/// line feed is none of it. It is the step that [`lines_bytes`](StrInner::lines_bytes) makes, for a
+/// caller who takes one line off a text that is lent.
+///
+/// ```text
+/// let text = "Host: a\r\nbody";
+/// if let Some((end, next)) = line_place(text) {
+///     let (line, rest) = (&text[..end], &text[next..]); // "Host: a" and "body"
+/// }
+/// ```
 #[inline]
-fn line_place(text: &str) -> Option<(usize, usize)>
+pub fn line_place(text: &str) -> Option<(usize, usize)>
     ensures order { IfSome result (λ place. place.0 < place.1) }
     ensures end { IfSome result (λ place. IsCharBoundary text.now place.0) }
     ensures next { IfSome result (λ place. IsCharBoundary text.now place.1) }
-    ensures feed { IfSome result (λ _. HoldsLineFeed (Some text.now)) }
+    ensures feed { MatchOption result (¬ HoldsLineFeed (Some text.now))
+        (λ _. HoldsLineFeed (Some text.now)) }
     ensures line { MatchOption result
         (0 < length text.now → lines (chars text.now) ≡ chars text.now ∷ [])
         (λ place. lines (chars text.now)
         ≡ chars (take place.0 text.now) ∷ lines (chars (drop place.1 text.now))) }
+    ensures behind { MatchOption result (text_behind (chars text.now) ≡ [])
+        (λ place. chars (drop place.1 text.now) ≡ text_behind (chars text.now)) }
 {
     let at = find(text, "\n")?;
     let line = &text[..at];

@@ -1,6 +1,8 @@
 //! A text's lines.
 use super::ways::{Lines, assert_cuts};
 use super::{assert_text, shared};
+use crate::split::line_place;
+use std::process::Abort;
 use std::test::Fail;
 
 /// A text, and its lines, each with a bar behind it.
@@ -33,4 +35,24 @@ fn lines_in_a_loop(rt: HostRuntime) -> Result<(), Fail> {
     }
     assert_eq!(rt; count, 3);
     Ok(())
+}
+
+/// A text, where its first line ends, and where the text behind its line feed begins.
+type FirstLine = (&'static str, Option<(usize, usize)>);
+
+const FIRST_LINES: &[FirstLine] = &[
+    ("α\nb\n", Some((2, 3))),
+    ("a\r\n\r\nb", Some((1, 3))),
+    ("a\r\r\n", Some((2, 4))),
+    ("\nb", Some((0, 1))),
+    ("a\rb", None),
+    ("a", None),
+    ("", None),
+];
+
+#[test]
+fn first_lines(rt: HostRuntime) {
+    for (text, wanted) in FIRST_LINES {
+        assert_eq!(rt; line_place(text), *wanted, "{text:?}");
+    }
 }

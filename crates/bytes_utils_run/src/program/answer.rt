@@ -2,10 +2,11 @@
 ghost use Rattle.std.specs.Prelude.{◌≡◌, ◌⊎◌, ℕ, List, Option, IfOk, IfErr, IsErrOf, IsOkUnless};
 ghost use Rattle.std.specs.List.{position};
 ghost use Rattle.std.specs.Str.{chars};
+ghost use Rattle.bytes_utils.specs.Lines.{text_behind};
 ghost use Rattle.bytes_utils.specs.Outcome.{Outcome};
 ghost use Rattle.bytes_utils_buf.specs.declared.refused.Reason.{Reason as WhyRefused};
 ghost use Rattle.bytes_utils_run.specs.Answer.{ComesOf, HasParts};
-ghost use Rattle.bytes_utils_run.specs.Command.{command_line, text_behind};
+ghost use Rattle.bytes_utils_run.specs.Command.{command_line};
 ghost use Rattle.bytes_utils_run.specs.Request.{AreFirstReplies, AreReplies, IsRequest, Request, lacks_memory};
 ghost use Rattle.bytes_utils_run.specs.Run.{AsksFor};
 

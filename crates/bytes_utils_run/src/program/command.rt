@@ -1,35 +1,15 @@
 //! The command line of an input.
-ghost use Rattle.std.specs.Prelude.{◌≡◌, ◌≢◌, ◌<◌, ◌≤◌, ◌==◌, ℕ, List, ◌++◌, MatchOption, Option, None, Some, codes, length, take, drop, IsCharBoundary, IsUtf8, IfSome};
+ghost use Rattle.std.specs.Prelude.{◌≡◌, ◌≢◌, ◌≤◌, ℕ, List, ◌++◌, MatchOption, None, Some, codes, take, drop, IsCharBoundary, IsUtf8, IfSome};
 ghost use Rattle.std.specs.Bool.{MatchBool};
-ghost use Rattle.std.specs.List.{position};
 ghost use Rattle.std.specs.Str.{chars};
-ghost use Rattle.bytes_utils.specs.Lines.{line_feed};
+ghost use Rattle.bytes_utils.specs.Lines.{text_behind};
 ghost use Rattle.bytes_utils_run.specs.Answer.{IsReadFrom};
-ghost use Rattle.bytes_utils_run.specs.Command.{EndsLine, IsCommand, IsCounted, IsCountedBehind, command_line, text_behind};
+ghost use Rattle.bytes_utils_run.specs.Command.{IsCommand, IsCounted, IsCountedBehind, command_line};
 ghost use Rattle.bytes_utils_run.specs.Cutting.{Cutting, FromFront, FromBack, Keeping, IsAllowed, cutting};
 
 use crate::How;
 use crate::program::number::number;
-
-/// The place of the first line feed.
-fn line_feed_place(bytes: &[u8]) -> Option<usize>
-    ensures { result ≡ position (λ byte. byte == line_feed) bytes.now }
-{
-    bytes.iter().position(|byte| *byte == b'\n')
-}
-
-/// Where the line ends whose line feed stands at a place: before one carriage return, if one stands
-/// before the line feed.
-fn line_end(bytes: &[u8], at: usize) -> usize
-    requires { at < length bytes.now }
-    ensures { EndsLine bytes.now at result }
-{
-    if at > 0 && bytes[at - 1] == b'\r' {
-        at - 1
-    } else {
-        at
-    }
-}
+use bytes_utils::split::line_place;
 
 /// Where the first line ends, and where the text behind it begins.
 pub(super) fn first_line(input: &str) -> (usize, usize)
@@ -39,11 +19,7 @@ pub(super) fn first_line(input: &str) -> (usize, usize)
     ensures line { chars (take result.0 input.now) ≡ command_line (chars input.now) }
     ensures text { chars (drop result.1 input.now) ≡ text_behind (chars input.now) }
 {
-    let bytes = input.as_bytes();
-    match line_feed_place(bytes) {
-        Some(at) => (line_end(bytes, at), at + 1),
-        None => (bytes.len(), bytes.len()),
-    }
+    line_place(input).unwrap_or((input.len(), input.len()))
 }
 
 /// Whether a line is a word.

@@ -1,12 +1,20 @@
 use Rattle.std.proofs.Common.{◌≡◌, ◌∙◌, ap, subst, arith, take}
 use Rattle.std.proofs.lemmas.Str.Pattern.{strip_suffix_char}
 use Rattle.std.specs.Str.{chars}
-use Rattle.bytes_utils.proofs.Lines.{IsWithoutReturn, IsWithoutReturn-stripped, feed-boundary, next-boundary, line-boundary, line-at, lines-last}
+use Rattle.bytes_utils.proofs.Lines.{IsWithoutReturn, IsWithoutReturn-stripped, feed-boundary, next-boundary, line-boundary, line-at, lines-last, text-at, text_behind-none}
 use Rattle.bytes_utils.proofs.split.lines.line_place.Goals as goal
 
 pub returns-in_err-at-clause-line : goal.returns-in_err-at-clause-line
 unfolding chars
 returns-in_err-at-clause-line c = rw c.from_residual.ensures (lines-last _ c.utf8.text c.in_err-at.ensures)
+
+pub returns-in_err-at-clause-feed : goal.returns-in_err-at-clause-feed
+unfolding chars
+returns-in_err-at-clause-feed c = rw c.from_residual.ensures c.in_err-at.ensures
+
+pub returns-in_err-at-clause-behind : goal.returns-in_err-at-clause-behind
+unfolding chars
+returns-in_err-at-clause-behind c = rw c.from_residual.ensures (text_behind-none _ c.in_err-at.ensures)
 
 pub range-line-requires-clause-end_boundary : goal.range-line-requires-clause-end_boundary
 unfolding chars
@@ -34,3 +42,7 @@ returns-clause-feed c = (c.in_ok-at.ensures.0, c.in_ok-at.ensures.2.here)
 pub returns-clause-line : goal.returns-clause-line
 unfolding chars
 returns-clause-line c = line-at _ c.utf8.text _ c.in_ok-at.ensures _ c.unwrap_or-end.utf8 (without_return c)
+
+pub returns-clause-behind : goal.returns-clause-behind
+unfolding chars
+returns-clause-behind c = text-at _ c.utf8.text _ c.in_ok-at.ensures

@@ -1,7 +1,8 @@
 use Rattle.std.proofs.Common.{◌≡◌, subst, rules}
 use Rattle.std.specs.Str.{chars}
+use Rattle.bytes_utils.specs.Lines.{text_behind}
 use Rattle.bytes_utils_run.specs.Answer.{IsReadFrom}
-use Rattle.bytes_utils_run.specs.Command.{command_line, text_behind}
+use Rattle.bytes_utils_run.specs.Command.{command_line}
 use Rattle.bytes_utils_run.specs.Cutting.{cutting}
 use Rattle.bytes_utils_run.proofs.Asked.{Outcome-input, Outcome-parts, Outcome-replies}
 use Rattle.bytes_utils_run.proofs.program.answer.answer_to.Goals as goal

@@ -1,33 +1,30 @@
--- With no line feed the text is its first line; else the line ends at the line feed or at a carriage return before it.
-use Rattle.std.proofs.Common.{◌≡◌, ◌∙◌, sym, Some, ◌==◌}
-use Rattle.std.specs.List.{position}
-use Rattle.bytes_utils_run.specs.Command.{EndsLine}
-use Rattle.bytes_utils_run.proofs.FirstLine.{none-from_position, FeedAt-from_position, end-boundary, next-boundary, line-at, text-at, end-order, line-all, text-none}
+-- The line is the first of the text's lines, or all of a text without a line feed, behind which is nothing.
+use Rattle.std.proofs.Common.{◌≡◌, sym, ap, ◌∙◌, ℕ, ◌<◌, List, [], ◌∷◌, Option, None, Some, MatchOption, unwrap_or, slice_get, length, take, drop, arith}
+use Rattle.std.proofs.Math.Seq.{take-length, drop-length}
+use Rattle.std.proofs.lemmas.Str.{chars-nil}
+use Rattle.std.specs.Str.{chars}
+use Rattle.bytes_utils.specs.Lines.{lines, text_behind}
+use Rattle.bytes_utils_run.specs.Command.{command_line}
 use Rattle.bytes_utils_run.proofs.program.command.first_line.Goals as goal
 
-pub line_end-requires : goal.line_end-requires
-line_end-requires c = (FeedAt-from_position _ _ (sym c.line_feed_place.ensures ∙ c.in-Some.is)).fits
+line-whole : (text : List ℕ) → (0 < length text → lines (chars text) ≡ chars text ∷ []) → chars text ≡ command_line (chars text)
+line-whole [] only = chars-nil ∙ sym (ap command_line chars-nil)
+line-whole (b ∷ text) only = sym (ap (λ ls. unwrap_or (slice_get ls 0) []) (only (omega arith)))
 
-pub returns-in-Some : goal.returns-in-Some
-returns-in-Some c =
-    let text = c.args.input.now in
-    let found : position (λ b. b == 10) text ≡ Some c.in-Some.at = rw c.as_bytes-bytes.ensures.value at (sym c.line_feed_place.ensures ∙ c.in-Some.is) in
-    let is = FeedAt-from_position text c.in-Some.at found in
-    let ends : EndsLine text c.in-Some.at c.line_end.result = rw c.as_bytes-bytes.ensures.value at c.line_end.ensures in
-    record {
-      end = end-boundary text c.utf8.input c.in-Some.at is _ ends;
-      next = next-boundary text c.utf8.input c.in-Some.at is;
-      order = end-order text c.utf8.input c.in-Some.at is _ ends;
-      line = line-at text c.utf8.input c.in-Some.at is _ ends;
-      text = text-at text c.utf8.input c.in-Some.at is;
-    }
+line-at : (text : List ℕ) (found : Option (ℕ × ℕ))
+    → MatchOption found (0 < length text → lines (chars text) ≡ chars text ∷ []) (λ place. lines (chars text) ≡ chars (take place.0 text) ∷ lines (chars (drop place.1 text)))
+    → chars (take (unwrap_or found (length text, length text)).0 text) ≡ command_line (chars text)
+line-at text None only = ap chars (take-length text) ∙ line-whole text only
+line-at text (Some place) cut = sym (ap (λ ls. unwrap_or (slice_get ls 0) []) cut)
 
-pub returns-in-None-clause-line : goal.returns-in-None-clause-line
-returns-in-None-clause-line c =
-    let none = none-from_position c.args.input.now (rw c.as_bytes-bytes.ensures.value at (sym c.line_feed_place.ensures ∙ c.in-None.is)) in
-    rw c.as_bytes-bytes.ensures.value (line-all c.args.input.now c.utf8.input none)
+text-at : (text : List ℕ) (found : Option (ℕ × ℕ))
+    → MatchOption found (text_behind (chars text) ≡ []) (λ place. chars (drop place.1 text) ≡ text_behind (chars text))
+    → chars (drop (unwrap_or found (length text, length text)).1 text) ≡ text_behind (chars text)
+text-at text None none = ap chars (drop-length text) ∙ chars-nil ∙ sym none
+text-at text (Some place) behind = behind
 
-pub returns-in-None-clause-text : goal.returns-in-None-clause-text
-returns-in-None-clause-text c =
-    let none = none-from_position c.args.input.now (rw c.as_bytes-bytes.ensures.value at (sym c.line_feed_place.ensures ∙ c.in-None.is)) in
-    rw c.as_bytes-bytes.ensures.value (text-none c.args.input.now c.utf8.input none)
+pub returns-clause-line : goal.returns-clause-line
+returns-clause-line c = rw c.unwrap_or.ensures (line-at c.args.input.now c.line_place.result c.line_place.ensures.line)
+
+pub returns-clause-text : goal.returns-clause-text
+returns-clause-text c = rw c.unwrap_or.ensures (text-at c.args.input.now c.line_place.result c.line_place.ensures.behind)
