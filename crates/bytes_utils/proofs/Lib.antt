@@ -26,6 +26,7 @@ pub mod ToCome
 pub mod Rejoining
 pub mod KeepingCut
 pub mod Lines
+pub mod Graphic
 pub mod Words
 pub mod Chunks
 pub mod Cases

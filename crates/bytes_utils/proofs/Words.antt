@@ -1,15 +1,13 @@
 -- The first word of a text, from the byte places at which two searches found its ends.
-use Rattle.std.proofs.Common.{◌≡◌, refl, sym, ap, subst, ◌∙◌, ℕ, zero, suc, ◌+◌, ◌<◌, ◌≤◌, Bool, true, false, not, ◌||◌, List, [], ◌∷◌, ◌++◌, Option, None, Some, MatchOption, unwrap_or, cond, length, take, drop, get_or, arith, add-one, length-append, length-drop, append_assoc, take-append-drop, IsUtf8, IsCharBoundary}
+use Rattle.std.proofs.Common.{◌≡◌, refl, sym, ap, subst, ◌∙◌, ℕ, zero, suc, ◌+◌, ◌<◌, ◌≤◌, Bool, true, false, not, List, [], ◌∷◌, ◌++◌, Option, None, Some, MatchOption, unwrap_or, length, take, drop, get_or, arith, add-one, length-append, length-drop, append_assoc, take-append-drop, IsUtf8, IsCharBoundary}
 use Rattle.std.proofs.Math.Numerals.{one-add}
-use Rattle.std.proofs.Math.Dec.{ltb}
-use Rattle.std.proofs.lemmas.Bool.{or_parts, ltb-false}
 use Rattle.std.proofs.lemmas.Bool.Decides.{nat_tests}
-use Rattle.std.proofs.lemmas.List.Sums.{prefix_len-le-length, fails_before_first}
+use Rattle.std.proofs.lemmas.List.Sums.{prefix_len-le-length, prefix_len_passes}
 use Rattle.std.proofs.lemmas.List.{length-take-le, drop-take, drop-drop, at_drop_all}
 use Rattle.std.proofs.Math.Seq.{get_or-append_seam, take-add, take-length}
 use Rattle.std.proofs.lemmas.Str.{chars-nil, chars-append, chars_from_encodes, chars_past_char, IsUtf8-take, IsUtf8-drop, IsCharBoundary-start, IsCharBoundary-end, IsCharBoundary-after_ascii, IsCharBoundary-from_rest, NoCharPasses-nil, NoCharPasses-append, encode_ascii}
-use Rattle.std.specs.Char.{is_ascii}
-use Rattle.std.specs.List.{position, position_or_len}
+use Rattle.std.specs.Char.{IsAsciiGraphic, is_ascii_graphic}
+use Rattle.std.specs.List.{prefix_len}
 use Rattle.std.specs.Option.{option_map_or}
 use Rattle.std.specs.Str.{chars, NonePass, NoCharPasses}
 use Rattle.std.specs.Str.Pattern.{FindsBy}
@@ -25,6 +23,23 @@ NonePass-chars p text text_is none = subst (NonePass p) (chars_from_encodes none
 from_not_false : (b : Bool) → not b ≡ false → b ≡ true
 from_not_false true e = refl
 from_not_false false e = cc
+
+-- how many graphic ASCII characters are in front
+abbrev pub graphic_run : List ℕ → ℕ
+graphic_run = prefix_len is_ascii_graphic
+
+graphic-range : (b : ℕ) → is_ascii_graphic b ≡ true → IsAsciiGraphic b
+graphic-range b graphic = (grind (arith, nat_tests, graphic), grind (arith, nat_tests, graphic))
+
+pub run-boundary : (bs : List ℕ) → IsUtf8 bs → IsCharBoundary bs (graphic_run bs)
+run-boundary bs is = by (graphic_run bs) refl
+  where
+    by : (n : ℕ) → graphic_run bs ≡ n → IsCharBoundary bs (graphic_run bs)
+    by zero none = rw none (IsCharBoundary-start bs is)
+    by (suc n) some =
+        let fits : n < length bs = omega (arith, some, prefix_len-le-length is_ascii_graphic bs) in
+        let last = graphic-range (get_or bs n 0) (prefix_len_passes is_ascii_graphic bs n 0 (omega (arith, some))) in
+        rw (some, ← add-one) (IsCharBoundary-after_ascii bs n is fits (omega (arith, last.1)))
 
 module _ (is_space : ℕ → Bool) where
   -- whether a character is none
@@ -94,56 +109,26 @@ module _ (is_space : ℕ → Bool) where
         ends = rw (chars_past_char (drop n rest) _ _ (IsUtf8-drop rest n rest_is found.3) is.1.2.split) is.1.1;
       }
 
-  -- a byte that is no ASCII character, or white space
-  abbrev pub stops : ℕ → Bool
-  stops b = not (is_ascii b) || is_space b
+  module _ (no_graphic : (c : ℕ) → IsAsciiGraphic c → is_space c ≡ false) where
+    run-none : (bs : List ℕ) → NoCharPasses is_space (take (graphic_run bs) bs)
+    run-none [] = NoCharPasses-nil is_space
+    run-none (b ∷ bs) = by (is_ascii_graphic b) refl (run-none bs)
+      where
+        by : (v : Bool) → is_ascii_graphic b ≡ v → NoCharPasses is_space (take (graphic_run bs) bs) → NoCharPasses is_space (take (graphic_run (b ∷ bs)) (b ∷ bs))
+        by false is others = rw is (NoCharPasses-nil is_space)
+        by true is others =
+            let graphic = graphic-range b is in
+            rw (is, one-add) (NoCharPasses-append is_space (b ∷ []) (take (graphic_run bs) bs) (b ∷ [], ap (λ z. z ++ []) (encode_ascii b (omega (arith, graphic.1))), (no_graphic b graphic, tt)) others)
 
-  -- how many ASCII characters other than white space are in front
-  abbrev pub ascii_run : List ℕ → ℕ
-  ascii_run = position_or_len stops
-
-  ascii-other : (b : ℕ) → stops b ≡ false → (b < 128) × (is_space b ≡ false)
-  ascii-other b goes_on =
-      let parts = or_parts (not (is_ascii b)) (is_space b) goes_on in
-      let ascii = parts.0 in
-      (grind (arith, nat_tests, ascii), parts.1)
-
-  run-none : (bs : List ℕ) → NoCharPasses is_space (take (ascii_run bs) bs)
-  run-none [] = NoCharPasses-nil is_space
-  run-none (b ∷ bs) = by (stops b) refl (run-none bs)
-    where
-      by : (v : Bool) → stops b ≡ v → NoCharPasses is_space (take (ascii_run bs) bs) → NoCharPasses is_space (take (ascii_run (b ∷ bs)) (b ∷ bs))
-      by true is others = rw is (NoCharPasses-nil is_space)
-      by false is others =
-          let here = ascii-other b is in
-          rw (is, one-add) (NoCharPasses-append is_space (b ∷ []) (take (ascii_run bs) bs) (b ∷ [], ap (λ z. z ++ []) (encode_ascii b here.0), (here.1, tt)) others)
-
-  pub run-boundary : (bs : List ℕ) → IsUtf8 bs → IsCharBoundary bs (ascii_run bs)
-  run-boundary bs is = by (ascii_run bs) refl
-    where
-      by : (n : ℕ) → ascii_run bs ≡ n → IsCharBoundary bs (ascii_run bs)
-      by zero none = rw none (IsCharBoundary-start bs is)
-      by (suc n) some =
-          let fits : n < length bs = omega (arith, some, prefix_len-le-length (λ b. not (stops b)) bs) in
-          let small = ascii-other _ (fails_before_first stops bs n 0 (omega (arith, some))) in
-          rw (some, ← add-one) (IsCharBoundary-after_ascii bs n is fits small.0)
-
-  pub is-run : (bs : List ℕ) (r : Option ℕ) (n : ℕ) → r ≡ position stops bs → n ≡ unwrap_or r (length bs) → n ≡ ascii_run bs
-  is-run bs r n found is = is ∙ ap (λ z. unwrap_or z (length bs)) found ∙ by (ltb (ascii_run bs) (length bs)) refl
-    where
-      by : (v : Bool) → ltb (ascii_run bs) (length bs) ≡ v → unwrap_or (cond v (Some (ascii_run bs)) None) (length bs) ≡ ascii_run bs
-      by true inside = refl
-      by false whole = omega (arith, ltb-false _ _ whole, prefix_len-le-length (λ b. not (stops b)) bs)
-
-  -- the front that is passed by bytes and the word behind it are one word
-  pub EndsWord-behind_run : (bs : List ℕ) (end : ℕ) → IsUtf8 bs → EndsWord (drop (ascii_run bs) bs) end → EndsWord bs (ascii_run bs + end)
-  EndsWord-behind_run bs end is ends =
-      let run = ascii_run bs in
-      record {
-        boundary = IsCharBoundary-from_rest bs run end (run-boundary bs is).0 ends.boundary;
-        none = rw take-add (NoCharPasses-append is_space (take run bs) (take end (drop run bs)) (run-none bs) ends.none);
-        ends = rw (← drop-drop end run bs) ends.ends;
-      }
+    -- the front that is passed by bytes and the word behind it are one word
+    pub EndsWord-behind_run : (bs : List ℕ) (end : ℕ) → IsUtf8 bs → EndsWord (drop (graphic_run bs) bs) end → EndsWord bs (graphic_run bs + end)
+    EndsWord-behind_run bs end is ends =
+        let run = graphic_run bs in
+        record {
+          boundary = IsCharBoundary-from_rest bs run end (run-boundary bs is).0 ends.boundary;
+          none = rw take-add (NoCharPasses-append is_space (take run bs) (take end (drop run bs)) (run-none bs) ends.none);
+          ends = rw (← drop-drop end run bs) ends.ends;
+        }
 
   -- a text in which the first other character stands at `start`, and in which the word from there on takes `size` bytes
   module _ (text : List ℕ) (text_is : IsUtf8 text) (start next size : ℕ) (starts : IsCharBoundary text start) (found : FindsBy is_other text (Some (start, next))) (is : EndsWord (drop start text) size) where

@@ -1,12 +1,15 @@
 //! A text cut into its words.
-ghost use Rattle.std.specs.Prelude.{◌≡◌, ◌<◌, ◌≤◌, ◌⊎◌, ◌||◌, not, position, true, ℕ, Bool, List, [], ◌∷◌, Some, MatchOption, length, take, drop, IsCharBoundary, IfOk, IfErr, OnErr, IfSome, OnSome};
-ghost use Rattle.std.specs.Char.{is_ascii, is_ascii_whitespace, is_whitespace};
+ghost use Rattle.std.specs.Prelude.{◌≡◌, ◌<◌, ◌≤◌, ◌⊎◌, true, false, ℕ, Bool, List, [], ◌∷◌, Some, MatchOption, length, take, drop, IsCharBoundary, IfOk, IfErr, OnErr, IfSome, OnSome};
+ghost use Rattle.std.specs.Char.{IsAsciiGraphic, is_ascii_whitespace, is_whitespace};
 ghost use Rattle.std.specs.Iterator.{at_most};
 ghost use Rattle.std.specs.Option.{option_map_or};
 ghost use Rattle.std.specs.Str.{chars, NoCharPasses};
 ghost use Rattle.bytes_utils.specs.Step.{IsStep};
-ghost use Rattle.bytes_utils.specs.Words.{AreWordsToCome, HoldsSpace, ends_word, words};
+ghost use Rattle.bytes_utils.specs.Words.{AreWordsToCome, HoldsSpace, ends_word, graphic-no_ascii_whitespace, graphic-no_whitespace, words};
 
+mod graphic;
+
+use self::graphic::graphic_end;
 use super::cut::{Cut, cut_before, cut_behind, hand_out};
 use crate::string::{Storage, StrInner};
 use bytes_utils_buf::Reason;
@@ -20,6 +23,9 @@ trait WhiteSpace {
     /// Whether a character does.
     fn has(c: char) -> bool
         ensures { result ≡ is_space c };
+
+    // No graphic ASCII character does.
+    ghost no_graphic: { (c : ℕ) → IsAsciiGraphic c → is_space c ≡ false };
 }
 
 /// The characters with Unicode's property White_Space.
@@ -27,6 +33,8 @@ struct Unicode;
 
 impl WhiteSpace for Unicode {
     ghost is_space = { is_whitespace };
+
+    ghost no_graphic = { graphic-no_whitespace };
 
     fn has(c: char) -> bool {
         c.is_whitespace()
@@ -39,39 +47,25 @@ struct Ascii;
 impl WhiteSpace for Ascii {
     ghost is_space = { is_ascii_whitespace };
 
+    ghost no_graphic = { graphic-no_ascii_whitespace };
+
     fn has(c: char) -> bool {
         c.is_ascii_whitespace()
     }
 }
 
-/// Whether a byte is no ASCII character, or white space.
-#[inline]
-fn ends_run<W: WhiteSpace>(byte: u8) -> bool
-    ensures { result ≡ (not (is_ascii byte) || W.is_space byte) }
-{
-    !byte.is_ascii() || W::has(byte as char)
-}
-
-/// Where the ASCII characters at the front that aren't white space end, if not with the text.
-#[inline]
-fn run_end<W: WhiteSpace>(text: &str) -> Option<usize>
-    ensures { result ≡ position (λ b. not (is_ascii b) || W.is_space b) text.now }
-{
-    text.as_bytes().iter().position(|byte| ends_run::<W>(*byte))
-}
-
-/// Where white space begins, or the text ends. An ASCII character is one byte, so those in front
-/// are passed by bytes.
+/// Where white space begins, or the text ends. The graphic ASCII characters in front are passed by
+/// bytes.
 #[inline]
 fn word_length<W: WhiteSpace>(text: &str) -> usize
     ensures boundary { IsCharBoundary text.now result }
     ensures none { NoCharPasses W.is_space (take result text.now) }
     ensures ends { ends_word W.is_space (chars (drop result text.now)) ≡ true }
 {
-    let ascii = run_end::<W>(text).unwrap_or(text.len());
-    let rest = &text[ascii..];
+    let graphic = graphic_end(text.as_bytes());
+    let rest = &text[graphic..];
     let length = rest.find(|c: char| W::has(c)).unwrap_or(rest.len());
-    ascii + length
+    graphic + length
 }
 
 /// Where the first word begins, and where it ends.
@@ -184,7 +178,7 @@ impl<S: Storage> Iterator for SplitWhitespaceBytes<S> {
 
     ghost remaining = { λ s. at_most (option_map_or length s 0) };
 
-    #[inline]
+    #[inline(always)]
     fn next(&mut self) -> Option<Self::Item> {
         next_word::<Unicode, S>(&mut self.rest)
     }
@@ -198,7 +192,7 @@ impl<S: Storage> Iterator for SplitAsciiWhitespaceBytes<S> {
 
     ghost remaining = { λ s. at_most (option_map_or length s 0) };
 
-    #[inline]
+    #[inline(always)]
     fn next(&mut self) -> Option<Self::Item> {
         next_word::<Ascii, S>(&mut self.rest)
     }

@@ -1,22 +1,20 @@
--- The ASCII characters that are passed by bytes, and from there on a search for white space.
-use Rattle.std.proofs.Common.{rules, ◌≡◌, ◌+◌, drop}
+-- The graphic ASCII characters that are passed by bytes, and from there on a search for white space.
+use Rattle.std.proofs.Common.{rules, ◌≡◌, ◌+◌, ◌∙◌, ap, drop}
 use Rattle.std.proofs.lemmas.List.Sorted.{answers_always}
-use Rattle.bytes_utils.proofs.Words.{ascii_run, is-run, run-boundary, EndsWord, EndsWord-from_find, EndsWord-behind_run}
+use Rattle.bytes_utils.proofs.Words.{graphic_run, run-boundary, EndsWord, EndsWord-from_find, EndsWord-behind_run}
 use Rattle.bytes_utils.proofs.split.words.word_length.Goals as goal
 
 pub range_from-rest-requires : goal.range_from-rest-requires
-range_from-rest-requires g c =
-    let is_space = g.W.WhiteSpace.is_space in
-    rw (is-run is_space _ _ _ c.run_end.ensures c.unwrap_or-ascii.ensures) (λ some. run-boundary is_space _ c.utf8.text)
+range_from-rest-requires g c = rw (c.graphic_end-graphic.ensures, c.as_bytes.ensures.value) (λ some. run-boundary _ c.utf8.text)
 
-ends : (g : _) (c : goal.After-unwrap_or-length g) → EndsWord g.W.WhiteSpace.is_space c.args.text.now (c.unwrap_or-ascii.result + c.unwrap_or-length.result)
+ends : (g : _) (c : goal.After-unwrap_or-length g) → EndsWord g.W.WhiteSpace.is_space c.args.text.now (c.graphic_end-graphic.result + c.unwrap_or-length.result)
 ends g c =
     let is_space = g.W.WhiteSpace.is_space in
-    let run_is : c.unwrap_or-ascii.result ≡ ascii_run is_space c.args.text.now = is-run is_space _ _ _ c.run_end.ensures c.unwrap_or-ascii.ensures in
+    let run_is : c.graphic_end-graphic.result ≡ graphic_run c.args.text.now = c.graphic_end-graphic.ensures ∙ ap graphic_run c.as_bytes.ensures.value in
     let from_find = EndsWord-from_find is_space _ _ _ c.range_from-rest.utf8 (answers_always _ _ _ (λ f a r f' k. search rules)) c.find.ensures.cases in
-    let behind : EndsWord is_space (drop (ascii_run is_space c.args.text.now) c.args.text.now) c.unwrap_or-length.result =
+    let behind : EndsWord is_space (drop (graphic_run c.args.text.now) c.args.text.now) c.unwrap_or-length.result =
     rw (← run_is, ← c.range_from-rest.ensures.value, c.unwrap_or-length.ensures) from_find in
-    rw run_is (EndsWord-behind_run is_space _ _ c.utf8.text behind)
+    rw run_is (EndsWord-behind_run is_space g.met.W.WhiteSpace.no_graphic _ _ c.utf8.text behind)
 
 pub returns-clause-boundary : goal.returns-clause-boundary
 returns-clause-boundary g c = (ends g c).boundary

@@ -1,0 +1,53 @@
+//! Where the graphic ASCII characters in front of bytes end: sixteen bytes are compared at once.
+ghost use Rattle.std.specs.Prelude.{◌≡◌, ◌+◌, ◌≤◌, length, drop};
+ghost use Rattle.std.specs.Char.{is_ascii_graphic};
+ghost use Rattle.std.specs.List.{prefix_len};
+
+use std::simd::prelude::*;
+
+/// How many bytes are compared at once.
+const BLOCK: usize = 16;
+
+/// How many bytes at the front of a block are graphic ASCII.
+#[inline(always)]
+fn graphic_in_block(block: u8x16) -> usize
+    ensures { result ≡ prefix_len is_ascii_graphic block }
+{
+    let others = (block - u8x16::splat(b'!'))
+        .simd_gt(u8x16::splat(b'~' - b'!'))
+        .to_bitmask();
+    if others == 0 {
+        BLOCK
+    } else {
+        others.trailing_zeros() as usize
+    }
+}
+
+/// Where the graphic ASCII from a place on ends, byte by byte.
+#[inline]
+fn graphic_end_by_bytes(bytes: &[u8], from: usize) -> usize
+    requires { from ≤ length bytes.now }
+    ensures { result ≡ from + prefix_len is_ascii_graphic (drop from bytes.now) }
+{
+    let mut at = from;
+    while at < bytes.len() && bytes[at].is_ascii_graphic() {
+        at += 1;
+    }
+    at
+}
+
+/// Where the graphic ASCII at the front ends. Each of these bytes is a character.
+#[inline]
+pub(super) fn graphic_end(bytes: &[u8]) -> usize
+    ensures { result ≡ prefix_len is_ascii_graphic bytes.now }
+{
+    let mut at = 0;
+    while bytes.len() - at >= BLOCK {
+        let graphic = graphic_in_block(u8x16::from_slice(&bytes[at..]));
+        if graphic < BLOCK {
+            return at + graphic;
+        }
+        at += BLOCK;
+    }
+    graphic_end_by_bytes(bytes, at)
+}
