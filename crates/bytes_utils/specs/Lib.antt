@@ -19,5 +19,5 @@ pub use Rattle.bytes_utils_buf.specs.Lent
 pub use Rattle.bytes_utils_buf.specs.Copies
 pub use Rattle.bytes_utils_buf.specs.Log
 pub use Rattle.bytes_utils_buf.specs.Refusals
-pub use Rattle.bytes_utils_buf.specs.Parts as Slices
+pub use Rattle.bytes_utils_buf.specs.Slices
 pub use Rattle.bytes_utils_buf.specs.declared.refused.Reason as Reason

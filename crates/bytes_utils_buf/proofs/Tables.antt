@@ -3,7 +3,7 @@ use Rattle.std.proofs.Common.{◌≡◌, ℕ, ◌+◌, ◌-◌, ◌<◌, ◌≤�
 use Rattle.std.proofs.lemmas.List.{drop_all, take_rest, drop-append-le, drop-drop}
 use borrow.Rule.Slice.PartMut.{put_mid}
 use Rattle.std.proofs.lemmas.List.Elements.{All-cons, All-nil, All-append, All-same}
-use Rattle.bytes_utils_buf.specs.Parts.{joined, FillsTable}
+use Rattle.bytes_utils_buf.specs.Slices.{joined, FillsTable}
 use Rattle.bytes_utils_buf.proofs.Lists.{drop-append_past}
 
 -- one slice in the first place

@@ -1,5 +1,5 @@
 pub mod Log
-pub mod Parts
+pub mod Slices
 pub mod Segments
 pub mod Tally
 pub mod Lent

@@ -1,6 +1,6 @@
 //! Buffers that hand out their unread bytes in parts.
 ghost use Rattle.std.specs.Prelude.{ℕ, ⊤, ◌≡◌, ◌<◌, ◌≤◌, length, take, drop, IfOk, IfErr, OnErr};
-ghost use Rattle.bytes_utils_buf.specs.Parts.{taken_by, joined, FillsTable};
+ghost use Rattle.bytes_utils_buf.specs.Slices.{taken_by, joined, FillsTable};
 
 use bytes::{Buf, Bytes};
 use std::alloc::Global;

@@ -5,7 +5,7 @@ use Rattle.std.proofs.lemmas.Bool.{cases_lt}
 use Rattle.std.proofs.lemmas.List.Elements.{All-cons, All-head, All-nil, All-push, All-same, All-tail}
 use Rattle.std.specs.List.{concat}
 use Rattle.std.specs.Prelude.{All}
-use Rattle.bytes_utils_buf.specs.Parts.{joined, FillsTable}
+use Rattle.bytes_utils_buf.specs.Slices.{joined, FillsTable}
 use Rattle.bytes_utils_buf.specs.Segments.{NoneEmpty}
 use Rattle.bytes_utils_buf.proofs.Tables.{FillsTable-full, FillsTable-same}
 use Rattle.bytes_utils_run.specs.Calls.{AreSlices}

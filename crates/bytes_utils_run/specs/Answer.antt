@@ -9,7 +9,7 @@ use Rattle.bytes_utils_run.specs.Cutting.{IsAllowed, cutting}
 use Rattle.bytes_utils_run.specs.Moves.{AppendsBeginning}
 use Rattle.bytes_utils_run.specs.Printed.{printed_part, printed_reply}
 use Rattle.bytes_utils_run.specs.declared.program.answer.Answer.{Answer}
-use Rattle.bytes_utils_run.specs.declared.program.answer.Answer.TheVariants.{Parts, Replies}
+use Rattle.bytes_utils_run.specs.declared.program.answer.Answer.TheVariants.{Splitter, Replies}
 use Rattle.bytes_utils_run.specs.declared.program.command.Command.{Command}
 use Rattle.bytes_utils_run.specs.declared.program.command.Command.TheVariants.{Cut, Buf}
 use Rattle.bytes_utils_buf.specs.declared.refused.Reason.{Reason}
@@ -22,12 +22,12 @@ IsReadFrom line Buf = line ≡ codes "buf"
 -- These entries may come of an answer, each as it's printed, and this may be why there are no more of them: an outcome of the parts that
 -- are to come, or the replies as they are.
 abbrev pub ComesOf : Answer → List (List ℕ) → Option Reason → Type 0
-ComesOf (Parts splitter) given refused = (parts : List (List ℕ)) × (given ≡ map printed_part parts) × Outcome (AreToCome splitter) parts refused
+ComesOf (Splitter splitter) given refused = (parts : List (List ℕ)) × (given ≡ map printed_part parts) × Outcome (AreToCome splitter) parts refused
 ComesOf (Replies replies) given refused = (given ≡ map printed_reply replies.given.items) × (refused ≡ replies.refused)
 
 -- some parts are to come, where an answer gives parts
 abbrev pub HasParts : Answer → Type 0
-HasParts (Parts splitter) = (parts : List (List ℕ)) × AreToCome splitter parts
+HasParts (Splitter splitter) = (parts : List (List ℕ)) × AreToCome splitter parts
 HasParts (Replies replies) = ⊤
 
 -- what came of an answer was printed, to a writer that held `held` and holds `held'`, where these are known

@@ -52,7 +52,7 @@ fn print_given<W: Write>(writer: &mut W, answer: Answer<'_>) -> Result<Option<Re
     ensures fault { IsOkUnless result Fault.Io }
 {
     match answer {
-        Answer::Parts(mut splitter) => {
+        Answer::Splitter(mut splitter) => {
             let refused = print_parts(writer, &mut splitter);
             drop(splitter); // by its own proof, and not by each of its cases once more here
             refused

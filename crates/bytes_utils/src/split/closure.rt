@@ -6,7 +6,7 @@ ghost use Rattle.bytes_utils.specs.Walk.{IsLawfulCut, IsLawfulClosure, IsWalkSte
 ghost use Rattle.bytes_utils_buf.specs.declared.refused.Reason.{Reason as WhyRefused};
 ghost use Rattle.bytes_utils.specs.Walk.{chunk_at, most_chunks, rest_at};
 
-use super::cut::{Cut, cut_out, hand_out};
+use super::cut::{Cut, cut_out, yield_part};
 use super::direction::Direction;
 use crate::string::{Storage, StrInner};
 use bytes_utils_buf::Reason;
@@ -106,7 +106,7 @@ impl<S: Storage, F: FnMut(&str) -> Option<(usize, usize)> + Drop> Iterator for B
         let Some((chunk_edge, separator_edge)) = (self.closure)(text.as_str()) else {
             return Some(Ok(text));
         };
-        hand_out!(
+        yield_part!(
             self.rest,
             chunk_and_rest(text, self.direction, chunk_edge, separator_edge)
         )

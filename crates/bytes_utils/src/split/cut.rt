@@ -77,7 +77,7 @@ pub(super) fn cut_before<S: Storage>(text: StrInner<S>, start: usize) -> Result<
 
 /// Gives the part of a cut and keeps what is left; a refused cut gives its reason, and keeps
 /// nothing.
-macro_rules! hand_out {
+macro_rules! yield_part {
     ($rest:expr, $cut:expr) => {
         match $cut {
             Ok((part, left)) => {
@@ -89,4 +89,4 @@ macro_rules! hand_out {
     };
 }
 
-pub(super) use hand_out;
+pub(super) use yield_part;

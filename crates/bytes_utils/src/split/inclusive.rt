@@ -6,7 +6,7 @@ ghost use Rattle.bytes_utils.specs.Keeping.{AreInclusivePartsToCome, CutsBehindN
 ghost use Rattle.bytes_utils.specs.Keeping.{most_inclusive_parts};
 ghost use Rattle.bytes_utils.specs.Step.{GivesFirst, IsStep};
 
-use super::cut::{Cut, cut_at, hand_out};
+use super::cut::{Cut, cut_at, yield_part};
 use super::search::find;
 use crate::string::{Storage, StrInner};
 use bytes_utils_buf::Reason;
@@ -85,6 +85,6 @@ impl<'s, S: Storage> Iterator for SplitInclusiveBytes<'s, S> {
         if text.as_str().is_empty() {
             return None;
         }
-        hand_out!(self.rest, part_through(text, self.separator))
+        yield_part!(self.rest, part_through(text, self.separator))
     }
 }

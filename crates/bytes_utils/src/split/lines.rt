@@ -6,7 +6,7 @@ ghost use Rattle.std.specs.Str.{chars};
 ghost use Rattle.bytes_utils.specs.Lines.{AreLinesToCome, HoldsLineFeed, lines, text_behind};
 ghost use Rattle.bytes_utils.specs.Step.{GivesFirst, IsStep};
 
-use super::cut::{Cut, cut_out, hand_out};
+use super::cut::{Cut, cut_out, yield_part};
 use super::search::find;
 use crate::string::{Storage, StrInner};
 use bytes_utils_buf::Reason;
@@ -99,6 +99,6 @@ impl<S: Storage> Iterator for LinesBytes<S> {
         if text.as_str().is_empty() {
             return None;
         }
-        hand_out!(self.rest, first_line(text))
+        yield_part!(self.rest, first_line(text))
     }
 }

@@ -7,7 +7,7 @@ ghost use Rattle.bytes_utils.specs.Search.{end_of, needle_of};
 ghost use Rattle.bytes_utils.specs.Splitting.{ArePartsToCome, AreForwardPartsToCome, AreBackwardPartsToCome, CutsNext, LeavesMore, one_less, most_parts, splitting, all_of};
 ghost use Rattle.bytes_utils.specs.Step.{GivesFirst, IsStep};
 
-use super::cut::{Cut, cut_out, hand_out};
+use super::cut::{Cut, cut_out, yield_part};
 use super::direction::Direction;
 use super::each_character::cut_character;
 use super::search::{Search, find_by, rfind_by};
@@ -196,6 +196,6 @@ impl<'s, S: Storage> Separated<'s, S> {
         let cut = next_part(text, self.separator, &self.search, self.limit, self.begun);
         self.limit = self.limit.map(|most| most.saturating_sub(1));
         self.begun = self.separator.is_empty();
-        hand_out!(self.rest, cut)
+        yield_part!(self.rest, cut)
     }
 }

@@ -10,7 +10,7 @@ ghost use Rattle.bytes_utils.specs.Words.{AreWordsToCome, HoldsSpace, ends_word,
 mod graphic;
 
 use self::graphic::graphic_end;
-use super::cut::{Cut, cut_before, cut_behind, hand_out};
+use super::cut::{Cut, cut_before, cut_behind, yield_part};
 use crate::string::{Storage, StrInner};
 use bytes_utils_buf::Reason;
 use std::marker::Model;
@@ -117,7 +117,7 @@ fn next_word<W: WhiteSpace, S: Storage>(
 {
     let text = rest.take()?;
     let (start, end) = word_place::<W>(text.as_str())?;
-    hand_out!(*rest, cut_word(text, start, end))
+    yield_part!(*rest, cut_word(text, start, end))
 }
 
 /// The words of a text between characters with Unicode's property White_Space, first to last, as

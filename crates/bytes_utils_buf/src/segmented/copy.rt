@@ -1,6 +1,6 @@
 //! A copy of bytes: what it took, and a chunk appended to it.
 ghost use Rattle.std.specs.Prelude.{◌≡◌, ◌-◌, ◌≤◌, ◌++◌, length, min, take, vec_capacity};
-ghost use Rattle.bytes_utils_buf.specs.Parts.{taken_by};
+ghost use Rattle.bytes_utils_buf.specs.Slices.{taken_by};
 
 use crate::parts::CopyRefused;
 use bytes::Bytes;

@@ -1,7 +1,7 @@
 //! Tables filled with the slices of buffers in a row.
 ghost use Rattle.std.specs.Prelude.{◌≡◌, ◌≤◌, length, map};
 ghost use Rattle.std.specs.List.{concat};
-ghost use Rattle.bytes_utils_buf.specs.Parts.{FillsTable};
+ghost use Rattle.bytes_utils_buf.specs.Slices.{FillsTable};
 
 use crate::parts::BufParts;
 use std::collections::VecDeque;

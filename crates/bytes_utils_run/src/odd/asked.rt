@@ -35,7 +35,7 @@ impl Asked {
     }
 
     /// How often `advance` was called.
-    pub fn asked(&self) -> usize {
+    pub fn advances(&self) -> usize {
         self.advances
     }
 

@@ -23,7 +23,7 @@ use std::alloc::Global;
 #[derive(Drop)]
 pub(super) enum Answer<'l> {
     /// The parts that a splitter gives.
-    Parts(AnySplitter<'l, Bytes>),
+    Splitter(AnySplitter<'l, Bytes>),
     /// The replies to calls before the first for want of memory, if one was.
     Replies(Replies),
 }
@@ -80,7 +80,7 @@ pub(super) fn answer_to(alloc: Global, input: &Str) -> Result<Answer<'_>, Fault>
         return Err(Fault::OutOfMemory);
     };
     match command {
-        Command::Cut(how) => Ok(Answer::Parts(AnySplitter::new(text, how))),
+        Command::Cut(how) => Ok(Answer::Splitter(AnySplitter::new(text, how))),
         Command::Buf => {
             let calls = calls_of(alloc, text)?;
             Ok(Answer::Replies(replies_to(alloc, calls)?))

@@ -1,6 +1,6 @@
 //! The first held segment, asked alone.
 ghost use Rattle.std.specs.Prelude.{◌≡◌, ◌<◌, ◌≤◌, length, map, take, IsTrue, ◌↔◌, IfOk, IfErr};
-ghost use Rattle.bytes_utils_buf.specs.Parts.{taken_by};
+ghost use Rattle.bytes_utils_buf.specs.Slices.{taken_by};
 ghost use Rattle.bytes_utils_buf.specs.Segments.{cut_front, front_of};
 
 use crate::parts::{BufParts, CopyRefused};

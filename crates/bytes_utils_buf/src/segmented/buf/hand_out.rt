@@ -2,7 +2,7 @@
 ghost use Rattle.std.specs.Prelude.{◌≡◌, ◌+◌, ◌<◌, ◌≤◌, length, map, take, drop, IfOk, IfErr, ◌⊎◌};
 ghost use Rattle.std.specs.List.{concat};
 ghost use Rattle.bytes_utils_buf.specs.Copies.{CountsCopy};
-ghost use Rattle.bytes_utils_buf.specs.Parts.{taken_by, FillsTable};
+ghost use Rattle.bytes_utils_buf.specs.Slices.{taken_by, FillsTable};
 ghost use Rattle.bytes_utils_buf.specs.Segments.{NoneEmpty, count_unread, front_of, Skips};
 ghost use Rattle.bytes_utils_buf.specs.Tally.{IsPaid, lined_up};
 

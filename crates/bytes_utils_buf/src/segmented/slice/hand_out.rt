@@ -3,7 +3,7 @@ ghost use Rattle.std.specs.Prelude.{◌≡◌, ◌+◌, ◌<◌, ◌≤◌, [], 
 ghost use Rattle.std.specs.List.{concat};
 ghost use Rattle.bytes_utils_buf.specs.Copies.{CountsCopy};
 ghost use Rattle.bytes_utils_buf.specs.Lent.{SkipsLent};
-ghost use Rattle.bytes_utils_buf.specs.Parts.{taken_by, FillsTable};
+ghost use Rattle.bytes_utils_buf.specs.Slices.{taken_by, FillsTable};
 ghost use Rattle.bytes_utils_buf.specs.Segments.{count_unread, front_of, FrontUnread, Skips};
 ghost use Rattle.bytes_utils_buf.specs.Tally.{IsPaid, lined_up};
 

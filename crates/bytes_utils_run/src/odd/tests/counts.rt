@@ -7,8 +7,11 @@ fn assert_shows<B: Buf>(rt: &impl Abort, buf: &B, shown: &[u8]) {
     assert!(rt; buf.remaining() == shown.len() && buf.chunk() == shown);
 }
 
-fn assert_asked(rt: &impl Abort, buf: &Asked, asked: usize, looked: usize) {
-    assert!(rt; buf.asked() == asked && buf.looked() == looked, "{buf:?}");
+fn assert_asked(rt: &impl Abort, buf: &Asked, advances: usize, looks: usize) {
+    assert!(rt;
+        buf.advances() == advances && buf.looked() == looks,
+        "{buf:?}"
+    );
 }
 
 #[test]

@@ -20,7 +20,7 @@ fn lent<'a, B: Buf>(rt: &impl Abort, bufs: &'a mut [B]) -> SegmentedSlice<'a, B>
 fn assert_asked_seldom(rt: &impl Abort, bufs: &[Asked]) {
     for buf in bufs {
         assert!(rt;
-            buf.asked() >= 1 && buf.asked() <= 2 && buf.looked() <= 32,
+            buf.advances() >= 1 && buf.advances() <= 2 && buf.looked() <= 32,
             "{buf:?}"
         );
     }
@@ -61,7 +61,7 @@ fn lent_walked_together(rt: HostRuntime) -> Result<(), Fail> {
     let mut all = lent(&rt, &mut bufs);
     assert!(rt; all.remaining() == 1000);
     all.advance(1000);
-    assert!(rt; all.into_lent().iter().all(|buf| buf.asked() == 1));
+    assert!(rt; all.into_lent().iter().all(|buf| buf.advances() == 1));
     Ok(())
 }
 
@@ -69,7 +69,7 @@ fn lent_walked_together(rt: HostRuntime) -> Result<(), Fail> {
 fn assert_one_left(rt: &impl Abort, all: SegmentedBuf<Asked>) {
     let left = all.into_inner();
     assert!(rt; left.len() == 1);
-    assert!(rt; left[0].asked() <= 2 && left[0].looked() <= 32);
+    assert!(rt; left[0].advances() <= 2 && left[0].looked() <= 32);
 }
 
 #[test]

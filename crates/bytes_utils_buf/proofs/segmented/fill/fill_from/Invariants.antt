@@ -1,6 +1,6 @@
 use Rattle.std.proofs.Common.{◌≡◌, ◌-◌, ◌≤◌, length, map, take}
 use Rattle.std.specs.List.{concat}
-use Rattle.bytes_utils_buf.specs.Parts.{FillsTable}
+use Rattle.bytes_utils_buf.specs.Slices.{FillsTable}
 use Rattle.bytes_utils_buf.proofs.segmented.fill.fill_from.Given as goal
 
 abbrev pub invariant-loop-i : goal.invariant-loop-i

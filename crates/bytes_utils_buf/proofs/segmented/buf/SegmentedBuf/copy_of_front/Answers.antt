@@ -1,7 +1,7 @@
 use Rattle.std.proofs.Common.{◌≤◌, length, map, arith, ap, length-drop}
 use Rattle.std.proofs.lemmas.List.{length-map}
 use Rattle.std.specs.List.{concat}
-use Rattle.bytes_utils_buf.specs.Parts.{taken_by}
+use Rattle.bytes_utils_buf.specs.Slices.{taken_by}
 use Rattle.bytes_utils_buf.specs.Segments.{front_of}
 use Rattle.bytes_utils_buf.proofs.Lists.{Skips-trimmed, NoneEmpty-Skips, length-cut_front}
 use Rattle.bytes_utils_buf.proofs.segmented.buf.SegmentedBuf.copy_of_front.Goals as goal

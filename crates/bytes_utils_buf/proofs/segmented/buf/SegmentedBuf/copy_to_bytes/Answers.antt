@@ -1,5 +1,5 @@
 use Rattle.std.proofs.Common.{map, ap, ◌∙◌, arith}
-use Rattle.bytes_utils_buf.specs.Parts.{taken_by}
+use Rattle.bytes_utils_buf.specs.Slices.{taken_by}
 use Rattle.bytes_utils_buf.proofs.Ledger.{IsPaid-passing}
 use Rattle.bytes_utils_buf.proofs.segmented.buf.SegmentedBuf.copy_to_bytes.Goals as goal
 

@@ -1,7 +1,7 @@
 use Rattle.std.proofs.Common.{◌+◌, ◌-◌, length, map, ap, ◌∙◌, arith}
 use borrow.Rule.Slice.PartMut.{put_mid}
 use Rattle.bytes_utils_buf.specs.Lent.{lent_at, IsPassedOnce, SkipsLent}
-use Rattle.bytes_utils_buf.specs.Parts.{taken_by}
+use Rattle.bytes_utils_buf.specs.Slices.{taken_by}
 use Rattle.bytes_utils_buf.proofs.Lent.{take_read_out, place_inside, map-part, IsLent-skip, SkipsLent-part, lists_of-part}
 use Rattle.bytes_utils_buf.proofs.segmented.slice.SegmentedSlice.copy_of_front.Goals as goal
 

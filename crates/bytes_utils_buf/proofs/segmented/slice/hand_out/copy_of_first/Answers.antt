@@ -1,5 +1,5 @@
 use Rattle.std.proofs.Common.{map, set, arith}
-use Rattle.bytes_utils_buf.specs.Parts.{taken_by}
+use Rattle.bytes_utils_buf.specs.Slices.{taken_by}
 use Rattle.bytes_utils_buf.proofs.Lists.{Skips-trimmed}
 use Rattle.bytes_utils_buf.proofs.Lent.{map-cut_first, take_read_out}
 use Rattle.bytes_utils_buf.proofs.segmented.slice.hand_out.copy_of_first.Goals as goal

@@ -1,5 +1,5 @@
 use Rattle.std.proofs.Common.{◌≡◌, ◌∙◌, refl, subst, take, arith}
-use Rattle.bytes_utils_buf.specs.Parts.{FillsTable}
+use Rattle.bytes_utils_buf.specs.Slices.{FillsTable}
 use Rattle.bytes_utils_run.proofs.Slices.{FillsTable-byte, FillsTable-all_bytes}
 use Rattle.bytes_utils_run.proofs.odd.drip.DripBufParts.chunks_into.Goals as goal
 

@@ -1,5 +1,5 @@
 use Rattle.std.proofs.Common.{take}
-use Rattle.bytes_utils_buf.specs.Parts.{FillsTable}
+use Rattle.bytes_utils_buf.specs.Slices.{FillsTable}
 use Rattle.bytes_utils_run.proofs.odd.drip.DripBufParts.chunks_into.Given as goal
 
 abbrev pub invariant-loop-i : goal.invariant-loop-i

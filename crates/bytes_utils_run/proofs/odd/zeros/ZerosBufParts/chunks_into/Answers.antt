@@ -1,6 +1,6 @@
 use Rattle.std.proofs.Common.{refl, arith}
 use Rattle.std.proofs.Common.{subst}
-use Rattle.bytes_utils_buf.specs.Parts.{FillsTable}
+use Rattle.bytes_utils_buf.specs.Slices.{FillsTable}
 use Rattle.bytes_utils_run.proofs.Slices.{FillsTable-zeros, FillsTable-all_zeros}
 use Rattle.bytes_utils_run.proofs.odd.zeros.ZerosBufParts.chunks_into.Goals as goal
 

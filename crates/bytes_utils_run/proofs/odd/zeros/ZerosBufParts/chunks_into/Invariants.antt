@@ -1,5 +1,5 @@
 use Rattle.std.proofs.Common.{◌-◌, ◌≤◌, replicate}
-use Rattle.bytes_utils_buf.specs.Parts.{FillsTable}
+use Rattle.bytes_utils_buf.specs.Slices.{FillsTable}
 use Rattle.bytes_utils_run.proofs.odd.zeros.ZerosBufParts.chunks_into.Given as goal
 
 abbrev pub invariant-loop-shown : goal.invariant-loop-shown
