@@ -1,5 +1,5 @@
 -- Bodies behind their lengths.
-use Rattle.std.specs.Prelude.{◌≡◌, ℕ, List, [], ◌++◌, length, take, Bool, Option, None, Some}
+use Rattle.std.specs.Prelude.{◌≡◌, ℕ, ◌+◌, ◌<◌, ◌≤◌, List, [], ◌++◌, length, take, Bool, Option, None, Some}
 use Rattle.std.specs.Int.{w32, from_be_bytes}
 
 -- what clauses see of an `Inbox`: the bytes that came in and weren't handed out, and whether some of them are lost
@@ -12,11 +12,16 @@ abbrev pub prefix_bytes : Option (List ℕ) → List ℕ
 prefix_bytes None = []
 prefix_bytes (Some prefix) = prefix
 
--- the length that the first four bytes tell, the greatest first
+-- the length that the first four bytes tell, the greatest first; where there are fewer, none is told yet
 abbrev pub told_len : List ℕ → ℕ
 told_len bytes = from_be_bytes w32 (take 4 bytes)
 
--- the bytes of before are a prefix, the body, as long as the prefix tells, and the bytes that are left
+-- some of the first prefix, or of the body as long as it tells, is still to come
+abbrev pub AwaitsMore : List ℕ → Type 0
+AwaitsMore bytes = 4 ≤ length bytes → length bytes < 4 + told_len bytes
+
+-- the bytes of before are a whole prefix, the body, as long as the prefix tells, and the bytes that are left
 pub record HandsOut (old body new : List ℕ) : Type 0 where
+  pub prefix : 4 ≤ length old
   pub len : length body ≡ told_len old
   pub bytes : old ≡ take 4 old ++ body ++ new

@@ -1,7 +1,7 @@
 //! Bodies that come in pieces, each behind its length.
-ghost use Rattle.std.specs.Prelude.{◌≡◌, ◌+◌, ◌^◌, ◌<◌, ◌≤◌, [], ◌++◌, length, false, true, None, IfOk, IfErr, IfSome, IfNone, OnOk, OnErr, IsErrOf};
+ghost use Rattle.std.specs.Prelude.{◌≡◌, ◌+◌, ◌^◌, ◌<◌, ◌≤◌, [], ◌++◌, length, false, true, None, IsOk, IfOk, IfErr, IfSome, IfNone, OnOk, OnErr, IsErrOf};
 ghost use Rattle.std.specs.List.{concat};
-ghost use Rattle.bytes_utils_run.specs.Inbox.{HandsOut, prefix_bytes, told_len};
+ghost use Rattle.bytes_utils_run.specs.Inbox.{AwaitsMore, HandsOut, prefix_bytes};
 
 use bytes::{Buf, Bytes};
 use bytes_utils::{Reason, Refused, SegmentedBuf};
@@ -58,6 +58,7 @@ impl Inbox {
         ensures back { IfErr result (λ e. e.back ≡ piece) }
         ensures too_long { IfErr result (λ e. e.reason ≡ Reason.TooLong
             → 2 ^ 64 ≤ length self.old.bytes + length piece) }
+        ensures empty { piece ≡ [] → IsOk result }
         ensures broken { self.new.broken ≡ self.old.broken }
     {
         if !self.got.fits(piece.len()) {
@@ -73,11 +74,13 @@ impl Inbox {
     pub fn next_body(&mut self, alloc: Global) -> Result<Option<Bytes>, BodyRefused>
         ensures body { IfOk result
             (λ o. IfSome o (λ body. HandsOut self.old.bytes body self.new.bytes)) }
-        ensures waits { IfOk result (λ o. IfNone o ((self.new ≡ self.old)
-            × (length self.old.bytes < 4 + told_len self.old.bytes))) }
+        ensures waits { IfOk result
+            (λ o. IfNone o ((self.new ≡ self.old) × AwaitsMore self.old.bytes)) }
         ensures sound { OnOk result (self.new.broken ≡ false) }
         ensures memory { IsErrOf result BodyRefused.OutOfMemory → self.new ≡ self.old }
         ensures broken { IsErrOf result BodyRefused.Broken → self.new.broken ≡ true }
+        ensures lost { self.old.broken ≡ false → IsErrOf result BodyRefused.Broken
+            → length self.new.bytes < length self.old.bytes }
         // A broken one stays as it is.
         ensures stays { self.old.broken ≡ true
             → IsErrOf result BodyRefused.Broken × (self.new ≡ self.old) }

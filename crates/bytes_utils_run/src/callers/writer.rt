@@ -1,5 +1,5 @@
 //! Many buffers written as one.
-ghost use Rattle.std.specs.Prelude.{◌≡◌, [], length, take, OnOk};
+ghost use Rattle.std.specs.Prelude.{◌≡◌, ◌<◌, [], length, take, OnOk, OnErr};
 ghost use Rattle.std.specs.Io.{WritesAtMost};
 ghost use Rattle.std.specs.Io.KnownBytes.{Appends, WriteAppends};
 ghost use Rattle.bytes_utils_run.specs.Writer.{WritesFront};
@@ -30,14 +30,17 @@ fn write_front<W: Write, B: BufParts>(writer: &mut W, buf: &B) -> io::Result<usi
 /// write_all_of(&mut out, &mut SegmentedSlice::new(&mut lent))?; // where `total` isn't `None`
 /// ```
 ///
-/// A short write goes on where it stopped. After an error the buffer has what wasn't written. A
-/// write that takes nothing is an error.
+/// A short write goes on where it stopped. An error is told only while bytes are left, which are
+/// those that weren't written: the writer's own error, which no further write follows, or
+/// `WriteZero` for a write that took nothing.
 pub fn write_all_of<W: Write, B: BufParts>(writer: &mut W, buf: &mut B) -> io::Result<()>
     ensures front { WritesFront (W.contents writer.old) (W.contents writer.new)
         (B.unread buf.old) (B.unread buf.new) }
     ensures ok { OnOk result (Appends (W.contents writer.old) (W.contents writer.new)
         (B.unread buf.old)) }
     ensures empty { OnOk result (B.unread buf.new ≡ []) }
+    ensures err { OnErr result (0 < length (B.unread buf.new)) }
+    ensures kept { B.kept buf.new ≡ B.kept buf.old }
 {
     while buf.has_remaining() {
         let count = write_front(writer, buf)?;
