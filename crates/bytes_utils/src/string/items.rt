@@ -11,7 +11,8 @@ use bytes_utils_buf::{Reason, Refused};
 use std::alloc::Global;
 
 impl<S: StorageMut> StrInner<S> {
-    /// Puts the characters behind the text, until one is refused. Those behind it are dropped.
+    /// Puts the characters behind the text, until one is refused. Those behind it are dropped with the
+    /// iterator; one that is lent (`&mut iter`) stands right behind the refused item.
     pub fn extend_chars<I: Iterator<Item = char> + Drop>(
         &mut self,
         iter: I,
@@ -35,7 +36,8 @@ impl<S: StorageMut> StrInner<S> {
         Ok(())
     }
 
-    /// Puts the items behind the text, until one is refused. Those behind it are dropped.
+    /// Puts the items behind the text, until one is refused. Those behind it are dropped with the
+    /// iterator; one that is lent (`&mut iter`) stands right behind the refused item.
     pub fn extend_strs<'s, I: Iterator<Item = &'s str> + Drop>(
         &mut self,
         iter: I,
@@ -59,7 +61,8 @@ impl<S: StorageMut> StrInner<S> {
         Ok(())
     }
 
-    /// Puts the items behind the text, until one is refused. Those behind it are dropped.
+    /// Puts the items behind the text, until one is refused. Those behind it are dropped with the
+    /// iterator; one that is lent (`&mut iter`) stands right behind the refused item.
     pub fn extend_strings<I: Iterator<Item = String> + Drop>(
         &mut self,
         iter: I,

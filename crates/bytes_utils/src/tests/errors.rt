@@ -24,11 +24,18 @@ fn assert_says<E: Error>(
     Ok(())
 }
 
-/// Asserts that the error's other form names its type.
-fn assert_debugs<E: Debug>(rt: &impl Abort, alloc: Global, error: &E) -> Result<(), Fail> {
-    let text = format!(in alloc; "{error:?}")?;
-    assert!(rt; text.as_str().contains("Utf8Error"));
-    Ok(())
+/// Asserts that the error's other form has each of its fields. Answers the bytes that it hands back.
+fn assert_debugs<S: Storage + Debug>(
+    rt: &impl Abort,
+    alloc: Global,
+    error: Utf8Error<S>,
+) -> Result<S, Fail> {
+    let said = format!(in alloc; "{error:?}")?;
+    let fault = "Utf8Error { valid_up_to: 2, error_len: Some(1) }";
+    let storage = error.into_inner();
+    let want = format!(in alloc; "Utf8Error {{ storage: {storage:?}, fault: {fault} }}")?;
+    assert_text(rt, said.as_str(), want.as_str());
+    Ok(storage)
 }
 
 /// Asserts that the error tells what is wrong with the bytes, and hands them back.
@@ -45,8 +52,8 @@ fn assert_tells<S: Storage + Debug>(
         &error,
         "invalid utf-8 sequence of 1 bytes from index 2",
     )?;
-    assert_debugs(rt, alloc, &error)?;
-    assert!(rt; error.into_inner().as_bytes() == NOT_UTF8.as_slice());
+    let storage = assert_debugs(rt, alloc, error)?;
+    assert!(rt; storage.as_bytes() == NOT_UTF8.as_slice());
     Ok(())
 }
 

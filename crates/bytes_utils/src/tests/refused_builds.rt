@@ -1,4 +1,5 @@
-//! The calls that build, over a storage that grants two requests.
+//! The calls that build, over a storage that grants two requests. A lent iterator stands behind the
+//! item that was refused.
 use super::refusing::Refusing;
 use super::{assert_text, growing, strings};
 use crate::string::StrInner;
@@ -49,28 +50,33 @@ fn a_refused_append_leaves_the_text(rt: HostRuntime) -> Result<(), Fail> {
 
 #[test]
 fn a_refused_character_comes_back(rt: HostRuntime) -> Result<(), Fail> {
+    let mut items = "aβcd".chars();
     let mut text = Text::new(rt.alloc())?;
-    let back = back(&rt, text.extend_chars("aβcd".chars()))?;
-    assert!(rt; back == 'c');
+    let back = back(&rt, text.extend_chars(&mut items))?;
+    assert!(rt; back == 'c' && items.next() == Some('d'));
     assert_text(&rt, text.as_str(), "aβ");
     Ok(())
 }
 
 #[test]
 fn a_refused_str_comes_back(rt: HostRuntime) -> Result<(), Fail> {
+    let mut items = "one,,two,three".split(',');
     let mut text = Text::new(rt.alloc())?;
-    let back = back(&rt, text.extend_strs("one,,two,three".split(',')))?;
+    let back = back(&rt, text.extend_strs(&mut items))?;
     assert_text(&rt, back, "two");
+    assert_eq!(rt; items.next(), Some("three"));
     assert_text(&rt, text.as_str(), "one");
     Ok(())
 }
 
 #[test]
 fn a_refused_string_comes_back(rt: HostRuntime) -> Result<(), Fail> {
-    let items = strings(rt.alloc(), "a,b,c")?;
+    let mut items = strings(rt.alloc(), "a,b,c,d")?.into_iter();
     let mut text = Text::new(rt.alloc())?;
-    let back = back(&rt, text.extend_strings(items.into_iter()))?;
-    assert_text(&rt, back.as_str(), "c");
+    let back = back(&rt, text.extend_strings(&mut items))?;
+    assert_text(&rt, back.as_str(), "c,");
+    let next = items.next().ok_or("no item is left")?;
+    assert_text(&rt, next.as_str(), "d");
     assert_text(&rt, text.as_str(), "a,b,");
     Ok(())
 }

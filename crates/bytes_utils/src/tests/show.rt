@@ -1,6 +1,6 @@
-//! Printed texts, against what their `str` writes, and texts that a format writes.
+//! Printed texts, against what their `str` writes.
 use super::{assert_text, growing, shared};
-use crate::{Str, StrMut, format_bytes, format_bytes_mut};
+use crate::{Reason, StrMut};
 use std::alloc::{AllocError, Global};
 use std::fmt;
 use std::process::Abort;
@@ -56,41 +56,19 @@ fn shows_as_str(rt: HostRuntime) -> Result<(), Fail> {
     Ok(())
 }
 
-/// An argument that can't be shown.
-struct Faulty;
-
-impl fmt::Display for Faulty {
-    fn fmt<W: fmt::Write>(&self, _f: &mut fmt::Formatter<W>) -> fmt::Result {
-        Err(fmt::Error)
+/// A text of 120 bytes.
+fn long(alloc: Global) -> Result<StrMut, Reason> {
+    let mut text = StrMut::new(alloc)?;
+    for _ in 0..40 {
+        text.push_str("aβ")?;
     }
-}
-
-/// A text that a format writes behind another.
-fn greeting(alloc: Global, text: &Str) -> Result<StrMut, Fail> {
-    let mut text: StrMut = format_bytes_mut!(alloc; "{text}, {0:>4}", 12)?;
-    text.push('!')?;
     Ok(text)
 }
 
 #[test]
-fn format(rt: HostRuntime) -> Result<(), Fail> {
-    let alloc = rt.alloc();
-    let text: Str = format_bytes!(alloc; "Hello {}", "world")?;
-    assert_text(&rt, text.as_str(), "Hello world");
-    assert_text(&rt, greeting(alloc, &text)?.as_str(), "Hello world,   12!");
-    Ok(())
-}
-
-#[test]
-fn format_of_nothing(rt: HostRuntime) -> Result<(), Fail> {
-    let alloc = rt.alloc();
-    assert_text(&rt, format_bytes!(alloc; "")?.as_str(), "");
-    Ok(())
-}
-
-#[test]
-fn format_of_a_fault(rt: HostRuntime) {
-    let alloc = rt.alloc();
-    assert!(rt; format_bytes!(alloc; "before {}", Faulty).is_err());
-    assert!(rt; format_bytes_mut!(alloc; "before {}", Faulty).is_err());
+fn long_texts(rt: HostRuntime) -> Result<(), Fail> {
+    let text = long(rt.alloc())?;
+    assert_shows(&rt, rt.alloc(), &text, text.as_str())?;
+    let text = text.freeze()?;
+    assert_shows(&rt, rt.alloc(), &text, text.as_str())
 }

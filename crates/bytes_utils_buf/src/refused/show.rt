@@ -10,6 +10,9 @@ use std::fmt;
 impl fmt::Display for Reason {
     ghost output = { λ reason. Some (reason_text reason) };
 
+    // The same in any style, as `{:#}`.
+    ghost styled_output = { λ reason _. Some (reason_text reason) };
+
     fn fmt<W: fmt::Write>(&self, f: &mut fmt::Formatter<W>) -> fmt::Result {
         match self {
             Reason::OutOfMemory => f.write_str("out of memory"),
@@ -23,6 +26,8 @@ impl Error for Reason {}
 /// The text of its reason.
 impl<T> fmt::Display for Refused<T> {
     ghost output = { λ refused. Some (reason_text refused.reason) };
+
+    ghost styled_output = { λ refused _. Some (reason_text refused.reason) };
 
     fn fmt<W: fmt::Write>(&self, f: &mut fmt::Formatter<W>) -> fmt::Result {
         fmt::Display::fmt(&self.reason, f)

@@ -1,0 +1,147 @@
+//! How often a storage is split: as often as a run has cuts, and none again after a refusal.
+ghost use Rattle.std.specs.Prelude.{◌≤◌, length};
+
+use super::closure::{Characters, Fields};
+use super::ways::{
+    Lines, RSplit, RSplitN, Row, Split, SplitAsciiWhitespace, SplitInclusive, SplitN,
+    SplitWhitespace, Way,
+};
+use crate::string::{Storage, StrInner};
+use crate::{Reason, Refused};
+use bytes::BytesMut;
+use std::alloc::Global;
+use std::cell::Cell;
+use std::process::Abort;
+use std::test::Fail;
+
+/// How many splits were asked of the pieces of a storage, and how many of them are granted.
+#[derive(Drop)]
+struct Splits {
+    asked: Cell<usize>,
+    granted: usize,
+}
+
+impl Splits {
+    /// Counts one more. Answers whether it is granted.
+    fn ask(&self) -> bool {
+        let asked = self.asked.get().saturating_add(1);
+        self.asked.set(asked);
+        asked <= self.granted
+    }
+}
+
+/// Bytes whose splits are counted. A front or a back alone is no split.
+#[derive(Drop)]
+struct Counted<'c> {
+    bytes: BytesMut,
+    splits: &'c Splits,
+}
+
+impl<'c> Storage for Counted<'c> {
+    type Creator = Counted<'c>;
+
+    ghost stored = { λ s. s.bytes.items };
+
+    ghost created = { λ c. c.bytes.items };
+
+    /// There are no splits to count.
+    fn empty(_alloc: Global) -> Result<Self, Reason> {
+        Err(Reason::OutOfMemory)
+    }
+
+    fn as_bytes(&self) -> &[u8] {
+        self.bytes.as_slice()
+    }
+
+    fn from_creator(creator: Counted<'c>) -> Result<Self, Refused<Counted<'c>>> {
+        Ok(creator)
+    }
+
+    fn split_at(mut self, at: usize) -> Result<(Self, Self), Refused<Self>> {
+        let reason = Reason::OutOfMemory;
+        if !self.splits.ask() {
+            return Err(Refused { reason, back: self });
+        }
+        match self.bytes.split_to(at) {
+            Ok(bytes) => {
+                let splits = self.splits;
+                Ok((Counted { bytes, splits }, self))
+            }
+            Err(_) => Err(Refused { reason, back: self }),
+        }
+    }
+
+    fn into_front(mut self, at: usize) -> Result<Self, Refused<Self>> {
+        self.bytes.truncate(at);
+        Ok(self)
+    }
+
+    fn into_back(mut self, at: usize) -> Result<Self, Refused<Self>> {
+        self.bytes.advance(at);
+        Ok(self)
+    }
+}
+
+/// Asserts how many splits a run over the row's text asks for: so many where all are granted, and
+/// where one is refused none behind it.
+fn assert_splits<W: Way, R: Abort>(
+    rt: &R,
+    alloc: Global,
+    row: Row,
+    cuts: usize,
+) -> Result<(), Fail> {
+    let (text, most, separator, wanted) = row;
+    for granted in 0..4 {
+        let asked = Cell::new(0);
+        let splits = Splits { asked, granted };
+        let bytes = BytesMut::copy_from_slice(alloc, text.as_bytes())?;
+        let counted = StrInner::from_inner(Counted {
+            bytes,
+            splits: &splits,
+        });
+        let counted = counted.ok().ok_or("not UTF-8")?;
+        let (_, refused) = W::taken(rt, counted, most, separator, wanted);
+        assert_eq!(rt; refused.is_some(), granted < cuts);
+        assert_eq!(rt; splits.asked.get(), cuts.min(granted + 1));
+    }
+    Ok(())
+}
+
+#[test]
+fn separated(rt: HostRuntime) -> Result<(), Fail> {
+    let alloc = rt.alloc();
+    assert_splits::<Split, HostRuntime>(&rt, alloc, ("a,b,c", 0, ",", "a|b|c|"), 2)?;
+    assert_splits::<RSplit, HostRuntime>(&rt, alloc, ("a,b,c", 0, ",", "c|b|a|"), 2)?;
+    assert_splits::<SplitN, HostRuntime>(&rt, alloc, ("a,b,c", 2, ",", "a|b,c|"), 1)?;
+    assert_splits::<RSplitN, HostRuntime>(&rt, alloc, ("a,b,c", 2, ",", "c|a,b|"), 1)
+}
+
+#[test]
+fn characters(rt: HostRuntime) -> Result<(), Fail> {
+    let alloc = rt.alloc();
+    assert_splits::<Split, HostRuntime>(&rt, alloc, ("αβ", 0, "", "|α|β||"), 3)?;
+    assert_splits::<RSplit, HostRuntime>(&rt, alloc, ("αβ", 0, "", "|β|α||"), 3)
+}
+
+/// A part that reaches to the end of the text takes no split.
+#[test]
+fn kept_separators(rt: HostRuntime) -> Result<(), Fail> {
+    let row = ("a,b,", 0, ",", "a,|b,|");
+    assert_splits::<SplitInclusive, HostRuntime>(&rt, rt.alloc(), row, 1)
+}
+
+#[test]
+fn lines_and_words(rt: HostRuntime) -> Result<(), Fail> {
+    let alloc = rt.alloc();
+    let row = (" a b", 0, "", "a|b|");
+    assert_splits::<SplitWhitespace, HostRuntime>(&rt, alloc, row, 1)?;
+    assert_splits::<SplitAsciiWhitespace, HostRuntime>(&rt, alloc, row, 1)?;
+    assert_splits::<Lines, HostRuntime>(&rt, alloc, ("a\nb\n", 0, "", "a|b|"), 2)
+}
+
+#[test]
+fn by_a_closure(rt: HostRuntime) -> Result<(), Fail> {
+    let alloc = rt.alloc();
+    assert_splits::<Fields, HostRuntime>(&rt, alloc, ("a,b,c", 0, ",", "a|b|c|"), 2)?;
+    assert_splits::<Characters, HostRuntime>(&rt, alloc, ("aβ", 0, "", "β|a||"), 2)
+}
