@@ -45,6 +45,15 @@ fn faults_are_told(rt: HostRuntime) -> Result<(), Fail> {
     assert_told(&rt, rt.alloc(), Fault::Io, 5, "read or write failed")
 }
 
+// A fault is written as it is, however wide the hole and whatever it is filled with.
+#[test]
+fn faults_are_told_without_padding(rt: HostRuntime) -> Result<(), Fail> {
+    let fault = Fault::NotUtf8;
+    let told = format!(in rt.alloc(); "{fault:*^12}|{fault:12}|{fault:.3}")?;
+    assert_eq!(rt; told.as_str(), "not UTF-8|not UTF-8|not UTF-8");
+    Ok(())
+}
+
 /// What an input is for, the input, and what comes of it.
 type Run<'r> = (&'r str, &'r [u8], Result<(), Fault>, &'r [u8]);
 

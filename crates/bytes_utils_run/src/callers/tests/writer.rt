@@ -4,16 +4,21 @@ use crate::fakes::SlowWriter;
 use bytes::Buf;
 use bytes_utils::SegmentedSlice;
 use std::alloc::Global;
+use std::io::ErrorKind;
 use std::process::Abort;
 
-/// Writes lent buffers by a writer that takes at most `most` bytes a call and fails at one, and
-/// asserts how many bytes of the whole are written, and that the others are left.
+/// How many bytes a writer takes a call at most, at which call it fails, how many bytes are written
+/// then, and the error that is told.
+type Row = (usize, usize, usize, Option<ErrorKind>);
+
+/// Writes lent buffers by such a writer, and asserts how many bytes of the whole are written, that
+/// the others are left, and the error.
 fn assert_writes(
     rt: &impl Abort,
     alloc: Global,
     lent: &mut [&[u8]],
     whole: &[u8],
-    (most, fails_at, written): (usize, usize, usize),
+    (most, fails_at, written, error): Row,
 ) {
     assert!(rt; SegmentedSlice::total(lent) == Some(whole.len()) && written <= whole.len());
     let mut writer = SlowWriter::new(Vec::new(alloc), most, fails_at);
@@ -22,20 +27,22 @@ fn assert_writes(
     assert!(rt;
         writer.held() == &whole[..written]
             && all.remaining() == whole.len() - written
-            && result.is_ok() == (written == whole.len()),
+            && result.err().map(|told| told.kind()) == error,
         "{most}, {fails_at}"
     );
 }
 
-// A writer that takes three bytes a call takes all of the first buffer, and some of the third.
-const ROWS: &[(usize, usize, usize)] = &[
-    (1, 0, 12),
-    (3, 0, 12),
-    (100, 0, 12),
-    (0, 0, 0),
-    (100, 1, 0),
-    (2, 2, 2),
-    (2, 4, 5),
+// A writer that takes three bytes a call takes all of the first buffer, and some of the third. Three
+// calls take all three buffers, and none is made behind them.
+const ROWS: &[Row] = &[
+    (1, 0, 12, None),
+    (3, 0, 12, None),
+    (100, 4, 12, None),
+    (0, 0, 0, Some(ErrorKind::WriteZero)),
+    (0, 1, 0, Some(ErrorKind::Interrupted)),
+    (100, 1, 0, Some(ErrorKind::Interrupted)),
+    (2, 2, 2, Some(ErrorKind::Interrupted)),
+    (2, 4, 5, Some(ErrorKind::Interrupted)),
 ];
 
 #[test]
@@ -50,5 +57,5 @@ fn lent_buffers(rt: HostRuntime) {
 #[test]
 fn more_buffers_than_slices_at_once(rt: HostRuntime) {
     let mut lent: [&[u8]; 20] = [b"a"; 20];
-    assert_writes(&rt, rt.alloc(), &mut lent, &[b'a'; 20], (3, 0, 20));
+    assert_writes(&rt, rt.alloc(), &mut lent, &[b'a'; 20], (3, 0, 20, None));
 }

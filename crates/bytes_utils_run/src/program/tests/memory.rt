@@ -134,3 +134,15 @@ fn replies_before_a_refusal(rt: HostRuntime) -> Result<(), Fail> {
     assert!(rt; place.as_slice() == b"ok\n1\n".as_slice());
     Ok(())
 }
+
+#[test]
+fn refused_place_for_replies(rt: HostRuntime) {
+    let mut place = [0; 1];
+    let mut writer = place.as_mut_slice();
+    let replies = Replies {
+        given: Vec::new(rt.alloc()),
+        refused: Some(Reason::OutOfMemory),
+    };
+    let answer = print_answer(&mut writer, Answer::Replies(replies));
+    assert!(rt; answer == Err(Fault::OutOfMemory) && writer.len() == 1);
+}
