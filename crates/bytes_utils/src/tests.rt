@@ -1,6 +1,7 @@
 //! What no clause says: that calls succeed with ample memory, printed text, and worked cases.
 ghost use Rattle.std.specs.Iterator.{IsFinite};
 
+mod blocks;
 mod borrowed;
 mod build;
 mod closure;
