@@ -5,7 +5,8 @@ ghost use Rattle.std.specs.Iterator.{at_most};
 ghost use Rattle.std.specs.Option.{option_map_or};
 ghost use Rattle.std.specs.Str.{chars, NoCharPasses};
 ghost use Rattle.bytes_utils.specs.Step.{IsStep};
-ghost use Rattle.bytes_utils.specs.Words.{AreWordsToCome, HoldsSpace, ends_word, graphic-no_ascii_whitespace, graphic-no_whitespace, words};
+ghost use Rattle.bytes_utils.specs.Words.{AreWordsToCome, HoldsSpace, ends_word, words};
+ghost use Rattle.bytes_utils.specs.WhiteSpace.{graphic-no_ascii_whitespace, graphic-no_whitespace};
 
 mod graphic;
 
