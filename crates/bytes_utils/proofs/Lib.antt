@@ -27,6 +27,7 @@ pub mod Rejoining
 pub mod KeepingCut
 pub mod Lines
 pub mod Graphic
+pub mod WhiteSpace
 pub mod Words
 pub mod Chunks
 pub mod Cases

@@ -3,7 +3,6 @@ pub mod Occurrence
 pub mod EmptySeparator
 pub mod Parts
 pub mod Lines
-pub mod WhiteSpace
 pub mod Words
 pub mod Outcome
 pub mod Step

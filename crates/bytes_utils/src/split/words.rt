@@ -6,7 +6,6 @@ ghost use Rattle.std.specs.Option.{option_map_or};
 ghost use Rattle.std.specs.Str.{chars, NoCharPasses};
 ghost use Rattle.bytes_utils.specs.Step.{IsStep};
 ghost use Rattle.bytes_utils.specs.Words.{AreWordsToCome, HoldsSpace, ends_word, words};
-ghost use Rattle.bytes_utils.specs.WhiteSpace.{graphic-no_ascii_whitespace, graphic-no_whitespace};
 
 mod graphic;
 
@@ -25,8 +24,9 @@ trait WhiteSpace {
     fn has(c: char) -> bool
         ensures { result ≡ is_space c };
 
-    // No graphic ASCII character does.
-    ghost no_graphic: { (c : ℕ) → IsAsciiGraphic c → is_space c ≡ false };
+    /// No graphic ASCII character does: a law, which does nothing.
+    fn no_graphic()
+        ensures { (c : ℕ) → IsAsciiGraphic c → is_space c ≡ false };
 }
 
 /// The characters with Unicode's property White_Space.
@@ -35,11 +35,11 @@ struct Unicode;
 impl WhiteSpace for Unicode {
     ghost is_space = { is_whitespace };
 
-    ghost no_graphic = { graphic-no_whitespace };
-
     fn has(c: char) -> bool {
         c.is_whitespace()
     }
+
+    fn no_graphic() {}
 }
 
 /// U+0009, U+000A, U+000C, U+000D and U+0020.
@@ -48,11 +48,11 @@ struct Ascii;
 impl WhiteSpace for Ascii {
     ghost is_space = { is_ascii_whitespace };
 
-    ghost no_graphic = { graphic-no_ascii_whitespace };
-
     fn has(c: char) -> bool {
         c.is_ascii_whitespace()
     }
+
+    fn no_graphic() {}
 }
 
 /// Where white space begins, or the text ends. The graphic ASCII characters in front are passed by
@@ -63,6 +63,7 @@ fn word_length<W: WhiteSpace>(text: &str) -> usize
     ensures none { NoCharPasses W.is_space (take result text.now) }
     ensures ends { ends_word W.is_space (chars (drop result text.now)) ≡ true }
 {
+    W::no_graphic();
     let graphic = graphic_end(text.as_bytes());
     let rest = &text[graphic..];
     let length = rest.find(|c: char| W::has(c)).unwrap_or(rest.len());

@@ -14,7 +14,7 @@ ends g c =
     let from_find = EndsWord-from_find is_space _ _ _ c.range_from-rest.utf8 (answers_always _ _ _ (λ f a r f' k. search rules)) c.find.ensures.cases in
     let behind : EndsWord is_space (drop (graphic_run c.args.text.now) c.args.text.now) c.unwrap_or-length.result =
     rw (← run_is, ← c.range_from-rest.ensures.value, c.unwrap_or-length.ensures) from_find in
-    rw run_is (EndsWord-behind_run is_space g.met.W.WhiteSpace.no_graphic _ _ c.utf8.text behind)
+    rw run_is (EndsWord-behind_run is_space c.no_graphic.ensures _ _ c.utf8.text behind)
 
 pub returns-clause-boundary : goal.returns-clause-boundary
 returns-clause-boundary g c = (ends g c).boundary

@@ -1,7 +1,6 @@
--- No graphic ASCII character is white space. It is what a kind of white space shows of itself (`no_graphic`), so it stands here.
-use Rattle.std.specs.Prelude.{◌≡◌, ℕ, false}
+-- No graphic ASCII character is white space.
+use Rattle.std.proofs.Common.{◌≡◌, ℕ, false, arith}
 use Rattle.std.specs.Char.{IsAsciiGraphic, is_whitespace, is_ascii_whitespace}
-use Rattle.std.proofs.Common.{arith}
 use Rattle.std.proofs.lemmas.Bool.{lt-ltb, le-ltb, lt-leb, le-leb, ne_eqb}
 
 pub graphic-no_whitespace : (c : ℕ) → IsAsciiGraphic c → is_whitespace c ≡ false
