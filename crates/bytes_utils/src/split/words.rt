@@ -55,8 +55,8 @@ impl WhiteSpace for Ascii {
     fn no_graphic() {}
 }
 
-/// Where white space begins, or the text ends. The graphic ASCII characters in front are passed by
-/// bytes.
+/// Where white space begins, or the text ends. The graphic ASCII in front is passed a block at a
+/// time.
 #[inline]
 fn word_length<W: WhiteSpace>(text: &str) -> usize
     ensures boundary { IsCharBoundary text.now result }
@@ -71,6 +71,7 @@ fn word_length<W: WhiteSpace>(text: &str) -> usize
 }
 
 /// Where the first word begins, and where it ends.
+#[inline(always)]
 fn word_place<W: WhiteSpace>(text: &str) -> Option<(usize, usize)>
     ensures order { IfSome result (λ place. place.0 < place.1) }
     ensures start { IfSome result (λ place. IsCharBoundary text.now place.0) }

@@ -1,4 +1,4 @@
--- The graphic ASCII characters that are passed by bytes, and from there on a search for white space.
+-- The graphic ASCII in front, which is passed a block at a time, and from there on a search for white space.
 use Rattle.std.proofs.Common.{rules, ◌≡◌, ◌+◌, ◌∙◌, ap, drop}
 use Rattle.std.proofs.lemmas.List.Sorted.{answers_always}
 use Rattle.bytes_utils.proofs.Words.{graphic_run, run-boundary, EndsWord, EndsWord-from_find, EndsWord-behind_run}
