@@ -19,7 +19,10 @@ pub(super) fn first_line(input: &str) -> (usize, usize)
     ensures line { chars (take result.0 input.now) ≡ command_line (chars input.now) }
     ensures text { chars (drop result.1 input.now) ≡ text_behind (chars input.now) }
 {
-    line_place(input).unwrap_or((input.len(), input.len()))
+    let Some((end, next)) = line_place(input) else {
+        return (input.len(), input.len());
+    };
+    (end, next)
 }
 
 /// Whether a line is a word.
