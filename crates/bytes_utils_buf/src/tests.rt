@@ -3,13 +3,17 @@
 mod accept;
 mod buf;
 mod caller;
+mod copies;
 mod fixtures;
 mod looks;
+mod many;
 mod memory;
 mod nested;
 mod odd;
 mod parts;
+mod passed;
 mod random;
+mod reads;
 mod refused;
 mod slice;
 mod tables;

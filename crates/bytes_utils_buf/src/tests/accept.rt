@@ -159,3 +159,32 @@ fn too_long_conversions(rt: HostRuntime) -> Result<(), Fail> {
     assert!(rt; refused.reason == Reason::TooLong && refused.back.len() == 2);
     Ok(())
 }
+
+fn zeros(alloc: Global, counts: &[usize]) -> Result<Vec<Zeros>, Fail> {
+    let mut bufs = Vec::new(alloc);
+    for &left in counts {
+        bufs.push(Zeros { left })?;
+    }
+    Ok(bufs)
+}
+
+#[test]
+fn items_behind_a_refused_one_stay(rt: HostRuntime) -> Result<(), Fail> {
+    let mut items = zeros(rt.alloc(), &[0, usize::MAX, 1, 2])?.into_iter();
+    let mut buf = SegmentedBuf::new(rt.alloc());
+    let refused = buf.extend(items.by_ref()).err().ok_or("accepted")?;
+    assert_eq!(rt; refused.back.left, 1);
+    assert_eq!(rt; items.next().ok_or("gone")?.left, 2);
+    Ok(())
+}
+
+#[test]
+fn items_behind_the_first_refused_one_stay(rt: HostRuntime) -> Result<(), Fail> {
+    let mut items = zeros(rt.alloc(), &[0, usize::MAX, 1, 2])?.into_iter();
+    let refused = SegmentedBuf::from_iter(rt.alloc(), items.by_ref())
+        .err()
+        .ok_or("accepted")?;
+    assert_eq!(rt; refused.back.left, 1);
+    assert_eq!(rt; items.next().ok_or("gone")?.left, 2);
+    Ok(())
+}

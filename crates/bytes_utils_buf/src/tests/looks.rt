@@ -1,5 +1,5 @@
 //! How often buffers are advanced and looked at.
-use super::fixtures::{assert_reads, gather, hold, lend, skip, take_out, thousand};
+use super::fixtures::{assert_reads, extend, gather, hold, lend, skip, take_out, thousand};
 use super::odd::Asked;
 use crate::parts::BufParts;
 use crate::segmented::SegmentedBuf;
@@ -104,6 +104,14 @@ fn push_looks_at_no_segment(rt: HostRuntime) -> Result<(), Fail> {
     let left = pushed(&rt, rt.alloc(), 20)?.into_inner().into_vec();
     assert_eq!(rt; left.len(), 20);
     assert_untouched(&rt, &left, 0);
+    Ok(())
+}
+
+#[test]
+fn extend_looks_at_no_segment(rt: HostRuntime) -> Result<(), Fail> {
+    let mut buf = SegmentedBuf::new(rt.alloc());
+    extend(&mut buf, thousand(rt.alloc())?)?;
+    assert_untouched(&rt, &buf.into_inner().into_vec(), 0);
     Ok(())
 }
 

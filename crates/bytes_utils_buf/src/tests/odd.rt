@@ -48,6 +48,10 @@ impl Asked {
         }
     }
 
+    pub fn of(text: &'static str) -> Asked {
+        Asked::new(Bytes::from_static(text.as_bytes()))
+    }
+
     fn look(&self) {
         self.looks.set(self.looks.get().saturating_add(1));
     }

@@ -1,5 +1,5 @@
 //! Buffers that are no segmented ones.
-use super::fixtures::{assert_bytes, take_out};
+use super::fixtures::{JOINED, assert_bytes, take_out};
 use crate::parts::BufParts;
 use bytes::Bytes;
 use std::alloc::Global;
@@ -36,4 +36,12 @@ fn leaves_hand_out_parts(rt: HostRuntime) -> Result<(), Fail> {
         rt.alloc(),
         &mut Bytes::copy_from_slice(rt.alloc(), b"Hello")?,
     )
+}
+
+#[test]
+fn copies_of_bytes_are_shared(rt: HostRuntime) -> Result<(), Fail> {
+    let mut bytes = Bytes::copy_from_slice(rt.alloc(), JOINED.as_bytes())?;
+    let copy = take_out(&rt, rt.alloc(), &mut bytes, 5)?;
+    assert!(rt; !copy.is_unique() && !bytes.is_unique());
+    Ok(())
 }

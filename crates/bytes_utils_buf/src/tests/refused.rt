@@ -58,3 +58,13 @@ fn question_mark_gives_the_reason(rt: HostRuntime) {
             && reason_of(value) == Err(Reason::OutOfMemory)
     );
 }
+
+#[test]
+fn refusals_have_a_debug_text(rt: HostRuntime) -> Result<(), Fail> {
+    let alloc = rt.alloc();
+    let text = format!(in alloc; "{:?}", too_long())?;
+    assert_eq!(rt; text.as_str(), "Refused { reason: TooLong, back: 7 }");
+    let text = format!(in alloc; "{:?}", CopyRefused { taken: 3 })?;
+    assert_eq!(rt; text.as_str(), "CopyRefused { taken: 3 }");
+    Ok(())
+}

@@ -1,7 +1,10 @@
 //! Tables that buffers fill with slices.
-use super::fixtures::{FOUR, assert_bytes, assert_fills, bytes_of, held, held_each, lend, skip};
+use super::fixtures::{
+    FOUR, assert_bytes, assert_fills, bytes_of, held, held_each, hold, lend, skip,
+};
 use crate::parts::BufParts;
 use crate::segmented::{SegmentedBuf, SegmentedSlice};
+use bytes::Bytes;
 use std::process::Abort;
 use std::test::Fail;
 
@@ -64,5 +67,27 @@ fn chunk_vectored_nested(rt: HostRuntime) -> Result<(), Fail> {
     fills(&rt, &mut lend(&rt, &mut both), EIGHT_FILL);
     let mut bufs = bytes_of(alloc, &FOUR)?;
     fills_lent_by_itself(&rt, &lend(&rt, &mut bufs));
+    Ok(())
+}
+
+static FORTY: [u8; 40] = [b'x'; 40];
+
+// All of the bytes of one buffer lie together, and one place is enough for them.
+fn shows_whole<B: BufParts>(rt: &impl Abort, buf: &B) {
+    assert_eq!(rt; buf.chunk().len(), 40);
+    let mut table: [&[u8]; 1] = [b"-"; 1];
+    assert_eq!(rt; buf.chunks_into(&mut table), 1);
+    let first = table[0];
+    assert_eq!(rt; first.len(), 40);
+}
+
+#[test]
+fn forty_bytes_are_one_chunk(rt: HostRuntime) -> Result<(), Fail> {
+    let bytes = Bytes::from_static(&FORTY);
+    shows_whole(&rt, &bytes);
+    shows_whole(&rt, &hold(&rt, rt.alloc(), bytes)?);
+    let mut bufs = [FORTY.as_slice()];
+    shows_whole(&rt, &bufs[0]);
+    shows_whole(&rt, &lend(&rt, &mut bufs));
     Ok(())
 }
