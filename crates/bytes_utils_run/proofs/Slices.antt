@@ -1,6 +1,6 @@
 -- Tables of slices that are filled one place after another.
-use Rattle.std.proofs.Common.{◌≡◌, ℕ, ◌+◌, ◌-◌, ◌<◌, ◌≤◌, inl, inr, min, List, [], ◌∷◌, ◌++◌, length, take, drop, set, map, refl, sym, ap, ◌∙◌, arith, append-nil, append_assoc, length-append, length-drop, length-take-le, replicate, take-add, take-append-drop, take_at, Bor}
-use Rattle.std.proofs.lemmas.List.{drop_all, drop-drop, drop-set-lt, length-map, take_all, take_more_set, length-replicate, replicate-append-replicate, take-replicate}
+use Rattle.std.proofs.Common.{◌≡◌, ℕ, zero, suc, ◌+◌, ◌-◌, ◌*◌, ◌<◌, ◌≤◌, inl, inr, min, List, [], ◌∷◌, ◌++◌, length, take, drop, set, map, refl, sym, ap, ◌∙◌, arith, append-nil, append_assoc, length-append, length-drop, length-take-le, replicate, take-add, take-append-drop, take_at, Bor}
+use Rattle.std.proofs.lemmas.List.{drop_all, drop-drop, drop-replicate, drop-set-lt, length-map, map-append, take_all, take_more_set, length-replicate, replicate-append-replicate, take-replicate}
 use Rattle.std.proofs.lemmas.Bool.{cases_lt}
 use Rattle.std.proofs.lemmas.List.Elements.{All-cons, All-head, All-nil, All-push, All-same, All-tail}
 use Rattle.std.specs.List.{concat}
@@ -9,6 +9,7 @@ use Rattle.bytes_utils_buf.specs.Slices.{joined, FillsTable}
 use Rattle.bytes_utils_buf.specs.Segments.{NoneEmpty}
 use Rattle.bytes_utils_buf.proofs.Tables.{FillsTable-full, FillsTable-same}
 use Rattle.bytes_utils_run.specs.Calls.{AreSlices}
+use Rattle.bytes_utils_run.specs.Odd.{pieces}
 
 -- nothing of nothing fills no place
 pub FillsTable-none : (dst : List (Bor (List ℕ))) → FillsTable 0 dst dst []
@@ -81,6 +82,59 @@ FillsTable-all_bytes n old mid bytes is fills = elim (cases_lt n (length old)) [
   | inl less ↦ FillsTable-same n old mid _ _ (sym (take_all n bytes (omega (arith, is, less)))) fills
   | inr full ↦ FillsTable-same n old mid _ _ (sym (take-append-drop n bytes)) (FillsTable-full n old mid (take n bytes) (drop n bytes) full fills)
 ]
+
+-- one more place has a slice of one byte
+pub All_one-push : (i : ℕ) (mid : List (Bor (List ℕ))) (x : Bor (List ℕ)) (bytes : List ℕ) → i < length mid → i < length bytes
+    → x.now ≡ take (i + 1 - i) (drop i bytes) → All (λ s. length s.now ≡ 1) (take i mid)
+    → All (λ s. length s.now ≡ 1) (take (i + 1) (set mid i x))
+All_one-push i mid x bytes room within is ones =
+    let P = λ (s : Bor (List ℕ)). length s.now ≡ 1 in
+    let one : i + 1 - i ≡ 1 = omega arith in
+    let size = length-take-le 1 (drop i bytes) (omega (arith, length-drop i bytes, within)) in
+    let fits : length x.now ≡ 1 = ap length is ∙ ap (λ k. length (take k (drop i bytes))) one ∙ size in
+    All-same P _ _ (take_more_set mid i x room) (All-push P (take i mid) x ones fits)
+
+-- the next piece is what stands behind those in front of it
+pub pieces-more : (size count : ℕ) (bytes : List ℕ) → pieces size (count + 1) bytes ≡ pieces size count bytes ++ take size (drop (count * size) bytes) ∷ []
+pieces-more size zero bytes =
+    let none : 0 ≡ zero * size = omega arith in
+    ap (λ k. take size (drop k bytes) ∷ []) none
+pieces-more size (suc count) bytes =
+    let next : suc count + 1 ≡ suc (count + 1) = omega arith in
+    let past : size + count * size ≡ suc count * size = omega arith in
+    let behind = drop-drop (count * size) size bytes ∙ ap (λ k. drop k bytes) past in
+    ap (λ k. pieces size k bytes) next
+    ∙ ap (λ l. take size bytes ∷ l) (pieces-more size count (drop size bytes))
+    ∙ ap (λ p. take size bytes ∷ (pieces size count (drop size bytes) ++ take size p ∷ [])) behind
+
+-- the first eight of so many zero bytes
+pub take_zeros : (size left : ℕ) → size ≡ min left 8 → take 8 (replicate left zero) ≡ replicate size zero
+take_zeros size left is = elim (cases_lt left 8) [
+  | inl less ↦
+      let all : left ≡ size = omega (arith, is, less) in
+      take_all 8 (replicate left zero) (omega (arith, less, length-replicate left zero)) ∙ ap (λ k. replicate k zero) all
+  | inr full ↦
+      let eight : 8 ≡ size = omega (arith, is, full) in
+      take-replicate 8 left zero full ∙ ap (λ k. replicate k zero) eight
+]
+
+-- one more place has the next piece of so many zero bytes
+pub pieces-zeros : (n left shown size : ℕ) (mid : List (Bor (List ℕ))) (x : Bor (List ℕ)) → n < length mid → shown < left
+    → shown ≡ min (n * 8) left → size ≡ min (left - shown) 8 → x.now ≡ take size (replicate 8 0)
+    → map (λ s. s.now) (take n mid) ≡ pieces 8 n (replicate left 0)
+    → map (λ s. s.now) (take (n + 1) (set mid n x)) ≡ pieces 8 (n + 1) (replicate left 0)
+pieces-zeros n left shown size mid x room more at is shows before =
+    let here : n * 8 ≡ shown = omega (arith, more, at) in
+    let most : size ≤ 8 = omega (arith, is) in
+    let rest : drop (n * 8) (replicate left zero) ≡ replicate (left - shown) zero =
+    drop-replicate (n * 8) left zero ∙ ap (λ k. replicate (left - k) zero) here in
+    let piece : x.now ≡ take 8 (drop (n * 8) (replicate left zero)) =
+    shows ∙ take-replicate size 8 zero most ∙ sym (take_zeros size (left - shown) is) ∙ sym (ap (take 8) rest) in
+    ap (map (λ s. s.now)) (take_more_set mid n x room)
+    ∙ map-append (λ (s : Bor (List ℕ)). s.now) (take n mid) (x ∷ [])
+    ∙ ap (λ l. l ++ x.now ∷ []) before
+    ∙ ap (λ p. pieces 8 n (replicate left zero) ++ p ∷ []) piece
+    ∙ sym (pieces-more 8 n (replicate left zero))
 
 NoneEmpty-map : (slices : List (Bor (List ℕ))) → All (λ s. 0 < length s.now) slices → NoneEmpty (map (λ s. s.now) slices)
 NoneEmpty-map [] some = All-nil (λ s. 0 < length s)

@@ -1,5 +1,7 @@
 //! A buffer that shows one byte at a time.
-ghost use Rattle.std.specs.Prelude.{◌≡◌};
+ghost use Rattle.std.specs.Prelude.{◌≡◌, ◌≤◌, length, take, drop, All, IfOk, IfErr, OnErr};
+ghost use Rattle.bytes.specs.Unread.{IsChunkOf};
+ghost use Rattle.bytes_utils_buf.specs.Slices.{taken_by, FillsTable};
 
 use bytes::{Buf, Bytes};
 use bytes_utils::parts::{BufParts, CopyRefused};
@@ -36,7 +38,10 @@ impl Buf for Drip {
         self.bytes.len()
     }
 
-    fn chunk(&self) -> &[u8] {
+    fn chunk(&self) -> &[u8]
+        ensures chunk { IsChunkOf result.now self.now }
+        ensures one { result.now ≡ take 1 self.now }
+    {
         &self.bytes.as_slice()[..self.bytes.len().min(1)]
     }
 
@@ -45,13 +50,25 @@ impl Buf for Drip {
     }
 }
 
-/// A table has a place for each byte. `copy_out` is that of `Bytes`.
+/// `copy_out` is that of `Bytes`.
 impl BufParts for Drip {
-    fn copy_out(&mut self, alloc: Global, len: usize) -> Result<Bytes, CopyRefused> {
+    ghost loses = { λ _ taken. taken ≡ 0 };
+
+    fn copy_out(&mut self, alloc: Global, len: usize) -> Result<Bytes, CopyRefused>
+        requires { len ≤ length self.old }
+        ensures value { IfOk result (λ copy. copy ≡ take len self.old) }
+        ensures taken { taken_by len result ≤ len }
+        ensures rest { self.new ≡ drop (taken_by len result) self.old }
+        ensures refused { IfErr result (λ e. e.taken ≡ 0) }
+        ensures same { OnErr result (self.new ≡ self.old) }
+    {
         self.bytes.copy_out(alloc, len)
     }
 
-    fn chunks_into<'s>(&'s self, dst: &mut [&'s [u8]]) -> usize {
+    fn chunks_into<'s>(&'s self, dst: &mut [&'s [u8]]) -> usize
+        ensures fills { FillsTable result dst.old dst.new self.now }
+        ensures one { All (λ s. length s.now ≡ 1) (take result dst.new) }
+    {
         let bytes = self.bytes.as_slice();
         let count = bytes.len().min(dst.len());
         for i in 0..count {

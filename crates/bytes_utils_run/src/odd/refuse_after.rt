@@ -100,4 +100,28 @@ impl Storage for RefuseAfter {
             }),
         }
     }
+
+    fn into_front(self, at: usize) -> Result<Self, Refused<Self>>
+        requires { at ≤ length self.stored }
+        ensures front { IfOk result (λ front. front
+            ≡ record { stored = take at self.stored; granted = self.granted - 1 }) }
+        ensures none_left { self.granted ≡ 0 → IsErr result }
+        ensures err { IfErr result (λ e. e.back ≡ self) }
+        ensures reason { IfErr result (λ e. e.reason ≡ OutOfMemory) }
+    {
+        let (front, _) = self.split_at(at)?;
+        Ok(front)
+    }
+
+    fn into_back(self, at: usize) -> Result<Self, Refused<Self>>
+        requires { at ≤ length self.stored }
+        ensures back { IfOk result (λ back. back
+            ≡ record { stored = drop at self.stored; granted = self.granted - 2 }) }
+        ensures none_left { self.granted ≡ 0 → IsErr result }
+        ensures err { IfErr result (λ e. e.back ≡ self) }
+        ensures reason { IfErr result (λ e. e.reason ≡ OutOfMemory) }
+    {
+        let (_, back) = self.split_at(at)?;
+        Ok(back)
+    }
 }

@@ -1,5 +1,8 @@
 //! A buffer of any number of zero bytes.
-ghost use Rattle.std.specs.Prelude.{◌≡◌, replicate, IfOk};
+ghost use Rattle.std.specs.Prelude.{◌≡◌, ◌≤◌, length, map, take, drop, replicate, IfOk, IfErr, OnErr};
+ghost use Rattle.bytes.specs.Unread.{IsChunkOf};
+ghost use Rattle.bytes_utils_buf.specs.Slices.{taken_by, FillsTable};
+ghost use Rattle.bytes_utils_run.specs.Odd.{pieces};
 
 use bytes::{Buf, Bytes};
 use bytes_utils::parts::{BufParts, CopyRefused};
@@ -46,7 +49,10 @@ impl Buf for Zeros {
         self.left
     }
 
-    fn chunk(&self) -> &[u8] {
+    fn chunk(&self) -> &[u8]
+        ensures chunk { IsChunkOf result.now self.now }
+        ensures eight { result.now ≡ take 8 self.now }
+    {
         &EIGHT[..self.left.min(8)]
     }
 
@@ -55,9 +61,18 @@ impl Buf for Zeros {
     }
 }
 
-/// A table has a place for each chunk. A refused copy has taken nothing.
+/// `copy_out` makes bytes anew.
 impl BufParts for Zeros {
-    fn copy_out(&mut self, alloc: Global, len: usize) -> Result<Bytes, CopyRefused> {
+    ghost loses = { λ _ taken. taken ≡ 0 };
+
+    fn copy_out(&mut self, alloc: Global, len: usize) -> Result<Bytes, CopyRefused>
+        requires { len ≤ length self.old }
+        ensures value { IfOk result (λ copy. copy ≡ take len self.old) }
+        ensures taken { taken_by len result ≤ len }
+        ensures rest { self.new ≡ drop (taken_by len result) self.old }
+        ensures refused { IfErr result (λ e. e.taken ≡ 0) }
+        ensures same { OnErr result (self.new ≡ self.old) }
+    {
         let Ok(copy) = zero_bytes(alloc, len) else {
             return Err(CopyRefused { taken: 0 });
         };
@@ -65,7 +80,10 @@ impl BufParts for Zeros {
         Ok(copy)
     }
 
-    fn chunks_into<'s>(&'s self, dst: &mut [&'s [u8]]) -> usize {
+    fn chunks_into<'s>(&'s self, dst: &mut [&'s [u8]]) -> usize
+        ensures fills { FillsTable result dst.old dst.new self.now }
+        ensures eight { map (λ s. s.now) (take result dst.new) ≡ pieces 8 result self.now }
+    {
         let mut shown = 0;
         let mut filled = 0;
         while shown < self.left && filled < dst.len() {

@@ -56,6 +56,40 @@ fn pieces_are_granted_less(rt: HostRuntime) -> Result<(), Fail> {
     Ok(())
 }
 
+/// Asserts that the front of a storage alone is these bytes, and gives it.
+fn front<S: Storage>(rt: &impl Abort, storage: S, bytes: &[u8]) -> Result<S, Reason> {
+    let at = bytes.len();
+    assert!(rt; at <= storage.as_bytes().len());
+    let front = storage.into_front(at).map_err(|refused| refused.reason)?;
+    assert!(rt; front.as_bytes() == bytes);
+    Ok(front)
+}
+
+/// Asserts that behind its first byte a storage has these bytes, and gives them.
+fn back<S: Storage>(rt: &impl Abort, storage: S, bytes: &[u8]) -> Result<S, Reason> {
+    assert!(rt; !storage.as_bytes().is_empty());
+    let back = storage.into_back(1).map_err(|refused| refused.reason)?;
+    assert!(rt; back.as_bytes() == bytes);
+    Ok(back)
+}
+
+// Of two, a front that is kept alone has one.
+#[test]
+fn fronts_are_granted_less(rt: HostRuntime) -> Result<(), Fail> {
+    let one = front(&rt, granting(rt.alloc(), b"a,b", 2)?, b"a,")?;
+    let none = front(&rt, one, b"a")?;
+    assert!(rt; front(&rt, none, b"").err() == Some(Reason::OutOfMemory));
+    Ok(())
+}
+
+// Of two, a back that is kept alone has none.
+#[test]
+fn backs_are_granted_less(rt: HostRuntime) -> Result<(), Fail> {
+    let rest = back(&rt, granting(rt.alloc(), b"a,b", 2)?, b",b")?;
+    assert!(rt; back(&rt, rest, b"b").err() == Some(Reason::OutOfMemory));
+    Ok(())
+}
+
 fn stored<S: Storage>(creator: S::Creator) -> Result<S, Reason> {
     S::from_creator(creator).map_err(|refused| refused.reason)
 }

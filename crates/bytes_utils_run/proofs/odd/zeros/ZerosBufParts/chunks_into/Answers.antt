@@ -1,16 +1,24 @@
-use Rattle.std.proofs.Common.{refl, arith}
-use Rattle.std.proofs.Common.{subst}
+use Rattle.std.proofs.Common.{◌∙◌, ap, refl, subst, arith}
 use Rattle.bytes_utils_buf.specs.Slices.{FillsTable}
-use Rattle.bytes_utils_run.proofs.Slices.{FillsTable-zeros, FillsTable-all_zeros}
+use Rattle.bytes_utils_run.specs.Odd.{pieces}
+use Rattle.bytes_utils_run.proofs.Slices.{FillsTable-none, FillsTable-zeros, FillsTable-all_zeros, pieces-zeros}
 use Rattle.bytes_utils_run.proofs.odd.zeros.ZerosBufParts.chunks_into.Goals as goal
+
+pub loop-shown-init : goal.loop-shown-init
+loop-shown-init c = (omega arith, FillsTable-none _, refl)
 
 pub loop-shown-preserved : goal.loop-shown-preserved
 loop-shown-preserved c = (
   omega arith,
   FillsTable-zeros _ _ _ _ _ _ (omega arith) c.loop-shown.auto.dst (omega arith) (omega arith) refl c.loop-shown.invariant.1,
+  pieces-zeros c.loop-shown.filled c.self.inside.left c.loop-shown.shown c.min-size.result _ _ (omega arith) (omega arith)
+      c.loop-shown.invariant.0 c.min-size.ensures refl c.loop-shown.invariant.2,
 )
 
-pub returns-else-filled-dst : goal.returns-else-filled-dst
-returns-else-filled-dst c =
+pub returns-else-filled-dst-clause-fills : goal.returns-else-filled-dst-clause-fills
+returns-else-filled-dst-clause-fills c =
     subst (FillsTable c.loop-shown.filled c.args.dst.now c.loop-shown.dst) c.self.view_is
     (FillsTable-all_zeros _ _ c.self.inside.left _ _ (omega arith) (omega arith) c.loop-shown.invariant.1)
+
+pub returns-else-filled-dst-clause-eight : goal.returns-else-filled-dst-clause-eight
+returns-else-filled-dst-clause-eight c = c.loop-shown.invariant.2 ∙ ap (pieces 8 c.loop-shown.filled) c.self.view_is
