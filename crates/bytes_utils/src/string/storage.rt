@@ -47,7 +47,7 @@ pub trait Storage: Sized + Drop {
         ensures reason { IfErr result (λ e. refuses e.reason) };
 
     /// The bytes before `at` alone, or the storage back. A storage may have a cheaper way to them
-    /// than a split.
+    /// than a split. The length of `as_bytes` tests the condition.
     #[inline]
     fn into_front(self, at: usize) -> Result<Self, Refused<Self>>
         requires { at ≤ length (stored self) }
@@ -59,7 +59,7 @@ pub trait Storage: Sized + Drop {
         Ok(front)
     }
 
-    /// The bytes from `at` on alone, or the storage back, as `into_front`.
+    /// The bytes from `at` on alone, or the storage back, as `into_front`, with the same test.
     #[inline]
     fn into_back(self, at: usize) -> Result<Self, Refused<Self>>
         requires { at ≤ length (stored self) }
