@@ -1,5 +1,5 @@
 //! Bodies that come in pieces, each behind its length.
-ghost use Rattle.std.specs.Prelude.{◌≡◌, ◌+◌, ◌^◌, ◌<◌, ◌≤◌, [], ◌++◌, length, false, true, None, IsOk, IfOk, IfErr, IfSome, IfNone, OnOk, OnErr, IsErrOf};
+ghost use Rattle.std.specs.Prelude.{◌≡◌, ◌+◌, ◌^◌, ◌<◌, ◌≤◌, [], ◌++◌, length, false, true, None, IsTrue, ◌↔◌, IsOk, IsErr, IfOk, IfErr, IfSome, IfNone, OnOk, OnErr, IsErrOf};
 ghost use Rattle.std.specs.List.{concat};
 ghost use Rattle.bytes_utils_run.specs.Inbox.{AwaitsMore, HandsOut, prefix_bytes};
 
@@ -27,7 +27,7 @@ pub struct Inbox {
 }
 
 impl Model for Inbox {
-    ghost use Rattle.std.specs.Prelude.{◌++◌};
+    ghost use Rattle.std.specs.Prelude.{◌<◌, ◌^◌, ◌++◌, length};
     ghost use Rattle.std.specs.List.{concat};
     ghost use Rattle.bytes_utils_run.specs.Inbox.{Pending, prefix_bytes};
 
@@ -37,6 +37,8 @@ impl Model for Inbox {
       bytes = prefix_bytes q.prefix ++ concat q.got.segments;
       broken = q.broken;
     } };
+
+    ghost invariant = { λ q. length (prefix_bytes q.prefix ++ concat q.got.segments) < 2 ^ 64 };
 }
 
 impl Inbox {
@@ -56,18 +58,29 @@ impl Inbox {
         ensures ok { OnOk result (self.new.bytes ≡ self.old.bytes ++ piece) }
         ensures err { OnErr result (self.new.bytes ≡ self.old.bytes) }
         ensures back { IfErr result (λ e. e.back ≡ piece) }
-        ensures too_long { IfErr result (λ e. e.reason ≡ Reason.TooLong
-            → 2 ^ 64 ≤ length self.old.bytes + length piece) }
+        ensures too_long { 2 ^ 64 ≤ length self.old.bytes + length piece → IsErr result }
+        ensures reason { IfErr result (λ e. (e.reason ≡ Reason.TooLong)
+            ↔ (2 ^ 64 ≤ length self.old.bytes + length piece)) }
         ensures empty { piece ≡ [] → IsOk result }
         ensures broken { self.new.broken ≡ self.old.broken }
     {
-        if !self.got.fits(piece.len()) {
+        if !self.fits(piece.len()) {
             return Err(Refused {
                 reason: Reason::TooLong,
                 back: piece,
             });
         }
         self.got.push(piece)
+    }
+
+    /// Whether so many bytes more, and those that came in, are fewer than `usize` counts.
+    fn fits(&self, more: usize) -> bool
+        ensures { IsTrue result ↔ (length self.now.bytes + more < 2 ^ 64) }
+    {
+        match more.checked_add(prefix_len(self.prefix)) {
+            Some(all) => self.got.fits(all),
+            None => false,
+        }
     }
 
     /// Hands out the first body, or `None` while some of it is to come.
@@ -107,6 +120,16 @@ impl Inbox {
                 Err(BodyRefused::Broken)
             }
         }
+    }
+}
+
+/// How long the prefix is that was read before.
+fn prefix_len(read: Option<[u8; 4]>) -> usize
+    ensures { result ≡ length (prefix_bytes read) }
+{
+    match read {
+        Some(prefix) => prefix.len(),
+        None => 0,
     }
 }
 
