@@ -4,7 +4,7 @@ use Rattle.std.proofs.lemmas.List.{length-map, length-replicate, map-append, tak
 use Rattle.std.proofs.Math.Seq.{take-add}
 use Rattle.std.specs.List.{concat}
 use borrow.Rule.Slice.PartMut.{put_mid}
-use Rattle.bytes_utils_buf.specs.Lent.{Lent, lists_of, lent_at, IsPassedOnce, SkipsLent, IsLent}
+use Rattle.bytes_utils_buf.specs.Lent.{Lent, lists_of, lent_at, IsPassedOnce, Passes, SkipsLent, IsLent}
 use Rattle.bytes.specs.Unread.{IsChunkOf}
 use Rattle.bytes_utils_buf.specs.Segments.{cut_front, front_of, FrontUnread, Skips}
 use Rattle.bytes_utils_buf.specs.Tally.{Tallied}
@@ -92,13 +92,18 @@ lists_of-part f xs ys k p handed_in new name in_all before out =
     lists ∙ ap (λ l. replicate (k + p) [] ++ l) (sym behind)
 
 -- one skip after another
-pub SkipsLent-more : (n m : ℕ) (old mid new : Lent) → SkipsLent n old mid → SkipsLent m mid new → SkipsLent (n + m) old new
-SkipsLent-more n m old mid new s t =
+pub Passes-more : (n m : ℕ) (old mid new : Lent) → Passes n old mid → Passes m mid new → Passes (n + m) old new
+Passes-more n m old mid new s t =
     record {
-      segments = Skips-more n m old.segments mid.segments new.segments s.segments t.segments;
-      place = t.place ∙ s.place;
-      handed_in = t.handed_in ∙ s.handed_in;
-      name = t.name ∙ s.name;
+      skips = record {
+        segments = Skips-more n m old.segments mid.segments new.segments s.skips.segments t.skips.segments;
+        place = t.skips.place ∙ s.skips.place;
+        handed_in = t.skips.handed_in ∙ s.skips.handed_in;
+        name = t.skips.name ∙ s.skips.name;
+      };
+      given = t.given ∙ s.given;
+      dropped = t.dropped ∙ s.dropped;
+      turns = t.turns ∙ s.turns;
     }
 
 -- ---- sums of lengths

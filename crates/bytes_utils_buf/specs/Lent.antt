@@ -1,8 +1,8 @@
 -- Lent buffers as one. Those before the reading place are passed, and those from it on are the segments to read.
 use Rattle.std.specs.Prelude.{◌≡◌, ℕ, ◌+◌, List, [], ◌++◌, length, drop, replicate}
 use Rattle.std.specs.List.{concat}
-use Rattle.bytes_utils_buf.specs.Segments.{Skips}
-use Rattle.bytes_utils_buf.specs.Tally.{Tallied}
+use Rattle.bytes_utils_buf.specs.Segments.{Held, Skips}
+use Rattle.bytes_utils_buf.specs.Tally.{Tallied, lined_up}
 
 -- what clauses see of a `SegmentedSlice`
 pub record Lent : Type 0 where
@@ -20,6 +20,10 @@ pub record Lent : Type 0 where
 abbrev pub lists_of : Lent → List (List ℕ)
 lists_of lent = replicate lent.place [] ++ lent.segments
 
+-- held segments as lent buffers: those passed count as read out
+abbrev pub as_lent : Held → Lent
+as_lent held = record { handed_in = []; place = held.tally.turns; segments = held.segments; tally = held.tally; name = 0 }
+
 -- so many bytes were read: they are skipped of what was handed in, and what is gone from the front is passed
 pub record IsReading (lent : Lent) : Type 0 where
   pub read : ℕ
@@ -32,6 +36,13 @@ pub record SkipsLent (n : ℕ) (old new : Lent) : Type 0 where
   pub place : new.place + length new.segments ≡ old.place + length old.segments
   pub handed_in : new.handed_in ≡ old.handed_in
   pub name : new.name ≡ old.name
+
+-- n bytes are skipped by calls that are given nothing: each buffer that is gone was passed by one turn
+pub record Passes (n : ℕ) (old new : Lent) : Type 0 where
+  pub skips : SkipsLent n old new
+  pub given : new.tally.given ≡ old.tally.given
+  pub dropped : new.tally.dropped ≡ old.tally.dropped
+  pub turns : lined_up new.segments new.tally ≡ lined_up old.segments old.tally
 
 -- all lent buffers were given, none is dropped, and each of those that are passed was passed by one turn
 pub record IsPassedOnce (lent : Lent) : Type 0 where

@@ -1,14 +1,15 @@
 //! Held buffers that read as one.
 ghost use Rattle.std.specs.Prelude.{◌≡◌, ◌+◌, ◌^◌, ◌<◌, ◌≤◌, [], ◌∷◌, length, map, drop, IsTrue, ◌↔◌, IfOk, IfErr};
 ghost use Rattle.std.specs.List.{concat};
-ghost use Rattle.bytes.specs.Unread.{IsChunkOf};
-ghost use Rattle.bytes_utils_buf.specs.Segments.{NoneEmpty, front_of, nothing_held, Skips};
+ghost use Rattle.bytes_utils_buf.specs.Lent.{as_lent};
+ghost use Rattle.bytes_utils_buf.specs.Segments.{NoneEmpty, nothing_held, Skips};
 ghost use Rattle.bytes_utils_buf.specs.Tally.{IsBalanced, IsCovered, IsPaid, lined_up};
 
 mod accept;
 mod front;
 mod hand_out;
 
+use super::copy::Segmented;
 use super::tally::Tally;
 use super::walk::skip_held;
 use crate::Reason;
@@ -119,18 +120,6 @@ impl<B: Buf + Drop> SegmentedBuf<B> {
         skip_held(&mut self.segments, &mut self.tally, cnt);
         self.remaining -= cnt;
     }
-
-    /// The chunk of the first segment.
-    #[inline]
-    fn front_chunk(&self) -> &[u8]
-        ensures bytes { IsChunkOf result.now (concat self.now.segments) }
-        ensures front { IsChunkOf result.now (front_of self.now.segments) }
-    {
-        match self.segments.front() {
-            Some(front) => front.chunk(),
-            None => &[],
-        }
-    }
 }
 
 impl<B: Buf + Clone> SegmentedBuf<B> {
@@ -162,6 +151,23 @@ impl<B: Buf + Drop> From<SegmentedBuf<B>> for VecDeque<B> {
 
     fn from(all: SegmentedBuf<B>) -> VecDeque<B> {
         all.into_inner()
+    }
+}
+
+impl<B: Buf + Drop> Segmented for SegmentedBuf<B> {
+    ghost lent = { as_lent };
+
+    #[inline]
+    fn front_chunk(&self) -> &[u8] {
+        match self.segments.front() {
+            Some(front) => front.chunk(),
+            None => &[],
+        }
+    }
+
+    #[inline]
+    fn skip(&mut self, cnt: usize) {
+        self.advance(cnt)
     }
 }
 

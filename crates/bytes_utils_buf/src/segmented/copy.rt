@@ -1,9 +1,60 @@
-//! A copy of bytes: what it took, and a chunk appended to it.
-ghost use Rattle.std.specs.Prelude.{◌≡◌, ◌-◌, ◌≤◌, ◌++◌, length, min, take, vec_capacity};
+//! A copy of bytes: collected across segments, what it took, and a chunk appended to it.
+ghost use Rattle.std.specs.Prelude.{◌≡◌, ◌+◌, ◌-◌, ◌≤◌, ◌++◌, length, min, take, vec_capacity, IfOk, IfErr, ◌⊎◌};
+ghost use Rattle.std.specs.List.{concat};
+ghost use Rattle.bytes.specs.Unread.{IsChunkOf};
+ghost use Rattle.bytes_utils_buf.specs.Lent.{Lent, Passes};
+ghost use Rattle.bytes_utils_buf.specs.Segments.{count_unread, front_of, FrontUnread};
 ghost use Rattle.bytes_utils_buf.specs.Slices.{taken_by};
 
 use crate::parts::CopyRefused;
 use bytes::Bytes;
+use std::alloc::Global;
+
+/// Segments in a row, whose calls are counted.
+pub(super) trait Segmented {
+    // The value as lent buffers.
+    ghost lent: { Self → Lent };
+
+    /// A chunk of the first segment.
+    fn front_chunk(&self) -> &[u8]
+        ensures bytes { IsChunkOf result.now (concat (lent self.now).segments) }
+        ensures front { IsChunkOf result.now (front_of (lent self.now).segments) };
+
+    /// Takes `cnt` bytes off the front, by one counted call.
+    fn skip(&mut self, cnt: usize)
+        requires { cnt ≤ length (concat (lent self.old).segments) }
+        ensures passes { Passes cnt (lent self.old) (lent self.new) }
+        ensures calls { (lent self.new).tally.calls ≡ (lent self.old).tally.calls + 1 };
+
+    /// Collects the first `len` bytes, chunk by chunk.
+    final fn collect(&mut self, alloc: Global, len: usize) -> Result<Bytes, CopyRefused>
+    where
+        Self: Sized,
+        requires fits { len ≤ length (concat (lent self.old).segments) }
+        requires front { FrontUnread (lent self.old).segments }
+        ensures value { IfOk result (λ copy. copy ≡ take len (concat (lent self.old).segments)) }
+        ensures taken { taken_by len result ≤ len }
+        ensures passes { Passes (taken_by len result) (lent self.old) (lent self.new) }
+        ensures refused { IfErr result (λ e. (e.taken ≡ 0) ⊎ (e.taken ≡ len)) }
+        ensures least { (lent self.old).tally.calls ≤ (lent self.new).tally.calls }
+        ensures most { (lent self.new).tally.calls
+            ≤ (lent self.old).tally.calls + taken_by len result }
+        ensures each { (lent self.old).tally.calls + count_unread (lent self.old).segments
+            ≤ (lent self.new).tally.calls + count_unread (lent self.new).segments }
+    {
+        let Ok(mut copy) = Vec::with_capacity(alloc, len) else {
+            return Err(CopyRefused { taken: 0 });
+        };
+        while copy.len() < len {
+            let count = append_chunk(&mut copy, self.front_chunk(), len);
+            self.skip(count);
+        }
+        match Bytes::from_vec(copy) {
+            Ok(copy) => Ok(copy),
+            Err(_) => Err(CopyRefused { taken: len }),
+        }
+    }
+}
 
 /// How many bytes a copy of `len` bytes took.
 #[inline]

@@ -2,13 +2,13 @@
 ghost use Rattle.std.specs.Prelude.{◌≡◌, ◌+◌, ◌^◌, ◌<◌, ◌≤◌, [], ◌∷◌, length, map, drop};
 ghost use Rattle.std.specs.List.{concat};
 ghost use Rattle.std.specs.Option.{SomeIff};
-ghost use Rattle.bytes.specs.Unread.{IsChunkOf};
 ghost use Rattle.bytes_utils_buf.specs.Lent.{lists_of, IsPassedOnce, IsReading, SkipsLent};
-ghost use Rattle.bytes_utils_buf.specs.Segments.{front_of, Skips};
+ghost use Rattle.bytes_utils_buf.specs.Segments.{Skips};
 ghost use Rattle.bytes_utils_buf.specs.Tally.{IsBalanced, IsCovered, IsPaid, lined_up};
 
 mod hand_out;
 
+use super::copy::Segmented;
 use super::sum::sum_of;
 use super::tally::Tally;
 use super::walk::{count_empty, skip_lent};
@@ -147,18 +147,23 @@ impl<'a, B: Buf> SegmentedSlice<'a, B> {
         self.place += passed;
         self.remaining -= cnt;
     }
+}
 
-    /// The chunk of the buffer at the reading place.
-    fn front_chunk(&self) -> &[u8]
-        ensures bytes { IsChunkOf result.now (concat self.now.segments) }
-        ensures front { IsChunkOf result.now (front_of self.now.segments) }
-    {
+impl<B: Buf> Segmented for SegmentedSlice<'_, B> {
+    ghost lent = { λ q. q };
+
+    fn front_chunk(&self) -> &[u8] {
         let bufs = &*self.bufs;
         if self.place < bufs.len() {
             bufs[self.place].chunk()
         } else {
             &[]
         }
+    }
+
+    #[inline]
+    fn skip(&mut self, cnt: usize) {
+        self.advance(cnt)
     }
 }
 

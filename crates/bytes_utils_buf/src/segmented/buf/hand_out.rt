@@ -3,13 +3,13 @@ ghost use Rattle.std.specs.Prelude.{◌≡◌, ◌+◌, ◌<◌, ◌≤◌, leng
 ghost use Rattle.std.specs.List.{concat};
 ghost use Rattle.bytes_utils_buf.specs.Copies.{CountsCopy};
 ghost use Rattle.bytes_utils_buf.specs.Slices.{taken_by, FillsTable};
-ghost use Rattle.bytes_utils_buf.specs.Segments.{NoneEmpty, count_unread, front_of, Skips};
+ghost use Rattle.bytes_utils_buf.specs.Segments.{front_of, Skips};
 ghost use Rattle.bytes_utils_buf.specs.Tally.{IsPaid, lined_up};
 
 use super::SegmentedBuf;
 use super::front::{copy_front, front_holds};
 use crate::parts::{BufParts, CopyRefused};
-use crate::segmented::copy::{append_chunk, bytes_taken};
+use crate::segmented::copy::{Segmented, bytes_taken};
 use crate::segmented::fill::fill_from_held;
 use crate::segmented::walk::skip_held;
 use bytes::Bytes;
@@ -71,35 +71,6 @@ impl<B: BufParts + Drop> SegmentedBuf<B> {
         skip_held(&mut self.segments, &mut self.tally, 0);
         self.remaining -= bytes_taken(&copy, len);
         copy
-    }
-
-    fn collect(&mut self, alloc: Global, len: usize) -> Result<Bytes, CopyRefused>
-        requires fits { len ≤ length (concat self.old.segments) }
-        requires held { NoneEmpty self.old.segments }
-        ensures value { IfOk result (λ copy. copy ≡ take len (concat self.old.segments)) }
-        ensures taken { taken_by len result ≤ len }
-        ensures skips { Skips (taken_by len result) self.old.segments self.new.segments }
-        ensures given { self.new.tally.given ≡ self.old.tally.given }
-        ensures dropped { self.new.tally.dropped ≡ self.old.tally.dropped }
-        ensures refused { IfErr result (λ e. (e.taken ≡ 0) ⊎ (e.taken ≡ len)) }
-        ensures least { self.old.tally.calls ≤ self.new.tally.calls }
-        ensures most { self.new.tally.calls ≤ self.old.tally.calls + taken_by len result }
-        ensures each { self.old.tally.calls + count_unread self.old.segments
-            ≤ self.new.tally.calls + count_unread self.new.segments }
-        ensures turns { lined_up self.new.segments self.new.tally
-            ≡ lined_up self.old.segments self.old.tally }
-    {
-        let Ok(mut copy) = Vec::with_capacity(alloc, len) else {
-            return Err(CopyRefused { taken: 0 });
-        };
-        while copy.len() < len {
-            let count = append_chunk(&mut copy, self.front_chunk(), len);
-            self.advance(count);
-        }
-        match Bytes::from_vec(copy) {
-            Ok(copy) => Ok(copy),
-            Err(_) => Err(CopyRefused { taken: len }),
-        }
     }
 }
 

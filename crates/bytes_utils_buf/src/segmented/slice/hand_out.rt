@@ -4,12 +4,12 @@ ghost use Rattle.std.specs.List.{concat};
 ghost use Rattle.bytes_utils_buf.specs.Copies.{CountsCopy};
 ghost use Rattle.bytes_utils_buf.specs.Lent.{SkipsLent};
 ghost use Rattle.bytes_utils_buf.specs.Slices.{taken_by, FillsTable};
-ghost use Rattle.bytes_utils_buf.specs.Segments.{count_unread, front_of, FrontUnread, Skips};
+ghost use Rattle.bytes_utils_buf.specs.Segments.{front_of, Skips};
 ghost use Rattle.bytes_utils_buf.specs.Tally.{IsPaid, lined_up};
 
 use super::SegmentedSlice;
 use crate::parts::{BufParts, CopyRefused};
-use crate::segmented::copy::{append_chunk, bytes_taken};
+use crate::segmented::copy::{Segmented, bytes_taken};
 use crate::segmented::fill::fill_from;
 use crate::segmented::tally::Tally;
 use crate::segmented::walk::count_empty;
@@ -83,35 +83,6 @@ impl<B: BufParts> SegmentedSlice<'_, B> {
         self.place += passed;
         self.remaining -= bytes_taken(&copy, len);
         copy
-    }
-
-    fn collect(&mut self, alloc: Global, len: usize) -> Result<Bytes, CopyRefused>
-        requires fits { len ≤ length (concat self.old.segments) }
-        requires front { FrontUnread self.old.segments }
-        ensures value { IfOk result (λ copy. copy ≡ take len (concat self.old.segments)) }
-        ensures taken { taken_by len result ≤ len }
-        ensures skips { SkipsLent (taken_by len result) self.old self.new }
-        ensures given { self.new.tally.given ≡ self.old.tally.given }
-        ensures dropped { self.new.tally.dropped ≡ self.old.tally.dropped }
-        ensures refused { IfErr result (λ e. (e.taken ≡ 0) ⊎ (e.taken ≡ len)) }
-        ensures least { self.old.tally.calls ≤ self.new.tally.calls }
-        ensures most { self.new.tally.calls ≤ self.old.tally.calls + taken_by len result }
-        ensures each { self.old.tally.calls + count_unread self.old.segments
-            ≤ self.new.tally.calls + count_unread self.new.segments }
-        ensures turns { lined_up self.new.segments self.new.tally
-            ≡ lined_up self.old.segments self.old.tally }
-    {
-        let Ok(mut copy) = Vec::with_capacity(alloc, len) else {
-            return Err(CopyRefused { taken: 0 });
-        };
-        while copy.len() < len {
-            let count = append_chunk(&mut copy, self.front_chunk(), len);
-            self.advance(count);
-        }
-        match Bytes::from_vec(copy) {
-            Ok(copy) => Ok(copy),
-            Err(_) => Err(CopyRefused { taken: len }),
-        }
     }
 }
 

@@ -18,9 +18,10 @@ pub returns-else-front_holds-clause-paid : goal.returns-else-front_holds-clause-
 returns-else-front_holds-clause-paid g c =
     let new = c.collect.new.self in
     let s = c.collect.ensures in
+    let p = s.passes in
     let counted = c.call.ensures in
     rw (← c.self.view_is)
-    (IsPaid-passing (taken_by c.args.len c.collect.result) (map g.B.Buf.unread c.self.inside.segments.items) new.segments c.self.inside.tally new.tally s.skips
-    (s.given ∙ ap (λ t. t.given) counted)
+    (IsPaid-passing (taken_by c.args.len c.collect.result) (map g.B.Buf.unread c.self.inside.segments.items) new.segments c.self.inside.tally new.tally p.skips.segments
+    (p.given ∙ ap (λ t. t.given) counted)
     (omega (arith, s.least, ap (λ t. t.calls) counted))
-    (omega (arith, s.turns, ap (λ t. t.turns) counted)))
+    (omega (arith, p.turns, ap (λ t. t.turns) counted)))
