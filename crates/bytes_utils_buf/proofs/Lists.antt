@@ -132,10 +132,12 @@ set_cut [] k n h = absurd (omega arith)
 set_cut (x ∷ xs) zero n h = refl
 set_cut (x ∷ xs) (suc k) n h = ap (λ l. x ∷ l) (set_cut xs k n (omega arith))
 
-pub cut_past : (xs : List (List ℕ)) (k n : ℕ) → length xs ≤ k → xs ≡ cut_at k n xs
+-- nothing is cut
+pub cut_past : (xs : List (List ℕ)) (k n : ℕ) → (0 < n → length xs ≤ k) → xs ≡ cut_at k n xs
 cut_past [] k n h = refl
-cut_past (x ∷ xs) zero n h = absurd (omega arith)
-cut_past (x ∷ xs) (suc k) n h = ap (λ l. x ∷ l) (cut_past xs k n (omega arith))
+cut_past (x ∷ xs) zero zero h = refl
+cut_past (x ∷ xs) zero (suc n) h = absurd (omega (arith, h (omega arith)))
+cut_past (x ∷ xs) (suc k) n h = ap (λ l. x ∷ l) (cut_past xs k n (λ some. omega (arith, h some)))
 
 pub cut_behind : (xs : List (List ℕ)) (p n : ℕ) → cut_at p n (replicate p [] ++ xs) ≡ replicate p [] ++ cut_front n xs
 cut_behind [] zero n = refl

@@ -112,7 +112,7 @@ fn advance_at<B: Buf>(bufs: &mut [B], at: usize, left: usize)
     requires { at < length bufs.old → left ≤ length (slice_index_or (map B.unread bufs.old) at []) }
     ensures { map B.unread bufs.new ≡ cut_at at left (map B.unread bufs.old) }
 {
-    if at < bufs.len() {
+    if left > 0 && at < bufs.len() {
         bufs[at].advance(left);
     }
 }

@@ -11,7 +11,7 @@ use std::test::Fail;
 
 fn assert_asked_seldom(rt: &impl Abort, bufs: &[Asked]) {
     for buf in bufs {
-        assert!(rt; buf.advanced >= 1 && buf.advanced <= 2 && buf.looks.get() <= 32);
+        assert!(rt; buf.advanced == 1 && buf.looks.get() <= 32);
     }
 }
 

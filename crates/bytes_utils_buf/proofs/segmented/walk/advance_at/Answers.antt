@@ -14,8 +14,8 @@ returns-then-at-bufs g c =
     ∙ ap (set (map f xs) k) (c.advance.ensures.value ∙ ap (drop c.args.left) item)
     ∙ set_cut (map f xs) k c.args.left (omega (arith, here, length-map xs f))
 
-pub returns-else-at-bufs : goal.returns-else-at-bufs
-returns-else-at-bufs g c =
+pub returns-else-left-gt0 : goal.returns-else-left-gt0
+returns-else-left-gt0 g c =
     let f = g.B.Buf.unread in
-    let past : length c.args.bufs.now ≤ c.args.at = search rules in
-    cut_past (map f c.args.bufs.now) c.args.at c.args.left (omega (arith, past, length-map c.args.bufs.now f))
+    let past : 0 < c.args.left → length c.args.bufs.now ≤ c.args.at = search rules in
+    cut_past (map f c.args.bufs.now) c.args.at c.args.left (λ some. omega (arith, past some, length-map c.args.bufs.now f))
