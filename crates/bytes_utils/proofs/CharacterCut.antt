@@ -1,5 +1,5 @@
 -- A text cut by the empty separator: behind its first character, or before its last one.
-use Rattle.std.proofs.Common.{◌≡◌, refl, sym, ap, subst, ◌∙◌, ℕ, zero, suc, ◌-◌, ◌<◌, List, [], ◌∷◌, Option, None, Some, length, map, take, drop, reverse, true, false, arith, length-drop, length-take, IsUtf8, IsCharBoundary}
+use Rattle.std.proofs.Common.{◌≡◌, sym, ap, subst, ◌∙◌, ℕ, zero, suc, ◌-◌, ◌<◌, List, [], ◌∷◌, Option, None, Some, length, map, take, drop, reverse, true, false, arith, length-drop, length-take, IsUtf8, IsCharBoundary}
 use Rattle.std.proofs.lemmas.Str.{chars-nil}
 use Rattle.std.specs.Option.{option_map}
 use Rattle.std.specs.Str.{chars}
@@ -10,7 +10,7 @@ use Rattle.bytes_utils.specs.Splitting.{Splitting, AreForwardPartsToCome, AreBac
 use Rattle.bytes_utils.specs.declared.split.direction.Direction.{Direction}
 use Rattle.bytes_utils.specs.declared.split.direction.Direction.TheVariants.{Forward, Backward}
 use Rattle.bytes_utils.specs.Step.{GivesFirst}
-use Rattle.bytes_utils.proofs.EachCharacter.{behind_first, by_element-first, by_element-nothing_left, suc-less, first_element, last_element}
+use Rattle.bytes_utils.proofs.EachCharacter.{behind_first, by_element-first, suc-less, first_element, last_element}
 use Rattle.bytes_utils.proofs.Places.{boundary_at_place, chars-take_place, chars-drop_place, byte_place-less}
 
 -- behind the first empty part, and before it
@@ -103,21 +103,6 @@ module _ (text : List ℕ) (text_is : IsUtf8 text) (at : ℕ) (some : 0 < length
       let place = byte_place-less (chars text) 0 (length (chars text)) some (omega arith) in
       let b = (boundary_at_place text text_is (length (chars text))).0 in
       omega (arith, place, b)
-
--- behind all characters the empty rest is the last part
-pub gives_nothing_left : (text : List ℕ) → chars text ≡ [] → (limit : Option ℕ) → LeavesMore limit
-    → GivesFirst AreForwardPartsToCome (behind (Some text) limit) (chars text) (behind None (one_less limit))
-gives_nothing_left text none limit more = record {
-  some = ([], refl);
-  each = λ others is. rw (is, none) (front_from [] limit ([] ∷ [] ∷ []) (sym (by_element-nothing_left limit more)));
-}
-
-pub gives_nothing_left_back : (text : List ℕ) → chars text ≡ [] → (limit : Option ℕ) → LeavesMore limit
-    → GivesFirst AreBackwardPartsToCome (behind (Some text) limit) (chars text) (behind None (one_less limit))
-gives_nothing_left_back text none limit more = record {
-  some = ([], refl);
-  each = λ others is. rw (is, none) (back_from [] limit ([] ∷ [] ∷ []) (ap (map reverse) (sym (by_element-nothing_left limit more))));
-}
 
 -- parts by the empty separator, where there may be some
 front_any : (t : List ℕ) (limit : Option ℕ) (parts : List (List ℕ)) → LeavesMore limit → parts ≡ by_element t limit → ArePartsFromFront t [] limit parts

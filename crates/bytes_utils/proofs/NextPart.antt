@@ -1,19 +1,16 @@
 -- The next part where one part is the limit, and that there is one.
-use Rattle.std.proofs.Common.{◌≡◌, ◌≢◌, refl, sym, ap, ◌∙◌, ℕ, zero, suc, ◌<◌, List, [], ◌∷◌, Bool, true, false, Option, None, Some, Result, Ok, Err, IfOk, length, map, reverse, arith}
-use Rattle.std.proofs.lemmas.List.{length-map, reverse-reverse}
+use Rattle.std.proofs.Common.{◌≡◌, ◌≢◌, refl, ap, ℕ, zero, suc, ◌<◌, List, [], ◌∷◌, Bool, true, false, Option, None, Some, Result, Ok, Err, IfOk, length, map, reverse, arith}
+use Rattle.std.proofs.lemmas.List.{length-map}
 use Rattle.std.proofs.lemmas.Str.{chars-nil}
 use Rattle.std.specs.Option.{IfSome, option_map}
 use Rattle.std.specs.Str.{chars}
-use Rattle.bytes_utils.specs.EmptySeparator.{by_element, by_element_backward}
+use Rattle.bytes_utils.specs.EmptySeparator.{by_element}
 use Rattle.bytes_utils.specs.Occurrence.{Occurs}
 use Rattle.bytes_utils.specs.Parts.{ArePartsFromFront, ArePartsFromBack}
 use Rattle.bytes_utils.specs.Splitting.{ArePartsToCome, LeavesMore}
 use Rattle.bytes_utils.specs.declared.split.direction.Direction.{Direction}
 use Rattle.bytes_utils.specs.declared.split.direction.Direction.TheVariants.{Forward, Backward}
-use Rattle.bytes_utils.specs.Step.{GivesFirst}
-use Rattle.bytes_utils.proofs.Forward.{AreForwardParts-rest}
-use Rattle.bytes_utils.proofs.Backward.{AreBackwardParts-rest}
-use Rattle.bytes_utils.proofs.EachCharacter.{by_element-one, by_element-two, by_element-some, by_element-behind}
+use Rattle.bytes_utils.proofs.EachCharacter.{by_element-some, by_element-behind}
 
 -- an empty separator has no characters, so it occurs in every text
 pub no_chars : (sep : List ℕ) → length sep ≡ 0 → chars sep ≡ []
@@ -27,26 +24,6 @@ some-limit : (limit : Option ℕ) → limit ≢ Some 0 → IfSome limit (λ most
 some-limit None not = tt
 some-limit (Some zero) not = absurd (not refl)
 some-limit (Some (suc most)) not = omega arith
-
--- all of the text is the last part that the limit allows
-one_from_front : (t p : List ℕ) → ArePartsFromFront t p (Some 1) (t ∷ [])
-one_from_front t [] = sym (by_element-one t)
-one_from_front t (x ∷ p) = AreForwardParts-rest (x ∷ p) t
-
-one_from_back : (t p : List ℕ) → ArePartsFromBack t p (Some 1) (t ∷ [])
-one_from_back t [] = sym (ap (map reverse) (by_element-one (reverse t)) ∙ ap (λ z. z ∷ []) (reverse-reverse t))
-one_from_back t (x ∷ p) = AreBackwardParts-rest (x ∷ p) t
-
-two_from_back : (t : List ℕ) → [] ∷ t ∷ [] ≡ by_element_backward t (Some 2)
-two_from_back t = sym (ap (map reverse) (by_element-two (reverse t)) ∙ ap (λ z. [] ∷ z ∷ []) (reverse-reverse t))
-
-pub gives_rest : (from : Direction) (text sep : List ℕ) (begun later : Bool) (left : Option ℕ)
-    → GivesFirst (ArePartsToCome from) (record { rest = Some text; separator = sep; limit = Some 1; begun = begun }) (chars text)
-    (record { rest = None; separator = sep; limit = left; begun = later })
-gives_rest Forward text sep false later left = record { some = ([], refl); each = λ others none. rw none (one_from_front (chars text) (chars sep)) }
-gives_rest Forward text sep true later left = record { some = ([], refl); each = λ others none. rw none (sym (by_element-two (chars text))) }
-gives_rest Backward text sep false later left = record { some = ([], refl); each = λ others none. rw none (one_from_back (chars text) (chars sep)) }
-gives_rest Backward text sep true later left = record { some = ([], refl); each = λ others none. rw none (two_from_back (chars text)) }
 
 -- where the limit allows a part, one is to come of what is left
 some_from_front : (t p : List ℕ) (limit : Option ℕ) → IfSome limit (λ most. 0 < most) → ArePartsFromFront t p limit [] → ⊥

@@ -1,7 +1,7 @@
 -- Lists of lists, seen from the front.
 use Rattle.std.proofs.Common.{◌≡◌, nat_lt, lt-ltb, cond, true, ◌⊎◌, inl, inr, ℕ, ◌+◌, ◌-◌, ◌<◌, ◌≤◌, List, [], ◌∷◌, ◌++◌, zero, suc, length, take, drop, map, get_or, set, replicate, ap, ◌∙◌, sym, refl, arith, length-append, append_assoc, length-drop}
 use Rattle.std.proofs.lemmas.List.{take_more, drop-append-le, drop-drop, take-append-drop, drop_all, map-append}
-use Rattle.std.proofs.lemmas.List.Elements.{All-nil, All-cons, All-head, All-tail, All-same, All-drop, All-append}
+use Rattle.std.proofs.lemmas.List.Elements.{All-nil, All-cons, All-tail, All-same, All-drop, All-append}
 use Rattle.std.specs.List.{concat, filter, AllZip}
 use Rattle.bytes.proofs.Chunks.{concat_push}
 use Rattle.bytes_utils_buf.specs.Segments.{cut_front, cut_at, count_unread, front_of, without_empty, NoneEmpty, FrontUnread, Skips}
@@ -98,11 +98,6 @@ NoneEmpty-Skips n xs ys all s =
     let front : FrontUnread (cut_front s.cut (drop s.passed xs)) = rw (← s.rest) s.front in
     All-same (λ x. 0 < length x) ys _ s.rest (NoneEmpty-cut_front (drop s.passed xs) s.cut (All-drop (λ x. 0 < length x) s.passed xs all) front)
 
-pub get_or-drop_first : (xs : List (List ℕ)) (p : ℕ) → get_or (drop p xs) 0 [] ≡ get_or xs p []
-get_or-drop_first xs zero = refl
-get_or-drop_first [] (suc p) = refl
-get_or-drop_first (x ∷ xs) (suc p) = get_or-drop_first xs p
-
 -- what the element at place k has unread
 pub map_at : {X : Type 0} (f : X → List ℕ) (xs : List X) (k : ℕ) (d : X) → k < length xs → f (get_or xs k d) ≡ get_or (map f xs) k []
 map_at f [] k d h = absurd (omega arith)
@@ -196,10 +191,6 @@ drop-cut_front : (xs : List (List ℕ)) (j p : ℕ) → 0 < p → drop p (cut_fr
 drop-cut_front [] j p h = refl
 drop-cut_front (x ∷ xs) j zero h = absurd (omega arith)
 drop-cut_front (x ∷ xs) j (suc p) h = refl
-
-pub FrontUnread-from_none_empty : (xs : List (List ℕ)) → NoneEmpty xs → FrontUnread xs
-FrontUnread-from_none_empty [] all h = absurd (omega arith)
-FrontUnread-from_none_empty (x ∷ xs) all h = All-head (λ s. 0 < length s) x xs all
 
 cases_zero : (n : ℕ) → (n ≡ 0) ⊎ (0 < n)
 cases_zero zero = inl refl

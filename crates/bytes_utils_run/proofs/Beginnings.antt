@@ -1,25 +1,16 @@
 -- Beginnings of what is to be written, one piece after another.
-use Rattle.std.proofs.Common.{◌≡◌, sym, ap, subst, ◌∙◌, ℕ, ◌+◌, ◌<◌, List, ◌++◌, [], Option, Result, Ok, Err, OnErr, length, take, drop, get_or, take-append-drop, arith, length-append}
+use Rattle.std.proofs.Common.{◌≡◌, sym, ap, subst, ◌∙◌, ℕ, ◌+◌, ◌<◌, List, ◌++◌, Option, Result, Ok, Err, OnErr, length, take, drop, get_or, take-append-drop, arith, length-append}
 use Rattle.std.proofs.Math.Seq.{take-append-add}
 use Rattle.std.proofs.lemmas.List.{take-append-le, take_all, drop_more}
 use Rattle.std.proofs.lemmas.List.Concat.{flat_map-append, flat_map-cons}
-use Rattle.std.proofs.KnownBytes.{Appends-nil, Appends-trans, Appends-kept}
-use Rattle.std.specs.Io.KnownBytes.{Appends, Keeps}
+use Rattle.std.proofs.KnownBytes.{Appends-trans}
+use Rattle.std.specs.Io.KnownBytes.{Appends}
 use Rattle.std.specs.List.{flat_map}
 use Rattle.bytes_utils_run.specs.Moves.{AppendsBeginning}
-
--- what was left as it was has grown by a beginning of anything
-pub AppendsBeginning-none : (a b : Option (List ℕ)) (xs : List ℕ) → Keeps a b → AppendsBeginning a b xs
-AppendsBeginning-none a b xs keeps =
-    (0, omega arith, Appends-kept a a b [] (Appends-nil a) keeps)
 
 -- all of xs is a beginning of it
 pub AppendsBeginning-all : (a b : Option (List ℕ)) (xs : List ℕ) → Appends a b xs → AppendsBeginning a b xs
 AppendsBeginning-all a b xs whole = (length xs, omega arith, subst (Appends a b) (sym (take_all (length xs) xs (omega arith))) whole)
-
--- a flush after a beginning was written
-pub AppendsBeginning-kept : (a b c : Option (List ℕ)) (xs : List ℕ) → AppendsBeginning a b xs → Keeps b c → AppendsBeginning a c xs
-AppendsBeginning-kept a b c xs begun keeps = (begun.0, begun.1, Appends-kept a b c (take begun.0 xs) begun.2 keeps)
 
 -- all of xs was written, and then a beginning of ys
 pub AppendsBeginning-after : (a b c : Option (List ℕ)) (xs ys : List ℕ) → Appends a b xs → AppendsBeginning b c ys → AppendsBeginning a c (xs ++ ys)
