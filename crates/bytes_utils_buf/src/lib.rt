@@ -4,6 +4,7 @@
 pub mod parts;
 mod refused;
 pub mod segmented;
+pub mod whole;
 
 pub use refused::{Reason, Refused};
 
