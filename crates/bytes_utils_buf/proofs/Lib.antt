@@ -1,5 +1,6 @@
 pub mod Accepting
 mod Ledger
 pub mod Lists
+mod Pieces
 pub mod Tables
 pub mod Lent

@@ -1,5 +1,5 @@
 -- Many buffers as one. Their unread lists, front first, are a list of byte lists, and the bytes to read are these joined.
-use Rattle.std.specs.Prelude.{◌≡◌, ℕ, zero, suc, ◌+◌, ◌-◌, ◌<◌, ◌≤◌, List, [], ◌∷◌, ◌++◌, length, drop, All}
+use Rattle.std.specs.Prelude.{◌≡◌, ℕ, zero, suc, ◌+◌, ◌-◌, ◌<◌, ◌≤◌, List, [], ◌∷◌, ◌++◌, length, take, drop, All}
 use Rattle.std.specs.List.{concat}
 use Rattle.bytes_utils_buf.specs.Tally.{Tallied, nothing_counted}
 
@@ -64,6 +64,16 @@ after_accepting held lists =
         turns = held.tally.turns;
       };
     }
+
+-- the first n bytes of these lists, cut where the lists are
+abbrev pub take_bytes : ℕ → List (List ℕ) → List (List ℕ)
+take_bytes zero segments = []
+take_bytes (suc n) [] = []
+take_bytes (suc n) (s ∷ segments) = take (suc n) s ∷ take_bytes (suc n - length s) segments
+
+-- a value that holds these lists, none of which is empty, with a tally of its own
+abbrev pub newly_held : List (List ℕ) → Held
+newly_held lists = record { segments = lists; tally = record { given = length lists; dropped = 0; calls = 0; turns = 0 } }
 
 -- a new value, which holds nothing
 abbrev pub nothing_held : Held

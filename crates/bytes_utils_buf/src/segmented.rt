@@ -2,6 +2,7 @@
 mod buf;
 mod copy;
 mod fill;
+mod pieces;
 mod slice;
 mod sum;
 mod tally;

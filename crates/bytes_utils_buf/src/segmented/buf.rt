@@ -2,12 +2,15 @@
 ghost use Rattle.std.specs.Prelude.{◌≡◌, ◌+◌, ◌^◌, ◌<◌, ◌≤◌, [], ◌∷◌, length, map, drop, IsTrue, ◌↔◌, IfOk, IfErr};
 ghost use Rattle.std.specs.List.{concat};
 ghost use Rattle.bytes_utils_buf.specs.Lent.{as_lent};
-ghost use Rattle.bytes_utils_buf.specs.Segments.{NoneEmpty, nothing_held, Skips};
+ghost use Rattle.bytes_utils_buf.specs.Segments.{NoneEmpty, newly_held, nothing_held, Skips};
 ghost use Rattle.bytes_utils_buf.specs.Tally.{IsBalanced, IsCovered, IsPaid, lined_up};
 
 mod accept;
 mod front;
 mod hand_out;
+mod join;
+mod look;
+mod share;
 
 use super::copy::Segmented;
 use super::tally::Tally;
@@ -80,7 +83,8 @@ impl<B: Buf + Drop> SegmentedBuf<B> {
         self.segments.len()
     }
 
-    /// Whether `n` more bytes leave `remaining` a `usize`. It is the test for `push`.
+    /// Whether `n` more bytes leave `remaining` a `usize`. It is the test for `push`,
+    /// `prepend` and `append`.
     pub fn fits(&self, n: usize) -> bool
         ensures test { IsTrue result ↔ (length (concat self.now.segments) + n < 2 ^ 64) }
         ensures always { length (concat self.now.segments) < 2 ^ 64 }
@@ -120,6 +124,21 @@ impl<B: Buf + Drop> SegmentedBuf<B> {
         skip_held(&mut self.segments, &mut self.tally, cnt);
         self.remaining -= cnt;
     }
+
+    /// These buffers, none of which is empty, with a tally of their own.
+    fn newly_held(segments: VecDeque<B>, remaining: usize) -> SegmentedBuf<B>
+        requires sum { remaining ≡ length (concat (map B.unread segments.items)) }
+        requires none_empty { NoneEmpty (map B.unread segments.items) }
+        ensures { result ≡ newly_held (map B.unread segments.items) }
+    {
+        let mut tally = Tally::new();
+        tally.give(segments.len(), 0);
+        SegmentedBuf {
+            segments,
+            remaining,
+            tally,
+        }
+    }
 }
 
 impl<B: Buf + Clone> SegmentedBuf<B> {
@@ -127,22 +146,13 @@ impl<B: Buf + Clone> SegmentedBuf<B> {
     /// bytes.
     pub fn try_clone(&self) -> Result<SegmentedBuf<B>, Reason>
         requires { (x y : B) → B.is_clone x y → B.unread y ≡ B.unread x }
-        ensures ok { IfOk result (λ all. all ≡ record {
-          segments = self.now.segments;
-          tally = record { given = length self.now.segments; dropped = 0; calls = 0; turns = 0 };
-        }) }
+        ensures ok { IfOk result (λ all. all ≡ newly_held self.now.segments) }
         ensures err { IfErr result (λ reason. reason ≡ Reason.OutOfMemory) }
     {
         let Ok(segments) = self.segments.clone() else {
             return Err(Reason::OutOfMemory);
         };
-        let mut tally = Tally::new();
-        tally.give(segments.len(), 0);
-        Ok(SegmentedBuf {
-            segments,
-            remaining: self.remaining,
-            tally,
-        })
+        Ok(SegmentedBuf::newly_held(segments, self.remaining))
     }
 }
 

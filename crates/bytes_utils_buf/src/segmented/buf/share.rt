@@ -1,0 +1,71 @@
+//! The first bytes, shared where they can be.
+ghost use Rattle.std.specs.Prelude.{◌≡◌, ◌+◌, ◌≤◌, length, map, take, drop, IsOk, IfOk, IfErr, OnOk, OnErr};
+ghost use Rattle.std.specs.List.{concat};
+ghost use Rattle.bytes_utils_buf.specs.Segments.{Skips, newly_held, take_bytes};
+ghost use Rattle.bytes_utils_buf.specs.Tally.{IsPaid, lined_up};
+
+use super::SegmentedBuf;
+use super::front::front_holds;
+use crate::Reason;
+use crate::segmented::pieces::{copy_pieces, share_pieces};
+use crate::whole::BufWhole;
+use bytes::Bytes;
+use std::alloc::Global;
+
+impl<B: BufWhole + Drop> SegmentedBuf<B> {
+    /// The first `len` bytes as segments of their own, which stay here too. `remaining` tests the
+    /// condition.
+    pub fn first(&self, alloc: Global, len: usize) -> Result<SegmentedBuf<Bytes>, Reason>
+        requires { len ≤ length (concat self.now.segments) }
+        ensures ok { IfOk result (λ first. first ≡ newly_held (take_bytes len self.now.segments)) }
+        ensures bytes { IfOk result
+            (λ first. concat first.segments ≡ take len (concat self.now.segments)) }
+        ensures reason { IfErr result (λ reason. reason ≡ Reason.OutOfMemory) }
+        ensures none { len ≡ 0 → IsOk result }
+    {
+        let pieces = share_pieces(&self.segments, alloc, len)?;
+        Ok(SegmentedBuf::newly_held(pieces, len))
+    }
+
+    /// Takes the first `len` bytes off, as segments of their own. A refusal takes none. `remaining`
+    /// tests the condition.
+    pub fn split_to(&mut self, alloc: Global, len: usize) -> Result<SegmentedBuf<Bytes>, Reason>
+        requires { len ≤ length (concat self.old.segments) }
+        ensures ok { IfOk result (λ first. first ≡ newly_held (take_bytes len self.old.segments)) }
+        ensures bytes { IfOk result
+            (λ first. concat first.segments ≡ take len (concat self.old.segments)) }
+        ensures rest { OnOk result (concat self.new.segments ≡ drop len (concat self.old.segments)) }
+        ensures skips { OnOk result (Skips len self.old.segments self.new.segments) }
+        ensures err { OnErr result (self.new ≡ self.old) }
+        ensures reason { IfErr result (λ reason. reason ≡ Reason.OutOfMemory) }
+        ensures none { len ≡ 0 → IsOk result }
+
+        // Each segment that is passed takes one turn, on this value's own tally.
+        ensures turns { OnOk result (lined_up self.new.segments self.new.tally
+            ≡ lined_up self.old.segments self.old.tally) }
+        ensures given { OnOk result (self.new.tally.given ≡ self.old.tally.given) }
+        ensures dropped { OnOk result (self.new.tally.dropped ≡ self.old.tally.dropped) }
+        ensures calls { OnOk result (self.new.tally.calls ≡ self.old.tally.calls + 1) }
+        ensures paid { IsPaid self.old.segments self.old.tally self.new.segments self.new.tally }
+    {
+        let first = self.first(alloc, len)?;
+        self.advance(len);
+        Ok(first)
+    }
+
+    /// The first `len` bytes in one, which stay here too. Where the first segment holds them it is
+    /// asked alone; else they are copied into one block. `remaining` tests the condition.
+    pub fn copy_front(&self, alloc: Global, len: usize) -> Result<Bytes, Reason>
+        requires { len ≤ length (concat self.now.segments) }
+        ensures value { IfOk result (λ copy. copy ≡ take len (concat self.now.segments)) }
+        ensures reason { IfErr result (λ reason. reason ≡ Reason.OutOfMemory) }
+        ensures none { len ≡ 0 → IsOk result }
+    {
+        if front_holds(&self.segments, len) {
+            return self.segments[0].first(alloc, len);
+        }
+        let mut copy = Vec::with_capacity(alloc, len)?;
+        copy_pieces(&self.segments, &mut copy, len);
+        Ok(Bytes::from_vec(copy)?)
+    }
+}
