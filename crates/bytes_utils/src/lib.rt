@@ -9,7 +9,7 @@ pub mod json;
 pub mod split;
 pub mod string;
 
-pub use bytes_utils_buf::{Reason, Refused, parts, segmented};
+pub use bytes_utils_buf::{Reason, Refused, parts, segmented, whole};
 pub use segmented::{SegmentedBuf, SegmentedSlice};
 pub use string::{Str, StrMut};
 

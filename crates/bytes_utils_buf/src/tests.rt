@@ -5,6 +5,8 @@ mod buf;
 mod caller;
 mod copies;
 mod fixtures;
+mod front;
+mod join;
 mod looks;
 mod many;
 mod memory;

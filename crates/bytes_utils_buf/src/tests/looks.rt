@@ -135,6 +135,21 @@ fn copy_looks_at_no_more(rt: HostRuntime) -> Result<(), Fail> {
     Ok(())
 }
 
+// What holds the first ten bytes is looked at, and none is advanced.
+#[test]
+fn first_looks_at_no_more(rt: HostRuntime) -> Result<(), Fail> {
+    let buf = pushed(&rt, rt.alloc(), 20)?;
+    assert!(rt; buf.remaining() >= 10);
+    assert_eq!(rt; buf.peek(&mut [0; 10]), 10);
+    assert!(rt; buf.starts_with(b"xxxxxxxxxx") && !buf.starts_with(b"xy"));
+    assert_eq!(rt; buf.copy_front(rt.alloc(), 10)?.len(), 10);
+    assert_eq!(rt; buf.first(rt.alloc(), 10)?.segments(), 10);
+    let left = buf.into_inner().into_vec();
+    assert!(rt; left.iter().all(|buf| buf.advanced == 0));
+    assert_untouched(&rt, &left, 10);
+    Ok(())
+}
+
 #[test]
 fn lent_copy_looks_at_no_more(rt: HostRuntime) -> Result<(), Fail> {
     let mut bufs = thousand(rt.alloc())?;

@@ -1,6 +1,8 @@
 //! What a call answers and leaves where its request for memory is refused. Each of these tests
 //! passes whichever single request of its run is refused, and then says whose it was. A test that
 //! can't make its buffers ends well.
+mod front;
+
 use super::fixtures;
 use super::fixtures::{
     FOUR, JOINED, assert_bytes, assert_fills, assert_reads, bytes_of, collect, gather, lend, skip,

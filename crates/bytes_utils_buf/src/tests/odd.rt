@@ -2,6 +2,7 @@
 ghost use Rattle.std.specs.Prelude.{◌≡◌, List, ℕ, replicate};
 
 use crate::parts::{BufParts, CopyRefused};
+use crate::whole::BufWhole;
 use bytes::{Buf, Bytes};
 use std::alloc::Global;
 use std::cell::Cell;
@@ -85,5 +86,13 @@ impl BufParts for Asked {
     fn chunks_into<'s>(&'s self, dst: &mut [&'s [u8]]) -> usize {
         self.look();
         self.bytes.chunks_into(dst)
+    }
+}
+
+// It keeps the trait's own `first`.
+impl BufWhole for Asked {
+    fn whole(&self) -> &[u8] {
+        self.look();
+        self.bytes.as_slice()
     }
 }
