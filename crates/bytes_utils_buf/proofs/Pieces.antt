@@ -1,5 +1,5 @@
 -- The first bytes of many lists, taken list by list.
-use Rattle.std.proofs.Common.{◌≡◌, ◌≢◌, ℕ, ◌+◌, ◌-◌, ◌<◌, ◌≤◌, List, [], ◌∷◌, ◌++◌, zero, suc, length, take, drop, min, get_or, ap, ◌∙◌, sym, refl, arith, append_assoc, append-nil, length-append, length-drop, length-take}
+use Rattle.std.proofs.Common.{◌≡◌, ◌≢◌, ℕ, ◌+◌, ◌-◌, ◌<◌, ◌≤◌, List, [], ◌∷◌, ◌++◌, zero, suc, length, take, drop, min, get_or, ap, ◌∙◌, sym, refl, arith, append_assoc, length-append, length-drop, length-take}
 use Rattle.std.proofs.lemmas.List.{append_cancel_left, drop_more, take_min}
 use Rattle.std.proofs.lemmas.List.Elements.{All-nil, All-cons, All-head, All-tail}
 use Rattle.std.specs.List.{concat}
@@ -7,7 +7,7 @@ use Rattle.bytes.proofs.Chunks.{concat_some}
 use Rattle.bytes_utils_buf.specs.Segments.{take_bytes, NoneEmpty}
 
 -- what is wanted of the first list, and then of those behind it
-pub take_first : (n : ℕ) (x ys : List ℕ) → take n (x ++ ys) ≡ take n x ++ take (n - length (take n x)) ys
+take_first : (n : ℕ) (x ys : List ℕ) → take n (x ++ ys) ≡ take n x ++ take (n - length (take n x)) ys
 take_first zero x ys = refl
 take_first (suc n) [] ys = let d : suc n - 0 ≡ suc n = omega arith in rw d refl
 take_first (suc n) (b ∷ x) ys =
@@ -24,16 +24,13 @@ pub record Has (xs : List (List ℕ)) (wanted : ℕ) (had : List ℕ) (i : ℕ) 
   pub enough : wanted - length had ≤ length (concat (drop i xs))
   pub bytes : had ++ take (wanted - length had) (concat (drop i xs)) ≡ take wanted (concat xs)
 
-pub Has-inside : (xs : List (List ℕ)) (wanted : ℕ) (had : List ℕ) (i : ℕ) → Has xs wanted had i → length had < wanted → i < length xs
-Has-inside xs wanted had i h more = inside xs i (wanted - length had) (omega (arith, more)) h.enough
-
 pub Has-more : (xs : List (List ℕ)) (wanted : ℕ) (had piece : List ℕ) (i : ℕ) → Has xs wanted had i → length had < wanted
     → piece ≡ take (wanted - length had) (get_or xs i []) → Has xs wanted (had ++ piece) (i + 1)
 Has-more xs wanted had piece i h more is =
     let n = wanted - length had in
     let x = get_or xs i [] in
     let rest = concat (drop (i + 1) xs) in
-    let lists : concat (drop i xs) ≡ x ++ rest = ap concat (drop_more xs i [] (Has-inside xs wanted had i h more)) in
+    let lists : concat (drop i xs) ≡ x ++ rest = ap concat (drop_more xs i [] (inside xs i n (omega (arith, more)) h.enough)) in
     let size = length-append had piece in
     let part : length piece ≡ min n (length x) = ap length is ∙ length-take n x in
     let left : wanted - length (had ++ piece) ≡ n - length piece = omega (arith, size) in
@@ -43,11 +40,6 @@ Has-more xs wanted had piece i h more is =
       bytes = append_assoc had piece _ ∙ ap (λ m. had ++ (piece ++ take m rest)) left
           ∙ ap (λ l. had ++ (l ++ take (n - length l) rest)) is ∙ ap (λ l. had ++ l) (sym (take_first n x rest) ∙ ap (take n) (sym lists)) ∙ h.bytes;
     }
-
-pub Has-all : (xs : List (List ℕ)) (wanted : ℕ) (had : List ℕ) (i : ℕ) → Has xs wanted had i → wanted ≤ length had → had ≡ take wanted (concat xs)
-Has-all xs wanted had i h all =
-    let none : wanted - length had ≡ 0 = omega (arith, all) in
-    sym (ap (λ m. had ++ take m (concat (drop i xs))) none ∙ append-nil had) ∙ h.bytes
 
 -- ---- a text that the lists may begin with
 
@@ -81,21 +73,24 @@ Matches-differs xs text rest piece i m some is none same =
     let behind = take (length text - length (m.front ++ piece)) (concat (drop (i + 1) xs)) in
     none behind (append_cancel_left m.front rest (piece ++ behind) (sym m.split ∙ sym same ∙ sym h.bytes ∙ append_assoc m.front piece behind))
 
-pub Matches-all : (xs : List (List ℕ)) (text rest : List ℕ) (i : ℕ) → Matches xs text rest i → length rest ≡ 0 → take (length text) (concat xs) ≡ text
-Matches-all xs text rest i m none =
-    let size = ap length m.split ∙ length-append m.front rest in
-    let whole : length text ≤ length m.front = omega (arith, size, none) in
-    sym (Has-all xs (length text) m.front i m.has whole) ∙ sym (append-nil m.front) ∙ ap (λ l. m.front ++ l) (sym (nil rest none)) ∙ sym m.split
-  where
-    nil : (l : List ℕ) → length l ≡ 0 → l ≡ []
-    nil [] e = refl
-    nil (b ∷ l) e = absurd (omega arith)
-
 -- ---- the same, list by list
 
-pub take_bytes-more : (xs : List (List ℕ)) (i n count : ℕ) → 0 < n → i < length xs → count ≡ min (length (get_or xs i [])) n
-    → take_bytes n (drop i xs) ≡ take count (get_or xs i []) ∷ take_bytes (n - count) (drop (i + 1) xs)
-take_bytes-more xs i n count some here is = ap (take_bytes n) (drop_more xs i [] here) ∙ by n (get_or xs i []) (drop (i + 1) xs) count some is
+-- so many bytes are wanted of the lists: these lists are the first of them, and those left are in the lists from place i on
+pub record Gives (xs : List (List ℕ)) (wanted left : ℕ) (given : List (List ℕ)) (i : ℕ) : Type 0 where
+  pub enough : left ≤ length (concat (drop i xs))
+  pub lists : given ++ take_bytes left (drop i xs) ≡ take_bytes wanted xs
+
+pub Gives-more : (xs : List (List ℕ)) (wanted left count : ℕ) (given : List (List ℕ)) (i : ℕ) → Gives xs wanted left given i → 0 < left
+    → count ≡ min (length (get_or xs i [])) left → Gives xs wanted (left - count) (given ++ take count (get_or xs i []) ∷ []) (i + 1)
+Gives-more xs wanted left count given i h some is =
+    let x = get_or xs i [] in
+    let rest = drop (i + 1) xs in
+    let here = drop_more xs i [] (inside xs i left some h.enough) in
+    record {
+      enough = omega (arith, is, h.enough, ap (λ l. length (concat l)) here, length-append x (concat rest));
+      lists = append_assoc given (take count x ∷ []) (take_bytes (left - count) rest)
+          ∙ ap (λ l. given ++ l) (sym (ap (take_bytes left) here ∙ by left x rest count some is)) ∙ h.lists;
+    }
   where
     by : (n : ℕ) (x : List ℕ) (ys : List (List ℕ)) (count : ℕ) → 0 < n → count ≡ min (length x) n → take_bytes n (x ∷ ys) ≡ take count x ∷ take_bytes (n - count) ys
     by zero x ys count some is = absurd (omega arith)

@@ -82,8 +82,9 @@ pub(super) fn share_pieces<B: BufWhole>(
     let mut left = len;
     let mut place = 0;
     while left > 0 {
-        let count = bufs[place].remaining().min(left);
-        pieces.push_back(bufs[place].first(alloc, count)?)?;
+        let buf = &bufs[place];
+        let count = buf.remaining().min(left);
+        pieces.push_back(buf.first(alloc, count)?)?;
         left -= count;
         place += 1;
     }
