@@ -161,9 +161,6 @@ module _ (is_space : ℕ → Bool) where
     pub word-some : 0 < size
     word-some = size_some size is.ends
 
-    pub word-boundary : IsCharBoundary text (start + size)
-    word-boundary = IsCharBoundary-from_rest text start size starts.0 is.boundary
-
     pub space-before : 0 < start → HoldsSpace is_space (Some text)
     space-before some =
         let front = take start text in

@@ -1,5 +1,6 @@
 -- Headers, line by line.
-use Rattle.std.proofs.Common.{◌≡◌, refl, sym, ap, subst, ◌∙◌, ℕ, ◌+◌, ◌<◌, ◌≤◌, List, [], ◌∷◌, ◌++◌, Option, Some, length, arith, lit<}
+use Rattle.std.proofs.Common.{◌≡◌, refl, sym, ap, subst, ◌∙◌, ℕ, ◌+◌, ◌<◌, ◌≤◌, List, [], ◌∷◌, ◌++◌, Option, Some, None, Result, Ok, Err, IfOk, MatchOption, length, arith, rules, lit<}
+use Rattle.std.specs.Option.{option_transpose, option_zip}
 use Rattle.std.proofs.lemmas.Str.{chars-nil}
 use Rattle.std.specs.Str.{chars}
 use Rattle.bytes_utils.proofs.ToCome.{one_of_lines}
@@ -7,7 +8,7 @@ use Rattle.bytes_utils.specs.Lines.{AreLinesToCome}
 use Rattle.bytes_utils.specs.Occurrence.{Occurs}
 use Rattle.bytes_utils.specs.Parts.{AreForwardParts}
 use Rattle.bytes_utils.specs.Splitting.{Splitting, AreForwardPartsToCome, all_of}
-use Rattle.bytes_utils.specs.Step.{GivesFirst}
+use Rattle.bytes_utils.specs.Step.{GivesFirst, IsStep}
 use Rattle.bytes_utils.specs.Segments.{front_of}
 use Rattle.bytes_utils_run.specs.Headers.{AreHeaders, BeginWith, IsHeader, LacksSeparator, colon}
 
@@ -24,20 +25,20 @@ two_parts {coming = coming} {s = s} {a = a} {b = b} few first second = from seco
 one_part : (t p a : List ℕ) → AreForwardParts t p (Some 2) (a ∷ []) → ¬ Occurs p t
 one_part t p a h = let none = h.last (lit< tt) in subst (λ x. ¬ Occurs p x) h.joined none
 
-few_parts : (line : List ℕ) (parts : List (List ℕ)) → AreForwardPartsToCome (all_of line colon (Some 2)) parts → length parts ≤ 2
+-- a line's first two parts, if there are two, are its name and its value, and without a second the line holds no separator
+pub header-told : {E : Type 0} (cuts : Splitting → Type 0) (refuses : E → Type 0) (line : List ℕ) (a b : Option (Result (List ℕ) E)) {s : Splitting} (t u : Splitting)
+    → s ≡ all_of line colon (Some 2) → IsStep AreForwardPartsToCome cuts refuses s a t → IsStep AreForwardPartsToCome cuts refuses t b u
+    → IfOk (option_transpose a) (λ name. IfOk (option_transpose b) (λ value. MatchOption (option_zip name value) (¬ Occurs colon (chars line)) (IsHeader (chars line))))
 unfolding chars
-few_parts line parts are = are.few
-
-pub header-given : (line name value : List ℕ) {s t u : Splitting} → s ≡ all_of line colon (Some 2) → GivesFirst AreForwardPartsToCome s (chars name) t
-    → GivesFirst AreForwardPartsToCome t (chars value) u → IsHeader (chars line) (name, value)
-unfolding chars
-header-given line name value {t = t} is first second =
-    two_parts {coming = AreForwardPartsToCome} (few_parts line) (subst (λ w. GivesFirst AreForwardPartsToCome w (chars name) t) is first) second
-
-pub none-given : (line name : List ℕ) {s t : Splitting} → s ≡ all_of line colon (Some 2) → GivesFirst AreForwardPartsToCome s (chars name) t
-    → AreForwardPartsToCome t [] → ¬ Occurs colon (chars line)
-unfolding chars
-none-given line name is first none = one_part (chars line) colon (chars name) (subst (λ w. AreForwardPartsToCome w (chars name ∷ [])) is (first.each [] none))
+header-told _ _ line None b t u is first second =
+    let are : AreForwardParts (chars line) colon (Some 2) [] = subst (λ w. AreForwardPartsToCome w []) is first.0 in
+    absurd (omega (arith, are.some))
+header-told _ _ line (Some (Err _)) b t u is first second = tt
+header-told _ _ line (Some (Ok name)) None t u is first second =
+    one_part (chars line) colon (chars name) (subst (λ w. AreForwardPartsToCome w (chars name ∷ [])) is (first.gives.each [] second.0))
+header-told _ _ line (Some (Ok name)) (Some (Err _)) t u is first second = tt
+header-told _ _ line (Some (Ok name)) (Some (Ok value)) t u is first second =
+    two_parts {coming = AreForwardPartsToCome} (λ parts are. are.few) (subst (λ w. GivesFirst AreForwardPartsToCome w (chars name) t) is first.gives) second.gives
 
 no_chars : (line : List ℕ) → length line ≡ 0 → chars line ≡ []
 no_chars [] none = chars-nil

@@ -1,5 +1,5 @@
 //! Headers, each with a name and a value, which are owned.
-ghost use Rattle.std.specs.Prelude.{◌≡◌, ◌⊎◌, ⊤, IfOk, IfErr, IfSome, MatchOption};
+ghost use Rattle.std.specs.Prelude.{◌≡◌, ◌⊎◌, IfOk, IfErr, MatchOption};
 ghost use Rattle.std.specs.Str.{chars};
 ghost use Rattle.bytes_utils.specs.Lines.{lines};
 ghost use Rattle.bytes_utils.specs.Occurrence.{Occurs};
@@ -38,19 +38,15 @@ impl<T: Drop> From<AllocFailed<T>> for HeaderFault {
 
 /// The name and the value of a line, or `None` where it has no colon with a space behind it.
 fn header_of<S: Storage>(line: StrInner<S>) -> Result<Option<(StrInner<S>, StrInner<S>)>, Reason>
-    ensures some { IfOk result (λ o. IfSome o (λ header. IsHeader (chars line) header)) }
-    ensures none { IfOk result (λ o. MatchOption o (¬ Occurs colon (chars line)) (λ _. ⊤)) }
+    ensures ok { IfOk result
+        (λ o. MatchOption o (¬ Occurs colon (chars line)) (λ header. IsHeader (chars line) header)) }
     ensures reason { IfErr result S.refuses }
 {
     let mut parts = line.splitn_bytes(2, ": ");
-    let Some(name) = parts.next() else {
-        return Ok(None);
-    };
-    let name = name?;
-    let Some(value) = parts.next() else {
-        return Ok(None);
-    };
-    Ok(Some((name, value?)))
+    let name = parts.next().transpose();
+    let value = parts.next().transpose();
+    drop(parts); // once, and not at each return
+    Ok(name?.zip(value?))
 }
 
 /// The headers of a text, a line for each, up to the first empty line or the end.

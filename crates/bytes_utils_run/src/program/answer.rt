@@ -76,9 +76,7 @@ pub(super) fn answer_to(alloc: Global, input: &Str) -> Result<Answer<'_>, Fault>
     let Some(command) = read_command(&input.as_str()[..end]) else {
         return Err(Fault::UnknownCommand);
     };
-    let Ok(text) = input.slice_from(next) else {
-        return Err(Fault::OutOfMemory);
-    };
+    let text = input.slice_from(next)?;
     match command {
         Command::Cut(how) => Ok(Answer::Splitter(AnySplitter::new(text, how))),
         Command::Buf => {

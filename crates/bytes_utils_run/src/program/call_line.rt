@@ -73,10 +73,7 @@ fn pushed(line: &Str) -> Result<Bytes, Fault>
     let Some(text) = behind(line.as_str(), "push ") else {
         return Err(Fault::UnknownCommand);
     };
-    match line.slice_from(line.as_str().len() - text.len()) {
-        Ok(text) => Ok(text.into_inner()),
-        Err(_) => Err(Fault::OutOfMemory),
-    }
+    Ok(line.slice_from(line.as_str().len() - text.len())?.into_inner())
 }
 
 /// The call that a line asks for.
@@ -106,9 +103,7 @@ pub(super) fn calls_of(alloc: Global, text: Str) -> Result<Vec<Call<Bytes>>, Fau
 {
     let mut calls = Vec::new(alloc);
     for line in text.lines_bytes() {
-        let Ok(line) = line else {
-            return Err(Fault::OutOfMemory);
-        };
+        let line = line?;
         let call = call_of(&line)?;
         if calls.push(call).is_err() {
             return Err(Fault::OutOfMemory);

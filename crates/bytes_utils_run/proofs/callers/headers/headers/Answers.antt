@@ -1,11 +1,8 @@
-use Rattle.std.proofs.Common.{◌≡◌, subst, ◌+◌, ◌<◌, arith, length, IfSome, MatchOption}
+use Rattle.std.proofs.Common.{◌≡◌, subst, ◌+◌, ◌<◌, arith, length}
 use Rattle.std.proofs.lemmas.Grind.{common_steps}
-use Rattle.std.specs.Prelude.{⊤}
-use Rattle.std.specs.Str.{chars, IsUtf8}
+use Rattle.std.specs.Str.{IsUtf8}
 use Rattle.bytes_utils.proofs.Search.{chars-some}
 use Rattle.bytes_utils.proofs.Steps.{given}
-use Rattle.bytes_utils.specs.Occurrence.{Occurs}
-use Rattle.bytes_utils_run.specs.Headers.{IsHeader, colon}
 use Rattle.bytes_utils_run.proofs.HeaderLines.{SoFar-empty, SoFar-more, SoFar-lacks}
 use Rattle.bytes_utils_run.proofs.callers.headers.headers.Goals as goal
 
@@ -20,10 +17,10 @@ returns-in_default-clause-no_separator g c =
     let count : number ≡ length c.loop-line.headers.items + 1 = let e : c.len.result + 1 ≡ number = cc in grind (arith, common_steps, e, c.len.ensures) in
     SoFar-lacks c.loop-line.invariant c.in_ok-line.line (given c.in_ok-line.was c.in-Some.ensures.steps) number count
     (chars-some c.in_ok-line.line (subst IsUtf8 c.line.view_is c.line.invariant) some)
-    (subst (λ o. MatchOption o (¬ Occurs colon (chars c.in_ok-line.line)) (λ _. ⊤)) c.in_default.is c.in_ok-header.ensures.none)
+    (rw c.in_default.is at c.in_ok-header.ensures.ok)
 
 pub loop-line-preserved : goal.loop-line-preserved
 loop-line-preserved g c =
     SoFar-more c.loop-line.invariant c.in_ok-line.line (given c.in_ok-line.was c.in-Some.ensures.steps) c.in-Some-2.header
-    (subst (λ o. IfSome o (λ header. IsHeader (chars c.in_ok-line.line) header)) c.in-Some-2.is c.in_ok-header.ensures.some)
+    (rw c.in-Some-2.is at c.in_ok-header.ensures.ok)
     c.in_ok-push.ensures.items
