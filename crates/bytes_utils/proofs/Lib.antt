@@ -33,3 +33,6 @@ pub mod Chunks
 pub mod Cases
 pub mod Building
 pub mod AsciiCase
+pub mod Pieces
+pub mod Searching
+pub mod Framing

@@ -12,6 +12,8 @@ pub mod Keeping
 pub mod Walk
 pub mod Errors
 pub mod Json
+pub mod Frames
+pub mod FrameSearch
 -- the definitions on buffers, for callers that name them
 pub use Rattle.bytes_utils_buf.specs.Segments
 pub use Rattle.bytes_utils_buf.specs.Tally

@@ -5,6 +5,7 @@
 //! of the same names on `str` mean.
 #![tactic(auto)]
 
+pub mod frame;
 pub mod json;
 pub mod split;
 pub mod string;

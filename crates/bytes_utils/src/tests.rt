@@ -8,6 +8,7 @@ mod closure;
 mod compare;
 mod errors;
 mod format;
+mod frames;
 mod hints;
 mod inclusive;
 mod json;

@@ -1,0 +1,107 @@
+-- Frames out of pieces.
+use Rattle.std.proofs.Common.{◌≡◌, ℕ, ◌+◌, ◌<◌, List, [], ◌∷◌, ◌++◌, length, take, drop, None, Some, ap, ◌∙◌, sym, refl, subst, arith, length-append, append_assoc, append-nil, take-append-drop, ⊎_elim}
+use Rattle.std.proofs.lemmas.Bool.{cases_lt}
+use Rattle.std.proofs.lemmas.List.{append_cancel_left, length-take-le}
+use Rattle.memchr.specs.Find.{FindsNeedle}
+use Rattle.memchr.proofs.lemmas.MatchLemmas.{OccursAt-part, OccursAt-split}
+use Rattle.bytes_utils.specs.Occurrence.{Occurs, OccursFirstAt}
+use Rattle.bytes_utils.specs.Parts.{AreForwardParts}
+use Rattle.bytes_utils.specs.Frames.{TakesFrame, FrameEvent, Pushed, Given, IsFrameRun, pushed_by, given_by, AreFrames, FramesLaw, FramePartsLaw, SameFramesLaw, AllFramesLaw}
+use Rattle.bytes_utils.proofs.Boundaries.{OccursAt-fits, HasNeedleAt-from_occurs}
+use Rattle.bytes_utils.proofs.Occurrences.{OccursFirstAt-append, OccursFirstAt-front, first_places_same}
+use Rattle.bytes_utils.proofs.Joins.{append_same}
+use Rattle.bytes_utils.proofs.Forward.{AreForwardParts-led, AreForwardParts-last}
+
+-- ---- a frame comes out
+
+module _ (p held : List ℕ) (some : 0 < length p) where
+  pub TakesFrame-found : (at : ℕ) → FindsNeedle held p 0 (Some at) → TakesFrame p held (take at held) (drop (at + length p) held)
+  TakesFrame-found at found =
+      let fits = found.1.fits in
+      let size : length (take at held) ≡ at = length-take-le at held (omega arith) in
+      record {
+        bytes = sym (take-append-drop at held) ∙ ap (λ l. take at held ++ l) (OccursAt-split held p at found.1);
+        first = subst (OccursFirstAt p held) (sym size) (record {
+          here = OccursAt-part held p at found.1;
+          none_before = λ j there.
+              ⊎_elim (λ below. absurd (found.0.before j (omega arith) below (HasNeedleAt-from_occurs p held j some there))) (λ from. from) (cases_lt j at);
+        });
+      }
+
+  pub lacks_missed : FindsNeedle held p 0 None → ¬ Occurs p held
+  lacks_missed missed occurs =
+      let fits = OccursAt-fits p held occurs.0 some occurs.1 in
+      missed occurs.0 (omega arith) (omega (arith, fits)) (HasNeedleAt-from_occurs p held occurs.0 some occurs.1)
+
+-- ---- runs
+
+first_more : (p xs ys : List ℕ) (i : ℕ) → OccursFirstAt p xs i → OccursFirstAt p (xs ++ ys) i
+first_more [] xs ys i first = record { here = refl; none_before = λ j there. omega (arith, first.none_before 0 refl) }
+first_more (x ∷ p) xs ys i first = OccursFirstAt-append (x ∷ p) xs ys i (omega arith) first
+
+TakesFrame-more : (p old frame rest piece : List ℕ) → TakesFrame p old frame rest → TakesFrame p (old ++ piece) frame (rest ++ piece)
+TakesFrame-more p old frame rest piece takes = record {
+  bytes = ap (λ l. l ++ piece) takes.bytes ∙ append_assoc frame (p ++ rest) piece ∙ ap (λ l. frame ++ l) (append_assoc p rest piece);
+  first = first_more p old piece (length frame) takes.first;
+}
+
+AreFrames-more : (p bytes : List ℕ) (frames : List (List ℕ)) (rest piece : List ℕ) → AreFrames p bytes frames rest → AreFrames p (bytes ++ piece) frames (rest ++ piece)
+AreFrames-more p bytes [] rest piece are = ap (λ l. l ++ piece) are
+AreFrames-more p bytes (frame ∷ frames) rest piece are =
+    (are.0 ++ piece, TakesFrame-more p bytes frame are.0 piece are.1, AreFrames-more p are.0 frames rest piece are.2)
+
+AreFrames-next : (p bytes : List ℕ) (frames : List (List ℕ)) (held frame rest : List ℕ) → AreFrames p bytes frames held → TakesFrame p held frame rest
+    → AreFrames p bytes (frames ++ frame ∷ []) rest
+AreFrames-next p bytes [] held frame rest are takes = (rest, subst (λ l. TakesFrame p l frame rest) (sym are) takes, refl)
+AreFrames-next p bytes (x ∷ frames) held frame rest are takes = (are.0, are.1, AreFrames-next p are.0 frames held frame rest are.2 takes)
+
+AreFrames-run : (p bytes : List ℕ) (frames : List (List ℕ)) (held : List ℕ) (events : List FrameEvent) (end : List ℕ) → AreFrames p bytes frames held → IsFrameRun p held events end
+    → AreFrames p (bytes ++ pushed_by events) (frames ++ given_by events) end
+AreFrames-run p bytes frames held [] end are run = rw (append-nil bytes, append-nil frames) (subst (AreFrames p bytes frames) (sym run) are)
+AreFrames-run p bytes frames held (Pushed piece ∷ events) end are run =
+    rw (← append_assoc bytes piece (pushed_by events)) (AreFrames-run p (bytes ++ piece) frames (held ++ piece) events end (AreFrames-more p bytes frames held piece are) run)
+AreFrames-run p bytes frames held (Given frame ∷ events) end are run =
+    let later = AreFrames-run p bytes (frames ++ frame ∷ []) run.0 events end (AreFrames-next p bytes frames held frame run.0 are run.1) run.2 in
+    rw (append_assoc frames (frame ∷ []) (given_by events)) at later
+
+pub frames_law : FramesLaw
+frames_law p events end run = AreFrames-run p [] [] [] events end refl run
+
+-- ---- one list of frames
+
+frame_parts : (p bytes : List ℕ) (frames : List (List ℕ)) (rest : List ℕ) → 0 < length p → AreFrames p bytes frames rest → (¬ Occurs p rest)
+    → AreForwardParts bytes p None (frames ++ rest ∷ [])
+frame_parts p bytes [] rest some are lacks = subst (λ l. AreForwardParts l p None (rest ∷ [])) (sym are) (AreForwardParts-last p rest None tt lacks)
+frame_parts p bytes (frame ∷ frames) rest some are lacks =
+    let takes = are.1 in
+    let whole = takes.bytes ∙ sym (append_assoc frame p are.0) in
+    let first = OccursFirstAt-front p (frame ++ p) are.0 (length frame) some (subst (λ l. OccursFirstAt p l (length frame)) whole takes.first) (omega (arith, length-append frame p)) in
+    subst (λ l. AreForwardParts l p None (frame ∷ (frames ++ rest ∷ []))) (sym takes.bytes)
+    (AreForwardParts-led p frame are.0 None tt first (frames ++ rest ∷ []) (frame_parts p are.0 frames rest some are.2 lacks))
+
+pub frame_parts_law : FramePartsLaw
+frame_parts_law [] bytes frames rest are lacks = absurd (lacks (0, refl))
+frame_parts_law (x ∷ p) bytes frames rest are lacks = frame_parts (x ∷ p) bytes frames rest (omega arith) are lacks
+
+TakesFrame-same : (p bytes f g x y : List ℕ) → TakesFrame p bytes f x → TakesFrame p bytes g y → (f ≡ g) × (x ≡ y)
+TakesFrame-same p bytes f g x y s t =
+    let same = append_same f g (p ++ x) (p ++ y) (first_places_same p bytes (length f) (length g) s.first t.first) (sym s.bytes ∙ t.bytes) in
+    (same.0, append_cancel_left p x y same.1)
+
+pub same_frames_law : SameFramesLaw
+same_frames_law p bytes [] [] x y a b size = (refl, sym a ∙ b)
+same_frames_law p bytes [] (g ∷ ys) x y a b size = absurd (omega (arith, size))
+same_frames_law p bytes (f ∷ xs) [] x y a b size = absurd (omega (arith, size))
+same_frames_law p bytes (f ∷ xs) (g ∷ ys) x y a b size =
+    let same = TakesFrame-same p bytes f g a.0 b.0 a.1 b.1 in
+    let later = same_frames_law p b.0 xs ys x y (subst (λ l. AreFrames p l xs x) same.1 a.2) b.2 (omega (arith, size)) in
+    ((λ i. same.0 i ∷ later.0 i), later.1)
+
+pub all_frames_law : AllFramesLaw
+all_frames_law p bytes [] [] x y a b none_x none_y = (refl, sym a ∙ b)
+all_frames_law p bytes [] (g ∷ ys) x y a b none_x none_y = absurd (none_x (subst (Occurs p) a (length g, b.1.first.here)))
+all_frames_law p bytes (f ∷ xs) [] x y a b none_x none_y = absurd (none_y (subst (Occurs p) b (length f, a.1.first.here)))
+all_frames_law p bytes (f ∷ xs) (g ∷ ys) x y a b none_x none_y =
+    let same = TakesFrame-same p bytes f g a.0 b.0 a.1 b.1 in
+    let later = all_frames_law p b.0 xs ys x y (subst (λ l. AreFrames p l xs x) same.1 a.2) b.2 none_x none_y in
+    ((λ i. same.0 i ∷ later.0 i), later.1)

@@ -1,0 +1,153 @@
+-- What a search of a part says of all bytes.
+use Rattle.std.proofs.Common.{◌≡◌, ℕ, ◌+◌, ◌-◌, ◌<◌, ◌≤◌, List, [], ◌∷◌, ◌++◌, length, take, drop, get_or, None, Some, ap, ◌∙◌, sym, refl, subst, arith, length-append, length-drop, length-take, append_assoc, append-nil, drop-drop, drop_at, get_or-drop, take-append-drop, ⊎_elim}
+use Rattle.std.proofs.lemmas.List.{get_or_append_left, drop-append-le, take-append-le}
+use Rattle.std.proofs.lemmas.Bool.{cases_lt}
+use Rattle.memchr.specs.Find.{Nowhere, OccursAt, FindsNeedle}
+use Rattle.bytes_utils.specs.FrameSearch.{HoldsBack, Searched, SearchedPieces}
+use Rattle.bytes_utils.specs.declared.frame.search.Progress.{Progress}
+
+-- a part of all bytes that begins at place `base`, with more behind it
+module _ (all p part more : List ℕ) (base : ℕ) (within : base ≤ length all) (bytes : drop base all ≡ part ++ more) where
+  size : base + (length part + length more) ≡ length all
+  size = omega (arith, ap length bytes, length-append part more, length-drop base all, within)
+
+  pub reads_part : (k : ℕ) → k < length part → get_or all (base + k) 0 ≡ get_or part k 0
+  reads_part k inside = sym (get_or-drop base all k 0) ∙ ap (λ l. get_or l k 0) bytes ∙ get_or_append_left part more 0 k inside
+
+  occurs_in_all : (k : ℕ) → OccursAt part p k → OccursAt all p (base + k)
+  occurs_in_all k here =
+      let fits = here.fits in
+      record {
+        fits = omega (arith, size, fits);
+        reads = λ j l.
+            let at : base + k + j ≡ base + (k + j) = omega arith in
+            ap (λ n. get_or all n 0) at ∙ reads_part (k + j) (omega arith) ∙ here.reads j l;
+      }
+
+  pub occurs_in_part : (j : ℕ) → base ≤ j → j + length p ≤ base + length part → OccursAt all p j → OccursAt part p (j - base)
+  occurs_in_part j low fits here =
+      record {
+        fits = omega arith;
+        reads = λ i l.
+            let at : base + ((j - base) + i) ≡ j + i = omega arith in
+            sym (reads_part ((j - base) + i) (omega arith)) ∙ ap (λ n. get_or all n 0) at ∙ here.reads i l;
+      }
+
+  -- what is found first in the part is first of all, if nothing begins before the part
+  pub found_in_part : (k at : ℕ) → at ≡ base + k → Nowhere (OccursAt all p) 0 base → FindsNeedle part p 0 (Some k) → FindsNeedle all p 0 (Some at)
+  found_in_part k at same none found =
+      let fits = found.1.fits in (
+        record {
+          low = omega arith;
+          high = omega (arith, size, fits, same);
+          before = λ j low high here.
+              ⊎_elim (λ below. none j low below here) (λ from. found.0.before (j - base) (omega arith) (omega arith) (occurs_in_part j from (omega (arith, fits)) here))
+              (cases_lt j base);
+        },
+        subst (OccursAt all p) (sym same) (occurs_in_all k found.1),
+      )
+
+  -- what the part doesn't hold begins nowhere in it, unless it ends behind it
+  pub missed_in_part : FindsNeedle part p 0 None → (j : ℕ) → base ≤ j → j + length p ≤ base + length part → ¬ OccursAt all p j
+  missed_in_part missed j low fits here = missed (j - base) (omega arith) (omega arith) (occurs_in_part j low fits here)
+
+-- What is held back and a piece behind it. A needle that begins in what is held back ends by place `most` of the piece.
+module _ (p held piece : List ℕ) (most : ℕ) (longest : length p ≡ most + 1) where
+  across : List ℕ
+  across = held ++ take most piece
+
+  split : held ++ piece ≡ (held ++ take most piece) ++ drop most piece
+  split = ap (λ l. held ++ l) (sym (take-append-drop most piece)) ∙ sym (append_assoc held (take most piece) (drop most piece))
+
+  pub found_across : (at : ℕ) → FindsNeedle (held ++ take most piece) p 0 (Some at) → FindsNeedle (held ++ piece) p 0 (Some at)
+  found_across at found = found_in_part (held ++ piece) p (held ++ take most piece) (drop most piece) 0 (omega arith) split at at (omega arith) (λ j low high here. omega arith) found
+
+  missed_across : FindsNeedle (held ++ take most piece) p 0 None → Nowhere (OccursAt (held ++ piece) p) 0 (length held)
+  missed_across missed j low high here =
+      let fits = here.fits in
+      missed_in_part (held ++ piece) p (held ++ take most piece) (drop most piece) 0 (omega arith) split missed j low
+      (omega (arith, fits, length-append held piece, length-append held (take most piece), length-take most piece)) here
+
+  behind : drop (length held) (held ++ piece) ≡ piece ++ []
+  behind = drop_at held piece (length held) refl ∙ sym (append-nil piece)
+
+  pub found_behind : (k at : ℕ) → at ≡ length held + k → FindsNeedle (held ++ take most piece) p 0 None → FindsNeedle piece p 0 (Some k) → FindsNeedle (held ++ piece) p 0 (Some at)
+  found_behind k at same missed found =
+      found_in_part (held ++ piece) p piece [] (length held) (omega (arith, length-append held piece)) behind k at same (missed_across missed) found
+
+  pub missed_next : FindsNeedle (held ++ take most piece) p 0 None → FindsNeedle piece p 0 None → FindsNeedle (held ++ piece) p 0 None
+  missed_next missed none j low high here =
+      let fits = here.fits in
+      ⊎_elim (λ below. missed_across missed j low below here)
+      (λ from. missed_in_part (held ++ piece) p piece [] (length held) (omega (arith, length-append held piece)) behind none j from
+      (omega (arith, fits, length-append held piece)) here)
+      (cases_lt j (length held))
+
+-- A step of the search: a piece comes behind the bytes that were searched.
+module _ (p bytes held piece : List ℕ) (base : ℕ) (s : Searched p bytes base held) where
+  pub all_within : (more : List ℕ) → base ≤ length ((bytes ++ piece) ++ more)
+  all_within more =
+      let within = s.within in
+      omega (arith, within, length-append (bytes ++ piece) more, length-append bytes piece)
+
+  held_piece : drop base (bytes ++ piece) ≡ held ++ piece
+  held_piece = drop-append-le base bytes piece s.within ∙ ap (λ l. l ++ piece) s.tail
+
+  pub held_more : (more : List ℕ) → drop base ((bytes ++ piece) ++ more) ≡ (held ++ piece) ++ more
+  held_more more =
+      let within = s.within in
+      drop-append-le base (bytes ++ piece) more (omega (arith, within, length-append bytes piece)) ∙ ap (λ l. l ++ more) held_piece
+
+  none_before : (more : List ℕ) → Nowhere (OccursAt ((bytes ++ piece) ++ more) p) 0 base
+  none_before more = subst (λ l. Nowhere (OccursAt l p) 0 base) (sym (append_assoc bytes piece more)) (s.none (piece ++ more))
+
+  pub Searched-found : (more : List ℕ) (k at : ℕ) → at ≡ base + k → FindsNeedle (held ++ piece) p 0 (Some k) → FindsNeedle ((bytes ++ piece) ++ more) p 0 (Some at)
+  Searched-found more k at same found =
+      found_in_part ((bytes ++ piece) ++ more) p (held ++ piece) more base (all_within more) (held_more more) k at same (none_before more) found
+
+  pub Searched-missed : (cut next : ℕ) (kept : List ℕ) → 0 < length p → next ≡ base + cut → FindsNeedle (held ++ piece) p 0 None → HoldsBack p (held ++ piece) cut → kept ≡ drop cut (held ++ piece)
+      → Searched p (bytes ++ piece) next kept
+  Searched-missed cut next kept some same missed back is =
+      let within = s.within in
+      let inside = back.within in
+      let short = back.short in
+      let long = length-append held piece in
+      let sizes : base + length (held ++ piece) ≡ length (bytes ++ piece) = omega (arith, within, ap length s.tail, length-drop base bytes, length-append bytes piece, long) in
+      record {
+        within = omega (arith, same, sizes, inside);
+        tail = ap (λ n. drop n (bytes ++ piece)) same ∙ sym (drop-drop cut base (bytes ++ piece)) ∙ ap (drop cut) held_piece ∙ sym is;
+        short = omega (arith, ap length is, length-drop cut (held ++ piece), inside, short);
+        none = λ more j low high here.
+            ⊎_elim (λ below. none_before more j low below here)
+            (λ from. ⊎_elim
+            (λ past.
+            let same_place : base + (j - base) ≡ j + 0 = omega (arith, from) in
+            let first : get_or (held ++ piece) (j - base) 0 ≡ get_or p 0 0
+            = sym (reads_part ((bytes ++ piece) ++ more) p (held ++ piece) more base (all_within more) (held_more more) (j - base) (omega (arith, same, high, from, inside)))
+            ∙ ap (λ n. get_or ((bytes ++ piece) ++ more) n 0) same_place ∙ here.reads 0 some in
+            back.none (j - base) (omega (arith, same, high, from)) (omega (arith, past)) first)
+            (λ fits. missed_in_part ((bytes ++ piece) ++ more) p (held ++ piece) more base (all_within more) (held_more more) missed j from fits here)
+            (cases_lt (base + length (held ++ piece)) (j + length p)))
+            (cases_lt j base);
+      }
+
+-- nothing was searched
+pub Searched-none : (p : List ℕ) → 0 < length p → Searched p [] 0 []
+Searched-none p some = record { within = omega arith; tail = refl; short = some; none = λ more j low high here. omega arith }
+
+-- all bytes were searched
+pub Searched-all : (p bytes held : List ℕ) (base : ℕ) → Searched p bytes base held → FindsNeedle bytes p 0 None
+Searched-all p bytes held base s j low high here =
+    let fits = here.fits in
+    let within = s.within in
+    let short = s.short in
+    s.none [] j low (omega (arith, fits, within, short, ap length s.tail, length-drop base bytes)) (subst (λ l. OccursAt l p j) (sym (append-nil bytes)) here)
+
+-- a piece came behind those that are searched
+pub SearchedPieces-push : (p : List ℕ) (pieces : List (List ℕ)) (piece : List ℕ) (progress : Progress) → SearchedPieces p pieces progress → SearchedPieces p (pieces ++ piece ∷ []) progress
+SearchedPieces-push p pieces piece progress s =
+    let within = s.within in
+    record {
+      within = omega (arith, within, length-append pieces (piece ∷ []));
+      searched = rw (take-append-le progress.pieces pieces (piece ∷ []) within) s.searched;
+    }

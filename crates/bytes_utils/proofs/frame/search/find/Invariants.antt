@@ -1,0 +1,9 @@
+use Rattle.std.proofs.Common.{◌-◌, length}
+use Rattle.bytes_utils.specs.FrameSearch.{SearchedPieces}
+use Rattle.bytes_utils.proofs.frame.search.find.Given as goal
+
+abbrev pub invariant-loop-progress : goal.invariant-loop-progress
+invariant-loop-progress l = SearchedPieces l.finder l.pieces.items l.progress
+
+abbrev pub decreases-loop-progress : goal.decreases-loop-progress
+decreases-loop-progress l = length l.pieces.items - l.progress.pieces

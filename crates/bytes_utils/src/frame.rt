@@ -1,0 +1,178 @@
+//! Frames of a stream that comes in pieces, each ended by a separator.
+ghost use Rattle.std.specs.Prelude.{◌≡◌, ◌+◌, ◌^◌, ◌<◌, ◌≤◌, ◌↔◌, [], ◌++◌, length, drop, IfOk, IfErr, IfSome, IfNone, OnOk, OnErr};
+ghost use Rattle.std.specs.List.{concat};
+ghost use Rattle.bytes_utils.specs.Occurrence.{Occurs};
+ghost use Rattle.bytes_utils.specs.Frames.{AllFramesLaw, FramePartsLaw, FramesLaw, SameFramesLaw, TakesFrame};
+
+mod pieces;
+mod search;
+
+use bytes::Bytes;
+use bytes_utils_buf::segmented::SegmentedBuf;
+use bytes_utils_buf::{Reason, Refused};
+use memchr::memmem::Finder;
+use pieces::{copy_first, drop_front, share_first};
+use search::{Progress, find};
+use std::alloc::Global;
+use std::collections::VecDeque;
+use std::marker::Model;
+
+/// Frames of a stream, each ended by a separator. The stream comes in pieces that are cut anywhere.
+///
+/// ```text
+/// let mut frames = Frames::new(alloc, b"\r\n")?;
+/// frames.push(first)?;             // a `Bytes` of `GET / HTT`
+/// frames.next_frame(alloc)?        // `None`
+/// frames.push(second)?;            // one of `P/1.1\r\nHost`
+/// frames.next_frame(alloc)?        // `GET / HTTP/1.1`; `Host` is left
+/// ```
+///
+/// No piece is searched twice, and the bytes of a frame that lies in one piece are shared.
+#[derive(Debug, Drop)]
+pub struct Frames {
+    finder: Finder<'static>,
+    pieces: VecDeque<Bytes>,
+    remaining: usize,
+    progress: Progress,
+}
+
+impl Model for Frames {
+    ghost use Rattle.std.specs.Prelude.{◌≡◌, ◌^◌, ◌<◌, length};
+    ghost use Rattle.std.specs.List.{concat};
+    ghost use Rattle.bytes_utils.specs.Frames.{Framing};
+    ghost use Rattle.bytes_utils.specs.FrameSearch.{SearchedPieces};
+
+    ghost Value = { Framing };
+
+    ghost view = { λ f. record { separator = f.finder; held = concat f.pieces.items } };
+
+    ghost invariant = { λ f. (0 < length f.finder) × (f.remaining ≡ length (concat f.pieces.items))
+        × (f.remaining < 2 ^ 64) × SearchedPieces f.finder f.pieces.items f.progress };
+}
+
+impl Frames {
+    /// A reader into which nothing came. It copies the separator.
+    pub fn new(alloc: Global, separator: &[u8]) -> Result<Frames, Reason>
+        requires { 0 < length separator.now }
+        ensures ok { IfOk result (λ f. f ≡ record { separator = separator.now; held = [] }) }
+        ensures reason { IfErr result (λ reason. reason ≡ Reason.OutOfMemory) }
+    {
+        Ok(Frames {
+            finder: Finder::new(separator).into_owned(alloc)?,
+            pieces: VecDeque::new(alloc),
+            remaining: 0,
+            progress: Progress::new(alloc),
+        })
+    }
+
+    /// Takes a piece in behind the others, without a copy.
+    pub fn push(&mut self, piece: Bytes) -> Result<(), Refused<Bytes>>
+        ensures ok { OnOk result (self.new.held ≡ self.old.held ++ piece) }
+        ensures separator { self.new.separator ≡ self.old.separator }
+        ensures err { OnErr result (self.new ≡ self.old) }
+        ensures back { IfErr result (λ e. e.back ≡ piece) }
+        ensures too_long { IfErr result (λ e. (e.reason ≡ Reason.TooLong)
+            ↔ (2 ^ 64 ≤ length self.old.held + length e.back)) }
+    {
+        let Some(remaining) = self.remaining.checked_add(piece.len()) else {
+            return Err(Refused {
+                reason: Reason::TooLong,
+                back: piece,
+            });
+        };
+        match self.pieces.push_back(piece) {
+            Ok(()) => {
+                self.remaining = remaining;
+                Ok(())
+            }
+            Err(failed) => Err(Refused {
+                reason: Reason::OutOfMemory,
+                back: failed.value,
+            }),
+        }
+    }
+
+    /// How many bytes came in and weren't given.
+    pub fn remaining(&self) -> usize
+        ensures value { result ≡ length self.now.held }
+        ensures some { 0 < length self.now.separator }
+    {
+        self.remaining
+    }
+
+    /// The separator.
+    pub fn separator(&self) -> &[u8]
+        ensures { result.now ≡ self.now.separator }
+    {
+        self.finder.needle()
+    }
+
+    /// Gives the next frame, without its separator, or `None` while its end is to come. The bytes
+    /// are shared where they lie in one piece, and copied into one block where they don't.
+    pub fn next_frame(&mut self, alloc: Global) -> Result<Option<Bytes>, Reason>
+        ensures frame { IfOk result (λ next. IfSome next (λ frame.
+            TakesFrame self.old.separator self.old.held frame self.new.held)) }
+        ensures waits { IfOk result (λ next. IfNone next
+            ((self.new ≡ self.old) × (¬ Occurs self.old.separator self.old.held))) }
+        ensures separator { self.new.separator ≡ self.old.separator }
+        ensures err { OnErr result (self.new ≡ self.old) }
+        ensures reason { IfErr result (λ reason. reason ≡ Reason.OutOfMemory) }
+    {
+        let Some(len) = find(&self.finder, &self.pieces, &mut self.progress)? else {
+            return Ok(None);
+        };
+        let frame = copy_first(&self.pieces, alloc, len)?;
+        self.pass(len);
+        Ok(Some(frame))
+    }
+
+    /// Gives the next frame in the pieces in which it came, of which none is copied.
+    pub fn next_segments(&mut self, alloc: Global) -> Result<Option<SegmentedBuf<Bytes>>, Reason>
+        ensures frame { IfOk result (λ next. IfSome next (λ frame.
+            TakesFrame self.old.separator self.old.held (concat frame.segments) self.new.held)) }
+        ensures waits { IfOk result (λ next. IfNone next
+            ((self.new ≡ self.old) × (¬ Occurs self.old.separator self.old.held))) }
+        ensures separator { self.new.separator ≡ self.old.separator }
+        ensures err { OnErr result (self.new ≡ self.old) }
+        ensures reason { IfErr result (λ reason. reason ≡ Reason.OutOfMemory) }
+    {
+        let Some(len) = find(&self.finder, &self.pieces, &mut self.progress)? else {
+            return Ok(None);
+        };
+        let frame = share_first(&self.pieces, alloc, len)?;
+        self.pass(len);
+        Ok(Some(frame))
+    }
+
+    /// Drops a frame of `len` bytes and the separator behind it. The search begins anew.
+    fn pass(&mut self, len: usize)
+        requires { len + length self.old.separator ≤ length self.old.held }
+        ensures { self.new ≡ record self.old {
+          held = drop (len + length self.old.separator) self.old.held;
+        } }
+    {
+        let passed = len + self.finder.needle().len();
+        drop_front(&mut self.pieces, passed);
+        self.remaining -= passed;
+        self.progress.restart();
+    }
+
+    /// What is left behind the last separator that was found.
+    pub fn finish(self) -> SegmentedBuf<Bytes>
+        ensures { concat result.segments ≡ self.held }
+    {
+        match SegmentedBuf::from_deque(self.pieces) {
+            Ok(rest) => rest,
+            Err(_) => unreachable!(),
+        }
+    }
+}
+
+/// What a run gives and what is left depend on the joined pieces alone, wherever they were cut and
+/// whenever frames were asked for.
+pub fn frames_laws()
+    ensures run { FramesLaw }
+    ensures parts { FramePartsLaw }
+    ensures same { SameFramesLaw }
+    ensures all { AllFramesLaw }
+{}

@@ -1,0 +1,210 @@
+//! A search over pieces in a row. What was searched isn't searched again, but for the bytes that are
+//! held back: those from which the needle may still begin.
+ghost use Rattle.std.specs.Prelude.{◌≡◌, ◌≢◌, ℕ, ◌+◌, ◌-◌, ◌^◌, ◌<◌, ◌≤◌, List, [], ◌++◌, length, take, drop, slice_index, Some, MatchOption, IfOk, OnErr, OnSome};
+ghost use Rattle.std.specs.List.{concat};
+ghost use Rattle.memchr.specs.Find.{FindsNeedle};
+ghost use Rattle.bytes_utils.specs.FrameSearch.{HoldsBack, Searched, SearchedPieces, StaysAt};
+
+use bytes::Bytes;
+use memchr::memchr;
+use memchr::memmem::Finder;
+use std::alloc::{AllocError, Global};
+use std::collections::VecDeque;
+
+/// How far a search over pieces has come: how many of them were searched, and the last of their
+/// bytes, from place `base` on, from which the needle may still begin.
+#[derive(Debug, Drop)]
+pub(super) struct Progress {
+    pieces: usize,
+    base: usize,
+    held: Vec<u8>,
+}
+
+impl Progress {
+    /// Nothing was searched.
+    pub(super) fn new(alloc: Global) -> Progress
+        ensures pieces { result.pieces ≡ 0 }
+        ensures base { result.base ≡ 0 }
+        ensures held { result.held.items ≡ [] }
+    {
+        Progress {
+            pieces: 0,
+            base: 0,
+            held: Vec::new(alloc),
+        }
+    }
+
+    /// Begins anew.
+    #[inline]
+    pub(super) fn restart(&mut self)
+        ensures pieces { self.new.pieces ≡ 0 }
+        ensures base { self.new.base ≡ 0 }
+        ensures held { self.new.held.items ≡ [] }
+    {
+        self.pieces = 0;
+        self.base = 0;
+        self.held.clear();
+    }
+
+    /// Searches the next piece: it gives the needle's place, or comes to the end of the piece.
+    #[inline]
+    fn step(&mut self, finder: &Finder, piece: &[u8]) -> Result<Option<usize>, AllocError>
+        requires short { length self.old.held.items < length finder.now }
+        requires fits { self.old.base + length self.old.held.items + length piece.now < 2 ^ 64 }
+        ensures found { (bytes more : List ℕ)
+            → Searched finder.now bytes self.old.base self.old.held.items
+            → IfOk result (λ found. MatchOption found
+            (Searched finder.now (bytes ++ piece.now) self.new.base self.new.held.items)
+            (λ at. FindsNeedle ((bytes ++ piece.now) ++ more) finder.now 0 (Some at))) }
+        ensures pieces { self.new.pieces ≡ self.old.pieces }
+        ensures stays { IfOk result (λ found. OnSome found (StaysAt self.old self.new)) }
+        ensures err { OnErr result (StaysAt self.old self.new) }
+    {
+        if let Some(at) = find_next(finder, &mut self.held, piece)? {
+            return Ok(Some(self.base + at));
+        }
+        self.base += hold_back(&mut self.held, piece, finder.needle())?;
+        Ok(None)
+    }
+}
+
+/// The first place of the needle in the pieces, of which some were searched already.
+pub(super) fn find(
+    finder: &Finder,
+    pieces: &VecDeque<Bytes>,
+    progress: &mut Progress,
+) -> Result<Option<usize>, AllocError>
+    requires fits { length (concat pieces.now.items) < 2 ^ 64 }
+    requires searched { SearchedPieces finder.now pieces.now.items progress.old }
+    ensures found { IfOk result (λ at. FindsNeedle (concat pieces.now.items) finder.now 0 at) }
+    ensures searched { SearchedPieces finder.now pieces.now.items progress.new }
+{
+    while progress.pieces < pieces.len() {
+        let piece = pieces[progress.pieces].as_slice();
+        if let Some(at) = progress.step(finder, piece)? {
+            return Ok(Some(at));
+        }
+        progress.pieces += 1;
+    }
+    Ok(None)
+}
+
+/// The first place of the needle in what is held back and a piece behind it.
+#[inline]
+fn find_next(finder: &Finder, held: &mut Vec<u8>, piece: &[u8]) -> Result<Option<usize>, AllocError>
+    requires short { length held.old.items < length finder.now }
+    requires fits { length held.old.items + length piece.now < 2 ^ 64 }
+    ensures found { IfOk result
+        (λ at. FindsNeedle (held.old.items ++ piece.now) finder.now 0 at) }
+    ensures held { held.new.items ≡ held.old.items }
+{
+    if let Some(at) = find_across(finder, held, piece)? {
+        return Ok(Some(at));
+    }
+    match finder.find(piece) {
+        Some(at) => Ok(Some(held.len() + at)),
+        None => Ok(None),
+    }
+}
+
+/// The first place of the needle in what is held back and as much of the piece behind it as a needle
+/// that begins there may reach.
+#[inline]
+fn find_across(
+    finder: &Finder,
+    held: &mut Vec<u8>,
+    piece: &[u8],
+) -> Result<Option<usize>, AllocError>
+    requires { 0 < length finder.now }
+    ensures found { IfOk result (λ at. FindsNeedle
+        (held.old.items ++ take (length finder.now - 1) piece.now) finder.now 0 at) }
+    ensures held { held.new.items ≡ held.old.items }
+{
+    if held.is_empty() {
+        return Ok(None);
+    }
+    let before = held.len();
+    let most = finder.needle().len() - 1;
+    held.extend_from_slice(&piece[..most.min(piece.len())])?;
+    let found = finder.find(held);
+    held.truncate(before);
+    Ok(found)
+}
+
+/// Holds back the bytes of what is held and of the piece from which the needle may begin. Answers at
+/// which place they begin.
+#[inline]
+fn hold_back(held: &mut Vec<u8>, piece: &[u8], needle: &[u8]) -> Result<usize, AllocError>
+    requires some { 0 < length needle.now }
+    requires fits { length held.old.items + length piece.now < 2 ^ 64 }
+    ensures cut { IfOk result (λ cut. HoldsBack needle.now (held.old.items ++ piece.now) cut) }
+    ensures held { IfOk result
+        (λ cut. held.new.items ≡ drop cut (held.old.items ++ piece.now)) }
+    ensures err { OnErr result (held.new.items ≡ held.old.items) }
+{
+    let most = needle.len() - 1;
+    if piece.len() < most {
+        hold_short(held, piece, needle)
+    } else {
+        hold_end(held, piece, needle)
+    }
+}
+
+/// As `hold_back`, for a piece that is shorter than what a needle that begins before it may reach.
+fn hold_short(held: &mut Vec<u8>, piece: &[u8], needle: &[u8]) -> Result<usize, AllocError>
+    requires some { 0 < length needle.now }
+    requires fits { length held.old.items + length piece.now < 2 ^ 64 }
+    ensures cut { IfOk result (λ cut. HoldsBack needle.now (held.old.items ++ piece.now) cut) }
+    ensures held { IfOk result
+        (λ cut. held.new.items ≡ drop cut (held.old.items ++ piece.now)) }
+    ensures err { OnErr result (held.new.items ≡ held.old.items) }
+{
+    held.extend_from_slice(piece)?;
+    let from = held.len().saturating_sub(needle.len() - 1);
+    let cut = place_from(needle[0], held, from);
+    drop_front(held, cut);
+    Ok(cut)
+}
+
+/// As `hold_back`, for another piece.
+#[inline]
+fn hold_end(held: &mut Vec<u8>, piece: &[u8], needle: &[u8]) -> Result<usize, AllocError>
+    requires some { 0 < length needle.now }
+    requires long { length needle.now ≤ length piece.now + 1 }
+    requires fits { length held.old.items + length piece.now < 2 ^ 64 }
+    ensures cut { IfOk result (λ cut. HoldsBack needle.now (held.old.items ++ piece.now) cut) }
+    ensures held { IfOk result
+        (λ cut. held.new.items ≡ drop cut (held.old.items ++ piece.now)) }
+    ensures err { OnErr result (held.new.items ≡ held.old.items) }
+{
+    let before = held.len();
+    let cut = place_from(needle[0], piece, piece.len() - (needle.len() - 1));
+    held.extend_from_slice(&piece[cut..])?;
+    drop_front(held, before);
+    Ok(before + cut)
+}
+
+/// The first place from `from` on at which `first` stands, and the end where there is none.
+#[inline]
+fn place_from(first: u8, bytes: &[u8], from: usize) -> usize
+    requires { from ≤ length bytes.now }
+    ensures low { from ≤ result }
+    ensures within { result ≤ length bytes.now }
+    ensures none { (k : ℕ) → from ≤ k → k < result → slice_index bytes.now k ≢ first }
+{
+    match memchr(first, &bytes[from..]) {
+        Some(at) => from + at,
+        None => bytes.len(),
+    }
+}
+
+/// Takes the first `len` bytes off.
+#[inline]
+fn drop_front(bytes: &mut Vec<u8>, len: usize)
+    requires { len ≤ length bytes.old.items }
+    ensures { bytes.new.items ≡ drop len bytes.old.items }
+{
+    if len > 0 {
+        bytes.drain(..len);
+    }
+}
