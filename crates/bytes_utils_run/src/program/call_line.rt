@@ -73,7 +73,10 @@ fn pushed(line: &Str) -> Result<Bytes, Fault>
     let Some(text) = behind(line.as_str(), "push ") else {
         return Err(Fault::UnknownCommand);
     };
-    Ok(line.slice_from(line.as_str().len() - text.len())?.into_inner())
+    Ok(
+        line.slice_from(line.as_str().len() - text.len())?
+            .into_inner(),
+    )
 }
 
 /// The call that a line asks for.
