@@ -1,5 +1,5 @@
 //! The first bytes of held buffers, in pieces: of each buffer what is wanted of it.
-ghost use Rattle.std.specs.Prelude.{◌≡◌, ◌<◌, ◌≤◌, ◌++◌, [], length, map, take, slice_index_or, vec_capacity, IsTrue, ◌↔◌, IsOk, IfOk, IfErr};
+ghost use Rattle.std.specs.Prelude.{◌≡◌, ◌<◌, ◌≤◌, [], length, map, take, slice_index_or, vec_capacity, IsTrue, ◌↔◌, IsOk, IfOk, IfErr};
 ghost use Rattle.std.specs.List.{concat};
 ghost use Rattle.bytes_utils_buf.specs.Segments.{take_bytes};
 

@@ -1,5 +1,5 @@
 //! What lies in front, seen and not taken.
-ghost use Rattle.std.specs.Prelude.{◌≡◌, ◌≤◌, ◌++◌, length, map, min, take, drop, IsTrue, ◌↔◌};
+ghost use Rattle.std.specs.Prelude.{◌≡◌, ◌++◌, length, min, take, drop, IsTrue, ◌↔◌};
 ghost use Rattle.std.specs.List.{concat, slice_get};
 ghost use Rattle.std.specs.Option.{option_map};
 

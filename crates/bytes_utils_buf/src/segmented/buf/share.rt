@@ -1,5 +1,5 @@
 //! The first bytes, shared where they can be.
-ghost use Rattle.std.specs.Prelude.{◌≡◌, ◌+◌, ◌≤◌, length, map, take, drop, IsOk, IfOk, IfErr, OnOk, OnErr};
+ghost use Rattle.std.specs.Prelude.{◌≡◌, ◌+◌, ◌≤◌, length, take, drop, IsOk, IfOk, IfErr, OnOk, OnErr};
 ghost use Rattle.std.specs.List.{concat};
 ghost use Rattle.bytes_utils_buf.specs.Segments.{Skips, newly_held, take_bytes};
 ghost use Rattle.bytes_utils_buf.specs.Tally.{IsPaid, lined_up};
@@ -32,9 +32,9 @@ impl<B: BufWhole + Drop> SegmentedBuf<B> {
     pub fn split_to(&mut self, alloc: Global, len: usize) -> Result<SegmentedBuf<Bytes>, Reason>
         requires { len ≤ length (concat self.old.segments) }
         ensures ok { IfOk result (λ first. first ≡ newly_held (take_bytes len self.old.segments)) }
-        ensures bytes { IfOk result
+        ensures front { IfOk result
             (λ first. concat first.segments ≡ take len (concat self.old.segments)) }
-        ensures rest { OnOk result (concat self.new.segments ≡ drop len (concat self.old.segments)) }
+        ensures bytes { OnOk result (concat self.new.segments ≡ drop len (concat self.old.segments)) }
         ensures skips { OnOk result (Skips len self.old.segments self.new.segments) }
         ensures err { OnErr result (self.new ≡ self.old) }
         ensures reason { IfErr result (λ reason. reason ≡ Reason.OutOfMemory) }
