@@ -151,7 +151,7 @@ impl Frames {
           held = drop (len + length self.old.separator) self.old.held;
         } }
     {
-        let passed = len + self.finder.needle().len();
+        let passed = len + self.separator().len();
         drop_front(&mut self.pieces, passed);
         self.remaining -= passed;
         self.progress.restart();

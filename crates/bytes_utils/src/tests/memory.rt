@@ -2,6 +2,7 @@
 //! own. A run with one refused request ends well, whichever request it is, and prints which call was
 //! refused: where the test's own texts are refused, it prints nothing and ends.
 mod append;
+mod frames;
 mod freeze;
 mod json;
 mod make;
