@@ -8,7 +8,7 @@ use Rattle.std.specs.Str.{chars, NonePass}
 use Rattle.std.specs.Str.Pattern.{FindsText, RFindsText, FindsBy}
 use Rattle.bytes_utils_buf.specs.declared.refused.Reason.{Reason}
 use Rattle.bytes_utils.specs.Outcome.{Outcome}
-use Rattle.bytes_utils_run.specs.Cutting.{Cutting, ArePartsBy, ByWords, ByAsciiWords, ByLines, FromFront, FromBack, Keeping}
+use Rattle.bytes_utils_run.specs.Cutting.{Cutting, ArePartsBy, Keeping}
 
 -- each of these texts as its characters
 abbrev pub characters_of : List (Bor (List ℕ)) → List (List ℕ)
@@ -56,12 +56,8 @@ ArePartsByTest passes t (part ∷ next ∷ parts) = (c : ℕ) × (rest : List �
 
 -- where parts keep their separator, it isn't empty
 abbrev pub HasSeparator : Cutting → Type 0
-HasSeparator ByWords = ⊤
-HasSeparator ByAsciiWords = ⊤
-HasSeparator ByLines = ⊤
-HasSeparator (FromFront p limit) = ⊤
-HasSeparator (FromBack p limit) = ⊤
 HasSeparator (Keeping p) = 0 < length p
+HasSeparator how = ⊤
 
 -- Lists of parts as their characters: what came of cutting the text t in a way that may be refused, and parts that are right for that way,
 -- as those are that a method of `str` lends. Without a refusal they are the same list, and with one the first is a beginning of the

@@ -30,12 +30,10 @@ ArePartsBy (Keeping p) t parts = AreInclusiveParts t p parts
 -- These parts, joined by the separator, are the text t; those from the back in reverse, and those that keep it with nothing between. A limit
 -- of 0 leaves no part. Words and lines are without what stood between them, so of them nothing is said.
 abbrev pub JoinTo : Cutting → List ℕ → List (List ℕ) → Type 0
-JoinTo ByWords t parts = ⊤
-JoinTo ByAsciiWords t parts = ⊤
-JoinTo ByLines t parts = ⊤
 JoinTo (FromFront p limit) t parts = IfSome limit (λ most. 0 < most) → join p parts ≡ t
 JoinTo (FromBack p limit) t parts = IfSome limit (λ most. 0 < most) → join p (reverse parts) ≡ t
 JoinTo (Keeping p) t parts = join [] parts ≡ t
+JoinTo by t parts = ⊤
 
 -- the way that a caller asks for
 abbrev pub cutting : How → Cutting
@@ -50,11 +48,5 @@ cutting (Inclusive separator) = Keeping (chars separator.now)
 
 -- what a caller may ask for: parts that keep a separator want one that isn't empty
 abbrev pub IsAllowed : How → Type 0
-IsAllowed Words = ⊤
-IsAllowed AsciiWords = ⊤
-IsAllowed Lines = ⊤
-IsAllowed (Split separator) = ⊤
-IsAllowed (SplitN most separator) = ⊤
-IsAllowed (RSplit separator) = ⊤
-IsAllowed (RSplitN most separator) = ⊤
 IsAllowed (Inclusive separator) = 0 < length separator.now
+IsAllowed how = ⊤

@@ -4,13 +4,14 @@
 //! definitions that the contracts of the working functions cite, so a call of it lets a caller
 //! conclude more from those contracts. The type parameter is the type of the elements; a law without
 //! one is of texts.
-ghost use Rattle.bytes_utils_run.specs.Laws.{UniqueForwardLaw, UniqueBackwardLaw};
-ghost use Rattle.bytes_utils_run.specs.Laws.{UniqueInclusiveLaw, MirrorLaw, AgreeLaw};
-ghost use Rattle.bytes_utils_run.specs.Laws.{ForwardLimitLaw, BackwardLimitLaw};
-ghost use Rattle.bytes_utils_run.specs.Laws.{JoinForwardLaw, JoinBackwardLaw, OneToComeLaw, AsciiLaw};
-ghost use Rattle.std.specs.Prelude.{ℕ, Bool};
+ghost use Rattle.bytes_utils_run.specs.Laws.{ExactlyOne, UniqueLaw, MirrorLaw, AgreeLaw};
+ghost use Rattle.bytes_utils_run.specs.Laws.{LimitLaw, JoinLaw, OneToComeLaw};
+ghost use Rattle.std.specs.Prelude.{◌≡◌, ◌<◌, ℕ, Bool, List, length, reverse};
+ghost use Rattle.std.specs.Str.{chars, IsAscii};
 ghost use Rattle.bytes_utils.specs.Keeping.{AreInclusivePartsToCome};
 ghost use Rattle.bytes_utils.specs.Lines.{AreLinesToCome};
+ghost use Rattle.bytes_utils.specs.Parts.{AreForwardParts, AreBackwardParts, AreInclusiveParts};
+ghost use Rattle.bytes_utils.specs.Parts.{ArePartsFromFront, ArePartsFromBack};
 ghost use Rattle.bytes_utils.specs.Splitting.{AreForwardPartsToCome, AreBackwardPartsToCome};
 ghost use Rattle.bytes_utils.specs.Words.{AreWordsToCome};
 ghost use Rattle.bytes_utils_run.specs.Borrowed.{OwnedAsLentLaw};
@@ -23,18 +24,18 @@ mod tests;
 /// runs of `split` or `splitn` that aren't refused give the same parts, whoever wrote them, also
 /// where a separator overlaps itself.
 pub fn unique_forward<X>()
-    ensures { UniqueForwardLaw X }
+    ensures { UniqueLaw X AreForwardParts }
 {}
 
 /// Exactly one list of parts is cut from the back, with a limit of at least 1 or none: the law of
 /// `rsplit` and `rsplitn`.
 pub fn unique_backward<X>()
-    ensures { UniqueBackwardLaw X }
+    ensures { UniqueLaw X AreBackwardParts }
 {}
 
 /// Exactly one list of parts keeps the separator at their ends: the law of `split_inclusive`.
 pub fn unique_inclusive<X>()
-    ensures { UniqueInclusiveLaw X }
+    ensures { (t p : List X) → 0 < length p → ExactlyOne (AreInclusiveParts t p) }
 {}
 
 /// Cutting from the back is cutting from the front in a mirror.
@@ -50,15 +51,15 @@ pub fn agree<X>()
 
 /// The parts under a limit are those without one, the last ones uncut.
 pub fn limits<X>()
-    ensures forward { ForwardLimitLaw X }
-    ensures backward { BackwardLimitLaw X }
+    ensures forward { LimitLaw X AreForwardParts (λ parts. parts) }
+    ensures backward { LimitLaw X AreBackwardParts reverse }
 {}
 
 /// The parts between separators, joined by the separator, are the text: for every separator, the
 /// empty one too, and a limit of at least 1 or none. Those from the back are joined in reverse.
 pub fn rejoin<X>()
-    ensures forward { JoinForwardLaw X }
-    ensures backward { JoinBackwardLaw X }
+    ensures forward { JoinLaw X ArePartsFromFront (λ parts. parts) }
+    ensures backward { JoinLaw X ArePartsFromBack reverse }
 {}
 
 /// In each state of a splitter at most one list of parts is to come. So the parts that a run gave
@@ -73,7 +74,7 @@ pub fn one_to_come()
 
 /// The characters of an ASCII text, as of a separator that a caller writes, are its bytes.
 pub fn ascii_characters()
-    ensures { AsciiLaw }
+    ensures { (bytes : List ℕ) → IsAscii bytes → chars bytes ≡ bytes }
 {}
 
 /// What `cut_all` gives without a refusal are, one by one and in order, the parts that the method of
