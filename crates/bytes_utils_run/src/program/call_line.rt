@@ -106,7 +106,9 @@ pub(super) fn calls_of(alloc: Global, text: Str) -> Result<Vec<Call<Bytes>>, Fau
 {
     let mut calls = Vec::new(alloc);
     for line in text.lines_bytes() {
-        let line = line?;
+        let Ok(line) = line else {
+            return Err(Fault::OutOfMemory);
+        };
         let call = call_of(&line)?;
         if calls.push(call).is_err() {
             return Err(Fault::OutOfMemory);
