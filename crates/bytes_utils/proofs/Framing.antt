@@ -1,7 +1,8 @@
 -- Frames out of pieces.
-use Rattle.std.proofs.Common.{◌≡◌, ℕ, ◌+◌, ◌<◌, List, [], ◌∷◌, ◌++◌, length, take, drop, None, Some, ap, ◌∙◌, sym, refl, subst, arith, length-append, append_assoc, append-nil, take-append-drop, ⊎_elim}
+use Rattle.std.proofs.Common.{Option, ◌≤◌, ◌≡◌, ℕ, ◌+◌, ◌<◌, List, [], ◌∷◌, ◌++◌, length, take, drop, None, Some, ap, ◌∙◌, sym, refl, subst, arith, length-append, append_assoc, append-nil, take-append-drop, ⊎_elim}
 use Rattle.std.proofs.lemmas.Bool.{cases_lt}
 use Rattle.std.proofs.lemmas.List.{append_cancel_left, length-take-le}
+use Rattle.std.specs.Option.{IfNone, IfSome}
 use Rattle.memchr.specs.Find.{FindsNeedle}
 use Rattle.memchr.proofs.lemmas.MatchLemmas.{OccursAt-part, OccursAt-split}
 use Rattle.bytes_utils.specs.Occurrence.{Occurs, OccursFirstAt}
@@ -28,10 +29,22 @@ module _ (p held : List ℕ) (some : 0 < length p) where
         });
       }
 
-  pub lacks_missed : FindsNeedle held p 0 None → ¬ Occurs p held
+  lacks_missed : FindsNeedle held p 0 None → ¬ Occurs p held
   lacks_missed missed occurs =
       let fits = OccursAt-fits p held occurs.0 some occurs.1 in
       missed occurs.0 (omega arith) (omega (arith, fits)) (HasNeedleAt-from_occurs p held occurs.0 some occurs.1)
+
+  pub found_frame : (r : Option ℕ) → FindsNeedle held p 0 r → IfSome r (λ len. TakesFrame p held (take len held) (drop (len + length p) held))
+  found_frame None missed = tt
+  found_frame (Some at) found = TakesFrame-found at found
+
+  pub found_within : (r : Option ℕ) → FindsNeedle held p 0 r → IfSome r (λ len. len + length p ≤ length held)
+  found_within None missed = tt
+  found_within (Some at) found = found.1.fits
+
+  pub found_none : (r : Option ℕ) → FindsNeedle held p 0 r → IfNone r (¬ Occurs p held)
+  found_none None missed = lacks_missed missed
+  found_none (Some at) found = tt
 
 -- ---- runs
 
@@ -45,12 +58,12 @@ TakesFrame-more p old frame rest piece takes = record {
   first = first_more p old piece (length frame) takes.first;
 }
 
-AreFrames-more : (p bytes : List ℕ) (frames : List (List ℕ)) (rest piece : List ℕ) → AreFrames p bytes frames rest → AreFrames p (bytes ++ piece) frames (rest ++ piece)
+pub AreFrames-more : (p bytes : List ℕ) (frames : List (List ℕ)) (rest piece : List ℕ) → AreFrames p bytes frames rest → AreFrames p (bytes ++ piece) frames (rest ++ piece)
 AreFrames-more p bytes [] rest piece are = ap (λ l. l ++ piece) are
 AreFrames-more p bytes (frame ∷ frames) rest piece are =
     (are.0 ++ piece, TakesFrame-more p bytes frame are.0 piece are.1, AreFrames-more p are.0 frames rest piece are.2)
 
-AreFrames-next : (p bytes : List ℕ) (frames : List (List ℕ)) (held frame rest : List ℕ) → AreFrames p bytes frames held → TakesFrame p held frame rest
+pub AreFrames-next : (p bytes : List ℕ) (frames : List (List ℕ)) (held frame rest : List ℕ) → AreFrames p bytes frames held → TakesFrame p held frame rest
     → AreFrames p bytes (frames ++ frame ∷ []) rest
 AreFrames-next p bytes [] held frame rest are takes = (rest, subst (λ l. TakesFrame p l frame rest) (sym are) takes, refl)
 AreFrames-next p bytes (x ∷ frames) held frame rest are takes = (are.0, are.1, AreFrames-next p are.0 frames held frame rest are.2 takes)

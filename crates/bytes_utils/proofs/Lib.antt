@@ -36,3 +36,4 @@ pub mod AsciiCase
 pub mod Pieces
 pub mod Searching
 pub mod Framing
+pub mod Limited

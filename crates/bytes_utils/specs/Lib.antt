@@ -14,6 +14,7 @@ pub mod Errors
 pub mod Json
 pub mod Frames
 pub mod FrameSearch
+pub mod LimitedFrames
 -- the definitions on buffers, for callers that name them
 pub use Rattle.bytes_utils_buf.specs.Segments
 pub use Rattle.bytes_utils_buf.specs.Tally

@@ -1,15 +1,19 @@
 //! Frames of a stream that comes in pieces, each ended by a separator.
-ghost use Rattle.std.specs.Prelude.{◌≡◌, ◌+◌, ◌^◌, ◌<◌, ◌≤◌, ◌↔◌, [], ◌++◌, length, drop, IfOk, IfErr, IfSome, IfNone, OnOk, OnErr};
+ghost use Rattle.std.specs.Prelude.{◌≡◌, ℕ, ◌+◌, ◌^◌, ◌<◌, ◌≤◌, ◌↔◌, List, [], ◌++◌, length, take, drop, IfOk, IfErr, IfSome, IfNone, OnOk, OnErr};
 ghost use Rattle.std.specs.List.{concat};
+ghost use Rattle.std.specs.Bool.{OnFalse, OnTrue};
 ghost use Rattle.bytes_utils.specs.Occurrence.{Occurs};
 ghost use Rattle.bytes_utils.specs.Frames.{AllFramesLaw, FramePartsLaw, FramesLaw, SameFramesLaw, TakesFrame};
+ghost use Rattle.bytes_utils.specs.LimitedFrames.{LosesFront};
 
+mod limited;
 mod pieces;
 mod search;
 
 use bytes::Bytes;
 use bytes_utils_buf::segmented::SegmentedBuf;
 use bytes_utils_buf::{Reason, Refused};
+pub use limited::{LimitedFrames, limited_frames_law};
 use memchr::memmem::Finder;
 use pieces::{copy_first, drop_front, share_first};
 use search::{Progress, find};
@@ -118,12 +122,10 @@ impl Frames {
         ensures err { OnErr result (self.new ≡ self.old) }
         ensures reason { IfErr result (λ reason. reason ≡ Reason.OutOfMemory) }
     {
-        let Some(len) = find(&self.finder, &self.pieces, &mut self.progress)? else {
+        let Some(len) = self.next_end()? else {
             return Ok(None);
         };
-        let frame = copy_first(&self.pieces, alloc, len)?;
-        self.pass(len);
-        Ok(Some(frame))
+        Ok(Some(self.give(alloc, len)?))
     }
 
     /// Gives the next frame in the pieces in which it came, of which none is copied.
@@ -136,12 +138,77 @@ impl Frames {
         ensures err { OnErr result (self.new ≡ self.old) }
         ensures reason { IfErr result (λ reason. reason ≡ Reason.OutOfMemory) }
     {
-        let Some(len) = find(&self.finder, &self.pieces, &mut self.progress)? else {
+        let Some(len) = self.next_end()? else {
             return Ok(None);
         };
+        Ok(Some(self.give_segments(alloc, len)?))
+    }
+
+    /// How long the next frame is, or `None` while its end is to come.
+    fn next_end(&mut self) -> Result<Option<usize>, Reason>
+        ensures frame { IfOk result (λ end. IfSome end (λ len. TakesFrame self.old.separator self.old.held
+            (take len self.old.held) (drop (len + length self.old.separator) self.old.held))) }
+        ensures within { IfOk result (λ end.
+            IfSome end (λ len. len + length self.old.separator ≤ length self.old.held)) }
+        ensures waits { IfOk result (λ end. IfNone end (¬ Occurs self.old.separator self.old.held)) }
+        ensures same { self.new ≡ self.old }
+        ensures reason { IfErr result (λ reason. reason ≡ Reason.OutOfMemory) }
+    {
+        Ok(find(&self.finder, &self.pieces, &mut self.progress)?)
+    }
+
+    /// Gives a frame of `len` bytes, and drops the separator behind it.
+    fn give(&mut self, alloc: Global, len: usize) -> Result<Bytes, Reason>
+        requires { len + length self.old.separator ≤ length self.old.held }
+        ensures frame { IfOk result (λ frame. frame ≡ take len self.old.held) }
+        ensures ok { OnOk result (self.new ≡ record self.old {
+          held = drop (len + length self.old.separator) self.old.held;
+        }) }
+        ensures err { OnErr result (self.new ≡ self.old) }
+        ensures reason { IfErr result (λ reason. reason ≡ Reason.OutOfMemory) }
+    {
+        let frame = copy_first(&self.pieces, alloc, len)?;
+        self.pass(len);
+        Ok(frame)
+    }
+
+    /// As `give`, in the pieces in which the frame came.
+    fn give_segments(&mut self, alloc: Global, len: usize) -> Result<SegmentedBuf<Bytes>, Reason>
+        requires { len + length self.old.separator ≤ length self.old.held }
+        ensures frame { IfOk result (λ frame. concat frame.segments ≡ take len self.old.held) }
+        ensures ok { OnOk result (self.new ≡ record self.old {
+          held = drop (len + length self.old.separator) self.old.held;
+        }) }
+        ensures err { OnErr result (self.new ≡ self.old) }
+        ensures reason { IfErr result (λ reason. reason ≡ Reason.OutOfMemory) }
+    {
         let frame = share_first(&self.pieces, alloc, len)?;
         self.pass(len);
-        Ok(Some(frame))
+        Ok(frame)
+    }
+
+    /// Drops all up to the end of the next separator, and answers that it did; or, where that is to
+    /// come, all bytes from which it can't begin.
+    fn skip(&mut self) -> Result<bool, Reason>
+        ensures ended { IfOk result (λ ended. OnTrue ended ((frame : List ℕ)
+            × TakesFrame self.old.separator self.old.held frame self.new.held)) }
+        ensures on { IfOk result (λ ended. OnFalse ended
+            (LosesFront self.old.separator self.old.held self.new.held)) }
+        ensures few { IfOk result (λ ended. OnFalse ended
+            (length self.new.held < length self.old.separator)) }
+        ensures separator { self.new.separator ≡ self.old.separator }
+        ensures err { OnErr result (self.new ≡ self.old) }
+        ensures reason { IfErr result (λ reason. reason ≡ Reason.OutOfMemory) }
+    {
+        if let Some(len) = find(&self.finder, &self.pieces, &mut self.progress)? {
+            self.pass(len);
+            return Ok(true);
+        }
+        let searched = self.progress.base();
+        drop_front(&mut self.pieces, searched);
+        self.remaining -= searched;
+        self.progress.rebase(self.pieces.len());
+        Ok(false)
     }
 
     /// Drops a frame of `len` bytes and the separator behind it. The search begins anew.

@@ -1,6 +1,6 @@
 //! A search over pieces in a row. What was searched isn't searched again, but for the bytes that are
 //! held back: those from which the needle may still begin.
-ghost use Rattle.std.specs.Prelude.{◌≡◌, ◌≢◌, ℕ, ◌+◌, ◌-◌, ◌^◌, ◌<◌, ◌≤◌, List, [], ◌++◌, length, take, drop, slice_index, Some, MatchOption, IfOk, OnErr, OnSome};
+ghost use Rattle.std.specs.Prelude.{◌≡◌, ◌≢◌, ℕ, ◌+◌, ◌-◌, ◌^◌, ◌<◌, ◌≤◌, List, [], ◌++◌, length, take, drop, slice_index, Some, MatchOption, IfOk, IfNone, OnErr, OnSome};
 ghost use Rattle.std.specs.List.{concat};
 ghost use Rattle.memchr.specs.Find.{FindsNeedle};
 ghost use Rattle.bytes_utils.specs.FrameSearch.{HoldsBack, Searched, SearchedPieces, StaysAt};
@@ -46,6 +46,23 @@ impl Progress {
         self.held.clear();
     }
 
+    /// The place from which on bytes are held back.
+    pub(super) fn base(&self) -> usize
+        ensures { result ≡ self.now.base }
+    {
+        self.base
+    }
+
+    /// The bytes before those that are held back are gone, and these lie in so many pieces.
+    pub(super) fn rebase(&mut self, pieces: usize)
+        ensures pieces { self.new.pieces ≡ pieces }
+        ensures base { self.new.base ≡ 0 }
+        ensures held { self.new.held.items ≡ self.old.held.items }
+    {
+        self.pieces = pieces;
+        self.base = 0;
+    }
+
     /// Searches the next piece: it gives the needle's place, or comes to the end of the piece.
     #[inline]
     fn step(&mut self, finder: &Finder, piece: &[u8]) -> Result<Option<usize>, AllocError>
@@ -78,6 +95,8 @@ pub(super) fn find(
     requires searched { SearchedPieces finder.now pieces.now.items progress.old }
     ensures found { IfOk result (λ at. FindsNeedle (concat pieces.now.items) finder.now 0 at) }
     ensures searched { SearchedPieces finder.now pieces.now.items progress.new }
+    ensures all { IfOk result
+        (λ at. IfNone at (progress.new.pieces ≡ length pieces.now.items)) }
 {
     while progress.pieces < pieces.len() {
         let piece = pieces[progress.pieces].as_slice();
