@@ -1,5 +1,5 @@
 //! Frames of at most so many bytes.
-ghost use Rattle.std.specs.Prelude.{◌≡◌, ◌+◌, ◌^◌, ◌<◌, ◌≤◌, ◌↔◌, false, [], ◌++◌, length, IsTrue, IfOk, IfErr, IfSome, IfNone, OnOk, OnErr};
+ghost use Rattle.std.specs.Prelude.{◌≡◌, ◌+◌, ◌^◌, ◌<◌, ◌≤◌, ◌↔◌, false, [], ◌++◌, length, take, drop, IsTrue, IfOk, IfErr, IfSome, IfNone, OnOk, OnErr, OnSome};
 ghost use Rattle.std.specs.List.{concat};
 ghost use Rattle.std.specs.Bool.{OnFalse, OnTrue};
 ghost use Rattle.bytes_utils.specs.Occurrence.{Occurs};
@@ -91,11 +91,70 @@ impl LimitedFrames {
         ensures separator { self.new.separator ≡ self.old.separator }
         ensures max_length { self.new.max_length ≡ self.old.max_length }
     {
+        let Some(len) = self.next_len()? else {
+            return Ok(None);
+        };
+        Ok(Some(self.frames.give(alloc, len)?))
+    }
+
+    /// As `next_frame`, in the pieces in which the frame came, of which none is copied.
+    pub fn next_segments(&mut self, alloc: Global) -> Result<Option<SegmentedBuf<Bytes>>, Reason>
+        ensures frame { IfOk result (λ next. IfSome next (λ frame. (self.new.passing ≡ false)
+            × GivesWithin self.old.separator self.old.max_length self.old.passing self.old.held
+            (concat frame.segments) self.new.held)) }
+        ensures too_long { IfErr result (λ reason. reason ≡ Reason.TooLong
+            → TellsOverlong self.old.separator self.old.max_length self.old.passing self.old.held
+            self.new.passing self.new.held) }
+        ensures waits { IfOk result (λ next. IfNone next (PassesOver self.old.separator
+            self.old.passing self.old.held self.new.passing self.new.held)) }
+        ensures refused { IfErr result (λ reason. reason ≡ Reason.OutOfMemory
+            → PassesOver self.old.separator self.old.passing self.old.held
+            self.new.passing self.new.held) }
+
+        // Only a frame whose end is to come, and that may still be within the limit, is waited for.
+        ensures lacks { IfOk result (λ next. IfNone next (OnFalse self.new.passing
+            (¬ Occurs self.new.separator self.new.held))) }
+        ensures few { IfOk result (λ next. IfNone next
+            (length self.new.held < self.new.max_length + length self.new.separator)) }
+        ensures separator { self.new.separator ≡ self.old.separator }
+        ensures max_length { self.new.max_length ≡ self.old.max_length }
+    {
+        let Some(len) = self.next_len()? else {
+            return Ok(None);
+        };
+        Ok(Some(self.frames.give_segments(alloc, len)?))
+    }
+
+    /// How long the next frame is, if it has come, behind the one that is passed over.
+    fn next_len(&mut self) -> Result<Option<usize>, Reason>
+        ensures frame { IfOk result (λ next. IfSome next (λ len. (self.new.passing ≡ false)
+            × (len + length self.new.separator ≤ length self.new.held)
+            × GivesWithin self.old.separator self.old.max_length self.old.passing self.old.held
+            (take len self.new.held) (drop (len + length self.new.separator) self.new.held))) }
+        ensures over { IfOk result (λ next. OnSome next (PassesOver self.old.separator
+            self.old.passing self.old.held self.new.passing self.new.held)) }
+        ensures too_long { IfErr result (λ reason. reason ≡ Reason.TooLong
+            → TellsOverlong self.old.separator self.old.max_length self.old.passing self.old.held
+            self.new.passing self.new.held) }
+        ensures waits { IfOk result (λ next. IfNone next (PassesOver self.old.separator
+            self.old.passing self.old.held self.new.passing self.new.held)) }
+        ensures refused { IfErr result (λ reason. reason ≡ Reason.OutOfMemory
+            → PassesOver self.old.separator self.old.passing self.old.held
+            self.new.passing self.new.held) }
+
+        // Only a frame whose end is to come, and that may still be within the limit, is waited for.
+        ensures lacks { IfOk result (λ next. IfNone next (OnFalse self.new.passing
+            (¬ Occurs self.new.separator self.new.held))) }
+        ensures few { IfOk result (λ next. IfNone next
+            (length self.new.held < self.new.max_length + length self.new.separator)) }
+        ensures separator { self.new.separator ≡ self.old.separator }
+        ensures max_length { self.new.max_length ≡ self.old.max_length }
+    {
         self.pass_over()?;
         if self.passing {
             return Ok(None);
         }
-        self.next_within(alloc)
+        self.len_within()
     }
 
     /// Leaves the frame behind that is passed over, if there is one, or more of its bytes.
@@ -114,23 +173,26 @@ impl LimitedFrames {
         Ok(())
     }
 
-    /// As `next_frame`, where no frame is passed over.
-    fn next_within(&mut self, alloc: Global) -> Result<Option<Bytes>, Reason>
+    /// As `next_len`, where no frame is passed over.
+    fn len_within(&mut self) -> Result<Option<usize>, Reason>
         requires { self.old.passing ≡ false }
-        ensures frame { IfOk result (λ next. IfSome next (λ frame. (self.new.passing ≡ false)
-            × TakesFrame self.old.separator self.old.held frame self.new.held
-            × (length frame ≤ self.old.max_length))) }
+        ensures frame { IfOk result (λ next. IfSome next (λ len. (self.new ≡ self.old)
+            × (len ≤ self.old.max_length)
+            × (len + length self.old.separator ≤ length self.old.held)
+            × TakesFrame self.old.separator self.old.held (take len self.old.held)
+            (drop (len + length self.old.separator) self.old.held))) }
         ensures too_long { IfErr result (λ reason. reason ≡ Reason.TooLong → IsOverlong
             self.old.separator self.old.max_length self.old.held self.new.passing self.new.held) }
         ensures waits { IfOk result (λ next. IfNone next ((self.new ≡ self.old)
             × (¬ Occurs self.old.separator self.old.held)
             × (length self.old.held < self.old.max_length + length self.old.separator))) }
-        ensures refused { IfErr result (λ reason. reason ≡ Reason.OutOfMemory → self.new ≡ self.old) }
+        ensures refused { IfErr result
+            (λ reason. reason ≡ Reason.OutOfMemory → self.new ≡ self.old) }
         ensures separator { self.new.separator ≡ self.old.separator }
         ensures max_length { self.new.max_length ≡ self.old.max_length }
     {
         match self.frames.next_end()? {
-            Some(len) if len <= self.max_length => Ok(Some(self.frames.give(alloc, len)?)),
+            Some(len) if len <= self.max_length => Ok(Some(len)),
             Some(len) => {
                 self.frames.pass(len);
                 Err(Reason::TooLong)
