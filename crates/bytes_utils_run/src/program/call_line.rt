@@ -73,10 +73,10 @@ fn pushed(line: &Str) -> Result<Bytes, Fault>
     let Some(text) = behind(line.as_str(), "push ") else {
         return Err(Fault::UnknownCommand);
     };
-    Ok(
-        line.slice_from(line.as_str().len() - text.len())?
-            .into_inner(),
-    )
+    match line.slice_from(line.as_str().len() - text.len()) {
+        Ok(text) => Ok(text.into_inner()),
+        Err(_) => Err(Fault::OutOfMemory),
+    }
 }
 
 /// The call that a line asks for.

@@ -14,10 +14,10 @@ slice_from-requires c =
     let behind = rw c.as_str.ensures.value at c.in-Some.ensures.bytes in
     rw c.as_str-2.ensures.value ((pushed-place line c.in-Some.text.now behind c.in-Some.ensures.utf8 _ refl).1)
 
-pub returns-clause-ok : goal.returns-clause-ok
-returns-clause-ok c =
+pub returns-in-Ok-clause-ok : goal.returns-in-Ok-clause-ok
+returns-in-Ok-clause-ok c =
     let line = c.args.line.now in
     let behind = rw c.as_str.ensures.value at c.in-Some.ensures.bytes in
     let value = rw c.as_str.ensures.value at c.in-Some.ensures.value in
-    let bytes = c.into_inner.ensures.value ∙ (rw c.as_str-2.ensures.value at c.in_ok-slice_from.ensures.ok) in
+    let bytes = c.into_inner.ensures.value ∙ (rw c.as_str-2.ensures.value at c.in-Ok.ensures.ok) in
     pushed-is line c.in-Some.text.now behind c.in-Some.ensures.utf8 _ _ refl bytes value
