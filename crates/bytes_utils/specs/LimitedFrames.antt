@@ -43,6 +43,16 @@ abbrev pub TellsOverlong : List ℕ → ℕ → Bool → List ℕ → Bool → L
 TellsOverlong separator limit passing held on rest =
     (mid : List ℕ) × PassesOver separator passing held false mid × IsOverlong separator limit mid on rest
 
+-- the same of two states
+abbrev pub Passes : Limiting → Limiting → Type 0
+Passes old new = PassesOver old.separator old.passing old.held new.passing new.held
+
+abbrev pub Gives : Limiting → List ℕ → Limiting → Type 0
+Gives old frame new = (new.passing ≡ false) × GivesWithin old.separator old.max_length old.passing old.held frame new.held
+
+abbrev pub Tells : Limiting → Limiting → Type 0
+Tells old new = TellsOverlong old.separator old.max_length old.passing old.held new.passing new.held
+
 -- what a caller did: a piece went in, a frame came out, one was told as too long, or nothing came
 pub data LimitedEvent : Type 0 where
   Pushed : List ℕ → LimitedEvent

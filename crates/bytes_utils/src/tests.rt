@@ -12,6 +12,7 @@ mod frames;
 mod hints;
 mod inclusive;
 mod json;
+mod limited_frames;
 mod lines;
 mod memory;
 mod parts;

@@ -4,7 +4,7 @@ ghost use Rattle.std.specs.List.{concat};
 ghost use Rattle.std.specs.Bool.{OnFalse, OnTrue};
 ghost use Rattle.bytes_utils.specs.Occurrence.{Occurs};
 ghost use Rattle.bytes_utils.specs.Frames.{TakesFrame};
-ghost use Rattle.bytes_utils.specs.LimitedFrames.{GivesWithin, IsOverlong, LimitedFramesLaw, PassesOver, TellsOverlong};
+ghost use Rattle.bytes_utils.specs.LimitedFrames.{Gives, IsOverlong, LimitedFramesLaw, Passes, Tells};
 
 use super::Frames;
 use bytes::Bytes;
@@ -71,17 +71,12 @@ impl LimitedFrames {
     /// Gives the next frame, or `None` while its end is to come, or `TooLong` where it is longer than
     /// the limit. Where memory is refused, the call can be made again.
     pub fn next_frame(&mut self, alloc: Global) -> Result<Option<Bytes>, Reason>
-        ensures frame { IfOk result (λ next. IfSome next (λ frame. (self.new.passing ≡ false)
-            × GivesWithin self.old.separator self.old.max_length self.old.passing self.old.held
-            frame self.new.held)) }
-        ensures too_long { IfErr result (λ reason. reason ≡ Reason.TooLong
-            → TellsOverlong self.old.separator self.old.max_length self.old.passing self.old.held
-            self.new.passing self.new.held) }
-        ensures waits { IfOk result (λ next. IfNone next (PassesOver self.old.separator
-            self.old.passing self.old.held self.new.passing self.new.held)) }
-        ensures refused { IfErr result (λ reason. reason ≡ Reason.OutOfMemory
-            → PassesOver self.old.separator self.old.passing self.old.held
-            self.new.passing self.new.held) }
+        ensures frame { IfOk result (λ next. IfSome next (λ frame. Gives self.old frame self.new)) }
+        ensures too_long { IfErr result
+            (λ reason. reason ≡ Reason.TooLong → Tells self.old self.new) }
+        ensures waits { IfOk result (λ next. IfNone next (Passes self.old self.new)) }
+        ensures refused { IfErr result
+            (λ reason. reason ≡ Reason.OutOfMemory → Passes self.old self.new) }
 
         // Only a frame whose end is to come, and that may still be within the limit, is waited for.
         ensures lacks { IfOk result (λ next. IfNone next (OnFalse self.new.passing
@@ -99,17 +94,13 @@ impl LimitedFrames {
 
     /// As `next_frame`, in the pieces in which the frame came, of which none is copied.
     pub fn next_segments(&mut self, alloc: Global) -> Result<Option<SegmentedBuf<Bytes>>, Reason>
-        ensures frame { IfOk result (λ next. IfSome next (λ frame. (self.new.passing ≡ false)
-            × GivesWithin self.old.separator self.old.max_length self.old.passing self.old.held
-            (concat frame.segments) self.new.held)) }
-        ensures too_long { IfErr result (λ reason. reason ≡ Reason.TooLong
-            → TellsOverlong self.old.separator self.old.max_length self.old.passing self.old.held
-            self.new.passing self.new.held) }
-        ensures waits { IfOk result (λ next. IfNone next (PassesOver self.old.separator
-            self.old.passing self.old.held self.new.passing self.new.held)) }
-        ensures refused { IfErr result (λ reason. reason ≡ Reason.OutOfMemory
-            → PassesOver self.old.separator self.old.passing self.old.held
-            self.new.passing self.new.held) }
+        ensures frame { IfOk result (λ next. IfSome next (λ frame.
+            Gives self.old (concat frame.segments) self.new)) }
+        ensures too_long { IfErr result
+            (λ reason. reason ≡ Reason.TooLong → Tells self.old self.new) }
+        ensures waits { IfOk result (λ next. IfNone next (Passes self.old self.new)) }
+        ensures refused { IfErr result
+            (λ reason. reason ≡ Reason.OutOfMemory → Passes self.old self.new) }
 
         // Only a frame whose end is to come, and that may still be within the limit, is waited for.
         ensures lacks { IfOk result (λ next. IfNone next (OnFalse self.new.passing
@@ -127,20 +118,17 @@ impl LimitedFrames {
 
     /// How long the next frame is, if it has come, behind the one that is passed over.
     fn next_len(&mut self) -> Result<Option<usize>, Reason>
-        ensures frame { IfOk result (λ next. IfSome next (λ len. (self.new.passing ≡ false)
-            × (len + length self.new.separator ≤ length self.new.held)
-            × GivesWithin self.old.separator self.old.max_length self.old.passing self.old.held
-            (take len self.new.held) (drop (len + length self.new.separator) self.new.held))) }
-        ensures over { IfOk result (λ next. OnSome next (PassesOver self.old.separator
-            self.old.passing self.old.held self.new.passing self.new.held)) }
-        ensures too_long { IfErr result (λ reason. reason ≡ Reason.TooLong
-            → TellsOverlong self.old.separator self.old.max_length self.old.passing self.old.held
-            self.new.passing self.new.held) }
-        ensures waits { IfOk result (λ next. IfNone next (PassesOver self.old.separator
-            self.old.passing self.old.held self.new.passing self.new.held)) }
-        ensures refused { IfErr result (λ reason. reason ≡ Reason.OutOfMemory
-            → PassesOver self.old.separator self.old.passing self.old.held
-            self.new.passing self.new.held) }
+        ensures frame { IfOk result (λ next. IfSome next (λ len.
+            (len + length self.new.separator ≤ length self.new.held)
+            × Gives self.old (take len self.new.held) (record self.new {
+              held = drop (len + length self.new.separator) self.new.held;
+            }))) }
+        ensures over { IfOk result (λ next. OnSome next (Passes self.old self.new)) }
+        ensures too_long { IfErr result
+            (λ reason. reason ≡ Reason.TooLong → Tells self.old self.new) }
+        ensures waits { IfOk result (λ next. IfNone next (Passes self.old self.new)) }
+        ensures refused { IfErr result
+            (λ reason. reason ≡ Reason.OutOfMemory → Passes self.old self.new) }
 
         // Only a frame whose end is to come, and that may still be within the limit, is waited for.
         ensures lacks { IfOk result (λ next. IfNone next (OnFalse self.new.passing
@@ -159,8 +147,7 @@ impl LimitedFrames {
 
     /// Leaves the frame behind that is passed over, if there is one, or more of its bytes.
     fn pass_over(&mut self) -> Result<(), Reason>
-        ensures over { PassesOver self.old.separator self.old.passing self.old.held
-            self.new.passing self.new.held }
+        ensures over { Passes self.old self.new }
         ensures few { OnOk result (OnTrue self.new.passing
             (length self.new.held < length self.old.separator)) }
         ensures separator { self.new.separator ≡ self.old.separator }

@@ -94,7 +94,7 @@ fn assert_run<R: Abort>(
 }
 
 /// The stream in pieces: it is cut behind each byte whose bit in `cuts` is set.
-fn cut(alloc: Global, stream: &Bytes, cuts: usize) -> Result<VecDeque<Bytes>, Fail> {
+pub(super) fn cut(alloc: Global, stream: &Bytes, cuts: usize) -> Result<VecDeque<Bytes>, Fail> {
     let mut pieces = VecDeque::new(alloc);
     let mut left = stream.clone()?;
     let mut size = 0_usize;
@@ -110,7 +110,7 @@ fn cut(alloc: Global, stream: &Bytes, cuts: usize) -> Result<VecDeque<Bytes>, Fa
 }
 
 /// A stream of as many letters as are asked for, `a` or `b` by the bits of `word`.
-fn letters(alloc: Global, word: usize, len: usize) -> Result<Bytes, Fail> {
+pub(super) fn letters(alloc: Global, word: usize, len: usize) -> Result<Bytes, Fail> {
     let mut stream = Vec::new(alloc);
     for i in 0..len.min(60) {
         stream.push(if word >> i & 1 == 1 { b'b' } else { b'a' })?;
