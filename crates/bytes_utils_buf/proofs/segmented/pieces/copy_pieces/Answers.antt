@@ -1,4 +1,4 @@
-use Rattle.std.proofs.Common.{◌≡◌, ◌-◌, ◌<◌, [], length, map, take, min, arith, rules, ap, ◌∙◌, sym}
+use Rattle.std.proofs.Common.{◌≡◌, ◌-◌, ◌<◌, length, map, take, min, arith, rules, ap, ◌∙◌, sym}
 use Rattle.std.proofs.lemmas.List.{length-map, take_min}
 use Rattle.bytes_utils_buf.proofs.Lists.{read_at}
 use Rattle.bytes_utils_buf.proofs.Pieces.{inside, Has-more}
