@@ -8,7 +8,7 @@ mod show;
 pub enum Reason {
     /// A request for memory was refused. A length that no allocation can have counts as one.
     OutOfMemory = 1,
-    /// A sum of lengths passes `usize::MAX`.
+    /// A sum of lengths passes `usize::MAX`, or a frame is longer than a reader of frames allows.
     TooLong = 2,
 }
 
