@@ -1,17 +1,22 @@
 -- Frames out of pieces.
-use Rattle.std.proofs.Common.{Option, ◌≤◌, ◌≡◌, ℕ, ◌+◌, ◌<◌, List, [], ◌∷◌, ◌++◌, length, take, drop, None, Some, ap, ◌∙◌, sym, refl, subst, arith, length-append, append_assoc, append-nil, take-append-drop, ⊎_elim}
+use Rattle.std.proofs.Common.{map, IsUtf8, drop-drop, Option, ◌≤◌, ◌≡◌, ℕ, ◌+◌, ◌<◌, List, [], ◌∷◌, ◌++◌, length, take, drop, None, Some, ap, ◌∙◌, sym, refl, subst, arith, length-append, append_assoc, append-nil, take-append-drop, ⊎_elim}
 use Rattle.std.proofs.lemmas.Bool.{cases_lt}
-use Rattle.std.proofs.lemmas.List.{append_cancel_left, length-take-le}
+use Rattle.std.proofs.lemmas.List.{append_cancel_left, length-take-le, take_at, drop_at}
+use Rattle.std.proofs.lemmas.Str.{IsUtf8-drop}
+use Rattle.std.specs.Str.{chars}
 use Rattle.std.specs.Option.{IfNone, IfSome}
 use Rattle.memchr.specs.Find.{FindsNeedle}
 use Rattle.memchr.proofs.lemmas.MatchLemmas.{OccursAt-part, OccursAt-split}
-use Rattle.bytes_utils.specs.Occurrence.{Occurs, OccursFirstAt}
+use Rattle.bytes_utils.specs.Occurrence.{Occurs, OccursAt, OccursFirstAt}
 use Rattle.bytes_utils.specs.Parts.{AreForwardParts}
-use Rattle.bytes_utils.specs.Frames.{TakesFrame, FrameEvent, Pushed, Given, IsFrameRun, pushed_by, given_by, AreFrames, FramesLaw, FramePartsLaw, SameFramesLaw, AllFramesLaw}
+use Rattle.bytes_utils.specs.Frames.{TakesFrame, FrameEvent, Pushed, Given, IsFrameRun, pushed_by, given_by, AreFrames, FramesLaw, FramePartsLaw, SameFramesLaw, AllFramesLaw, TextFramesLaw}
 use Rattle.bytes_utils.proofs.Boundaries.{OccursAt-fits, HasNeedleAt-from_occurs}
 use Rattle.bytes_utils.proofs.Occurrences.{OccursFirstAt-append, OccursFirstAt-front, first_places_same}
 use Rattle.bytes_utils.proofs.Joins.{append_same}
-use Rattle.bytes_utils.proofs.Forward.{AreForwardParts-led, AreForwardParts-last}
+use Rattle.bytes_utils.proofs.Forward.{AreForwardParts-led, AreForwardParts-last, AreForwardParts-more}
+use Rattle.bytes_utils.proofs.FromEnds.{front-from}
+use Rattle.bytes_utils.proofs.PartCut.{next_boundary, chars_before, chars_behind}
+use Rattle.bytes_utils.proofs.Search.{chars-some, FindsFirst-from_needle}
 
 -- ---- a frame comes out
 
@@ -80,7 +85,7 @@ AreFrames-run p bytes frames held (Given frame ∷ events) end are run =
 pub frames_law : FramesLaw
 frames_law p events end run = AreFrames-run p [] [] [] events end refl run
 
--- ---- one list of frames
+-- ---- the list of parts
 
 frame_parts : (p bytes : List ℕ) (frames : List (List ℕ)) (rest : List ℕ) → 0 < length p → AreFrames p bytes frames rest → (¬ Occurs p rest)
     → AreForwardParts bytes p None (frames ++ rest ∷ [])
@@ -95,6 +100,46 @@ frame_parts p bytes (frame ∷ frames) rest some are lacks =
 pub frame_parts_law : FramePartsLaw
 frame_parts_law [] bytes frames rest are lacks = absurd (lacks (0, refl))
 frame_parts_law (x ∷ p) bytes frames rest are lacks = frame_parts (x ∷ p) bytes frames rest (omega arith) are lacks
+
+-- ---- frames of a text
+
+-- the frame ends at the first separator, as a search finds it
+TakesFrame-finds : (p old frame rest : List ℕ) → 0 < length p → TakesFrame p old frame rest → FindsNeedle old p 0 (Some (length frame))
+TakesFrame-finds p old frame rest some takes =
+    let fits = OccursAt-fits p old (length frame) some takes.first.here in (
+      record { low = omega arith; high = omega (arith, fits); before = λ j low high here. omega (arith, high, takes.first.none_before j (OccursAt-part old p j here)) },
+      HasNeedleAt-from_occurs p old (length frame) some takes.first.here,
+    )
+
+text_parts : (p text : List ℕ) (frames : List (List ℕ)) (rest : List ℕ) → 0 < length p → IsUtf8 p → IsUtf8 text → AreFrames p text frames rest → (¬ Occurs p rest)
+    → AreForwardParts (chars text) (chars p) None (map chars (frames ++ rest ∷ []))
+text_parts p text [] rest some p_is text_is are lacks =
+    let none = FindsFirst-from_needle text p text_is p_is some None (λ k low high here. lacks (k, subst (λ l. OccursAt p l k) are (OccursAt-part text p k here))) in
+    subst (λ l. AreForwardParts (chars text) (chars p) None (chars l ∷ [])) are (AreForwardParts-last (chars p) (chars text) None tt none)
+text_parts p text (frame ∷ frames) rest some p_is text_is are lacks =
+    let takes = are.1 in
+    let at = length frame in
+    let place = FindsFirst-from_needle text p text_is p_is some (Some at) (TakesFrame-finds p text frame are.0 some takes) in
+    let here = place.2.here in
+    let before : frame ≡ take at text = sym (take_at frame (p ++ are.0) at refl) ∙ ap (take at) (sym takes.bytes) in
+    let behind : are.0 ≡ drop (at + length p) text =
+    sym (drop_at p are.0 (length p) refl) ∙ ap (drop (length p)) (sym (drop_at frame (p ++ are.0) at refl)) ∙ drop-drop (length p) at (frame ++ (p ++ are.0))
+    ∙ ap (drop (at + length p)) (sym takes.bytes) in
+    let boundary = next_boundary text p text_is p_is at place.0 place.1 here in
+    let behind_is = subst IsUtf8 (sym behind) (IsUtf8-drop text (at + length p) text_is boundary) in
+    let later = text_parts p are.0 frames rest some p_is behind_is are.2 lacks in
+    let parts = map chars (frames ++ rest ∷ []) in
+    subst (λ part. AreForwardParts (chars text) (chars p) None (part ∷ parts)) (sym (chars_before text p text_is p_is at place.0 place.1 here frame before))
+    (AreForwardParts-more (chars p) (chars text) place.0 (chars-some p p_is some) place.2 None tt parts
+    (subst (λ l. AreForwardParts l (chars p) None parts) (chars_behind text p text_is p_is at place.0 place.1 here are.0 behind) later))
+
+pub text_frames_law : TextFramesLaw
+text_frames_law [] text frames rest p_is text_is are lacks = absurd (lacks (0, refl))
+text_frames_law (x ∷ p) text frames rest p_is text_is are lacks =
+    front-from (chars text) (chars (x ∷ p)) None (map chars (frames ++ rest ∷ [])) (chars-some (x ∷ p) p_is (omega arith)) tt
+    (text_parts (x ∷ p) text frames rest (omega arith) p_is text_is are lacks)
+
+-- ---- one list of frames
 
 TakesFrame-same : (p bytes f g x y : List ℕ) → TakesFrame p bytes f x → TakesFrame p bytes g y → (f ≡ g) × (x ≡ y)
 TakesFrame-same p bytes f g x y s t =

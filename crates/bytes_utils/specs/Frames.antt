@@ -1,5 +1,6 @@
 -- Frames of a stream of bytes, each ended by a separator that isn't empty, and how they come out of pieces.
-use Rattle.std.specs.Prelude.{◌≡◌, ℕ, List, [], ◌∷◌, ◌++◌, length, None}
+use Rattle.std.specs.Prelude.{◌≡◌, ℕ, List, [], ◌∷◌, ◌++◌, length, map, None, IsUtf8}
+use Rattle.std.specs.Str.{chars}
 use Rattle.bytes_utils.specs.Occurrence.{Occurs, OccursFirstAt}
 use Rattle.bytes_utils.specs.Parts.{ArePartsFromFront}
 
@@ -53,6 +54,11 @@ FramesLaw = (separator : List ℕ) (events : List FrameEvent) (end : List ℕ) �
 abbrev pub FramePartsLaw : Type 0
 FramePartsLaw = (separator bytes : List ℕ) (frames : List (List ℕ)) (rest : List ℕ) → AreFrames separator bytes frames rest
     → (¬ Occurs separator rest) → ArePartsFromFront bytes separator None (frames ++ rest ∷ [])
+
+-- Over the bytes of a text, by those of a text, they are the parts of the text, of which there is one list too.
+abbrev pub TextFramesLaw : Type 0
+TextFramesLaw = (separator text : List ℕ) (frames : List (List ℕ)) (rest : List ℕ) → IsUtf8 separator → IsUtf8 text → AreFrames separator text frames rest
+    → (¬ Occurs separator rest) → ArePartsFromFront (chars text) (chars separator) None (map chars (frames ++ rest ∷ []))
 
 -- as many frames of the same bytes are the same frames, with the same bytes behind them
 abbrev pub SameFramesLaw : Type 0
