@@ -19,3 +19,4 @@ mod reads;
 mod refused;
 mod slice;
 mod tables;
+mod take_out;

@@ -11,6 +11,7 @@ mod hand_out;
 mod join;
 mod look;
 mod share;
+mod take_out;
 
 use super::copy::Segmented;
 use super::tally::Tally;
