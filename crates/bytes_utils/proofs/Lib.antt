@@ -35,5 +35,7 @@ pub mod Building
 pub mod AsciiCase
 pub mod Pieces
 pub mod Searching
+pub mod Needles
 pub mod Framing
 pub mod Limited
+pub mod LinesOut

@@ -3,10 +3,9 @@ use Rattle.std.proofs.Common.{◌≡◌, ℕ, ◌+◌, ◌-◌, ◌<◌, ◌≤�
 use Rattle.std.proofs.lemmas.Bool.{cond-true, cond-false, le-leb, lt-leb, cases_lt}
 use Rattle.std.proofs.lemmas.List.{map-append, length-take-le}
 use Rattle.bytes_utils_buf.proofs.Lists.{drop-append_past}
-use Rattle.bytes_utils.specs.Occurrence.{Occurs, OccursAt}
+use Rattle.bytes_utils.specs.Occurrence.{OccursAt}
 use Rattle.bytes_utils.specs.FrameSearch.{Searched}
 use Rattle.bytes_utils.proofs.Boundaries.{HasNeedleAt-from_occurs}
-use Rattle.bytes_utils.proofs.Occurrences.{OccursAt-front}
 use Rattle.bytes_utils.specs.Frames.{TakesFrame}
 use Rattle.bytes_utils.specs.LimitedFrames.{NoneBegins, LosesFront, PassesOver, IsOverlong, LimitedEvent, Pushed, Given, Told, Waited, IsLimitedRun, came_in, came_out, within, IsToldOf, LimitedFramesLaw}
 use Rattle.bytes_utils.proofs.Framing.{AreFrames-more, AreFrames-next}
@@ -38,11 +37,6 @@ TakesFrame-behind p gone held frame rest none takes = record {
         omega (arith, low, takes.first.none_before (j - length gone) (OccursAt-from_behind p gone held j low there));
   });
 }
-
--- a separator that isn't in the bytes begins at no place from which it would end in them
-pub NoneBegins-lacking : (p bytes : List ℕ) (limit : ℕ) → 0 < length p → (¬ Occurs p bytes) → limit + length p ≤ length bytes → NoneBegins p bytes (limit + 1)
-NoneBegins-lacking p bytes limit some lacks long more k occurs =
-    ⊎_elim (λ early. absurd (lacks (k, OccursAt-front p bytes more k occurs (omega (arith, early, long))))) (λ late. late) (cases_lt k (limit + 1))
 
 -- the bytes before those that are held back are gone
 pub LosesFront-searched : (p bytes held : List ℕ) (base : ℕ) → 0 < length p → Searched p bytes base held → LosesFront p bytes held

@@ -8,14 +8,10 @@ use Rattle.std.specs.Char.{encode_utf8}
 use Rattle.std.specs.Str.{chars, encode_utf8_all as encodes}
 use Rattle.bytes_utils.specs.Text.{byte_place}
 use Rattle.bytes_utils.specs.Occurrence.{OccursAt, Occurs, OccursFirstAt}
-use Rattle.bytes_utils.specs.Lines.{lines, line_feed, carriage_return, first_led_by, text_behind}
+use Rattle.bytes_utils.specs.Lines.{lines, line_feed, carriage_return, first_led_by, text_behind, IsFeedEnd, IsWithoutReturn}
 use Rattle.bytes_utils.proofs.Boundaries.{OccursAt-fits}
 use Rattle.bytes_utils.proofs.Occurrences.{cut_whole}
 use Rattle.bytes_utils.proofs.Places.{boundary_at_place, chars-take_place, chars-drop_place}
-
--- the line is t without one carriage return at its end, if it has one there
-abbrev pub IsWithoutReturn : List ℕ → List ℕ → Type 0
-IsWithoutReturn line t = (t ≡ line ++ carriage_return ∷ []) ⊎ ((t ≡ line) × ((front : List ℕ) → t ≢ front ++ carriage_return ∷ []))
 
 -- what is left when a carriage return was to be stripped from the end, or all where there was none
 pub IsWithoutReturn-stripped : (stripped : Option (Bor (List ℕ))) (all line : Bor (List ℕ)) → line ≡ unwrap_or stripped all
@@ -87,8 +83,13 @@ text_behind-whole (c ∷ cs) lacks = rw (ne_eqb c 10 (not_feed c cs lacks)) (tex
 OccursAt-between : (front back : List ℕ) → OccursAt (line_feed ∷ []) (front ++ line_feed ∷ back) (length front)
 OccursAt-between front back = ap (take 1) (drop_at front (10 ∷ back) (length front) refl)
 
-LacksFeed-none : (cs : List ℕ) → (¬ Occurs (line_feed ∷ []) cs) → LacksFeed cs
+pub LacksFeed-none : (cs : List ℕ) → (¬ Occurs (line_feed ∷ []) cs) → LacksFeed cs
 LacksFeed-none cs none front back e = none (length front, subst (λ z. OccursAt (line_feed ∷ []) z (length front)) (sym e) (OccursAt-between front back))
+
+-- a line, its line feed, and what is behind it
+pub lines-at_end : (line end rest : List ℕ) → (¬ Occurs (line_feed ∷ []) line) → IsFeedEnd line end → lines (line ++ (end ++ rest)) ≡ line ∷ lines rest
+lines-at_end line end rest none (inl returned) = ap (λ z. lines (line ++ (z ++ rest))) returned ∙ lines-at_return line rest (LacksFeed-none line none)
+lines-at_end line end rest none (inr fed) = ap (λ z. lines (line ++ (z ++ rest))) fed.0 ∙ lines-at_feed line rest (LacksFeed-none line none) fed.1
 
 -- a text in which none occurs has nothing behind one
 pub text_behind-none : (cs : List ℕ) → (¬ Occurs (line_feed ∷ []) cs) → text_behind cs ≡ []

@@ -1,10 +1,9 @@
 -- What a search of a part says of all bytes.
-use Rattle.std.proofs.Common.{◌≡◌, ℕ, ◌+◌, ◌-◌, ◌<◌, ◌≤◌, List, [], ◌∷◌, ◌++◌, length, take, drop, get_or, None, Some, ap, ◌∙◌, sym, refl, subst, arith, length-append, length-drop, length-take, append_assoc, append-nil, drop-drop, drop_at, get_or-drop, take-append-drop, ⊎_elim}
-use Rattle.std.proofs.lemmas.List.{get_or_append_left, drop-append-le, take-append-le}
+use Rattle.std.proofs.Common.{◌≡◌, ◌≢◌, ℕ, ◌+◌, ◌-◌, ◌<◌, ◌≤◌, List, [], ◌++◌, length, take, drop, get_or, slice_index, None, Some, ap, ◌∙◌, sym, refl, subst, arith, length-append, length-drop, length-take, append_assoc, append-nil, drop-drop, drop_at, get_or-drop, take-append-drop, ⊎_elim}
+use Rattle.std.proofs.lemmas.List.{drop_all, get_or_append_left, drop-append-le, nil_from_length}
 use Rattle.std.proofs.lemmas.Bool.{cases_lt}
 use Rattle.memchr.specs.Find.{Nowhere, OccursAt, FindsNeedle}
-use Rattle.bytes_utils.specs.FrameSearch.{HoldsBack, Searched, SearchedPieces}
-use Rattle.bytes_utils.specs.declared.frame.search.Progress.{Progress}
+use Rattle.bytes_utils.specs.FrameSearch.{HoldsBack, Searched}
 
 -- a part of all bytes that begins at place `base`, with more behind it
 module _ (all p part more : List ℕ) (base : ℕ) (within : base ≤ length all) (bytes : drop base all ≡ part ++ more) where
@@ -14,7 +13,7 @@ module _ (all p part more : List ℕ) (base : ℕ) (within : base ≤ length all
   pub reads_part : (k : ℕ) → k < length part → get_or all (base + k) 0 ≡ get_or part k 0
   reads_part k inside = sym (get_or-drop base all k 0) ∙ ap (λ l. get_or l k 0) bytes ∙ get_or_append_left part more 0 k inside
 
-  occurs_in_all : (k : ℕ) → OccursAt part p k → OccursAt all p (base + k)
+  pub occurs_in_all : (k : ℕ) → OccursAt part p k → OccursAt all p (base + k)
   occurs_in_all k here =
       let fits = here.fits in
       record {
@@ -50,6 +49,26 @@ module _ (all p part more : List ℕ) (base : ℕ) (within : base ≤ length all
   -- what the part doesn't hold begins nowhere in it, unless it ends behind it
   pub missed_in_part : FindsNeedle part p 0 None → (j : ℕ) → base ≤ j → j + length p ≤ base + length part → ¬ OccursAt all p j
   missed_in_part missed j low fits here = missed (j - base) (omega arith) (omega arith) (occurs_in_part j low fits here)
+
+-- A piece in which the first byte of the needle stands nowhere before a place: it begins nowhere before that place.
+module _ (p piece : List ℕ) (from : ℕ) (within : from ≤ length piece) (some : 0 < length p) (none : (k : ℕ) → k < from → slice_index piece k ≢ slice_index p 0) where
+  pub none_before_first : Nowhere (OccursAt piece p) 0 from
+  none_before_first j low high here =
+      let same : j ≡ j + 0 = omega arith in
+      none j high (ap (λ n. get_or piece n 0) same ∙ here.reads 0 some)
+
+  rest_of : drop from piece ≡ drop from piece ++ []
+  rest_of = sym (append-nil (drop from piece))
+
+  pub found_from : (k at : ℕ) → at ≡ from + k → FindsNeedle (drop from piece) p 0 (Some k) → FindsNeedle piece p 0 (Some at)
+  found_from k at same found = found_in_part piece p (drop from piece) [] from within rest_of k at same none_before_first found
+
+  pub missed_from : FindsNeedle (drop from piece) p 0 None → FindsNeedle piece p 0 None
+  missed_from missed j low high here =
+      let fits = here.fits in
+      ⊎_elim (λ below. none_before_first j low below here)
+      (λ behind. missed_in_part piece p (drop from piece) [] from within rest_of missed j behind (omega (arith, fits, within, length-drop from piece)) here)
+      (cases_lt j from)
 
 -- What is held back and a piece behind it. A needle that begins in what is held back ends by place `most` of the piece.
 module _ (p held piece : List ℕ) (most : ℕ) (longest : length p ≡ most + 1) where
@@ -131,9 +150,19 @@ module _ (p bytes held piece : List ℕ) (base : ℕ) (s : Searched p bytes base
             (cases_lt j base);
       }
 
--- nothing was searched
-pub Searched-none : (p : List ℕ) → 0 < length p → Searched p [] 0 []
-Searched-none p some = record { within = omega arith; tail = refl; short = some; none = λ more j low high here. omega arith }
+  -- nothing is held back, and the first byte of the needle isn't in the piece
+  pub Searched-passed : (next : ℕ) → 0 < length p → next ≡ base + length piece → length held ≡ 0 → ((k : ℕ) → k < length piece → slice_index piece k ≢ slice_index p 0)
+      → Searched p (bytes ++ piece) next held
+  Searched-passed next some same empty absent =
+      let none : held ≡ [] = nil_from_length held empty in
+      let alone : piece ≡ held ++ piece = sym (ap (λ l. l ++ piece) none) in
+      let within : length piece ≤ length piece = omega arith in
+      let missed : FindsNeedle piece p 0 None = λ j low high here.
+      let fits = here.fits in
+      none_before_first p piece (length piece) within some absent j low (omega (arith, fits, some)) here in
+      let back : HoldsBack p piece (length piece) = record { within = within; short = omega (arith, some); none = λ k low more. absent k low } in
+      Searched-missed (length piece) next held some same (subst (λ l. FindsNeedle l p 0 None) alone missed) (subst (λ l. HoldsBack p l (length piece)) alone back)
+      (none ∙ sym (ap (drop (length piece)) (sym alone) ∙ drop_all (length piece) piece within))
 
 -- all bytes were searched
 pub Searched-all : (p bytes held : List ℕ) (base : ℕ) → Searched p bytes base held → FindsNeedle bytes p 0 None
@@ -142,12 +171,3 @@ Searched-all p bytes held base s j low high here =
     let within = s.within in
     let short = s.short in
     s.none [] j low (omega (arith, fits, within, short, ap length s.tail, length-drop base bytes)) (subst (λ l. OccursAt l p j) (sym (append-nil bytes)) here)
-
--- a piece came behind those that are searched
-pub SearchedPieces-push : (p : List ℕ) (pieces : List (List ℕ)) (piece : List ℕ) (progress : Progress) → SearchedPieces p pieces progress → SearchedPieces p (pieces ++ piece ∷ []) progress
-SearchedPieces-push p pieces piece progress s =
-    let within = s.within in
-    record {
-      within = omega (arith, within, length-append pieces (piece ∷ []));
-      searched = rw (take-append-le progress.pieces pieces (piece ∷ []) within) s.searched;
-    }

@@ -15,6 +15,7 @@ pub mod Json
 pub mod Frames
 pub mod FrameSearch
 pub mod LimitedFrames
+pub mod StreamLines
 -- the definitions on buffers, for callers that name them
 pub use Rattle.bytes_utils_buf.specs.Segments
 pub use Rattle.bytes_utils_buf.specs.Tally

@@ -1,7 +1,7 @@
 -- The lines of a text, as Rust's `str::lines` has them: a line ends at each line feed, one carriage return directly before that
 -- line feed is taken off with it, and a last line without a line feed counts where it isn't empty. std has a `lines` too, over
 -- bytes and by the parts between line feeds; this one is over characters, by what each character does.
-use Rattle.std.specs.Prelude.{◌≡◌, ℕ, List, [], ◌∷◌, ◌==◌, ◌&&◌, if◌then◌else◌, nat_eq, Option, MatchOption, IsSomeAnd}
+use Rattle.std.specs.Prelude.{◌≡◌, ◌≢◌, ◌⊎◌, ℕ, List, [], ◌∷◌, ◌++◌, ◌==◌, ◌&&◌, if◌then◌else◌, nat_eq, Option, MatchOption, IsSomeAnd}
 use Rattle.std.specs.List.{starts_with}
 use Rattle.std.specs.Str.{chars}
 use Rattle.bytes_utils.specs.Occurrence.{Occurs}
@@ -24,6 +24,16 @@ lines (c ∷ t) =
     if c == line_feed then [] ∷ lines t
     else if c == carriage_return && starts_with nat_eq t (line_feed ∷ []) then lines t
     else first_led_by c (lines t)
+
+-- The end of a line that a line feed ends: a carriage return and the line feed; or the line feed, in front of which the line has no
+-- carriage return.
+abbrev pub IsFeedEnd : List ℕ → List ℕ → Type 0
+IsFeedEnd line end = (end ≡ carriage_return ∷ line_feed ∷ [])
+    ⊎ ((end ≡ line_feed ∷ []) × ((front : List ℕ) → line ≢ front ++ carriage_return ∷ []))
+
+-- the line is t without one carriage return at its end, if it has one there
+abbrev pub IsWithoutReturn : List ℕ → List ℕ → Type 0
+IsWithoutReturn line t = (t ≡ line ++ carriage_return ∷ []) ⊎ ((t ≡ line) × ((front : List ℕ) → t ≢ front ++ carriage_return ∷ []))
 
 -- what follows the first line feed, empty where there is none
 abbrev pub text_behind : List ℕ → List ℕ

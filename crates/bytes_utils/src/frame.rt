@@ -7,18 +7,19 @@ ghost use Rattle.bytes_utils.specs.Frames.{AllFramesLaw, FramePartsLaw, FramesLa
 ghost use Rattle.bytes_utils.specs.LimitedFrames.{LosesFront};
 
 mod limited;
-mod pieces;
-mod search;
+mod line;
+mod needle;
+pub(crate) mod search;
 
-use bytes::Bytes;
+use bytes::{Buf, Bytes};
 use bytes_utils_buf::segmented::SegmentedBuf;
 use bytes_utils_buf::{Reason, Refused};
 pub use limited::{LimitedFrames, limited_frames_law};
+pub use line::{LineError, Lines, lines_laws};
 use memchr::memmem::Finder;
-use pieces::{copy_first, drop_front, share_first};
-use search::{Progress, find};
+pub use needle::{find, find_from};
+use search::Progress;
 use std::alloc::Global;
-use std::collections::VecDeque;
 use std::marker::Model;
 
 /// Frames of a stream, each ended by a separator. The stream comes in pieces that are cut anywhere.
@@ -35,8 +36,7 @@ use std::marker::Model;
 #[derive(Debug, Drop)]
 pub struct Frames {
     finder: Finder<'static>,
-    pieces: VecDeque<Bytes>,
-    remaining: usize,
+    pieces: SegmentedBuf<Bytes>,
     progress: Progress,
 }
 
@@ -48,10 +48,10 @@ impl Model for Frames {
 
     ghost Value = { Framing };
 
-    ghost view = { λ f. record { separator = f.finder; held = concat f.pieces.items } };
+    ghost view = { λ f. record { separator = f.finder; held = concat f.pieces.segments } };
 
-    ghost invariant = { λ f. (0 < length f.finder) × (f.remaining ≡ length (concat f.pieces.items))
-        × (f.remaining < 2 ^ 64) × SearchedPieces f.finder f.pieces.items f.progress };
+    ghost invariant = { λ f. (0 < length f.finder) × (length (concat f.pieces.segments) < 2 ^ 64)
+        × SearchedPieces f.finder f.pieces.segments f.progress };
 }
 
 impl Frames {
@@ -63,13 +63,13 @@ impl Frames {
     {
         Ok(Frames {
             finder: Finder::new(separator).into_owned(alloc)?,
-            pieces: VecDeque::new(alloc),
-            remaining: 0,
+            pieces: SegmentedBuf::new(alloc),
             progress: Progress::new(alloc),
         })
     }
 
     /// Takes a piece in behind the others, without a copy.
+    #[inline(always)]
     pub fn push(&mut self, piece: Bytes) -> Result<(), Refused<Bytes>>
         ensures ok { OnOk result (self.new.held ≡ self.old.held ++ piece) }
         ensures separator { self.new.separator ≡ self.old.separator }
@@ -78,22 +78,13 @@ impl Frames {
         ensures too_long { IfErr result (λ e. (e.reason ≡ Reason.TooLong)
             ↔ (2 ^ 64 ≤ length self.old.held + length e.back)) }
     {
-        let Some(remaining) = self.remaining.checked_add(piece.len()) else {
+        if !self.pieces.fits(piece.len()) {
             return Err(Refused {
                 reason: Reason::TooLong,
                 back: piece,
             });
-        };
-        match self.pieces.push_back(piece) {
-            Ok(()) => {
-                self.remaining = remaining;
-                Ok(())
-            }
-            Err(failed) => Err(Refused {
-                reason: Reason::OutOfMemory,
-                back: failed.value,
-            }),
         }
+        self.pieces.push(piece)
     }
 
     /// How many bytes came in and weren't given.
@@ -101,7 +92,7 @@ impl Frames {
         ensures value { result ≡ length self.now.held }
         ensures some { 0 < length self.now.separator }
     {
-        self.remaining
+        self.pieces.remaining()
     }
 
     /// The separator.
@@ -144,6 +135,20 @@ impl Frames {
         Ok(Some(self.give_segments(alloc, len)?))
     }
 
+    /// Gives the first `len` bytes, whatever stands in them, in the pieces in which they came: a body
+    /// whose length a frame told. `remaining` tests the condition.
+    pub fn split_to(&mut self, alloc: Global, len: usize) -> Result<SegmentedBuf<Bytes>, Reason>
+        requires { len ≤ length self.old.held }
+        ensures front { IfOk result (λ front. concat front.segments ≡ take len self.old.held) }
+        ensures ok { OnOk result (self.new ≡ record self.old { held = drop len self.old.held }) }
+        ensures err { OnErr result (self.new ≡ self.old) }
+        ensures reason { IfErr result (λ reason. reason ≡ Reason.OutOfMemory) }
+    {
+        let front = self.pieces.split_to(alloc, len)?;
+        self.progress.restart();
+        Ok(front)
+    }
+
     /// How long the next frame is, or `None` while its end is to come.
     fn next_end(&mut self) -> Result<Option<usize>, Reason>
         ensures frame { IfOk result (λ end. IfSome end (λ len. TakesFrame self.old.separator self.old.held
@@ -154,7 +159,7 @@ impl Frames {
         ensures same { self.new ≡ self.old }
         ensures reason { IfErr result (λ reason. reason ≡ Reason.OutOfMemory) }
     {
-        Ok(find(&self.finder, &self.pieces, &mut self.progress)?)
+        Ok(search::find(&self.finder, &self.pieces, &mut self.progress)?)
     }
 
     /// Gives a frame of `len` bytes, and drops the separator behind it.
@@ -167,7 +172,7 @@ impl Frames {
         ensures err { OnErr result (self.new ≡ self.old) }
         ensures reason { IfErr result (λ reason. reason ≡ Reason.OutOfMemory) }
     {
-        let frame = copy_first(&self.pieces, alloc, len)?;
+        let frame = self.pieces.copy_front(alloc, len)?;
         self.pass(len);
         Ok(frame)
     }
@@ -182,8 +187,8 @@ impl Frames {
         ensures err { OnErr result (self.new ≡ self.old) }
         ensures reason { IfErr result (λ reason. reason ≡ Reason.OutOfMemory) }
     {
-        let frame = share_first(&self.pieces, alloc, len)?;
-        self.pass(len);
+        let frame = self.split_to(alloc, len)?;
+        self.pass(0);
         Ok(frame)
     }
 
@@ -200,14 +205,13 @@ impl Frames {
         ensures err { OnErr result (self.new ≡ self.old) }
         ensures reason { IfErr result (λ reason. reason ≡ Reason.OutOfMemory) }
     {
-        if let Some(len) = find(&self.finder, &self.pieces, &mut self.progress)? {
+        if let Some(len) = search::find(&self.finder, &self.pieces, &mut self.progress)? {
             self.pass(len);
             return Ok(true);
         }
         let searched = self.progress.base();
-        drop_front(&mut self.pieces, searched);
-        self.remaining -= searched;
-        self.progress.rebase(self.pieces.len());
+        self.pieces.advance(searched);
+        self.progress.rebase(self.pieces.segments());
         Ok(false)
     }
 
@@ -219,8 +223,7 @@ impl Frames {
         } }
     {
         let passed = len + self.separator().len();
-        drop_front(&mut self.pieces, passed);
-        self.remaining -= passed;
+        self.pieces.advance(passed);
         self.progress.restart();
     }
 
@@ -228,10 +231,7 @@ impl Frames {
     pub fn finish(self) -> SegmentedBuf<Bytes>
         ensures { concat result.segments ≡ self.held }
     {
-        match SegmentedBuf::from_deque(self.pieces) {
-            Ok(rest) => rest,
-            Err(_) => unreachable!(),
-        }
+        self.pieces
     }
 }
 

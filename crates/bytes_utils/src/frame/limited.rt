@@ -1,7 +1,7 @@
 //! Frames of at most so many bytes.
 ghost use Rattle.std.specs.Prelude.{◌≡◌, ◌+◌, ◌^◌, ◌<◌, ◌≤◌, ◌↔◌, false, [], ◌++◌, length, take, drop, IsTrue, IfOk, IfErr, IfSome, IfNone, OnOk, OnErr, OnSome};
 ghost use Rattle.std.specs.List.{concat};
-ghost use Rattle.std.specs.Bool.{OnFalse, OnTrue};
+ghost use Rattle.std.specs.Bool.{OnTrue};
 ghost use Rattle.bytes_utils.specs.Occurrence.{Occurs};
 ghost use Rattle.bytes_utils.specs.Frames.{TakesFrame};
 ghost use Rattle.bytes_utils.specs.LimitedFrames.{Gives, IsOverlong, LimitedFramesLaw, Passes, Tells};
@@ -79,8 +79,8 @@ impl LimitedFrames {
             (λ reason. reason ≡ Reason.OutOfMemory → Passes self.old self.new) }
 
         // Only a frame whose end is to come, and that may still be within the limit, is waited for.
-        ensures lacks { IfOk result (λ next. IfNone next (OnFalse self.new.passing
-            (¬ Occurs self.new.separator self.new.held))) }
+        ensures lacks { IfOk result
+            (λ next. IfNone next (¬ Occurs self.new.separator self.new.held)) }
         ensures few { IfOk result (λ next. IfNone next
             (length self.new.held < self.new.max_length + length self.new.separator)) }
         ensures separator { self.new.separator ≡ self.old.separator }
@@ -103,8 +103,8 @@ impl LimitedFrames {
             (λ reason. reason ≡ Reason.OutOfMemory → Passes self.old self.new) }
 
         // Only a frame whose end is to come, and that may still be within the limit, is waited for.
-        ensures lacks { IfOk result (λ next. IfNone next (OnFalse self.new.passing
-            (¬ Occurs self.new.separator self.new.held))) }
+        ensures lacks { IfOk result
+            (λ next. IfNone next (¬ Occurs self.new.separator self.new.held)) }
         ensures few { IfOk result (λ next. IfNone next
             (length self.new.held < self.new.max_length + length self.new.separator)) }
         ensures separator { self.new.separator ≡ self.old.separator }
@@ -131,8 +131,8 @@ impl LimitedFrames {
             (λ reason. reason ≡ Reason.OutOfMemory → Passes self.old self.new) }
 
         // Only a frame whose end is to come, and that may still be within the limit, is waited for.
-        ensures lacks { IfOk result (λ next. IfNone next (OnFalse self.new.passing
-            (¬ Occurs self.new.separator self.new.held))) }
+        ensures lacks { IfOk result
+            (λ next. IfNone next (¬ Occurs self.new.separator self.new.held)) }
         ensures few { IfOk result (λ next. IfNone next
             (length self.new.held < self.new.max_length + length self.new.separator)) }
         ensures separator { self.new.separator ≡ self.old.separator }

@@ -5,16 +5,16 @@ ghost use Rattle.std.specs.List.{concat};
 ghost use Rattle.memchr.specs.Find.{FindsNeedle};
 ghost use Rattle.bytes_utils.specs.FrameSearch.{HoldsBack, Searched, SearchedPieces, StaysAt};
 
-use bytes::Bytes;
+use bytes_utils_buf::segmented::SegmentedBuf;
+use bytes_utils_buf::whole::BufWhole;
 use memchr::memchr;
 use memchr::memmem::Finder;
 use std::alloc::{AllocError, Global};
-use std::collections::VecDeque;
 
 /// How far a search over pieces has come: how many of them were searched, and the last of their
 /// bytes, from place `base` on, from which the needle may still begin.
 #[derive(Debug, Drop)]
-pub(super) struct Progress {
+pub(crate) struct Progress {
     pieces: usize,
     base: usize,
     held: Vec<u8>,
@@ -22,7 +22,7 @@ pub(super) struct Progress {
 
 impl Progress {
     /// Nothing was searched.
-    pub(super) fn new(alloc: Global) -> Progress
+    pub(crate) fn new(alloc: Global) -> Progress
         ensures pieces { result.pieces ≡ 0 }
         ensures base { result.base ≡ 0 }
         ensures held { result.held.items ≡ [] }
@@ -36,7 +36,7 @@ impl Progress {
 
     /// Begins anew.
     #[inline]
-    pub(super) fn restart(&mut self)
+    pub(crate) fn restart(&mut self)
         ensures pieces { self.new.pieces ≡ 0 }
         ensures base { self.new.base ≡ 0 }
         ensures held { self.new.held.items ≡ [] }
@@ -47,14 +47,14 @@ impl Progress {
     }
 
     /// The place from which on bytes are held back.
-    pub(super) fn base(&self) -> usize
+    pub(crate) fn base(&self) -> usize
         ensures { result ≡ self.now.base }
     {
         self.base
     }
 
     /// The bytes before those that are held back are gone, and these lie in so many pieces.
-    pub(super) fn rebase(&mut self, pieces: usize)
+    pub(crate) fn rebase(&mut self, pieces: usize)
         ensures pieces { self.new.pieces ≡ pieces }
         ensures base { self.new.base ≡ 0 }
         ensures held { self.new.held.items ≡ self.old.held.items }
@@ -77,29 +77,36 @@ impl Progress {
         ensures stays { IfOk result (λ found. OnSome found (StaysAt self.old self.new)) }
         ensures err { OnErr result (StaysAt self.old self.new) }
     {
-        if let Some(at) = find_next(finder, &mut self.held, piece)? {
+        let from = quiet_front(finder.needle(), piece);
+        if from == piece.len() && self.held.is_empty() {
+            self.base += from;
+            return Ok(None);
+        }
+        if let Some(at) = find_next(finder, &mut self.held, piece, from)? {
             return Ok(Some(self.base + at));
         }
-        self.base += hold_back(&mut self.held, piece, finder.needle())?;
+        self.base += hold_back(&mut self.held, piece, finder.needle(), from)?;
         Ok(None)
     }
 }
 
 /// The first place of the needle in the pieces, of which some were searched already.
-pub(super) fn find(
+pub(crate) fn find<B: BufWhole + Drop>(
     finder: &Finder,
-    pieces: &VecDeque<Bytes>,
+    pieces: &SegmentedBuf<B>,
     progress: &mut Progress,
 ) -> Result<Option<usize>, AllocError>
-    requires fits { length (concat pieces.now.items) < 2 ^ 64 }
-    requires searched { SearchedPieces finder.now pieces.now.items progress.old }
-    ensures found { IfOk result (λ at. FindsNeedle (concat pieces.now.items) finder.now 0 at) }
-    ensures searched { SearchedPieces finder.now pieces.now.items progress.new }
+    requires fits { length (concat pieces.now.segments) < 2 ^ 64 }
+    requires searched { SearchedPieces finder.now pieces.now.segments progress.old }
+    ensures found { IfOk result (λ at. FindsNeedle (concat pieces.now.segments) finder.now 0 at) }
+    ensures searched { SearchedPieces finder.now pieces.now.segments progress.new }
     ensures all { IfOk result
-        (λ at. IfNone at (progress.new.pieces ≡ length pieces.now.items)) }
+        (λ at. IfNone at (progress.new.pieces ≡ length pieces.now.segments)) }
 {
-    while progress.pieces < pieces.len() {
-        let piece = pieces[progress.pieces].as_slice();
+    while progress.pieces < pieces.segments() {
+        let Some(piece) = pieces.segment(progress.pieces) else {
+            unreachable!()
+        };
         if let Some(at) = progress.step(finder, piece)? {
             return Ok(Some(at));
         }
@@ -108,11 +115,33 @@ pub(super) fn find(
     Ok(None)
 }
 
-/// The first place of the needle in what is held back and a piece behind it.
+/// How many bytes of a piece are passed at once, since the needle's first byte isn't among them. A
+/// needle of one byte is left to the finder.
 #[inline]
-fn find_next(finder: &Finder, held: &mut Vec<u8>, piece: &[u8]) -> Result<Option<usize>, AllocError>
+fn quiet_front(needle: &[u8], piece: &[u8]) -> usize
+    requires { 0 < length needle.now }
+    ensures within { result ≤ length piece.now }
+    ensures none { (k : ℕ) → k < result → slice_index piece.now k ≢ slice_index needle.now 0 }
+{
+    if needle.len() == 1 {
+        return 0;
+    }
+    place_from(needle[0], piece, 0)
+}
+
+/// The first place of the needle in what is held back and a piece behind it, in which its first byte
+/// stands nowhere before place `from`.
+#[inline]
+fn find_next(
+    finder: &Finder,
+    held: &mut Vec<u8>,
+    piece: &[u8],
+    from: usize,
+) -> Result<Option<usize>, AllocError>
     requires short { length held.old.items < length finder.now }
     requires fits { length held.old.items + length piece.now < 2 ^ 64 }
+    requires within { from ≤ length piece.now }
+    requires none { (k : ℕ) → k < from → slice_index piece.now k ≢ slice_index finder.now 0 }
     ensures found { IfOk result
         (λ at. FindsNeedle (held.old.items ++ piece.now) finder.now 0 at) }
     ensures held { held.new.items ≡ held.old.items }
@@ -120,9 +149,24 @@ fn find_next(finder: &Finder, held: &mut Vec<u8>, piece: &[u8]) -> Result<Option
     if let Some(at) = find_across(finder, held, piece)? {
         return Ok(Some(at));
     }
-    match finder.find(piece) {
+    match find_behind(finder, piece, from) {
         Some(at) => Ok(Some(held.len() + at)),
         None => Ok(None),
+    }
+}
+
+/// The first place of the needle in a piece, in which its first byte stands nowhere before place
+/// `from`.
+#[inline]
+fn find_behind(finder: &Finder, piece: &[u8], from: usize) -> Option<usize>
+    requires some { 0 < length finder.now }
+    requires within { from ≤ length piece.now }
+    requires none { (k : ℕ) → k < from → slice_index piece.now k ≢ slice_index finder.now 0 }
+    ensures { FindsNeedle piece.now finder.now 0 result }
+{
+    match finder.find(&piece[from..]) {
+        Some(at) => Some(from + at),
+        None => None,
     }
 }
 
@@ -150,12 +194,19 @@ fn find_across(
     Ok(found)
 }
 
-/// Holds back the bytes of what is held and of the piece from which the needle may begin. Answers at
-/// which place they begin.
+/// Holds back the bytes of what is held and of the piece from which the needle may begin. Its first
+/// byte stands nowhere in the piece before place `from`. Answers at which place they begin.
 #[inline]
-fn hold_back(held: &mut Vec<u8>, piece: &[u8], needle: &[u8]) -> Result<usize, AllocError>
+fn hold_back(
+    held: &mut Vec<u8>,
+    piece: &[u8],
+    needle: &[u8],
+    from: usize,
+) -> Result<usize, AllocError>
     requires some { 0 < length needle.now }
     requires fits { length held.old.items + length piece.now < 2 ^ 64 }
+    requires within { from ≤ length piece.now }
+    requires none { (k : ℕ) → k < from → slice_index piece.now k ≢ slice_index needle.now 0 }
     ensures cut { IfOk result (λ cut. HoldsBack needle.now (held.old.items ++ piece.now) cut) }
     ensures held { IfOk result
         (λ cut. held.new.items ≡ drop cut (held.old.items ++ piece.now)) }
@@ -165,7 +216,7 @@ fn hold_back(held: &mut Vec<u8>, piece: &[u8], needle: &[u8]) -> Result<usize, A
     if piece.len() < most {
         hold_short(held, piece, needle)
     } else {
-        hold_end(held, piece, needle)
+        hold_end(held, piece, needle, from)
     }
 }
 
@@ -187,17 +238,25 @@ fn hold_short(held: &mut Vec<u8>, piece: &[u8], needle: &[u8]) -> Result<usize, 
 
 /// As `hold_back`, for another piece.
 #[inline]
-fn hold_end(held: &mut Vec<u8>, piece: &[u8], needle: &[u8]) -> Result<usize, AllocError>
+fn hold_end(
+    held: &mut Vec<u8>,
+    piece: &[u8],
+    needle: &[u8],
+    from: usize,
+) -> Result<usize, AllocError>
     requires some { 0 < length needle.now }
     requires long { length needle.now ≤ length piece.now + 1 }
     requires fits { length held.old.items + length piece.now < 2 ^ 64 }
+    requires within { from ≤ length piece.now }
+    requires none { (k : ℕ) → k < from → slice_index piece.now k ≢ slice_index needle.now 0 }
     ensures cut { IfOk result (λ cut. HoldsBack needle.now (held.old.items ++ piece.now) cut) }
     ensures held { IfOk result
         (λ cut. held.new.items ≡ drop cut (held.old.items ++ piece.now)) }
     ensures err { OnErr result (held.new.items ≡ held.old.items) }
 {
     let before = held.len();
-    let cut = place_from(needle[0], piece, piece.len() - (needle.len() - 1));
+    let last = piece.len() - (needle.len() - 1);
+    let cut = place_from(needle[0], piece, from.max(last));
     held.extend_from_slice(&piece[cut..])?;
     drop_front(held, before);
     Ok(before + cut)

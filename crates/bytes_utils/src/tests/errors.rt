@@ -1,8 +1,9 @@
 //! Bytes that aren't UTF-8: they come back, with what is wrong.
 use super::assert_text;
+use crate::frame::LineError;
 use crate::json::JsonRefused;
 use crate::string::{Storage, StrInner, Utf8Error};
-use crate::{Str, StrMut};
+use crate::{Reason, Str, StrMut};
 use bytes::{Bytes, BytesMut};
 use std::alloc::Global;
 use std::error::Error;
@@ -103,4 +104,15 @@ fn refusals_of_json_say_why(rt: HostRuntime) -> Result<(), Fail> {
     let no_text = "neither a string nor a list of bytes";
     assert_says(&rt, alloc, &JsonRefused::NotText, no_text)?;
     assert_says(&rt, alloc, &JsonRefused::NotUtf8, "not UTF-8")
+}
+
+#[test]
+fn refusals_of_lines_say_why(rt: HostRuntime) -> Result<(), Fail> {
+    let alloc = rt.alloc();
+    let refused = LineError::from(Reason::OutOfMemory);
+    assert_says(&rt, alloc, &refused, "out of memory")?;
+    let made = Str::from_inner(Bytes::from_static(&NOT_UTF8));
+    let not_text = LineError::from(made.err().ok_or("made")?);
+    let text = "invalid utf-8 sequence of 1 bytes from index 2";
+    assert_says(&rt, alloc, &not_text, text)
 }

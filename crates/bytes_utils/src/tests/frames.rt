@@ -216,3 +216,39 @@ fn worked_cases(rt: HostRuntime) -> Result<(), Fail> {
     )?;
     assert_told(&rt, alloc, "0123456789", "012|345", "012345")
 }
+
+/// A frame that lies in one piece shares that piece's block with what is left of it.
+#[test]
+fn frame_in_one_piece_is_shared(rt: HostRuntime) -> Result<(), Fail> {
+    let alloc = rt.alloc();
+    let mut frames = Frames::new(alloc, b"\n")?;
+    frames.push(Bytes::copy_from_slice(alloc, b"ab\ncd")?)?;
+    frames.push(Bytes::copy_from_slice(alloc, b"e\n")?)?;
+
+    let frame = frames.next_frame(alloc)?.ok_or("a frame is missing")?;
+    assert!(rt; frame.as_slice() == b"ab".as_slice() && !frame.is_unique());
+
+    // this one lies over two pieces
+    let frame = frames.next_frame(alloc)?.ok_or("a frame is missing")?;
+    assert!(rt; frame.as_slice() == b"cde".as_slice() && frame.is_unique());
+    Ok(())
+}
+
+/// A body whose length a frame told may hold separators, and the search goes on behind it.
+#[test]
+fn split_to_gives_a_body(rt: HostRuntime) -> Result<(), Fail> {
+    let alloc = rt.alloc();
+    let mut frames = Frames::new(alloc, b"--")?;
+    for piece in ["4--a", "--", "b-", "-c--d"] {
+        frames.push(Bytes::from_static(piece.as_bytes()))?;
+    }
+    assert_frame(&rt, alloc, &mut frames, b"4", false)?;
+    assert!(rt; frames.remaining() >= 4);
+    let body = frames.split_to(alloc, 4)?;
+    assert_segments(&rt, body.into_inner(), b"a--b");
+    assert_frame(&rt, alloc, &mut frames, b"", true)?;
+    assert_frame(&rt, alloc, &mut frames, b"c", false)?;
+    assert!(rt; frames.next_frame(alloc)?.is_none());
+    assert_segments(&rt, frames.finish().into_inner(), b"d");
+    Ok(())
+}

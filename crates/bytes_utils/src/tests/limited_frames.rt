@@ -151,3 +151,27 @@ fn told_in_its_place(rt: HostRuntime) -> Result<(), Fail> {
     assert_told(&rt, alloc, "--", 1, "abc|d-|e|f-|-g--", "!g;")?;
     assert_told(&rt, alloc, "-", 0, "a|a|a|a--", "!;")
 }
+
+/// A frame comes in the pieces in which it lies, one that is too long is told in its place, and the
+/// rest is what is left.
+#[test]
+fn segments_within_the_limit(rt: HostRuntime) -> Result<(), Fail> {
+    let alloc = rt.alloc();
+    let mut frames = LimitedFrames::new(alloc, b"-", 2)?;
+    frames.push(Bytes::from_static(b"a"))?;
+    frames.push(Bytes::from_static(b"b-abc-d"))?;
+
+    let frame = frames.next_segments(alloc)?.ok_or("a frame is missing")?;
+    assert_eq!(rt; frame.segments(), 2);
+    assert!(rt; frame.segment(0).ok_or("no segment")? == b"a".as_slice());
+    assert!(rt; frame.segment(1).ok_or("no segment")? == b"b".as_slice());
+
+    assert_eq!(rt; frames.next_segments(alloc).err(), Some(Reason::TooLong));
+    assert!(rt; frames.next_segments(alloc)?.is_none());
+    assert_eq!(rt; frames.remaining(), 1);
+
+    let rest = frames.finish();
+    assert_eq!(rt; rest.segments(), 1);
+    assert!(rt; rest.segment(0).ok_or("no segment")? == b"d".as_slice());
+    Ok(())
+}

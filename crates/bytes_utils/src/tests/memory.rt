@@ -2,12 +2,15 @@
 //! own. A run with one refused request ends well, whichever request it is, and prints which call was
 //! refused: where the test's own texts are refused, it prints nothing and ends.
 mod append;
+mod find;
 mod frames;
 mod freeze;
 mod json;
+mod limited_frames;
 mod make;
 mod next;
 mod pieces;
+mod stream_lines;
 
 use crate::Reason;
 use std::io::Print;

@@ -99,3 +99,22 @@ fn next_segments(rt: HostRuntime) -> Result<(), Fail> {
     }
     Err("refused twice")?
 }
+
+#[test]
+fn split_to(rt: HostRuntime) -> Result<(), Fail> {
+    let alloc = rt.alloc();
+    let Some(mut frames) = prepared(alloc) else {
+        return Ok(());
+    };
+    for _ in 0..2 {
+        assert!(&rt; frames.remaining() >= 4);
+        match frames.split_to(alloc, 4) {
+            Ok(front) => {
+                assert_eq!(&rt; front.segments(), 2);
+                return assert_end(&rt, alloc, &mut frames);
+            }
+            Err(reason) => tell_refused(&rt, "Frames::split_to", reason, &frames)?,
+        }
+    }
+    Err("refused twice")?
+}

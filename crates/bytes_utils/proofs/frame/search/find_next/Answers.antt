@@ -8,12 +8,12 @@ returns-in-Some-clause-found c =
     let short = c.requires.short in
     found_across p c.args.held.now.items c.args.piece.now (length p - 1) (omega arith) c.in-Some.at (rw c.in-Some.is at c.in_ok-at.ensures.found)
 
-pub returns-in-Some-find-clause-found : goal.returns-in-Some-find-clause-found
-returns-in-Some-find-clause-found c =
+pub returns-in-Some-find_behind-clause-found : goal.returns-in-Some-find_behind-clause-found
+returns-in-Some-find_behind-clause-found c =
     let p = c.args.finder.now in
     let short = c.requires.short in
-    found_behind p c.args.held.now.items c.args.piece.now (length p - 1) (omega arith) c.in-Some-find.at _ (omega (arith, c.len.ensures, ap length c.in_ok-at.ensures.held))
-    (rw c.in_default.is at c.in_ok-at.ensures.found) c.in-Some-find.ensures
+    found_behind p c.args.held.now.items c.args.piece.now (length p - 1) (omega arith) c.in-Some-find_behind.at _ (omega (arith, c.len.ensures, ap length c.in_ok-at.ensures.held))
+    (rw c.in_default.is at c.in_ok-at.ensures.found) c.in-Some-find_behind.ensures
 
 pub returns-in-None-clause-found : goal.returns-in-None-clause-found
 returns-in-None-clause-found c =

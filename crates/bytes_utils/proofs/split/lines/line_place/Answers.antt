@@ -1,7 +1,8 @@
 use Rattle.std.proofs.Common.{◌≡◌, ◌∙◌, ap, subst, arith, take}
 use Rattle.std.proofs.lemmas.Str.Pattern.{strip_suffix_char}
 use Rattle.std.specs.Str.{chars}
-use Rattle.bytes_utils.proofs.Lines.{IsWithoutReturn, IsWithoutReturn-stripped, feed-boundary, next-boundary, line-boundary, line-at, lines-last, text-at, text_behind-none}
+use Rattle.bytes_utils.specs.Lines.{IsWithoutReturn}
+use Rattle.bytes_utils.proofs.Lines.{IsWithoutReturn-stripped, feed-boundary, next-boundary, line-boundary, line-at, lines-last, text-at, text_behind-none}
 use Rattle.bytes_utils.proofs.split.lines.line_place.Goals as goal
 
 pub returns-in_err-at-clause-line : goal.returns-in_err-at-clause-line

@@ -1,0 +1,151 @@
+//! The first place of a needle in the bytes of held segments.
+ghost use Rattle.std.specs.Prelude.{◌≡◌, ◌+◌, ◌-◌, ◌*◌, ◌<◌, ◌≤◌, [], ◌++◌, length, min, take, drop, slice_index_or, IsOk, IfOk, IfErr};
+ghost use Rattle.std.specs.List.{concat};
+ghost use Rattle.memchr.specs.Find.{FindsNeedle, IsFirst, OccursAt};
+
+use bytes::Buf;
+use bytes_utils_buf::Reason;
+use bytes_utils_buf::segmented::SegmentedBuf;
+use bytes_utils_buf::whole::BufWhole;
+use memchr::memmem::Finder;
+use std::alloc::Global;
+
+/// A needle of at most so many bytes needs no memory.
+const SHORT: usize = 16;
+
+/// The first place of the needle in the bytes, as `memmem::find` of the segments joined: across
+/// segments too.
+///
+/// ```text
+/// body.push(first)?;                        // a `Bytes` of `GET / HTTP/1.1\r`
+/// body.push(second)?;                       // one of `\nHost`
+/// find(&body, alloc, b"\r\n")?              // `Some(14)`
+/// find_from(&body, alloc, 15, b"\r\n")?     // `None`
+/// ```
+pub fn find<B: BufWhole + Drop>(
+    buf: &SegmentedBuf<B>,
+    alloc: Global,
+    needle: &[u8],
+) -> Result<Option<usize>, Reason>
+    ensures found { IfOk result (λ at. FindsNeedle (concat buf.now.segments) needle.now 0 at) }
+    ensures reason { IfErr result (λ reason. reason ≡ Reason.OutOfMemory) }
+    ensures short { length needle.now ≤ 16 → IsOk result }
+{
+    find_from(buf, alloc, 0, needle)
+}
+
+/// As `find`, of the places from `start` on. An empty needle is at `start`, up to the end of the
+/// bytes; behind it nothing is. A needle of more than 16 bytes asks for a block of twice its length,
+/// and a shorter one for none. Segments in front of `start` are stepped over.
+pub fn find_from<B: BufWhole + Drop>(
+    buf: &SegmentedBuf<B>,
+    alloc: Global,
+    start: usize,
+    needle: &[u8],
+) -> Result<Option<usize>, Reason>
+    ensures found { IfOk result (λ at. FindsNeedle (concat buf.now.segments) needle.now start at) }
+    ensures reason { IfErr result (λ reason. reason ≡ Reason.OutOfMemory) }
+    ensures short { length needle.now ≤ 16 → IsOk result }
+{
+    if needle.len() <= SHORT {
+        return Ok(find_by(buf, start, needle, &mut [0; 2 * SHORT]));
+    }
+    let mut window = vec![in alloc; 0; 2 * needle.len()]?;
+    Ok(find_by(buf, start, needle, &mut window))
+}
+
+/// As `find_from`, by a window for the bytes on both sides of a border.
+fn find_by<B: BufWhole + Drop>(
+    buf: &SegmentedBuf<B>,
+    start: usize,
+    needle: &[u8],
+    window: &mut [u8],
+) -> Option<usize>
+    requires room { 2 * length needle.now ≤ length window.old }
+    ensures { FindsNeedle (concat buf.now.segments) needle.now start result }
+{
+    let remaining = buf.remaining();
+    if needle.is_empty() {
+        return (start <= remaining).then_some(start);
+    }
+    let finder = Finder::new(needle);
+    let mut base = 0;
+    for place in 0..buf.segments() {
+        let segment = buf.segment(place)?;
+        let from = start.saturating_sub(base);
+        if let Some(at) = find_begun(&finder, segment, buf, place + 1, from, window) {
+            return Some(base + at);
+        }
+        base += segment.len();
+    }
+    None
+}
+
+/// The first place from `from` on at which the needle begins in a segment. It may end in those from
+/// place `next` on.
+#[inline]
+fn find_begun<B: BufWhole + Drop>(
+    finder: &Finder,
+    segment: &[u8],
+    buf: &SegmentedBuf<B>,
+    next: usize,
+    from: usize,
+    window: &mut [u8],
+) -> Option<usize>
+    requires some { 0 < length finder.now }
+    requires room { 2 * length finder.now ≤ length window.old }
+    ensures { IsFirst (OccursAt (segment.now ++ concat (drop next buf.now.segments)) finder.now)
+        from (length segment.now) result }
+{
+    if from >= segment.len() {
+        return None;
+    }
+    if let Some(at) = finder.find(&segment[from..]) {
+        return Some(from + at);
+    }
+    let most = finder.needle().len() - 1;
+    let tail = from.max(segment.len().saturating_sub(most));
+    let window = &mut window[..segment.len() - tail + most];
+    let count = fill(window, &segment[tail..], buf, next);
+    let at = finder.find(&window[..count])?;
+    Some(tail + at)
+}
+
+/// Copies the first bytes of a piece and of the segments behind it, from place `next` on: as many as
+/// fit. Answers how many these are.
+fn fill<B: BufWhole + Drop>(
+    window: &mut [u8],
+    piece: &[u8],
+    buf: &SegmentedBuf<B>,
+    next: usize,
+) -> usize
+    ensures within { result ≤ length window.old }
+    ensures bytes { take result window.new ≡ take (length window.old)
+        (piece.now ++ concat (drop next buf.now.segments)) }
+{
+    let mut filled = copy_behind(window, 0, piece);
+    for i in next..buf.segments() {
+        if filled == window.len() {
+            break;
+        }
+        let Some(segment) = buf.segment(i) else {
+            break;
+        };
+        filled = copy_behind(window, filled, segment);
+    }
+    filled
+}
+
+/// Copies the first bytes of a piece to a place of the window, as many as fit, and answers where they
+/// end.
+#[inline]
+fn copy_behind(window: &mut [u8], at: usize, piece: &[u8]) -> usize
+    requires { at ≤ length window.old }
+    ensures end { result ≡ at + min (length piece.now) (length window.old - at) }
+    ensures bytes { take result window.new
+        ≡ take at window.old ++ take (length window.old - at) piece.now }
+{
+    let count = piece.len().min(window.len() - at);
+    window[at..at + count].copy_from_slice(&piece[..count]);
+    at + count
+}
