@@ -26,6 +26,7 @@ pub mod LineEnds
 pub mod OwnedAsLent
 pub mod BorrowedWords
 pub mod Writing
+pub mod Reading
 pub mod Separators
 pub mod TokenParts
 pub mod HeaderLines

@@ -4,8 +4,7 @@ use Rattle.std.proofs.lemmas.Bool.{eqb-false, and_parts, and_from}
 use Rattle.std.specs.List.{starts_with}
 use Rattle.bytes_utils.specs.Lines.{lines, line_feed, carriage_return, first_led_by}
 use Rattle.bytes_utils.specs.Occurrence.{OccursAt, Occurs}
-use Rattle.bytes_utils.proofs.Lines.{LacksFeed, lines-whole, lines-at_return, lines-at_feed}
-use Rattle.bytes_utils.proofs.Occurrences.{OccursAt-between}
+use Rattle.bytes_utils.proofs.Lines.{LacksFeed, LacksFeed-none, lines-whole, lines-at_end}
 use Rattle.bytes_utils_run.specs.Readings.{IsLineEnd, AreEndedLines, LinesLaw}
 
 -- no line feed occurs in it
@@ -26,10 +25,6 @@ NoFeed-cons c line other none occurs = nowhere occurs.0 occurs.1
     nowhere zero here = let is : c ≡ 10 = cc in other is
     nowhere (suc i) here = none (i, here)
 
-LacksFeed-from_no_feed : (line : List ℕ) → NoFeed line → LacksFeed line
-LacksFeed-from_no_feed line none front back e =
-    none (length front, subst (λ z. OccursAt (line_feed ∷ []) z (length front)) (sym e) (OccursAt-between front (line_feed ∷ []) back))
-
 -- a text that begins with a line feed
 begins_with_feed : (t rest : List ℕ) → t ≡ line_feed ∷ rest → starts_with nat_eq t (line_feed ∷ []) ≡ true
 begins_with_feed t rest e = ap (λ z. starts_with nat_eq z (line_feed ∷ [])) e
@@ -47,24 +42,24 @@ ended-at_return (d ∷ t) ((e ∷ line) ∷ ls) begins are =
 ended-at_return (d ∷ t) ([] ∷ ls) begins are = either are.4
   where
     either : IsLineEnd [] are.0 are.1 → AreEndedLines (carriage_return ∷ d ∷ t) ([] ∷ ls)
-    either (inl return_feed) =
+    either (inl (inl return_feed)) =
         let whole : d ∷ t ≡ 13 ∷ 10 ∷ are.1 = are.2 ∙ ap (λ z. z ++ are.1) return_feed in
         let is : d ≡ 13 = cc in
         absurd (omega (arith, is, feed_from_begins d t begins))
-    either (inr (inl feed)) =
-        (13 ∷ 10 ∷ [], are.1, ap (λ z. 13 ∷ z) (are.2 ∙ ap (λ z. z ++ are.1) feed.0), NoFeed-nil, inl refl, are.5)
-    either (inr (inr last)) = absurd (omega (arith, last.2))
+    either (inl (inr feed)) =
+        (13 ∷ 10 ∷ [], are.1, ap (λ z. 13 ∷ z) (are.2 ∙ ap (λ z. z ++ are.1) feed.0), NoFeed-nil, inl (inl refl), are.5)
+    either (inr last) = absurd (omega (arith, last.2))
 
 -- a character that ends no line stands in front of the first line
 ended-led : (c : ℕ) (t : List ℕ) (ls : List (List ℕ)) → c ≢ 10 → (c ≡ 13 → starts_with nat_eq t (line_feed ∷ []) ≡ true → ⊥) → AreEndedLines t ls → AreEndedLines (c ∷ t) (first_led_by c ls)
-ended-led c t [] other no_return are = ([], [], ap (λ z. c ∷ z) are, NoFeed-cons c [] other NoFeed-nil, inr (inr (refl, refl, omega arith)), refl)
+ended-led c t [] other no_return are = ([], [], ap (λ z. c ∷ z) are, NoFeed-cons c [] other NoFeed-nil, inr (refl, refl, omega arith), refl)
 ended-led c t (line ∷ ls) other no_return are =
     (are.0, are.1, ap (λ z. c ∷ z) are.2, NoFeed-cons c line other are.3, either are.4, are.5)
   where
     either : IsLineEnd line are.0 are.1 → IsLineEnd (c ∷ line) are.0 are.1
-    either (inl return_feed) = inl return_feed
-    either (inr (inr last)) = inr (inr (last.0, last.1, omega arith))
-    either (inr (inl feed)) = inr (inl (feed.0, no_return_behind))
+    either (inl (inl return_feed)) = inl (inl return_feed)
+    either (inr last) = inr (last.0, last.1, omega arith)
+    either (inl (inr feed)) = inl (inr (feed.0, no_return_behind))
       where
         no_return_behind : (front : List ℕ) → (c ∷ line) ≢ front ++ carriage_return ∷ []
         no_return_behind [] e =
@@ -77,7 +72,7 @@ ended-led c t (line ∷ ls) other no_return are =
 ended-cons : (c : ℕ) (t : List ℕ) (ls : List (List ℕ)) (feed returns : Bool) → (c == 10) ≡ feed → (c == 13 && starts_with nat_eq t (line_feed ∷ [])) ≡ returns → AreEndedLines t ls
     → AreEndedLines (c ∷ t) (if feed then [] ∷ ls else if returns then ls else first_led_by c ls)
 ended-cons c t ls true returns feed returns_is are =
-    (10 ∷ [], t, ap (λ z. z ∷ t) (eqb-true c 10 feed), NoFeed-nil, inr (inl (refl, λ front e. omega (arith, ap length e, length-append front (13 ∷ [])))), are)
+    (10 ∷ [], t, ap (λ z. z ∷ t) (eqb-true c 10 feed), NoFeed-nil, inl (inr (refl, λ front e. omega (arith, ap length e, length-append front (13 ∷ [])))), are)
 ended-cons c t ls false true other returns are =
     let both = and_parts (c == 13) (starts_with nat_eq t (line_feed ∷ [])) returns in
     subst (λ z. AreEndedLines (z ∷ t) ls) (sym (eqb-true c 13 both.0)) (ended-at_return t ls both.1 are)
@@ -91,25 +86,24 @@ AreEndedLines-lines [] = refl
 AreEndedLines-lines (c ∷ t) = ended-cons c t (lines t) (c == 10) (c == 13 && starts_with nat_eq t (line_feed ∷ [])) refl refl (AreEndedLines-lines t)
 
 -- a line, its end, and what is behind it
-lines-at_end : (line end rest : List ℕ) → NoFeed line → IsLineEnd line end rest → lines (line ++ (end ++ rest)) ≡ line ∷ lines rest
-lines-at_end line end rest none ends = either ends
+lines-at_any_end : (line end rest : List ℕ) → NoFeed line → IsLineEnd line end rest → lines (line ++ (end ++ rest)) ≡ line ∷ lines rest
+lines-at_any_end line end rest none ends = either ends
   where
     only_line : (l : List ℕ) → 0 < length l → LacksFeed l → lines l ≡ l ∷ []
     only_line [] some lacks = absurd (omega (arith, some))
     only_line (c ∷ cs) some lacks = lines-whole c cs lacks
 
     either : IsLineEnd line end rest → lines (line ++ (end ++ rest)) ≡ line ∷ lines rest
-    either (inl return_feed) = ap (λ z. lines (line ++ (z ++ rest))) return_feed ∙ lines-at_return line rest (LacksFeed-from_no_feed line none)
-    either (inr (inl feed)) = ap (λ z. lines (line ++ (z ++ rest))) feed.0 ∙ lines-at_feed line rest (LacksFeed-from_no_feed line none) feed.1
-    either (inr (inr last)) =
+    either (inl fed) = lines-at_end line end rest none fed
+    either (inr last) =
         ap (λ z. lines (line ++ (z ++ rest))) last.0 ∙ ap (λ z. lines (line ++ z)) last.1 ∙ ap lines (append-nil line)
-        ∙ only_line line last.2 (LacksFeed-from_no_feed line none) ∙ ap (λ z. line ∷ lines z) (sym last.1)
+        ∙ only_line line last.2 (LacksFeed-none line none) ∙ ap (λ z. line ∷ lines z) (sym last.1)
 
 -- and what makes it up are the lines
 lines-from_ended : (t : List ℕ) (ls : List (List ℕ)) → AreEndedLines t ls → ls ≡ lines t
 lines-from_ended t [] are = sym (ap lines are)
 lines-from_ended t (line ∷ ls) are =
-    sym (ap lines are.2 ∙ lines-at_end line are.0 are.1 are.3 are.4 ∙ ap (λ z. line ∷ z) (sym (lines-from_ended are.1 ls are.5)))
+    sym (ap lines are.2 ∙ lines-at_any_end line are.0 are.1 are.3 are.4 ∙ ap (λ z. line ∷ z) (sym (lines-from_ended are.1 ls are.5)))
 
 pub lines_law : LinesLaw
 lines_law t parts = (λ are. subst (AreEndedLines t) (sym are) (AreEndedLines-lines t), lines-from_ended t parts)

@@ -1,16 +1,6 @@
 -- Bodies behind their lengths.
-use Rattle.std.specs.Prelude.{◌≡◌, ℕ, ◌+◌, ◌<◌, ◌≤◌, List, [], ◌++◌, length, take, Bool, Option, None, Some}
+use Rattle.std.specs.Prelude.{◌≡◌, ℕ, ◌+◌, ◌<◌, ◌≤◌, List, ◌++◌, length, take}
 use Rattle.std.specs.Int.{w32, from_be_bytes}
-
--- what clauses see of an `Inbox`: the bytes that came in and weren't handed out, and whether some of them are lost
-pub record Pending : Type 0 where
-  pub bytes : List ℕ
-  pub broken : Bool
-
--- the bytes of a prefix that was read; for the view of an `Inbox`
-abbrev pub prefix_bytes : Option (List ℕ) → List ℕ
-prefix_bytes None = []
-prefix_bytes (Some prefix) = prefix
 
 -- the length that the first four bytes tell, the greatest first; where there are fewer, none is told yet
 abbrev pub told_len : List ℕ → ℕ

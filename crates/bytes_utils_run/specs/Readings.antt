@@ -1,8 +1,8 @@
 -- A second reading of the words and of the lines of a text: where they stand in it, and what stands between them.
-use Rattle.std.specs.Prelude.{◌≡◌, ◌≢◌, ◌⊎◌, ◌↔◌, ℕ, ◌<◌, Bool, true, List, [], ◌∷◌, ◌++◌, length}
+use Rattle.std.specs.Prelude.{◌≡◌, ◌⊎◌, ◌↔◌, ℕ, ◌<◌, Bool, true, List, [], ◌∷◌, ◌++◌, length}
 use Rattle.std.specs.List.{AllPass}
 use Rattle.std.specs.Str.{NonePass}
-use Rattle.bytes_utils.specs.Lines.{lines, line_feed, carriage_return}
+use Rattle.bytes_utils.specs.Lines.{lines, line_feed, IsFeedEnd}
 use Rattle.bytes_utils.specs.Occurrence.{Occurs}
 use Rattle.bytes_utils.specs.Words.{words, ends_word}
 
@@ -17,12 +17,10 @@ AreRuns is_space t (run ∷ runs) = (gap : List ℕ) × (rest : List ℕ) × (t 
 abbrev pub WordsLaw : Type 0
 WordsLaw = (is_space : ℕ → Bool) (t : List ℕ) (parts : List (List ℕ)) → (parts ≡ words is_space t) ↔ AreRuns is_space t parts
 
--- A line's end, with `rest` behind it: a carriage return and a line feed; or a line feed, in front of which the line has no carriage
--- return; or nothing, where the line isn't empty and is the last of the text.
+-- A line's end, with `rest` behind it: that of a line that a line feed ends; or nothing, where the line isn't empty and is the last of
+-- the text.
 abbrev pub IsLineEnd : List ℕ → List ℕ → List ℕ → Type 0
-IsLineEnd line end rest = (end ≡ carriage_return ∷ line_feed ∷ [])
-    ⊎ ((end ≡ line_feed ∷ []) × ((front : List ℕ) → line ≢ front ++ carriage_return ∷ []))
-    ⊎ ((end ≡ []) × (rest ≡ []) × (0 < length line))
+IsLineEnd line end rest = IsFeedEnd line end ⊎ ((end ≡ []) × (rest ≡ []) × (0 < length line))
 
 -- these lines, each without a line feed in it and followed by an end of a line, make up t
 abbrev pub AreEndedLines : List ℕ → List (List ℕ) → Type 0

@@ -2,6 +2,8 @@
 
 pub mod headers;
 pub mod inbox;
+pub mod records;
+pub mod requests;
 #[cfg(test)]
 mod tests;
 pub mod tokens;

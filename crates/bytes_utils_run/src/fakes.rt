@@ -9,13 +9,22 @@ use std::io::{self, ErrorKind, Read, Write};
 struct Calls {
     made: usize,
     fails_at: usize,
+    kind: ErrorKind,
 }
 
 impl Calls {
+    fn new(fails_at: usize) -> Calls {
+        Calls {
+            made: 0,
+            fails_at,
+            kind: ErrorKind::Interrupted,
+        }
+    }
+
     fn count(&mut self) -> io::Result<()> {
         self.made = self.made.saturating_add(1);
         if self.made == self.fails_at {
-            return Err(io::Error::from(ErrorKind::Interrupted));
+            return Err(io::Error::from(self.kind));
         }
         Ok(())
     }
@@ -37,7 +46,17 @@ impl<'a> SlowReader<'a> {
         SlowReader {
             rest: input,
             most,
-            calls: Calls { made: 0, fails_at },
+            calls: Calls::new(fails_at),
+        }
+    }
+
+    /// The same with another error in the place of `Interrupted`.
+    pub(crate) fn failing_as(self, kind: ErrorKind) -> Self {
+        let SlowReader { rest, most, calls } = self;
+        SlowReader {
+            rest,
+            most,
+            calls: Calls { kind, ..calls },
         }
     }
 
@@ -115,6 +134,23 @@ impl Read for EndlessReader {
     }
 }
 
+/// Is interrupted at every call, and counts them.
+#[derive(Drop)]
+pub(crate) struct InterruptedReader {
+    pub(crate) calls: usize,
+}
+
+impl Read for InterruptedReader {
+    ghost use Rattle.std.specs.Prelude.{Some, []};
+
+    ghost remaining = { λ _. Some [] };
+
+    fn read(&mut self, _buf: &mut [u8]) -> io::Result<usize> {
+        self.calls = self.calls.saturating_add(1);
+        Err(io::Error::from(ErrorKind::Interrupted))
+    }
+}
+
 /// Takes at most `most` bytes a call, and fails at one call.
 #[derive(Drop)]
 pub(crate) struct SlowWriter {
@@ -128,7 +164,7 @@ impl SlowWriter {
         SlowWriter {
             held,
             most,
-            calls: Calls { made: 0, fails_at },
+            calls: Calls::new(fails_at),
         }
     }
 

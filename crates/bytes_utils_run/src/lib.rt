@@ -10,8 +10,10 @@ mod fakes;
 pub mod laws;
 pub mod odd;
 mod program;
+mod read;
 mod splitter;
 
 pub use calls::{Call, ReadCall, Replies, Reply, drive, read_calls};
 pub use cut::{How, Parts, cut_all};
 pub use program::{Fault, script};
+pub use read::{ReadError, read_frame, read_frames_law};

@@ -11,7 +11,7 @@ mod command;
 mod entry;
 mod fault;
 mod input;
-mod number;
+pub(crate) mod number;
 mod output;
 #[cfg(test)]
 mod tests;

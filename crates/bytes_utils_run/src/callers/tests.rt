@@ -2,5 +2,7 @@
 mod headers;
 mod inbox;
 mod memory;
+mod records;
+mod requests;
 mod tokens;
 mod writer;

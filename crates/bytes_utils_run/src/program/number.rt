@@ -10,7 +10,7 @@ mod tests;
 const MOST_DIGITS: usize = 20;
 
 /// The number that a text writes in decimal, without a sign, if it is one.
-pub(super) fn number(text: &str) -> Option<usize>
+pub(crate) fn number(text: &str) -> Option<usize>
     ensures { MatchOption result ((n : ℕ) → ¬ IsNumber (chars text.now) n)
         (λ n. IsNumber (chars text.now) n) }
 {

@@ -21,22 +21,21 @@ fn bodies_come_out_whole(rt: HostRuntime) -> Result<(), Fail> {
     let alloc = rt.alloc();
     let mut inbox = Inbox::new(alloc);
     for (piece, bodies) in STEPS {
-        assert!(rt; inbox.push(Bytes::from_static(*piece)).is_ok());
+        inbox.push(Bytes::from_static(*piece))?;
         for body in *bodies {
-            let Ok(Some(found)) = inbox.next_body(alloc) else {
-                return Err(Fail::from("no body"));
-            };
+            let found = inbox.next_body(alloc)?.ok_or("no body")?;
             assert_eq!(rt; found.as_slice(), body.as_bytes());
         }
-        assert!(rt; matches!(&inbox.next_body(alloc), Ok(None)));
+        assert!(rt; inbox.next_body(alloc)?.is_none());
     }
     Ok(())
 }
 
 #[test]
-fn none_in_nothing(rt: HostRuntime) {
+fn none_in_nothing(rt: HostRuntime) -> Result<(), Fail> {
     let mut inbox = Inbox::new(rt.alloc());
-    assert!(rt; matches!(&inbox.next_body(rt.alloc()), Ok(None)));
+    assert!(rt; inbox.next_body(rt.alloc())?.is_none());
+    Ok(())
 }
 
 /// A piece that comes in, and the body that is whole then, if one is.
@@ -60,10 +59,8 @@ fn bodies_behind_prefixes_in_parts(rt: HostRuntime) -> Result<(), Fail> {
     let alloc = rt.alloc();
     let mut inbox = Inbox::new(alloc);
     for (piece, wanted) in PIECES {
-        assert!(rt; inbox.push(Bytes::from_static(*piece)).is_ok());
-        let Ok(body) = inbox.next_body(alloc) else {
-            return Err(Fail::from("refused"));
-        };
+        inbox.push(Bytes::from_static(*piece))?;
+        let body = inbox.next_body(alloc)?;
         assert!(rt; body.as_ref().map(Bytes::as_slice) == *wanted, "{piece:?}");
     }
     Ok(())

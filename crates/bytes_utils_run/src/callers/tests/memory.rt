@@ -1,10 +1,12 @@
 //! What stands where a request for memory is refused. With ample memory none is: a run that refuses
 //! one prints a line for it.
 use crate::callers::headers::headers;
-use crate::callers::inbox::{BodyRefused, Inbox};
+use crate::callers::inbox::Inbox;
+use crate::callers::records::{RecordError, Records};
+use crate::callers::requests::Requests;
 use crate::callers::tokens::tokens;
 use bytes::Bytes;
-use bytes_utils::Str;
+use bytes_utils::{Reason, Str};
 use std::process::Abort;
 use std::test::Fail;
 
@@ -17,7 +19,7 @@ fn push(rt: &(impl Abort + Print), inbox: &mut Inbox, piece: &'static [u8]) -> R
     Ok(())
 }
 
-// Where bytes are lost, no body comes out any more. Else it does once there is memory.
+// A refusal loses nothing, so the body comes out once there is memory.
 #[test]
 fn body_of_two_pieces(rt: HostRuntime) -> Result<(), Fail> {
     let alloc = rt.alloc();
@@ -25,15 +27,67 @@ fn body_of_two_pieces(rt: HostRuntime) -> Result<(), Fail> {
     push(&rt, &mut inbox, b"\0\0\0\x05He")?;
     push(&rt, &mut inbox, b"llo")?;
     let mut body = inbox.next_body(alloc);
-    if let Err(refused) = &body {
+    if let Err(reason) = &body {
         println!(rt; "refused Inbox::next_body")?;
-        let is_lost = *refused == BodyRefused::Broken;
+        assert_eq!(rt; *reason, Reason::OutOfMemory);
         body = inbox.next_body(alloc);
-        assert!(rt; is_lost == body.is_err());
     }
-    if let Ok(body) = body {
-        assert!(rt; body.is_some_and(|body| body.as_slice() == b"Hello".as_slice()));
+    assert!(rt; body?.is_some_and(|body| body.as_slice() == b"Hello".as_slice()));
+    Ok(())
+}
+
+// Neither does one of a record.
+#[test]
+fn record_of_two_pieces(rt: HostRuntime) -> Result<(), Fail> {
+    let alloc = rt.alloc();
+    let Ok(mut records) = Records::new(alloc, 9) else {
+        println!(rt; "refused Records::new")?;
+        return Ok(());
+    };
+    for piece in [b"He".as_slice(), b"llo\r\n\r\n"] {
+        if let Err(refused) = records.push(Bytes::from_static(piece)) {
+            println!(rt; "refused Records::push")?;
+            assert!(rt; refused.back.as_slice() == piece && records.push(refused.back).is_ok());
+        }
     }
+    let mut record = records.next_record(alloc);
+    if let Err(error) = &record {
+        println!(rt; "refused Records::next_record")?;
+        assert!(rt; matches!(error, RecordError::OutOfMemory));
+        record = records.next_record(alloc);
+    }
+    assert!(rt; matches!(&record, Ok(Some(text)) if text.as_str() == "Hello"));
+    Ok(())
+}
+
+// A head and a body are there after a refusal too.
+#[test]
+fn request_of_two_pieces(rt: HostRuntime) -> Result<(), Fail> {
+    let alloc = rt.alloc();
+    let Ok(mut requests) = Requests::new(alloc) else {
+        println!(rt; "refused Requests::new")?;
+        return Ok(());
+    };
+    for piece in [b"He".as_slice(), b"llo\r\n\r\nWorld"] {
+        if let Err(refused) = requests.push(Bytes::from_static(piece)) {
+            println!(rt; "refused Requests::push")?;
+            assert!(rt; refused.back.as_slice() == piece && requests.push(refused.back).is_ok());
+        }
+    }
+    let mut head = requests.next_head(alloc);
+    if let Err(reason) = &head {
+        println!(rt; "refused Requests::next_head")?;
+        assert_eq!(rt; *reason, Reason::OutOfMemory);
+        head = requests.next_head(alloc);
+    }
+    assert!(rt; head?.is_some_and(|head| head.as_slice() == b"Hello".as_slice()));
+    let mut body = requests.next_body(alloc, 5);
+    if let Err(reason) = &body {
+        println!(rt; "refused Requests::next_body")?;
+        assert_eq!(rt; *reason, Reason::OutOfMemory);
+        body = requests.next_body(alloc, 5);
+    }
+    assert!(rt; body?.is_some_and(|body| body.segments() == 1));
     Ok(())
 }
 
