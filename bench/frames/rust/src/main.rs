@@ -1,0 +1,128 @@
+//! Frames out of pieces, as a Rust program has them today: `frames HOW END SIZE PIECE LEAST MOST ROUNDS`. HOW is
+//! `memmem_lent` or `memmem_moved`, a loop of `memmem` over one growing `BytesMut` that searches on from where it
+//! stopped, or `codec_lent` or `codec_moved`, tokio-util's `LinesCodec`, for END `lf` alone. Pieces are lent as slices
+//! of the whole, or moved as blocks of their own, which are dropped once they are copied in. END is `lf` or `crlf2`.
+//! It prints the frames, their bytes, and the least nanoseconds of all rounds.
+use bytes::{Bytes, BytesMut};
+use memchr::memmem::Finder;
+use std::env;
+use std::hint::black_box;
+use std::time::Instant;
+use tokio_util::codec::{Decoder, LinesCodec};
+
+/// So many bytes or some more, in frames of `least` to `most` letters, each with the separator behind it.
+fn stream(size: usize, least: usize, most: usize, separator: &[u8]) -> Vec<u8> {
+    let mut number: u64 = 12345;
+    let mut bytes = Vec::with_capacity(size + most + separator.len());
+    while bytes.len() < size {
+        number = number
+            .wrapping_mul(6364136223846793005)
+            .wrapping_add(1442695040888963407);
+        let length = least + (number >> 33) as usize % (most - least + 1);
+        let first = (number >> 20) as usize;
+        bytes.extend((0..length).map(|i| b'a' + (first.wrapping_add(i) % 26) as u8));
+        bytes.extend_from_slice(separator);
+    }
+    bytes
+}
+
+#[derive(Default)]
+struct Seen {
+    frames: usize,
+    bytes: usize,
+}
+
+impl Seen {
+    fn add(&mut self, frame: &[u8]) {
+        black_box(frame);
+        self.frames += 1;
+        self.bytes += frame.len();
+    }
+}
+
+/// Whatever takes pieces in, and gives the frames that have come.
+trait Reader {
+    fn take(&mut self, piece: &[u8], seen: &mut Seen);
+}
+
+struct Memmem {
+    finder: Finder<'static>,
+    held: BytesMut,
+    searched: usize,
+}
+
+impl Reader for Memmem {
+    #[inline]
+    fn take(&mut self, piece: &[u8], seen: &mut Seen) {
+        let size = self.finder.needle().len();
+        self.held.extend_from_slice(piece);
+        while let Some(at) = self.finder.find(&self.held[self.searched..]) {
+            let len = self.searched + at;
+            let mut frame = self.held.split_to(len + size);
+            frame.truncate(len);
+            seen.add(&frame.freeze());
+            self.searched = 0;
+        }
+        self.searched = self.held.len().saturating_sub(size - 1);
+    }
+}
+
+struct Codec {
+    codec: LinesCodec,
+    held: BytesMut,
+}
+
+impl Reader for Codec {
+    #[inline]
+    fn take(&mut self, piece: &[u8], seen: &mut Seen) {
+        self.held.extend_from_slice(piece);
+        while let Some(line) = self.codec.decode(&mut self.held).expect("small letters") {
+            seen.add(line.as_bytes());
+        }
+    }
+}
+
+/// One round: what came, and in how many nanoseconds. Pieces that are moved are made before.
+fn round(mut reader: impl Reader, all: &[u8], piece: usize, is_moved: bool) -> (Seen, u128) {
+    let mut seen = Seen::default();
+    if is_moved {
+        let pieces: Vec<Bytes> = all.chunks(piece).map(Bytes::copy_from_slice).collect();
+        let start = Instant::now();
+        for piece in pieces {
+            reader.take(&piece, &mut seen);
+        }
+        drop(reader);
+        return (seen, start.elapsed().as_nanos());
+    }
+    let start = Instant::now();
+    for piece in all.chunks(piece) {
+        reader.take(piece, &mut seen);
+    }
+    drop(reader);
+    (seen, start.elapsed().as_nanos())
+}
+
+fn main() {
+    let words: Vec<String> = env::args().skip(1).collect();
+    let [how, end, numbers @ ..] = &words[..] else {
+        panic!("frames HOW END SIZE PIECE LEAST MOST ROUNDS");
+    };
+    let numbers: Vec<usize> = numbers.iter().map(|it| it.parse().expect("a number")).collect();
+    let [size, piece, least, most, rounds] = numbers[..] else {
+        panic!("five numbers");
+    };
+    let separator: &'static [u8] = if end == "lf" { b"\n" } else { b"\r\n\r\n" };
+    let all = stream(size, least, most, separator);
+    let is_moved = how.ends_with("_moved");
+    let runs = (0..rounds).map(|_| {
+        let held = BytesMut::new();
+        if how.starts_with("codec") {
+            let codec = LinesCodec::new();
+            return round(Codec { codec, held }, &all, piece, is_moved);
+        }
+        let finder = Finder::new(separator);
+        round(Memmem { finder, held, searched: 0 }, &all, piece, is_moved)
+    });
+    let (seen, time) = runs.min_by_key(|(_, time)| *time).expect("a round");
+    println!("{} {} {time}", seen.frames, seen.bytes);
+}
