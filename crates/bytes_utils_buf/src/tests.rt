@@ -14,6 +14,7 @@ mod nested;
 mod odd;
 mod parts;
 mod passed;
+mod queue;
 mod random;
 mod reads;
 mod refused;

@@ -10,6 +10,7 @@ mod front;
 mod hand_out;
 mod join;
 mod look;
+mod queue;
 mod share;
 mod take_out;
 

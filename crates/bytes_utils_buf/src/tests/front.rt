@@ -1,6 +1,7 @@
 //! The first bytes of held buffers: seen, shared, taken and copied.
 use super::fixtures::{
-    FOUR, JOINED, Shown, assert_bytes, assert_hold, assert_shows, gather, held, hold, slices_of,
+    FOUR, JOINED, Shown, assert_bytes, assert_hold, assert_shows, gather, held, hold, lend,
+    slices_of, take_held, take_lent,
 };
 use crate::Reason;
 use crate::segmented::SegmentedBuf;
@@ -141,5 +142,49 @@ fn first_bytes_are_shared(rt: HostRuntime) -> Result<(), Fail> {
     assert!(rt; !copy.is_unique());
     let pieces = buf.split_to(rt.alloc(), 5)?.into_inner();
     assert!(rt; pieces.len() == 1 && !pieces[0].is_unique());
+    Ok(())
+}
+
+/// A text of a block of its own, and one more owner of it.
+fn shared(alloc: Global, text: &str) -> Result<(Bytes, Bytes), Fail> {
+    let bytes = Bytes::copy_from_slice(alloc, text.as_bytes())?;
+    let other = bytes.clone()?;
+    Ok((bytes, other))
+}
+
+// The block of `other`, which was taken out whole, has one more owner and no third one. A copy of
+// it would have been a block of its own.
+fn assert_moved(rt: &impl Abort, front: Bytes, other: &Bytes) {
+    assert!(rt; front == *other && !other.is_unique());
+    drop(front);
+    assert!(rt; other.is_unique());
+}
+
+/// A front that is taken out at exactly its length isn't copied, and no owner is added.
+#[test]
+fn whole_front_is_moved(rt: HostRuntime) -> Result<(), Fail> {
+    let (first, first_other) = shared(rt.alloc(), "Hello")?;
+    let (second, second_other) = shared(rt.alloc(), "World")?;
+    let mut buf = gather(
+        rt.alloc(),
+        vec![in rt.alloc(); first, second, Bytes::from_static(b"!")]?,
+    )?;
+    let copy = take_held(&rt, rt.alloc(), &mut buf, 5)?;
+    assert_moved(&rt, copy, &first_other);
+    assert!(rt; buf.remaining() >= 5);
+    let mut pieces = buf.split_to(rt.alloc(), 5)?;
+    assert_moved(&rt, pieces.pop().ok_or("no piece")?, &second_other);
+    assert_shows(&rt, &buf, (1, 1, "!"));
+    Ok(())
+}
+
+/// The same of a lent front.
+#[test]
+fn whole_lent_front_is_moved(rt: HostRuntime) -> Result<(), Fail> {
+    let (front, other) = shared(rt.alloc(), "Hello")?;
+    let mut bufs = [front, Bytes::from_static(b"!")];
+    let mut all = lend(&rt, &mut bufs);
+    let copy = take_lent(&rt, rt.alloc(), &mut all, 5)?;
+    assert_moved(&rt, copy, &other);
     Ok(())
 }

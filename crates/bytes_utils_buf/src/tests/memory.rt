@@ -2,6 +2,7 @@
 //! passes whichever single request of its run is refused, and then says whose it was. A test that
 //! can't make its buffers ends well.
 mod front;
+mod queue;
 
 use super::fixtures;
 use super::fixtures::{

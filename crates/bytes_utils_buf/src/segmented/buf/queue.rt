@@ -1,0 +1,118 @@
+//! Segments moved from and to the kit's queue of `Bytes`.
+ghost use Rattle.std.specs.Prelude.{◌≡◌, ℕ, ◌+◌, ◌^◌, ◌<◌, List, [], ◌∷◌, ◌++◌, length, IsOk, OnOk, OnErr, IfErr};
+ghost use Rattle.std.specs.List.{concat};
+ghost use Rattle.bytes_utils_buf.specs.Tally.{IsPaid, lined_up};
+
+use super::SegmentedBuf;
+use crate::Reason;
+use bytes::{Bytes, BytesQueue};
+use std::alloc::AllocFailed;
+
+impl SegmentedBuf<Bytes> {
+    /// Moves the chunks of `queue` behind the held segments, one after another, and copies no byte.
+    /// After a refusal the call can be made again. `fits` tests the condition.
+    pub fn append_queue(&mut self, queue: &mut BytesQueue) -> Result<(), Reason>
+        requires { length (concat self.old.segments) + length queue.old < 2 ^ 64 }
+
+        // Chunks that were moved are held as they were in the queue, and the others are left there.
+        ensures moved { (moved : List (List ℕ)) × (concat moved ++ queue.new ≡ queue.old)
+            × (self.new ≡ record {
+              segments = self.old.segments ++ moved;
+              tally = record self.old.tally {
+                given = self.old.tally.given + length moved;
+                calls = self.old.tally.calls + 1;
+              };
+            }) }
+        ensures bytes { concat self.new.segments ++ queue.new
+            ≡ concat self.old.segments ++ queue.old }
+        ensures ok { OnOk result (queue.new ≡ []) }
+        ensures err { OnErr result (0 < length queue.new) }
+        ensures reason { IfErr result (λ reason. reason ≡ Reason.OutOfMemory) }
+        ensures empty { queue.old ≡ [] → IsOk result }
+        ensures paid { IsPaid self.old.segments self.old.tally self.new.segments self.new.tally }
+    {
+        self.tally.call();
+        while !queue.is_empty() {
+            self.accept_first(queue)?;
+        }
+        Ok(())
+    }
+
+    /// Moves the first chunk of `queue` in. Its place is reserved before. It is no counted call.
+    fn accept_first(&mut self, queue: &mut BytesQueue) -> Result<(), Reason>
+        requires some { 0 < length queue.old }
+        requires sum { length (concat self.old.segments) + length queue.old < 2 ^ 64 }
+        ensures ok { OnOk result ((chunk : List ℕ) × (0 < length chunk)
+            × (queue.old ≡ chunk ++ queue.new)
+            × (self.new ≡ record {
+              segments = self.old.segments ++ (chunk ∷ []);
+              tally = record self.old.tally { given = self.old.tally.given + 1 };
+            })) }
+        ensures err { OnErr result (self.new ≡ self.old) }
+        ensures left { OnErr result (queue.new ≡ queue.old) }
+        ensures reason { IfErr result (λ reason. reason ≡ Reason.OutOfMemory) }
+    {
+        self.segments.reserve(1)?;
+        let Some(chunk) = queue.pop() else {
+            unreachable!()
+        };
+        self.remaining += chunk.len();
+        self.segments.push_back_reserved(chunk);
+        self.tally.give(1, 0);
+        Ok(())
+    }
+
+    /// Moves the held segments behind the chunks of `queue`, one after another, and copies no byte.
+    /// After a refusal the call can be made again. `fits` tests the condition.
+    pub fn drain_into_queue(&mut self, queue: &mut BytesQueue) -> Result<(), Reason>
+        requires { length (concat self.old.segments) + length queue.old < 2 ^ 64 }
+
+        // The queue has the bytes of the segments that were moved, and the others are left here.
+        ensures moved { (moved : List (List ℕ)) × (self.old.segments ≡ moved ++ self.new.segments)
+            × (queue.new ≡ queue.old ++ concat moved) }
+        ensures bytes { queue.new ++ concat self.new.segments
+            ≡ queue.old ++ concat self.old.segments }
+        ensures ok { OnOk result (self.new.segments ≡ []) }
+        ensures err { OnErr result (0 < length self.new.segments) }
+        ensures reason { IfErr result (λ reason. reason ≡ Reason.OutOfMemory) }
+        ensures empty { self.old.segments ≡ [] → IsOk result }
+
+        // Each segment that is moved counts as passed, by one turn.
+        ensures turns { lined_up self.new.segments self.new.tally
+            ≡ lined_up self.old.segments self.old.tally }
+        ensures given { self.new.tally.given ≡ self.old.tally.given }
+        ensures dropped { self.new.tally.dropped ≡ self.old.tally.dropped }
+        ensures calls { self.new.tally.calls ≡ self.old.tally.calls + 1 }
+        ensures paid { IsPaid self.old.segments self.old.tally self.new.segments self.new.tally }
+    {
+        self.tally.call();
+        while !self.segments.is_empty() {
+            self.give_first(queue)?;
+        }
+        Ok(())
+    }
+
+    /// Moves the front segment behind the chunks of `queue`. One that is refused goes back to its
+    /// place, which needs no memory. It is no counted call.
+    fn give_first(&mut self, queue: &mut BytesQueue) -> Result<(), Reason>
+        requires { 0 < length self.old.segments }
+        ensures ok { OnOk result ((chunk : List ℕ) × (self.old.segments ≡ chunk ∷ self.new.segments)
+            × (queue.new ≡ queue.old ++ chunk)
+            × (self.new.tally ≡ record self.old.tally { turns = self.old.tally.turns + 1 })) }
+        ensures err { OnErr result (self.new ≡ self.old) }
+        ensures left { OnErr result (queue.new ≡ queue.old) }
+        ensures reason { IfErr result (λ reason. reason ≡ Reason.OutOfMemory) }
+    {
+        let Some(chunk) = self.segments.pop_front() else {
+            unreachable!()
+        };
+        let size = chunk.len();
+        if let Err(AllocFailed { value }) = queue.push(chunk) {
+            self.segments.push_front_reserved(value);
+            return Err(Reason::OutOfMemory);
+        }
+        self.tally.turn();
+        self.remaining -= size;
+        Ok(())
+    }
+}
