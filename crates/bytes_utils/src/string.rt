@@ -1,6 +1,7 @@
 //! Text over a storage whose bytes are UTF-8.
 
 mod build;
+mod byte_str;
 mod compare;
 mod convert;
 mod format;

@@ -2,7 +2,7 @@
 use super::{assert_text, shared};
 use crate::Str;
 use crate::string::{Storage, StrInner};
-use bytes::{Bytes, BytesMut};
+use bytes::{ByteStr, Bytes, BytesMut};
 use std::alloc::Global;
 use std::fmt::Debug;
 use std::process::Abort;
@@ -60,6 +60,19 @@ fn converts_both_ways(rt: HostRuntime) -> Result<(), Fail> {
         assert_converts(&rt, Bytes::from_static(want.as_bytes()), want)?;
         let bytes = BytesMut::copy_from_slice(rt.alloc(), want.as_bytes())?;
         assert_converts(&rt, bytes, want)?;
+    }
+    Ok(())
+}
+
+// The text of the kit keeps the block, whose only owner it stays, and so does the way back.
+#[test]
+fn converts_from_and_to_byte_str(rt: HostRuntime) -> Result<(), Fail> {
+    for want in texts() {
+        let text = ByteStr::from(shared(rt.alloc(), want)?);
+        assert_text(&rt, text.as_str(), want);
+        let bytes = Str::from(text).into_inner();
+        assert!(rt; bytes.as_slice() == want.as_bytes());
+        assert!(rt; bytes.is_unique() == !want.is_empty());
     }
     Ok(())
 }
