@@ -21,7 +21,7 @@ FillsTable-none dst = record {
   tail = refl;
 }
 
-joined-push : (xs : List (Bor (List ℕ))) (x : Bor (List ℕ)) → joined (xs ++ x ∷ []) ≡ joined xs ++ x.now
+pub joined-push : (xs : List (Bor (List ℕ))) (x : Bor (List ℕ)) → joined (xs ++ x ∷ []) ≡ joined xs ++ x.now
 joined-push [] x = append-nil x.now
 joined-push (y ∷ xs) x = ap (λ l. y.now ++ l) (joined-push xs x) ∙ sym (append_assoc y.now (joined xs) x.now)
 

@@ -1,36 +1,119 @@
 -- A buffer that is written out, some of it at a time.
-use Rattle.std.proofs.Common.{◌≡◌, refl, sym, ap, subst, ◌∙◌, ℕ, zero, suc, ◌<◌, ◌≤◌, List, [], ◌∷◌, ◌++◌, Option, Result, Ok, Err, length, take, drop, get_or, arith, append_assoc, length-append, take-append-drop}
-use Rattle.std.proofs.KnownBytes.{Appends-trans}
-use Rattle.std.proofs.lemmas.List.{take-append-le}
+use Rattle.std.proofs.Common.{◌≡◌, refl, sym, ap, subst, ◌∙◌, ℕ, zero, suc, ◌+◌, ◌-◌, ◌<◌, ◌≤◌, List, [], ◌∷◌, ◌++◌, Option, Result, Ok, Err, length, take, drop, arith, append_assoc, length-append, length-drop, take-append-drop, take-add}
+use Rattle.std.proofs.KnownBytes.{Appends-nil, Appends-trans}
+use Rattle.std.proofs.lemmas.List.{drop_at, drop-drop, take-append-le, take_rest}
+use Rattle.std.proofs.lemmas.List.Elements.{All-head}
 use Rattle.std.specs.Borrow.{Bor}
-use Rattle.std.specs.declared.io.slices.IoSlice.{IoSlice}
-use Rattle.std.specs.Io.{WritesAtMost}
-use Rattle.std.specs.Io.KnownBytes.{Appends, WriteAppends}
-use Rattle.std.specs.Io.Slices.{io_slice_bytes, io_slices_bytes}
-use Rattle.bytes_utils.specs.Slices.{joined}
-use Rattle.bytes_utils_run.specs.Writer.{WritesFront}
+use Rattle.std.specs.Result.{OnOk}
+use Rattle.std.specs.Io.KnownBytes.{Appends}
+use Rattle.bytes_utils_buf.specs.Slices.{joined, FillsTable}
+use Rattle.bytes_utils_run.specs.Writer.{WritesCounted, WritesFront}
 
--- slices for a writer that are those of a table, one by one, have its bytes
-pub same-bytes : (xs : List (Bor (List ℕ))) (ys : List IoSlice) (n : ℕ) → n ≤ length xs → n ≤ length ys
-    → ((i : ℕ) (x : Bor (List ℕ)) (y : IoSlice) → i < n → io_slice_bytes (get_or ys i y) ≡ (get_or xs i x).now) → io_slices_bytes (take n ys) ≡ joined (take n xs)
-same-bytes xs ys zero p q each = refl
-same-bytes [] ys (suc n) p q each = absurd (omega arith)
-same-bytes (x ∷ xs) [] (suc n) p q each = absurd (omega arith)
-same-bytes (x ∷ xs) (y ∷ ys) (suc n) p q each =
-    let first : io_slice_bytes y ≡ x.now = each 0 x y (omega arith) in
-    let more = same-bytes xs ys n (omega arith) (omega arith) (λ i a b below. each (suc i) a b (omega arith)) in
-    λ k. first k ++ more k
+-- nothing is written yet
+pub WritesCounted-none : (a : Option (List ℕ)) (n : ℕ) (bytes : List ℕ) → WritesCounted a a n n bytes
+WritesCounted-none a n bytes =
+    let none : 0 ≡ n - n = omega arith in
+    record {
+      rises = omega arith;
+      within = omega arith;
+      appends = subst (λ k. Appends a a (take k bytes)) none (Appends-nil a);
+    }
 
--- what a write takes of a beginning it takes of the whole
-module _ {E : Type 0} (front unread : List ℕ) (is : front ++ drop (length front) unread ≡ unread) where
-  pub bound-of_front : (r : Result ℕ E) → WritesAtMost r front → WritesAtMost r unread
-  bound-of_front (Ok n) h = omega (arith, h, ap length is, length-append front (drop (length front) unread))
-  bound-of_front (Err e) h = tt
+-- of the bytes that come next some were written
+pub WritesCounted-more : {a b c : Option (List ℕ)} {m n k : ℕ} {all part : List ℕ} (behind : List ℕ) → WritesCounted a b m n all
+    → WritesCounted b c n k part → part ++ behind ≡ drop (n - m) all → WritesCounted a c m k all
+WritesCounted-more {a} {b} {c} {m} {n} {k} {all} {part} behind before next is =
+    let size : length part + length behind ≡ length all - (n - m) = sym (length-append part behind) ∙ ap length is ∙ length-drop (n - m) all in
+    let some : k - n ≤ length part = omega (arith, next.within) in
+    let same : take (k - n) part ≡ take (k - n) (drop (n - m) all) = sym (take-append-le (k - n) part behind some) ∙ ap (take (k - n)) is in
+    let count : (n - m) + (k - n) ≡ k - m = omega (arith, before.rises, next.rises) in
+    let bytes : take (n - m) all ++ take (k - n) part ≡ take (k - m) all =
+    ap (λ l. take (n - m) all ++ l) same ∙ sym (take-add (n - m) (k - n) all) ∙ ap (λ i. take i all) count in
+    record {
+      rises = omega (arith, before.rises, next.rises);
+      within = omega (arith, size, before.rises, before.within, next.rises, next.within);
+      appends = subst (Appends a c) bytes (Appends-trans a b c _ _ before.appends next.appends);
+    }
 
-  pub bytes-of_front : (old new : Option (List ℕ)) (r : Result ℕ E) → WritesAtMost r front → WriteAppends old new r front → WriteAppends old new r unread
-  bytes-of_front old new (Ok n) h appends =
-      subst (Appends old new) (sym (take-append-le n front (drop (length front) unread) h) ∙ ap (take n) is) appends
-  bytes-of_front old new (Err e) h kept = kept
+-- where all of those were, these come next
+pub bytes-behind : {m n k : ℕ} (all part behind : List ℕ) → m ≤ n → k ≡ n + length part → part ++ behind ≡ drop (n - m) all → behind ≡ drop (k - m) all
+bytes-behind {m} {n} {k} all part behind rises is next =
+    let count : (n - m) + length part ≡ k - m = omega arith in
+    sym (drop_at part behind (length part) refl) ∙ ap (drop (length part)) next ∙ drop-drop (length part) (n - m) all ∙ ap (λ i. drop i all) count
+
+-- a write took the first of these bytes
+pub WritesCounted-one : {a b : Option (List ℕ)} (n count : ℕ) (bytes : List ℕ) → count ≤ length bytes → Appends a b (take count bytes)
+    → WritesCounted a b n (n + count) bytes
+WritesCounted-one {a} {b} n count bytes bound appends =
+    let same : count ≡ n + count - n = omega arith in
+    record {
+      rises = omega arith;
+      within = omega arith;
+      appends = subst (λ k. Appends a b (take k bytes)) same appends;
+    }
+
+-- those that come next are no more than are left
+pub WritesCounted-room : {a b : Option (List ℕ)} {m n : ℕ} {all : List ℕ} (part behind : List ℕ) → WritesCounted a b m n all → part ++ behind ≡ drop (n - m) all
+    → n + length part ≤ m + length all
+WritesCounted-room {a} {b} {m} {n} {all} part behind before is =
+    let size : length part + length behind ≡ length all - (n - m) = sym (length-append part behind) ∙ ap length is ∙ length-drop (n - m) all in
+    omega (arith, size, before.rises, before.within)
+
+-- none come next where all were written
+pub WritesCounted-all : {a b : Option (List ℕ)} {m n : ℕ} {all : List ℕ} → WritesCounted a b m n all → [] ≡ drop (n - m) all → n ≡ m + length all
+WritesCounted-all {a} {b} {m} {n} {all} before is =
+    let size : 0 ≡ length all - (n - m) = ap length is ∙ length-drop (n - m) all in
+    omega (arith, size, before.rises, before.within)
+
+-- slices in two parts
+pub joined-parts : (n : ℕ) (slices : List (Bor (List ℕ))) → joined (take n slices) ++ joined (drop n slices) ≡ joined slices
+joined-parts zero slices = refl
+joined-parts (suc n) [] = refl
+joined-parts (suc n) (x ∷ slices) = append_assoc x.now _ _ ∙ ap (λ l. x.now ++ l) (joined-parts n slices)
+
+-- the bytes of some slices come next, and then those of the ones behind
+pub next-slices : (slices : List (Bor (List ℕ))) (place count : ℕ) (bytes left : List ℕ)
+    → bytes ≡ joined (take count (take (length slices - place) (drop place slices))) → joined (drop place slices) ≡ left
+    → bytes ++ joined (drop (place + count) slices) ≡ left
+next-slices slices place count bytes left is all =
+    let rest = drop place slices in
+    let behind : joined (drop (place + count) slices) ≡ joined (drop count rest) = sym (ap joined (drop-drop count place slices)) in
+    ap (λ l. bytes ++ l) behind
+    ∙ ap (λ l. l ++ joined (drop count rest)) (is ∙ ap (λ l. joined (take count l)) (take_rest slices place))
+    ∙ joined-parts count rest
+    ∙ all
+
+-- a table with room has a byte, if there is one
+FillsTable-some : (n : ℕ) (old new : List (Bor (List ℕ))) (unread : List ℕ) → 0 < length old → length new ≡ length old → 0 < length unread
+    → FillsTable n old new unread → 0 < length (joined (take n new))
+FillsTable-some zero old new unread room same some fills = omega (arith, some, ap length (fills.whole room))
+FillsTable-some (suc n) old [] unread room same some fills = absurd (omega (arith, room, same))
+FillsTable-some (suc n) old (x ∷ new) unread room same some fills =
+    let first = All-head (λ (s : Bor (List ℕ)). 0 < length s.now) x (take n new) fills.some in
+    omega (arith, first, length-append x.now (joined (take n new)))
+
+-- so something is written
+pub some-written : {E : Type 0} (r : Result (Unit {0}) E) (written : ℕ) {n : ℕ} {old new : List (Bor (List ℕ))} {unread : List ℕ} → FillsTable n old new unread
+    → 0 < length old → length new ≡ length old → OnOk r (written ≡ 0 + length (joined (take n new))) → OnOk r (0 < length unread → 0 < written)
+some-written (Err e) written fills room same is = tt
+some-written (Ok done) written {n} {old} {new} {unread} fills room same is = λ some.
+    let front = FillsTable-some n old new unread room same some fills in
+    omega (arith, is)
+
+-- no more bytes are in front than there are
+pub length-front : (front all : List ℕ) → front ++ drop (length front) all ≡ all → length front ≤ length all
+length-front front all is = omega (arith, ap length is, length-append front (drop (length front) all))
+
+-- what is written of the bytes in front is written of all
+module _ {a b : Option (List ℕ)} {n : ℕ} (front all : List ℕ) (is : front ++ drop (length front) all ≡ all) (some : WritesCounted a b 0 n front) where
+  pub count-of_front : n ≤ length all
+  count-of_front = omega (arith, some.within, length-front front all is)
+
+  pub appends-of_front : Appends a b (take n all)
+  appends-of_front =
+      let whole : n - 0 ≡ n = omega arith in
+      let same : take (n - 0) front ≡ take n all = ap (λ k. take k front) whole ∙ sym (take-append-le n front (drop (length front) all) (omega (arith, some.within))) ∙ ap (take n) is in
+      subst (Appends a b) same some.appends
 
 -- one write more
 pub WritesFront-more : {a b c : Option (List ℕ)} {all rest new : List ℕ} (n : ℕ) → WritesFront a b all rest → Appends b c (take n rest) → new ≡ drop n rest → WritesFront a c all new

@@ -4,6 +4,9 @@ use Rattle.bytes_utils_run.proofs.callers.writer.write_all_of.Goals as goal
 
 pub loop-buf-preserved : goal.loop-buf-preserved
 loop-buf-preserved g c = record {
-  front = WritesFront-more c.in_ok-count.count c.loop-buf.invariant.front c.in_ok-count.ensures.bytes c.advance.ensures.value;
+  front = WritesFront-more _ c.loop-buf.invariant.front c.write_front-written.ensures.bytes c.advance.ensures.value;
   kept = c.advance.ensures.kept ∙ c.loop-buf.invariant.kept;
 }
+
+pub returns-in_err-result-clause-front : goal.returns-in_err-result-clause-front
+returns-in_err-result-clause-front g c = WritesFront-more _ c.loop-buf.invariant.front c.write_front-written.ensures.bytes c.advance.ensures.value

@@ -1,24 +1,28 @@
-use Rattle.std.proofs.Common.{rules, arith, ◌≡◌, take, subst}
-use Rattle.std.specs.Io.{WritesAtMost}
-use Rattle.std.specs.Io.KnownBytes.{WriteAppends}
-use Rattle.std.specs.Io.Slices.{io_slices_bytes}
-use Rattle.bytes_utils.specs.Slices.{joined}
-use Rattle.bytes_utils_run.proofs.Writing.{same-bytes, bound-of_front, bytes-of_front}
+use Rattle.std.proofs.Common.{arith, rules, take}
+use Rattle.std.proofs.lemmas.Result.{on_err_weaker}
+use Rattle.bytes_utils_buf.specs.Slices.{joined}
+use Rattle.bytes_utils_run.proofs.Writing.{appends-of_front, count-of_front, length-front, some-written}
 use Rattle.bytes_utils_run.proofs.callers.writer.write_front.Goals as goal
 
--- the slices for the writer have the bytes of the table
-same : (g : _) (c : goal.After-write_vectored g) → io_slices_bytes (take c.chunks_into-filled.result c.map.result) ≡ joined (take c.chunks_into-filled.result c.chunks_into-filled.new.dst)
-same g c =
-    same-bytes c.chunks_into-filled.new.dst c.map.result c.chunks_into-filled.result (omega arith) (omega arith)
-    (λ i x y below. let called = c.map.ensures.items.at i x y (omega arith) in search rules)
+pub write_slices-result-requires : goal.write_slices-result-requires
+write_slices-result-requires g c =
+    let front = joined (take c.chunks_into-filled.result c.chunks_into-filled.new.dst) in
+    let most = length-front front (g.B.Buf.unread c.args.buf.now) c.chunks_into-filled.ensures.front in
+    omega arith
 
 pub returns-clause-bound : goal.returns-clause-bound
-returns-clause-bound g c =
-    let bound = subst (λ l. WritesAtMost c.write_vectored.result l) (same g c) c.write_vectored.ensures.bound in
-    bound-of_front _ _ c.chunks_into-filled.ensures.front _ bound
+returns-clause-bound g c = count-of_front _ _ c.chunks_into-filled.ensures.front c.write_slices-result.ensures.front
 
 pub returns-clause-bytes : goal.returns-clause-bytes
-returns-clause-bytes g c =
-    let bound = subst (λ l. WritesAtMost c.write_vectored.result l) (same g c) c.write_vectored.ensures.bound in
-    let bytes = subst (λ l. WriteAppends (g.W.Write.contents c.args.writer.now) (g.W.Write.contents c.write_vectored.new.self) c.write_vectored.result l) (same g c) c.write_vectored.ensures.bytes in
-    bytes-of_front _ _ c.chunks_into-filled.ensures.front _ _ _ bound bytes
+returns-clause-bytes g c = appends-of_front _ _ c.chunks_into-filled.ensures.front c.write_slices-result.ensures.front
+
+pub returns-clause-some : goal.returns-clause-some
+returns-clause-some g c =
+    some-written c.write_slices-result.result c.write_slices-result.new.written c.chunks_into-filled.ensures (search rules) (search rules)
+    c.write_slices-result.ensures.ok
+
+pub returns-clause-err : goal.returns-clause-err
+returns-clause-err g c =
+    let front = joined (take c.chunks_into-filled.result c.chunks_into-filled.new.dst) in
+    let most = length-front front (g.B.Buf.unread c.args.buf.now) c.chunks_into-filled.ensures.front in
+    on_err_weaker c.write_slices-result.result (λ less. omega (arith, less)) c.write_slices-result.ensures.err
