@@ -171,6 +171,11 @@ impl SlowWriter {
     pub(crate) fn held(&self) -> &[u8] {
         self.held.as_slice()
     }
+
+    /// How many calls of `write` were made.
+    pub(crate) fn calls(&self) -> usize {
+        self.calls.made
+    }
 }
 
 impl Write for SlowWriter {

@@ -1,4 +1,4 @@
-//! Lent buffers, written whole and in part.
+//! Lent buffers, written whole and in part, and in how many calls.
 use crate::callers::writer::write_all_of;
 use crate::fakes::SlowWriter;
 use bytes::Buf;
@@ -6,19 +6,21 @@ use bytes_utils::SegmentedSlice;
 use std::alloc::Global;
 use std::io::ErrorKind;
 use std::process::Abort;
+use std::test::Fail;
 
 /// How many bytes a writer takes a call at most, at which call it fails, how many bytes are written
-/// then, and the error that is told.
-type Row = (usize, usize, usize, Option<ErrorKind>);
+/// then, by how many calls, and the error that is told.
+type Row = (usize, usize, usize, usize, Option<ErrorKind>);
 
-/// Writes lent buffers by such a writer, and asserts how many bytes of the whole are written, that
-/// the others are left, and the error.
+/// Writes lent buffers by such a writer, and asserts how many bytes of the whole are written, by
+/// how many calls, that the others are left, and the error. Where a call was interrupted, a second
+/// try writes what was left.
 fn assert_writes(
     rt: &impl Abort,
     alloc: Global,
     lent: &mut [&[u8]],
     whole: &[u8],
-    (most, fails_at, written, error): Row,
+    (most, fails_at, written, calls, error): Row,
 ) {
     assert!(rt; SegmentedSlice::total(lent) == Some(whole.len()) && written <= whole.len());
     let mut writer = SlowWriter::new(Vec::new(alloc), most, fails_at);
@@ -27,22 +29,26 @@ fn assert_writes(
     assert!(rt;
         writer.held() == &whole[..written]
             && all.remaining() == whole.len() - written
+            && writer.calls() == calls
             && result.err().map(|told| told.kind()) == error,
         "{most}, {fails_at}"
     );
+    if error == Some(ErrorKind::Interrupted) && most > 0 {
+        assert!(rt; write_all_of(&mut writer, &mut all).is_ok() && writer.held() == whole);
+    }
 }
 
-// A writer that takes three bytes a call takes all of the first buffer, and some of the third. Three
-// calls take all three buffers, and none is made behind them.
+// A writer that takes three bytes a call takes three times a part of the block, and stops in the
+// third of the buffers. One call takes all of them, and none is made behind it.
 const ROWS: &[Row] = &[
-    (1, 0, 12, None),
-    (3, 0, 12, None),
-    (100, 4, 12, None),
-    (0, 0, 0, Some(ErrorKind::WriteZero)),
-    (0, 1, 0, Some(ErrorKind::Interrupted)),
-    (100, 1, 0, Some(ErrorKind::Interrupted)),
-    (2, 2, 2, Some(ErrorKind::Interrupted)),
-    (2, 4, 5, Some(ErrorKind::Interrupted)),
+    (1, 0, 12, 12, None),
+    (3, 0, 12, 4, None),
+    (100, 2, 12, 1, None),
+    (0, 0, 0, 1, Some(ErrorKind::WriteZero)),
+    (0, 1, 0, 1, Some(ErrorKind::Interrupted)),
+    (100, 1, 0, 1, Some(ErrorKind::Interrupted)),
+    (2, 2, 2, 2, Some(ErrorKind::Interrupted)),
+    (3, 4, 9, 4, Some(ErrorKind::Interrupted)),
 ];
 
 #[test]
@@ -54,8 +60,112 @@ fn lent_buffers(rt: HostRuntime) {
     }
 }
 
+/// So many bytes, of which no two in a row are the same.
+fn whole(alloc: Global, len: usize) -> Result<Vec<u8>, Fail> {
+    let mut bytes = Vec::new(alloc);
+    for i in 0..len {
+        bytes.push((i % 251) as u8)?;
+    }
+    Ok(bytes)
+}
+
+/// The bytes in buffers as long as these lengths tell, in turn.
+fn cut<'s>(alloc: Global, bytes: &'s [u8], lengths: &[usize]) -> Result<Vec<&'s [u8]>, Fail> {
+    let mut pieces = Vec::new(alloc);
+    let mut rest = bytes;
+    for i in 0..bytes.len() {
+        if rest.is_empty() || lengths.is_empty() {
+            break;
+        }
+        let (piece, behind) = rest.split_at(lengths[i % lengths.len()].min(rest.len()));
+        pieces.push(piece)?;
+        rest = behind;
+    }
+    Ok(pieces)
+}
+
+/// The lengths of buffers, in turn, and of all of them, and what comes of writing them.
+type Case = (&'static [usize], usize, Row);
+
+const ALL: usize = usize::MAX;
+
+// Up to 1,024 small buffers are written by one call, in blocks of whole buffers and 16,384 bytes at
+// most; one of 4,096 bytes or more is a call of its own, as large ones are.
+const CALLS: &[Case] = &[
+    (&[16], 16_000, (ALL, 0, 16_000, 1, None)),
+    (&[16], 16_384, (ALL, 0, 16_384, 1, None)),
+    (&[16], 16_385, (ALL, 0, 16_385, 2, None)),
+    (&[1], 2_049, (ALL, 0, 2_049, 3, None)),
+    (&[4_095], 16_380, (ALL, 0, 16_380, 1, None)),
+    (&[4_095], 16_384, (ALL, 0, 16_384, 1, None)),
+    (&[4_095], 16_385, (ALL, 0, 16_385, 2, None)),
+    (&[4_096], 16_384, (ALL, 0, 16_384, 4, None)),
+    (&[16_384], 32_768, (ALL, 0, 32_768, 2, None)),
+    (&[16_385], 32_770, (ALL, 0, 32_770, 2, None)),
+    (&[1, 4_096, 1, 1], 8_196, (ALL, 0, 8_196, 4, None)),
+];
+
 #[test]
-fn more_buffers_than_slices_at_once(rt: HostRuntime) {
-    let mut lent: [&[u8]; 20] = [b"a"; 20];
-    assert_writes(&rt, rt.alloc(), &mut lent, &[b'a'; 20], (3, 0, 20, None));
+fn calls(rt: HostRuntime) -> Result<(), Fail> {
+    for (lengths, len, row) in CALLS {
+        let whole = whole(rt.alloc(), *len)?;
+        let mut lent = cut(rt.alloc(), &whole, lengths)?;
+        assert_writes(&rt, rt.alloc(), &mut lent, &whole, *row);
+    }
+    Ok(())
+}
+
+// What a short write leaves of a block is written by itself: 16,000 bytes by four calls, and then
+// the other 4,000.
+const SHORT: &[Case] = &[
+    (&[16], 64, (1, 0, 64, 64, None)),
+    (&[1_000], 20_000, (5_000, 0, 20_000, 5, None)),
+    (&[5_000], 10_000, (3_000, 0, 10_000, 4, None)),
+    (
+        &[1_000],
+        20_000,
+        (5_000, 2, 5_000, 2, Some(ErrorKind::Interrupted)),
+    ),
+    (
+        &[1_000],
+        20_000,
+        (5_000, 4, 15_000, 4, Some(ErrorKind::Interrupted)),
+    ),
+    (
+        &[1_000],
+        20_000,
+        (5_000, 5, 16_000, 5, Some(ErrorKind::Interrupted)),
+    ),
+    (
+        &[16, 5_000],
+        10_032,
+        (ALL, 1, 0, 1, Some(ErrorKind::Interrupted)),
+    ),
+    (
+        &[16, 5_000],
+        10_032,
+        (ALL, 2, 16, 2, Some(ErrorKind::Interrupted)),
+    ),
+    (
+        &[16, 5_000],
+        10_032,
+        (ALL, 3, 5_016, 3, Some(ErrorKind::Interrupted)),
+    ),
+    (
+        &[16, 5_000],
+        10_032,
+        (3_000, 3, 3_016, 3, Some(ErrorKind::Interrupted)),
+    ),
+    (&[1_000], 20_000, (0, 0, 0, 1, Some(ErrorKind::WriteZero))),
+    (&[5_000], 20_000, (0, 0, 0, 1, Some(ErrorKind::WriteZero))),
+];
+
+#[test]
+fn short_writes(rt: HostRuntime) -> Result<(), Fail> {
+    for (lengths, len, row) in SHORT {
+        let whole = whole(rt.alloc(), *len)?;
+        let mut lent = cut(rt.alloc(), &whole, lengths)?;
+        assert_writes(&rt, rt.alloc(), &mut lent, &whole, *row);
+    }
+    Ok(())
 }
