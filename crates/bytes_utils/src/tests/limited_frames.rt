@@ -3,6 +3,7 @@ use super::frames::{cut, letters};
 use crate::Reason;
 use crate::frame::LimitedFrames;
 use bytes::{Bytes, BytesMut};
+use bytes_utils_buf::segmented::SegmentedBuf;
 use memchr::memmem;
 use std::alloc::Global;
 use std::collections::VecDeque;
@@ -152,26 +153,50 @@ fn told_in_its_place(rt: HostRuntime) -> Result<(), Fail> {
     assert_told(&rt, alloc, "-", 0, "a|a|a|a--", "!;")
 }
 
+/// Asserts that there is a segment for each of the pieces that are told with a `|` between them.
+fn assert_segments(rt: &impl Abort, mut all: SegmentedBuf<Bytes>, told: &str) {
+    for piece in told.split('|') {
+        let segment = all.pop();
+        assert!(rt; segment.is_some_and(|it| it.as_slice() == piece.as_bytes()));
+    }
+    assert!(rt; all.segments() == 0);
+}
+
+/// Asserts the segments of the next frame.
+fn assert_next<R: Abort>(
+    rt: &R,
+    alloc: Global,
+    frames: &mut LimitedFrames,
+    told: &str,
+) -> Result<(), Fail> {
+    let frame = frames.next_segments(alloc)?.ok_or("a frame is missing")?;
+    assert_segments(rt, frame, told);
+    Ok(())
+}
+
+/// Asserts that a frame is told as too long, and that none is left behind it.
+fn assert_too_long<R: Abort>(
+    rt: &R,
+    alloc: Global,
+    frames: &mut LimitedFrames,
+) -> Result<(), Fail> {
+    assert_eq!(rt; frames.next_segments(alloc).err(), Some(Reason::TooLong));
+    assert!(rt; frames.next_segments(alloc)?.is_none());
+    Ok(())
+}
+
 /// A frame comes in the pieces in which it lies, one that is too long is told in its place, and the
 /// rest is what is left.
 #[test]
 fn segments_within_the_limit(rt: HostRuntime) -> Result<(), Fail> {
     let alloc = rt.alloc();
     let mut frames = LimitedFrames::new(alloc, b"-", 2)?;
-    frames.push(Bytes::from_static(b"a"))?;
-    frames.push(Bytes::from_static(b"b-abc-d"))?;
-
-    let frame = frames.next_segments(alloc)?.ok_or("a frame is missing")?;
-    assert_eq!(rt; frame.segments(), 2);
-    assert!(rt; frame.segment(0).ok_or("no segment")? == b"a".as_slice());
-    assert!(rt; frame.segment(1).ok_or("no segment")? == b"b".as_slice());
-
-    assert_eq!(rt; frames.next_segments(alloc).err(), Some(Reason::TooLong));
-    assert!(rt; frames.next_segments(alloc)?.is_none());
+    for piece in ["a", "b-abc-d"] {
+        frames.push(Bytes::from_static(piece.as_bytes()))?;
+    }
+    assert_next(&rt, alloc, &mut frames, "a|b")?;
+    assert_too_long(&rt, alloc, &mut frames)?;
     assert_eq!(rt; frames.remaining(), 1);
-
-    let rest = frames.finish();
-    assert_eq!(rt; rest.segments(), 1);
-    assert!(rt; rest.segment(0).ok_or("no segment")? == b"d".as_slice());
+    assert_segments(&rt, frames.finish(), "d");
     Ok(())
 }
