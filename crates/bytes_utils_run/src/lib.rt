@@ -11,6 +11,8 @@ pub mod laws;
 pub mod odd;
 mod program;
 mod read;
+#[cfg(test)]
+mod readme;
 mod splitter;
 
 pub use calls::{Call, ReadCall, Replies, Reply, drive, read_calls};

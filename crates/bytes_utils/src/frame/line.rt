@@ -35,6 +35,17 @@ impl From<Reason> for LineError {
     }
 }
 
+/// Why; the piece that was handed in is dropped.
+impl From<Refused<Bytes>> for LineError {
+    ghost use Rattle.bytes_utils.specs.declared.frame.line.LineError.TheVariants.{Refused};
+
+    ghost from_gives = { λ refused error. error ≡ Refused refused.reason };
+
+    fn from(refused: Refused<Bytes>) -> LineError {
+        LineError::Refused(refused.reason)
+    }
+}
+
 impl From<Utf8Error<Bytes>> for LineError {
     ghost use Rattle.bytes_utils.specs.declared.frame.line.LineError.TheVariants.{NotUtf8};
 

@@ -1,0 +1,72 @@
+//! What the examples of the README answer.
+use super::{body, header, next_line, send};
+use bytes::{Buf, Bytes};
+use bytes_utils::frame::Lines;
+use bytes_utils::{Reason, SegmentedBuf, Str, StrMut};
+use std::alloc::Global;
+use std::process::Abort;
+use std::test::Fail;
+
+/// Asserts that a line comes, and which, or that none does.
+fn assert_line(rt: &impl Abort, line: Option<Str>, wanted: Option<&str>) {
+    assert!(rt; line.as_ref().map(Str::as_str) == wanted);
+}
+
+#[test]
+fn lines_across_pieces(rt: HostRuntime) -> Result<(), Fail> {
+    let alloc = rt.alloc();
+    let mut stream = Lines::new(alloc)?;
+    let first = next_line(alloc, &mut stream, Bytes::from_static(b"Host: a\r"))?;
+    assert_line(&rt, first, None);
+    let second = next_line(alloc, &mut stream, Bytes::from_static(b"\nbody"))?;
+    assert_line(&rt, second, Some("Host: a"));
+    Ok(())
+}
+
+/// A line as a text of its own.
+fn line(alloc: Global, text: &str) -> Result<Str, Reason> {
+    Ok(StrMut::from_str(alloc, text)?.freeze()?)
+}
+
+#[test]
+fn headers(rt: HostRuntime) -> Result<(), Fail> {
+    let found = header(line(rt.alloc(), "Host: é.org: 80")?)?;
+    assert!(rt;
+        found.is_some_and(|(name, value)| {
+            name.as_str() == "Host" && value.as_str() == "é.org: 80"
+        })
+    );
+    Ok(())
+}
+
+#[test]
+fn lines_without_a_value(rt: HostRuntime) -> Result<(), Fail> {
+    assert!(rt; header(line(rt.alloc(), "Host:")?)?.is_none());
+    Ok(())
+}
+
+/// A greeting in four pieces, one of them empty.
+fn greeting(alloc: Global) -> Result<SegmentedBuf<Bytes>, Reason> {
+    let pieces = [b"Hello".as_slice(), b" ", b"", b"World"];
+    let all = Vec::from_array(alloc, pieces.map(Bytes::from_static))?;
+    Ok(SegmentedBuf::from_vec(alloc, all)?)
+}
+
+#[test]
+fn bodies(rt: HostRuntime) -> Result<(), Fail> {
+    let alloc = rt.alloc();
+    let mut came = greeting(alloc)?;
+    let front = body(alloc, &mut came, 8)?;
+    assert!(rt; front.is_some_and(|front| front.as_slice() == b"Hello Wo".as_slice()));
+    assert!(rt; body(alloc, &mut came, 4)?.is_none() && came.remaining() == 3);
+    Ok(())
+}
+
+#[test]
+fn sent(rt: HostRuntime) -> Result<(), Fail> {
+    let mut out = Vec::new(rt.alloc());
+    let mut came = greeting(rt.alloc())?;
+    send(&mut out, &mut came)?;
+    assert!(rt; out.as_slice() == b"Hello World".as_slice() && came.remaining() == 0);
+    Ok(())
+}
