@@ -16,6 +16,7 @@ pub mod Agree
 pub mod Limits
 pub mod FromEnds
 pub mod PartCut
+pub mod Halves
 pub mod EachCharacter
 pub mod CharacterCut
 pub mod NextPart
