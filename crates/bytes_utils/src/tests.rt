@@ -17,6 +17,7 @@ mod json;
 mod limited_frames;
 mod lines;
 mod memory;
+mod once;
 mod parts;
 mod readme;
 mod refused_builds;
