@@ -24,6 +24,8 @@ pub mod BorrowedLines
 pub mod WordRuns
 pub mod LineEnds
 pub mod OwnedAsLent
+pub mod OnceAsLent
+pub mod BorrowedHalves
 pub mod BorrowedWords
 pub mod Writing
 pub mod Reading

@@ -8,13 +8,14 @@ ghost use Rattle.bytes_utils_run.specs.Laws.{ExactlyOne, UniqueLaw, MirrorLaw, A
 ghost use Rattle.bytes_utils_run.specs.Laws.{LimitLaw, JoinLaw, OneToComeLaw};
 ghost use Rattle.std.specs.Prelude.{◌≡◌, ◌<◌, ℕ, Bool, List, length, reverse};
 ghost use Rattle.std.specs.Str.{chars, IsAscii};
+ghost use Rattle.bytes_utils.specs.Halves.{AreHalvesAtFirst, AreHalvesAtLast};
 ghost use Rattle.bytes_utils.specs.Keeping.{AreInclusivePartsToCome};
 ghost use Rattle.bytes_utils.specs.Lines.{AreLinesToCome};
 ghost use Rattle.bytes_utils.specs.Parts.{AreForwardParts, AreBackwardParts, AreInclusiveParts};
 ghost use Rattle.bytes_utils.specs.Parts.{ArePartsFromFront, ArePartsFromBack};
 ghost use Rattle.bytes_utils.specs.Splitting.{AreForwardPartsToCome, AreBackwardPartsToCome};
 ghost use Rattle.bytes_utils.specs.Words.{AreWordsToCome};
-ghost use Rattle.bytes_utils_run.specs.Borrowed.{OwnedAsLentLaw};
+ghost use Rattle.bytes_utils_run.specs.Borrowed.{OwnedAsLentLaw, OnceAsLentLaw};
 ghost use Rattle.bytes_utils_run.specs.Readings.{WordsLaw, LinesLaw};
 
 #[cfg(test)]
@@ -82,6 +83,14 @@ pub fn ascii_characters()
 /// methods give.
 pub fn owned_as_lent()
     ensures { OwnedAsLentLaw }
+{}
+
+/// What `split_once_bytes` and `rsplit_once_bytes` cut a text into is what the methods of `str` lend,
+/// or none in both, since one answer alone is right. The functions of `borrowed` say what those
+/// methods give.
+pub fn once_as_lent()
+    ensures first { OnceAsLentLaw AreHalvesAtFirst }
+    ensures last { OnceAsLentLaw AreHalvesAtLast }
 {}
 
 /// The words of a text are its maximal runs of characters that aren't white space.
