@@ -24,6 +24,7 @@ pub mod Steps
 pub mod Walks
 pub mod ToCome
 pub mod Rejoining
+pub mod PartLists
 pub mod KeepingCut
 pub mod Lines
 pub mod Graphic
