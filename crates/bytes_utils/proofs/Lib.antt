@@ -25,6 +25,7 @@ pub mod Walks
 pub mod ToCome
 pub mod Rejoining
 pub mod PartLists
+pub mod Separable
 pub mod KeepingCut
 pub mod Lines
 pub mod Graphic

@@ -6,6 +6,7 @@
 //! one is of texts.
 ghost use Rattle.bytes_utils_run.specs.Laws.{ExactlyOne, UniqueLaw, MirrorLaw, AgreeLaw};
 ghost use Rattle.bytes_utils_run.specs.Laws.{LimitLaw, JoinLaw, OneToComeLaw};
+ghost use Rattle.bytes_utils_run.specs.Laws.{ComeBackLaw, TextsComeBackLaw};
 ghost use Rattle.std.specs.Prelude.{◌≡◌, ◌<◌, ℕ, Bool, List, length, reverse};
 ghost use Rattle.std.specs.Str.{chars, IsAscii};
 ghost use Rattle.bytes_utils.specs.Keeping.{AreInclusivePartsToCome};
@@ -60,6 +61,18 @@ pub fn limits<X>()
 pub fn rejoin<X>()
     ensures forward { JoinLaw X ArePartsFromFront (λ parts. parts) }
     ensures backward { JoinLaw X ArePartsFromBack reverse }
+{}
+
+/// Parts that are joined by a separator which isn't empty, and cut apart again from the front, come
+/// back exactly where they are separable. That no part holds the separator isn't enough: `a-` and
+/// `b`, joined by `--`, come back as `a` and `-b`. Where the separator is one element, it is.
+pub fn come_back<X>()
+    ensures { ComeBackLaw X }
+{}
+
+/// The same of texts, as `join` puts them together and `split_bytes` cuts them apart.
+pub fn texts_come_back()
+    ensures { TextsComeBackLaw }
 {}
 
 /// In each state of a splitter at most one list of parts is to come. So the parts that a run gave

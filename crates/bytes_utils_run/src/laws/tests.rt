@@ -1,7 +1,10 @@
 //! The laws at characters, as `cut_all` keeps them, and cases in which their premises are needed.
 ghost use Rattle.bytes_utils_run.specs.Cutting.{IsAllowed};
 
-use super::{agree, limits, mirror, unique_backward, unique_forward, unique_inclusive};
+use super::{
+    agree, come_back, limits, mirror, texts_come_back, unique_backward, unique_forward,
+    unique_inclusive,
+};
 use crate::{How, cut_all};
 use bytes_utils::Str;
 use std::alloc::{AllocError, Global};
@@ -171,4 +174,35 @@ fn a_limit_of_0_leaves_no_part(rt: HostRuntime) -> Result<(), Fail> {
 fn the_empty_separator_leaves_itself_in_a_part(rt: HostRuntime) -> Result<(), Fail> {
     assert_given(&rt, rt.alloc(), "a", How::Split(""), &["", "a", ""])?;
     assert_given(&rt, rt.alloc(), "a", How::RSplit(""), &["", "a", ""])
+}
+
+/// Parts, the separator that they are joined by, and what comes back of them.
+type Joined = (
+    &'static [&'static str],
+    &'static str,
+    &'static [&'static str],
+);
+
+const JOINED: &[Joined] = &[
+    (&["a", "", "β"], ",", &["a", "", "β"]),
+    (&["a", "-b"], "--", &["a", "-b"]),
+    (&["a-", "b"], "--", &["a", "-b"]),
+    (&["a,b", "c"], ",", &["a", "b", "c"]),
+    (&[], ",", &[""]),
+    (&["", "α", "β", ""], "", &["", "α", "β", ""]),
+    (&["αβ"], "", &["", "α", "β", ""]),
+];
+
+// Those of the first two rows are separable. In the third no part holds the separator, but the first
+// one begins within `a-`.
+#[test]
+fn joined_parts_are_cut_again(rt: HostRuntime) -> Result<(), Fail> {
+    come_back::<char>();
+    texts_come_back();
+    for (parts, separator, wanted) in JOINED {
+        let text = Str::join(rt.alloc(), parts.iter().copied(), separator)?;
+        let how = How::Split(separator);
+        assert_given(&rt, rt.alloc(), text.as_str(), how, wanted)?;
+    }
+    Ok(())
 }
