@@ -30,3 +30,4 @@ pub mod Reading
 pub mod Separators
 pub mod TokenParts
 pub mod HeaderLines
+pub mod PathNames
