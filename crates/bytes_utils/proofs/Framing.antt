@@ -1,20 +1,22 @@
 -- Frames out of pieces.
-use Rattle.std.proofs.Common.{map, IsUtf8, drop-drop, Option, ◌≤◌, ◌≡◌, ℕ, ◌+◌, ◌<◌, List, [], ◌∷◌, ◌++◌, length, take, drop, None, Some, ap, ◌∙◌, sym, refl, subst, arith, length-append, append_assoc, append-nil, take-append-drop, ⊎_elim}
+use Rattle.std.proofs.Common.{map, All, IsUtf8, drop-drop, Option, ◌≤◌, ◌≡◌, ℕ, ◌+◌, ◌<◌, List, [], ◌∷◌, ◌++◌, length, take, drop, None, Some, ap, ◌∙◌, sym, refl, subst, arith, append_assoc, append-nil, take-append-drop, ⊎_elim}
 use Rattle.std.proofs.lemmas.Bool.{cases_lt}
 use Rattle.std.proofs.lemmas.List.{append_cancel_left, length-take-le, take_at, drop_at}
+use Rattle.std.proofs.lemmas.List.Elements.{All-nil, All-cons, All-head, All-tail}
 use Rattle.std.proofs.lemmas.Str.{IsUtf8-drop}
 use Rattle.std.specs.Str.{chars}
 use Rattle.std.specs.Option.{IfNone, IfSome}
 use Rattle.memchr.specs.Find.{FindsNeedle}
 use Rattle.memchr.proofs.lemmas.MatchLemmas.{OccursAt-part, OccursAt-split}
 use Rattle.bytes_utils.specs.Occurrence.{Occurs, OccursAt, OccursFirstAt}
-use Rattle.bytes_utils.specs.Parts.{AreForwardParts}
-use Rattle.bytes_utils.specs.Frames.{TakesFrame, FrameEvent, Pushed, Given, IsFrameRun, pushed_by, given_by, AreFrames, FramesLaw, FramePartsLaw, SameFramesLaw, AllFramesLaw, TextFramesLaw}
+use Rattle.bytes_utils.specs.Parts.{IsCutAtFirst, AreForwardParts}
+use Rattle.bytes_utils.specs.Frames.{TakesFrame, FrameEvent, Pushed, Given, IsFrameRun, pushed_by, given_by, AreFrames, framed, FramesLaw, FramePartsLaw, PutFramesLaw, SameFramesLaw, AllFramesLaw, TextFramesLaw}
 use Rattle.bytes_utils.proofs.Boundaries.{OccursAt-fits, HasNeedleAt-from_occurs}
-use Rattle.bytes_utils.proofs.Occurrences.{OccursFirstAt-append, OccursFirstAt-front, first_places_same}
+use Rattle.bytes_utils.proofs.Occurrences.{OccursFirstAt-append, first_places_same}
 use Rattle.bytes_utils.proofs.Joins.{append_same}
 use Rattle.bytes_utils.proofs.Forward.{AreForwardParts-led, AreForwardParts-last, AreForwardParts-more}
 use Rattle.bytes_utils.proofs.FromEnds.{front-from}
+use Rattle.bytes_utils.proofs.PartLists.{first-from_cut, cut-from_first}
 use Rattle.bytes_utils.proofs.PartCut.{next_boundary, chars_before, chars_behind}
 use Rattle.bytes_utils.proofs.Search.{chars-some, FindsFirst-from_needle}
 
@@ -92,8 +94,7 @@ frame_parts : (p bytes : List ℕ) (frames : List (List ℕ)) (rest : List ℕ) 
 frame_parts p bytes [] rest some are lacks = subst (λ l. AreForwardParts l p None (rest ∷ [])) (sym are) (AreForwardParts-last p rest None tt lacks)
 frame_parts p bytes (frame ∷ frames) rest some are lacks =
     let takes = are.1 in
-    let whole = takes.bytes ∙ sym (append_assoc frame p are.0) in
-    let first = OccursFirstAt-front p (frame ++ p) are.0 (length frame) some (subst (λ l. OccursFirstAt p l (length frame)) whole takes.first) (omega (arith, length-append frame p)) in
+    let first = cut-from_first p frame are.0 some (subst (λ l. OccursFirstAt p l (length frame)) takes.bytes takes.first) in
     subst (λ l. AreForwardParts l p None (frame ∷ (frames ++ rest ∷ []))) (sym takes.bytes)
     (AreForwardParts-led p frame are.0 None tt first (frames ++ rest ∷ []) (frame_parts p are.0 frames rest some are.2 lacks))
 
@@ -163,3 +164,26 @@ all_frames_law p bytes (f ∷ xs) (g ∷ ys) x y a b none_x none_y =
     let same = TakesFrame-same p bytes f g a.0 b.0 a.1 b.1 in
     let later = all_frames_law p b.0 xs ys x y (subst (λ l. AreFrames p l xs x) same.1 a.2) b.2 none_x none_y in
     ((λ i. same.0 i ∷ later.0 i), later.1)
+
+-- ---- frames that are put
+
+module _ (p : List ℕ) (some : 0 < length p) where
+  each_cut : (frames : List (List ℕ)) (rest : List ℕ) → AreFrames p (framed p frames rest) frames rest → All (IsCutAtFirst p) frames
+  each_cut [] rest are = All-nil (IsCutAtFirst p)
+  each_cut (frame ∷ frames) rest are =
+      let whole = framed p frames rest in
+      let behind : whole ≡ are.0 = append_cancel_left p whole are.0 (append_cancel_left frame (p ++ whole) (p ++ are.0) are.1.bytes) in
+      All-cons (IsCutAtFirst p) frame frames (cut-from_first p frame whole some are.1.first)
+      (each_cut frames rest (subst (λ l. AreFrames p l frames rest) (sym behind) are.2))
+
+  cut_each : (frames : List (List ℕ)) (rest : List ℕ) → All (IsCutAtFirst p) frames → AreFrames p (framed p frames rest) frames rest
+  cut_each [] rest cut = refl
+  cut_each (frame ∷ frames) rest cut =
+      let whole = framed p frames rest in (
+        whole,
+        record { bytes = refl; first = first-from_cut p frame whole some (All-head (IsCutAtFirst p) frame frames cut) },
+        cut_each frames rest (All-tail (IsCutAtFirst p) frame frames cut),
+      )
+
+pub put_frames_law : PutFramesLaw
+put_frames_law p frames rest some = (each_cut p some frames rest, cut_each p some frames rest)

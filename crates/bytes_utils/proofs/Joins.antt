@@ -1,6 +1,6 @@
 -- Lists of parts that are joined.
-use Rattle.std.proofs.Common.{◌≡◌, refl, sym, ap, ◌∙◌, ◌<◌, List, [], ◌∷◌, ◌++◌, length, take, drop, arith, append_assoc}
-use Rattle.std.proofs.lemmas.List.{take_at, drop_at}
+use Rattle.std.proofs.Common.{◌≡◌, refl, sym, ap, ◌∙◌, ◌<◌, List, [], ◌∷◌, ◌++◌, length, map, take, drop, arith, append_assoc}
+use Rattle.std.proofs.lemmas.List.{map_push, take_at, drop_at}
 use Rattle.bytes_utils.specs.Parts.{join}
 
 pub join-append : {X : Type 0} (p : List X) (xs ys : List (List X)) → 0 < length xs → 0 < length ys → join p (xs ++ ys) ≡ join p xs ++ (p ++ join p ys)
@@ -11,6 +11,25 @@ join-append p (x ∷ z ∷ xs) (y ∷ ys) some others =
     let more : join p (z ∷ (xs ++ y ∷ ys)) ≡ join p (z ∷ xs) ++ (p ++ join p (y ∷ ys)) = join-append p (z ∷ xs) (y ∷ ys) (omega arith) others in
     ap (λ w. x ++ (p ++ w)) more ∙ ap (λ w. x ++ w) (sym (append_assoc p (join p (z ∷ xs)) (p ++ join p (y ∷ ys))))
     ∙ sym (append_assoc x (p ++ join p (z ∷ xs)) (p ++ join p (y ∷ ys)))
+
+-- what stands in front of the next part
+abbrev pub gap : {X : Type 0} → List X → List (List X) → List X
+gap p [] = []
+gap p (part ∷ parts) = p
+
+-- one part more
+pub join-push : {X : Type 0} (p : List X) (parts : List (List X)) (part : List X) → join p (parts ++ part ∷ []) ≡ (join p parts ++ gap p parts) ++ part
+join-push p [] part = refl
+join-push p (first ∷ parts) part =
+    join-append p (first ∷ parts) (part ∷ []) (omega arith) (omega arith) ∙ sym (append_assoc (join p (first ∷ parts)) p part)
+
+-- the same of what f makes of the items so far, and of one more
+pub join-more : {X Y : Type 0} (p : List X) (f : Y → List X) (ys : List Y) (y : Y) → (join p (map f ys) ++ gap p (map f ys)) ++ f y ≡ join p (map f (ys ++ y ∷ []))
+join-more p f ys y = sym (join-push p (map f ys) (f y)) ∙ ap (join p) (sym (map_push f ys y))
+
+pub gap-more : {X Y : Type 0} (p : List X) (f : Y → List X) (ys : List Y) (y : Y) → p ≡ gap p (map f (ys ++ y ∷ []))
+gap-more p f [] y = refl
+gap-more p f (first ∷ ys) y = refl
 
 -- lists that are joined from two, where the first of both are as long
 pub append_same : {X : Type 0} (a b c d : List X) → length a ≡ length b → a ++ c ≡ b ++ d → (a ≡ b) × (c ≡ d)

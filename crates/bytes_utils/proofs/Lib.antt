@@ -16,6 +16,7 @@ pub mod Agree
 pub mod Limits
 pub mod FromEnds
 pub mod PartCut
+pub mod Halves
 pub mod EachCharacter
 pub mod CharacterCut
 pub mod NextPart
@@ -24,6 +25,8 @@ pub mod Steps
 pub mod Walks
 pub mod ToCome
 pub mod Rejoining
+pub mod PartLists
+pub mod Separable
 pub mod KeepingCut
 pub mod Lines
 pub mod Graphic

@@ -1,6 +1,6 @@
 -- What a search for bytes says of characters, by the law of boundaries.
-use Rattle.std.proofs.Common.{◌≡◌, ◌↔◌, refl, sym, ap, subst, ℕ, ◌<◌, List, [], ◌∷◌, Option, None, Some, length, arith, IsUtf8}
-use Rattle.std.proofs.lemmas.Str.{encodes-chars}
+use Rattle.std.proofs.Common.{◌≡◌, ◌↔◌, refl, sym, ap, subst, ℕ, ◌<◌, ◌≤◌, List, [], ◌∷◌, Option, None, Some, length, arith, IsUtf8}
+use Rattle.std.proofs.lemmas.Str.{encodes-chars, chars-nil}
 use Rattle.std.specs.Str.{chars, encode_utf8_all as encodes}
 use Rattle.memchr.specs.Find.{OccursAt as HasNeedleAt, FindsNeedle, FindsLastNeedle}
 use Rattle.memchr.proofs.lemmas.MatchLemmas.{OccursAt-part}
@@ -78,3 +78,30 @@ module _ (text sep : List ℕ) (text_is : IsUtf8 text) (sep_is : IsUtf8 sep) (so
               omega (arith, not_above);
         },
       )
+
+-- the empty separator occurs everywhere, first at the start
+needle-empty : (text : List ℕ) (k : ℕ) → k ≤ length text → HasNeedleAt text [] k
+needle-empty text k within = record {
+  fits = omega (arith, within);
+  reads = λ j inside. absurd (omega (arith, inside));
+}
+
+FindsFirst-empty : (text : List ℕ) (r : Option ℕ) → FindsNeedle text [] 0 r → FindsFirst (chars []) (chars text) r
+FindsFirst-empty text None nowhere = absurd (nowhere 0 (omega arith) (omega arith) (needle-empty text 0 (omega arith)))
+FindsFirst-empty text (Some k) found =
+    let at_start : 0 < k → ⊥ = λ behind. found.0.before 0 (omega arith) behind (needle-empty text 0 (omega arith)) in
+    rw chars-nil (0, omega (arith, at_start), record { here = refl; none_before = λ j there. omega arith })
+
+-- what is found first, by any separator
+pub FindsFirst-from_any : (text sep : List ℕ) → IsUtf8 text → IsUtf8 sep → (r : Option ℕ) → FindsNeedle text sep 0 r → FindsFirst (chars sep) (chars text) r
+FindsFirst-from_any text [] text_is sep_is r found = FindsFirst-empty text r found
+FindsFirst-from_any text (b ∷ sep) text_is sep_is r found = FindsFirst-from_needle text (b ∷ sep) text_is sep_is (omega arith) r found
+
+-- the empty separator is found last at the end
+pub FindsLastNeedle-empty : (text sep : List ℕ) → length sep ≡ 0 → (r : Option ℕ) → FindsLastNeedle text sep r → r ≡ Some (length text)
+FindsLastNeedle-empty text (b ∷ sep) none r found = absurd (omega (arith, none))
+FindsLastNeedle-empty text [] none None nowhere = absurd (nowhere (length text) (omega arith) (omega arith) (needle-empty text (length text) (omega arith)))
+FindsLastNeedle-empty text [] none (Some k) found =
+    let high = found.0.high in
+    let at_end : k < length text → ⊥ = λ before. found.0.after (length text) (omega (arith, before)) (omega arith) (needle-empty text (length text) (omega arith)) in
+    ap Some (omega (arith, high, at_end))

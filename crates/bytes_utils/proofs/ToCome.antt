@@ -9,14 +9,16 @@ use Rattle.bytes_utils.specs.Splitting.{Splitting, AreForwardPartsToCome, AreBac
 use Rattle.bytes_utils.specs.Words.{AreWordsToCome}
 use Rattle.bytes_utils.proofs.Unique.{forward_same, backward_same, inclusive_same_any}
 
-front_same : (t p : List ℕ) (limit : Option ℕ) (parts others : List (List ℕ)) → ArePartsFromFront t p limit parts → ArePartsFromFront t p limit others → parts ≡ others
+-- at most one list of parts is cut from the front
+pub front_same : {X : Type 0} (t p : List X) (limit : Option ℕ) (parts others : List (List X)) → ArePartsFromFront t p limit parts → ArePartsFromFront t p limit others → parts ≡ others
 front_same t p (Some zero) parts others are also = are ∙ sym also
 front_same t [] None parts others are also = are ∙ sym also
 front_same t [] (Some (suc most)) parts others are also = are ∙ sym also
 front_same t (x ∷ p) None parts others are also = forward_same (x ∷ p) (omega arith) t None parts others are also
 front_same t (x ∷ p) (Some (suc most)) parts others are also = forward_same (x ∷ p) (omega arith) t (Some (suc most)) parts others are also
 
-back_same : (t p : List ℕ) (limit : Option ℕ) (parts others : List (List ℕ)) → ArePartsFromBack t p limit parts → ArePartsFromBack t p limit others → parts ≡ others
+-- and from the back
+pub back_same : {X : Type 0} (t p : List X) (limit : Option ℕ) (parts others : List (List X)) → ArePartsFromBack t p limit parts → ArePartsFromBack t p limit others → parts ≡ others
 back_same t p (Some zero) parts others are also = are ∙ sym also
 back_same t [] None parts others are also = are ∙ sym also
 back_same t [] (Some (suc most)) parts others are also = are ∙ sym also

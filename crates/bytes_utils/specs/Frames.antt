@@ -1,8 +1,8 @@
 -- Frames of a stream of bytes, each ended by a separator that isn't empty, and how they come out of pieces.
-use Rattle.std.specs.Prelude.{◌≡◌, ℕ, List, [], ◌∷◌, ◌++◌, length, map, None, IsUtf8}
+use Rattle.std.specs.Prelude.{◌≡◌, ◌↔◌, ℕ, ◌<◌, List, [], ◌∷◌, ◌++◌, length, map, None, All, IsUtf8}
 use Rattle.std.specs.Str.{chars}
 use Rattle.bytes_utils.specs.Occurrence.{Occurs, OccursFirstAt}
-use Rattle.bytes_utils.specs.Parts.{ArePartsFromFront}
+use Rattle.bytes_utils.specs.Parts.{IsCutAtFirst, ArePartsFromFront}
 
 -- what clauses see of a `Frames`: the separator, and the bytes that came in and weren't given
 pub record Framing : Type 0 where
@@ -54,6 +54,16 @@ FramesLaw = (separator : List ℕ) (events : List FrameEvent) (end : List ℕ) �
 abbrev pub FramePartsLaw : Type 0
 FramePartsLaw = (separator bytes : List ℕ) (frames : List (List ℕ)) (rest : List ℕ) → AreFrames separator bytes frames rest
     → (¬ Occurs separator rest) → ArePartsFromFront bytes separator None (frames ++ rest ∷ [])
+
+-- these frames are put one after another, each with the separator behind it, and then the rest
+abbrev pub framed : List ℕ → List (List ℕ) → List ℕ → List ℕ
+framed separator [] rest = rest
+framed separator (frame ∷ frames) rest = frame ++ (separator ++ framed separator frames rest)
+
+-- Frames that were put come out again, exactly where each is cut at its first separator.
+abbrev pub PutFramesLaw : Type 0
+PutFramesLaw = (separator : List ℕ) (frames : List (List ℕ)) (rest : List ℕ) → 0 < length separator
+    → AreFrames separator (framed separator frames rest) frames rest ↔ All (IsCutAtFirst separator) frames
 
 -- Over the bytes of a text, by those of a text, they are the parts of the text, of which there is one list too.
 abbrev pub TextFramesLaw : Type 0

@@ -2,6 +2,7 @@ pub mod Text
 pub mod Occurrence
 pub mod EmptySeparator
 pub mod Parts
+pub mod Halves
 pub mod Lines
 pub mod Words
 pub mod Outcome

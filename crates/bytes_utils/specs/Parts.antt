@@ -21,6 +21,10 @@ OfLast P [] = ⊤
 OfLast P (x ∷ []) = P x
 OfLast P (x ∷ y ∷ xs) = OfLast P (y ∷ xs)
 
+-- The part, with p behind it, has its first p right there: cut at the first p, it comes out whole.
+abbrev pub IsCutAtFirst : {X : Type 0} → List X → List X → Type 0
+IsCutAtFirst p part = OccursFirstAt p (part ++ p) (length part)
+
 -- The parts of t between separators p, cut from the front, at most as many as the limit says, if there is one: what Rust's
 -- `str::split` gives, and `str::splitn` with a limit. For p not empty and a limit of at least 1; the empty separator has a
 -- definition of its own.
@@ -28,10 +32,16 @@ pub record AreForwardParts {X : Type 0} (t p : List X) (limit : Option ℕ) (par
   pub some : 0 < length parts
   pub few : IfSome limit (λ most. length parts ≤ most)
   pub joined : join p parts ≡ t
-  -- each part but the last, followed by p, has its first p right behind it
-  pub cut_at_first : EachButLast (λ part. OccursFirstAt p (part ++ p) (length part)) parts
+  pub cut_at_first : EachButLast (IsCutAtFirst p) parts
   -- unless the limit was reached, the last part holds no p
   pub last : IfSome limit (λ most. length parts < most) → OfLast (λ part. ¬ Occurs p part) parts
+
+-- What can be put together with p between, and cut apart again: there is a part at least, each but the last is cut at its first p, and
+-- the last holds none. That no part holds p isn't enough: `a-` and `b`, with `--` between, are cut into `a` and `-b`.
+pub record AreSeparable {X : Type 0} (p : List X) (parts : List (List X)) : Type 0 where
+  pub some : 0 < length parts
+  pub cut_at_first : EachButLast (IsCutAtFirst p) parts
+  pub last : OfLast (λ part. ¬ Occurs p part) parts
 
 -- The parts of t between separators p, cut from the back and given from the back, at most as many as the limit says, if there is one:
 -- what Rust's `str::rsplit` gives, and `str::rsplitn` with a limit. For p not empty and a limit of at least 1.

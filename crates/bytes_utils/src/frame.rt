@@ -3,7 +3,7 @@ ghost use Rattle.std.specs.Prelude.{◌≡◌, ℕ, ◌+◌, ◌^◌, ◌<◌, �
 ghost use Rattle.std.specs.List.{concat};
 ghost use Rattle.std.specs.Bool.{OnFalse, OnTrue};
 ghost use Rattle.bytes_utils.specs.Occurrence.{Occurs};
-ghost use Rattle.bytes_utils.specs.Frames.{AllFramesLaw, FramePartsLaw, FramesLaw, SameFramesLaw, TakesFrame, TextFramesLaw};
+ghost use Rattle.bytes_utils.specs.Frames.{AllFramesLaw, FramePartsLaw, FramesLaw, PutFramesLaw, SameFramesLaw, TakesFrame, TextFramesLaw};
 ghost use Rattle.bytes_utils.specs.LimitedFrames.{LosesFront};
 
 mod limited;
@@ -236,11 +236,13 @@ impl Frames {
 }
 
 /// What a run gives and what is left depend on the joined pieces alone, wherever they were cut and
-/// whenever frames were asked for.
+/// whenever frames were asked for. Frames that are put with the separator behind each come out again
+/// where each has its first separator there.
 pub fn frames_laws()
     ensures run { FramesLaw }
     ensures parts { FramePartsLaw }
     ensures text { TextFramesLaw }
     ensures same { SameFramesLaw }
     ensures all { AllFramesLaw }
+    ensures put { PutFramesLaw }
 {}

@@ -8,6 +8,7 @@ mod direction;
 mod each_character;
 mod inclusive;
 mod lines;
+mod once;
 mod search;
 mod separated;
 mod separator;

@@ -7,6 +7,7 @@ mod convert;
 mod format;
 mod freeze;
 mod items;
+mod join;
 mod owned;
 mod show;
 mod slice;

@@ -90,7 +90,7 @@ module _ (text sep : List ℕ) (text_is : IsUtf8 text) (sep_is : IsUtf8 sep) (so
   in_characters : (i j : ℕ) → HasTextAt sep text i j → (k : ℕ) × (i ≡ place_of k) × OccursAt (chars sep) (chars text) k
   in_characters i j here = in_chars text sep text_is sep_is some i (HasNeedleAt-from_occurs sep text i some (has i j here))
 
-  finds_first : (found : Option (ℕ × ℕ)) → FindsText sep text found → FindsCut First (chars sep) text found
+  pub finds_first : (found : Option (ℕ × ℕ)) → FindsText sep text found → FindsCut First (chars sep) text found
   finds_first None nowhere = λ occurs. lacks occurs.0 occurs.1 (λ fits. nowhere (place_of occurs.0) fits)
   finds_first (Some (i, j)) found =
       let at = in_characters i j found.1 in
@@ -103,7 +103,7 @@ module _ (text sep : List ℕ) (text_is : IsUtf8 text) (sep_is : IsUtf8 sep) (so
             omega (arith, not_before);
       })
 
-  finds_last : (found : Option (ℕ × ℕ)) → RFindsText sep text found → FindsCut Last (chars sep) text found
+  pub finds_last : (found : Option (ℕ × ℕ)) → RFindsText sep text found → FindsCut Last (chars sep) text found
   finds_last None nowhere = λ occurs. lacks occurs.0 occurs.1 (λ fits. nowhere (place_of occurs.0) fits)
   finds_last (Some (i, j)) found =
       let at = in_characters i j found.1 in

@@ -1,44 +1,23 @@
 -- Headers, line by line.
-use Rattle.std.proofs.Common.{◌≡◌, refl, sym, ap, subst, ◌∙◌, ℕ, ◌+◌, ◌<◌, ◌≤◌, List, [], ◌∷◌, ◌++◌, Option, Some, None, Result, Ok, Err, IfOk, MatchOption, length, arith, lit<}
+use Rattle.std.proofs.Common.{◌≡◌, refl, sym, ap, subst, ◌∙◌, ℕ, ◌+◌, ◌<◌, List, [], ◌∷◌, ◌++◌, Option, Some, Result, IfOk, MatchOption, length, arith}
 use Rattle.std.specs.Option.{option_transpose, option_zip}
 use Rattle.std.proofs.lemmas.Str.{chars-nil}
 use Rattle.std.specs.Str.{chars}
+use Rattle.bytes_utils.proofs.Steps.{two_steps}
 use Rattle.bytes_utils.proofs.ToCome.{one_of_lines}
 use Rattle.bytes_utils.specs.Lines.{AreLinesToCome}
 use Rattle.bytes_utils.specs.Occurrence.{Occurs}
-use Rattle.bytes_utils.specs.Parts.{AreForwardParts}
 use Rattle.bytes_utils.specs.Splitting.{Splitting, AreForwardPartsToCome, all_of}
 use Rattle.bytes_utils.specs.Step.{GivesFirst, IsStep}
 use Rattle.bytes_utils.specs.Segments.{front_of}
 use Rattle.bytes_utils_run.specs.Headers.{AreHeaders, BeginWith, IsHeader, LacksSeparator, colon}
-
--- two parts of at most two are all
-two_parts : {S : Type 0} {coming : S → List (List ℕ) → Type 0} {s t u : S} {a b : List ℕ} → ((parts : List (List ℕ)) → coming s parts → length parts ≤ 2)
-    → GivesFirst coming s a t → GivesFirst coming t b u → coming s (a ∷ b ∷ [])
-two_parts {coming = coming} {s = s} {a = a} {b = b} few first second = from second.some.0 (first.each (b ∷ second.some.0) (second.each second.some.0 second.some.1))
-  where
-    from : (others : List (List ℕ)) → coming s (a ∷ b ∷ others) → coming s (a ∷ b ∷ [])
-    from [] all = all
-    from (c ∷ others) all = let most = few (a ∷ b ∷ c ∷ others) all in absurd (omega (arith, most))
-
--- one part alone is the text, and holds no separator
-one_part : (t p a : List ℕ) → AreForwardParts t p (Some 2) (a ∷ []) → ¬ Occurs p t
-one_part t p a h = let none = h.last (lit< tt) in subst (λ x. ¬ Occurs p x) h.joined none
 
 -- a line's first two parts, if there are two, are its name and its value, and without a second the line holds no separator
 pub header-told : {E : Type 0} (cuts : Splitting → Type 0) (refuses : E → Type 0) (line : List ℕ) (a b : Option (Result (List ℕ) E)) {s : Splitting} (t u : Splitting)
     → s ≡ all_of line colon (Some 2) → IsStep AreForwardPartsToCome cuts refuses s a t → IsStep AreForwardPartsToCome cuts refuses t b u
     → IfOk (option_transpose a) (λ name. IfOk (option_transpose b) (λ value. MatchOption (option_zip name value) (¬ Occurs colon (chars line)) (IsHeader (chars line))))
 unfolding chars
-header-told _ _ line None b t u is first second =
-    let are : AreForwardParts (chars line) colon (Some 2) [] = subst (λ w. AreForwardPartsToCome w []) is first.0 in
-    absurd (omega (arith, are.some))
-header-told _ _ line (Some (Err _)) b t u is first second = tt
-header-told _ _ line (Some (Ok name)) None t u is first second =
-    one_part (chars line) colon (chars name) (subst (λ w. AreForwardPartsToCome w (chars name ∷ [])) is (first.gives.each [] second.0))
-header-told _ _ line (Some (Ok name)) (Some (Err _)) t u is first second = tt
-header-told _ _ line (Some (Ok name)) (Some (Ok value)) t u is first second =
-    two_parts {coming = AreForwardPartsToCome} (λ parts are. are.few) (subst (λ w. GivesFirst AreForwardPartsToCome w (chars name) t) is first.gives) second.gives
+header-told cuts refuses line a b t u is first second = two_steps cuts refuses line colon a b t u (omega arith) is first second
 
 no_chars : (line : List ℕ) → length line ≡ 0 → chars line ≡ []
 no_chars [] none = chars-nil

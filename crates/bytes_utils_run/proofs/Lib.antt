@@ -24,9 +24,12 @@ pub mod BorrowedLines
 pub mod WordRuns
 pub mod LineEnds
 pub mod OwnedAsLent
+pub mod OnceAsLent
+pub mod BorrowedHalves
 pub mod BorrowedWords
 pub mod Writing
 pub mod Reading
 pub mod Separators
 pub mod TokenParts
 pub mod HeaderLines
+pub mod PathNames

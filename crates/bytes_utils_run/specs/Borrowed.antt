@@ -1,5 +1,5 @@
 -- What std's iterators over a text that lend its parts give, and what the patterns find by which they cut.
-use Rattle.std.specs.Prelude.{◌≡◌, ℕ, ◌<◌, List, [], ◌∷◌, ◌++◌, length, map, Bool, true, Option, ⊤}
+use Rattle.std.specs.Prelude.{◌≡◌, ℕ, ◌<◌, List, [], ◌∷◌, ◌++◌, length, map, Bool, true, Option, MatchOption, ⊤}
 use denote.Param.Members.{Mut}
 use denote.Ref.{Bor}
 use Rattle.std.specs.Fn.{AlwaysReturns}
@@ -7,6 +7,7 @@ use Rattle.std.specs.Iterator.{Yields, Drains}
 use Rattle.std.specs.Str.{chars, NonePass}
 use Rattle.std.specs.Str.Pattern.{FindsText, RFindsText, FindsBy}
 use Rattle.bytes_utils_buf.specs.declared.refused.Reason.{Reason}
+use Rattle.bytes_utils.specs.Occurrence.{Occurs}
 use Rattle.bytes_utils.specs.Outcome.{Outcome}
 use Rattle.bytes_utils_run.specs.Cutting.{Cutting, ArePartsBy, Keeping}
 
@@ -65,3 +66,12 @@ HasSeparator how = ⊤
 abbrev pub OwnedAsLentLaw : Type 0
 OwnedAsLentLaw = (how : Cutting) (t : List ℕ) (owned lent : List (List ℕ)) (refused : Option Reason) → HasSeparator how
     → Outcome (ArePartsBy how t) owned refused → ArePartsBy how t lent → Outcome (λ parts. parts ≡ lent) owned refused
+
+-- Are says which halves of a text around a separator are right. What t is cut into by p, as characters: such halves, or none where p
+-- doesn't occur.
+abbrev pub IsCutOnce : (List ℕ → List ℕ → List ℕ → List ℕ → Type 0) → List ℕ → List ℕ → Option (List ℕ × List ℕ) → Type 0
+IsCutOnce Are t p halves = MatchOption halves (¬ Occurs p t) (λ both. Are t p both.0 both.1)
+
+-- what an owned text is cut into once is what the method of `str` lends, where both are right
+abbrev pub OnceAsLentLaw : (List ℕ → List ℕ → List ℕ → List ℕ → Type 0) → Type 0
+OnceAsLentLaw Are = (t p : List ℕ) (owned lent : Option (List ℕ × List ℕ)) → IsCutOnce Are t p owned → IsCutOnce Are t p lent → owned ≡ lent

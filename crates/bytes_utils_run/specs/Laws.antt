@@ -1,7 +1,8 @@
 -- What follows from the definitions of lists of parts, for lists of elements of any type X. A text is such a list, of characters.
-use Rattle.std.specs.Prelude.{◌≡◌, ◌⊎◌, ◌↔◌, ℕ, ◌-◌, ◌<◌, List, [], ◌∷◌, ◌++◌, length, map, take, drop, reverse, Option, None, Some, IfSome, if◌then◌else◌, nat_lt}
+use Rattle.std.specs.Prelude.{◌≡◌, ◌⊎◌, ◌↔◌, ℕ, ◌-◌, ◌<◌, List, [], ◌∷◌, ◌++◌, length, map, take, drop, reverse, Option, None, Some, IfSome, if◌then◌else◌, nat_lt, All, IsUtf8}
+use Rattle.std.specs.Str.{chars}
 use Rattle.bytes_utils.specs.Occurrence.{NoneOverlap}
-use Rattle.bytes_utils.specs.Parts.{join, AreForwardParts, AreBackwardParts}
+use Rattle.bytes_utils.specs.Parts.{join, AreForwardParts, AreBackwardParts, AreSeparable, ArePartsFromFront}
 
 -- any two elements are the same or they aren't, as any two characters are: without this nobody could say where a separator occurs
 abbrev pub CanBeToldApart : Type 0 → Type 0
@@ -35,6 +36,16 @@ limited uncut most parts = if nat_lt most (length parts) then take (most - 1) pa
 abbrev pub JoinLaw : (X : Type 0) → (List X → List X → Option ℕ → List (List X) → Type 0) → (List (List X) → List (List X)) → Type 0
 JoinLaw X Are in_order = (t p : List X) (limit : Option ℕ) (parts : List (List X)) → IfSome limit (λ most. 0 < most)
     → Are t p limit parts → join p (in_order parts) ≡ t
+
+-- for p not empty, what is cut from parts that were joined by p are these parts exactly where they are separable
+abbrev pub ComeBackLaw : Type 0 → Type 0
+ComeBackLaw X = (p : List X) (parts others : List (List X)) → 0 < length p → AreForwardParts (join p parts) p None others
+    → (others ≡ parts) ↔ AreSeparable p parts
+
+-- the same of texts, which are joined as bytes and cut by characters
+abbrev pub TextsComeBackLaw : Type 0
+TextsComeBackLaw = (separator : List ℕ) (texts parts : List (List ℕ)) → 0 < length separator → IsUtf8 separator → All IsUtf8 texts
+    → ArePartsFromFront (chars (join separator texts)) (chars separator) None parts → (parts ≡ map chars texts) ↔ AreSeparable (chars separator) (map chars texts)
 
 -- in each state of a splitter at most one list is to come
 abbrev pub OneToComeLaw : {S : Type 0} → (S → List (List ℕ) → Type 0) → Type 0

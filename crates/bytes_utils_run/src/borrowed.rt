@@ -3,16 +3,19 @@
 //! Each function is the method of the same name of `str`, and answers the very iterator of that
 //! method. What it adds is its contract: the parts that the iterator gives, in order, are those that
 //! are right for the way to cut, by the definitions that `cut_all` keeps to too. A run that is
-//! stopped before its end gives a beginning of them.
+//! stopped before its end gives a beginning of them. Of `split_once` and `rsplit_once` the halves are
+//! right, by the definitions that `split_once_bytes` and `rsplit_once_bytes` keep to.
 //!
 //! A separator isn't empty here: what std says of the empty one admits other parts too.
-ghost use Rattle.std.specs.Prelude.{◌≡◌, ◌<◌, ◌==◌, ℕ, Bool, [], ◌∷◌, None, Some, length};
+ghost use Rattle.std.specs.Prelude.{◌≡◌, ◌<◌, ◌==◌, ℕ, Bool, [], ◌∷◌, None, Some, MatchOption, length};
 ghost use Rattle.std.specs.Str.{chars};
 ghost use Rattle.std.specs.Str.Iter.{lines_steps, split_whitespace_steps};
 ghost use Rattle.std.specs.Str.Iter.{split_ascii_whitespace_steps, split_inclusive_steps};
 ghost use Rattle.std.specs.Str.Iter.{split_steps, split_pattern, splitn_steps};
 ghost use Rattle.std.specs.Str.Iter.{rsplit_steps, rsplitn_steps};
 ghost use Rattle.std.specs.Str.Pattern.{FindsChar};
+ghost use Rattle.bytes_utils.specs.Halves.{AreHalvesAtFirst, AreHalvesAtLast};
+ghost use Rattle.bytes_utils.specs.Occurrence.{Occurs};
 ghost use Rattle.bytes_utils_run.specs.Borrowed.{GivesParts, finds_text, rfinds_text, keeps_text};
 ghost use Rattle.bytes_utils_run.specs.Borrowed.{keeps_character, AnswersBy, finds_tested};
 ghost use Rattle.bytes_utils_run.specs.Borrowed.{keeps_tested, ArePartsByTest};
@@ -115,4 +118,25 @@ pub fn split_tested<F: FnMut(char) -> bool>(text: &str, is_separator: F) -> Spli
         (ArePartsBy (FromFront (separator ∷ []) None) (chars text.now)) }
 {
     text.split(is_separator)
+}
+
+/// What is before the first separator of a text and what is behind it, or `None` where the separator
+/// doesn't occur.
+pub fn split_once<'t>(text: &'t str, separator: &str) -> Option<(&'t str, &'t str)>
+    requires { 0 < length separator.now }
+    ensures { MatchOption result (¬ Occurs (chars separator.now) (chars text.now))
+        (λ halves. AreHalvesAtFirst (chars text.now) (chars separator.now)
+        (chars halves.0.now) (chars halves.1.now)) }
+{
+    text.split_once(separator)
+}
+
+/// The same of the last separator.
+pub fn rsplit_once<'t>(text: &'t str, separator: &str) -> Option<(&'t str, &'t str)>
+    requires { 0 < length separator.now }
+    ensures { MatchOption result (¬ Occurs (chars separator.now) (chars text.now))
+        (λ halves. AreHalvesAtLast (chars text.now) (chars separator.now)
+        (chars halves.0.now) (chars halves.1.now)) }
+{
+    text.rsplit_once(separator)
 }

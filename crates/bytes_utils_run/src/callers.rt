@@ -2,6 +2,7 @@
 
 pub mod headers;
 pub mod inbox;
+pub mod paths;
 pub mod records;
 pub mod requests;
 #[cfg(test)]

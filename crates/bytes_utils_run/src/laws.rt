@@ -6,15 +6,17 @@
 //! one is of texts.
 ghost use Rattle.bytes_utils_run.specs.Laws.{ExactlyOne, UniqueLaw, MirrorLaw, AgreeLaw};
 ghost use Rattle.bytes_utils_run.specs.Laws.{LimitLaw, JoinLaw, OneToComeLaw};
+ghost use Rattle.bytes_utils_run.specs.Laws.{ComeBackLaw, TextsComeBackLaw};
 ghost use Rattle.std.specs.Prelude.{◌≡◌, ◌<◌, ℕ, Bool, List, length, reverse};
 ghost use Rattle.std.specs.Str.{chars, IsAscii};
+ghost use Rattle.bytes_utils.specs.Halves.{AreHalvesAtFirst, AreHalvesAtLast};
 ghost use Rattle.bytes_utils.specs.Keeping.{AreInclusivePartsToCome};
 ghost use Rattle.bytes_utils.specs.Lines.{AreLinesToCome};
 ghost use Rattle.bytes_utils.specs.Parts.{AreForwardParts, AreBackwardParts, AreInclusiveParts};
 ghost use Rattle.bytes_utils.specs.Parts.{ArePartsFromFront, ArePartsFromBack};
 ghost use Rattle.bytes_utils.specs.Splitting.{AreForwardPartsToCome, AreBackwardPartsToCome};
 ghost use Rattle.bytes_utils.specs.Words.{AreWordsToCome};
-ghost use Rattle.bytes_utils_run.specs.Borrowed.{OwnedAsLentLaw};
+ghost use Rattle.bytes_utils_run.specs.Borrowed.{OwnedAsLentLaw, OnceAsLentLaw};
 ghost use Rattle.bytes_utils_run.specs.Readings.{WordsLaw, LinesLaw};
 
 #[cfg(test)]
@@ -62,6 +64,18 @@ pub fn rejoin<X>()
     ensures backward { JoinLaw X ArePartsFromBack reverse }
 {}
 
+/// Parts that are joined by a separator which isn't empty, and cut apart again from the front, come
+/// back exactly where they are separable. That no part holds the separator isn't enough: `a-` and
+/// `b`, joined by `--`, come back as `a` and `-b`. Where the separator is one element, it is.
+pub fn come_back<X>()
+    ensures { ComeBackLaw X }
+{}
+
+/// The same of texts, as `join` puts them together and `split_bytes` cuts them apart.
+pub fn texts_come_back()
+    ensures { TextsComeBackLaw }
+{}
+
 /// In each state of a splitter at most one list of parts is to come. So the parts that a run gave
 /// are the ones that were to come when it began.
 pub fn one_to_come()
@@ -82,6 +96,14 @@ pub fn ascii_characters()
 /// methods give.
 pub fn owned_as_lent()
     ensures { OwnedAsLentLaw }
+{}
+
+/// What `split_once_bytes` and `rsplit_once_bytes` cut a text into is what the methods of `str` lend,
+/// or none in both, since one answer alone is right. The functions of `borrowed` say what those
+/// methods give.
+pub fn once_as_lent()
+    ensures first { OnceAsLentLaw AreHalvesAtFirst }
+    ensures last { OnceAsLentLaw AreHalvesAtLast }
 {}
 
 /// The words of a text are its maximal runs of characters that aren't white space.

@@ -1,5 +1,5 @@
 //! The search for a separator, in bytes and by `memchr` alone.
-ghost use Rattle.std.specs.Prelude.{◌≡◌, ◌<◌, length, IsUtf8};
+ghost use Rattle.std.specs.Prelude.{◌≡◌, ◌<◌, Some, length, IsUtf8};
 ghost use Rattle.std.specs.Str.{chars};
 ghost use Rattle.bytes_utils.specs.Occurrence.{FindsFirst, FindsLast};
 ghost use Rattle.bytes_utils.specs.Search.{end_of, needle_of};
@@ -58,10 +58,20 @@ pub(super) fn rfind_by(finder: &FinderRev, text: &str) -> Option<usize>
     finder.rfind(text.as_bytes())
 }
 
-/// The byte place at which the separator occurs first, by a finder made for this search alone.
+/// The byte place at which the separator occurs first, by a finder made for this search alone. The
+/// empty one occurs first at the start.
 pub(super) fn find(text: &str, separator: &str) -> Option<usize>
-    requires { 0 < length separator.now }
     ensures { FindsFirst (chars separator.now) (chars text.now) result }
 {
     memmem::find(text.as_bytes(), separator.as_bytes())
+}
+
+/// The byte place at which the separator occurs last, by such a finder. The empty one is found at the
+/// end.
+pub(super) fn rfind(text: &str, separator: &str) -> Option<usize>
+    ensures last { 0 < length separator.now
+        → FindsLast (chars separator.now) (chars text.now) result }
+    ensures empty { length separator.now ≡ 0 → result ≡ Some (length text.now) }
+{
+    memmem::rfind(text.as_bytes(), separator.as_bytes())
 }

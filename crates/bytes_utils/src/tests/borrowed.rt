@@ -21,7 +21,7 @@ const NAMED_TEXTS: u32 = 18;
 const TEXTS: u32 = NAMED_TEXTS + 37_449;
 
 /// These, and those of at most four.
-const SHORT_TEXTS: u32 = NAMED_TEXTS + 4_681;
+pub(super) const SHORT_TEXTS: u32 = NAMED_TEXTS + 4_681;
 
 /// Separators, line ends, white space, and characters of one to four bytes.
 fn letter(number: u32) -> char {
@@ -53,7 +53,7 @@ fn counted(alloc: Global, number: u32) -> Result<String, AllocError> {
 }
 
 /// The text with this number: a named one, or else a counted one.
-fn numbered(alloc: Global, number: u32) -> Result<String, AllocError> {
+pub(super) fn numbered(alloc: Global, number: u32) -> Result<String, AllocError> {
     match number.checked_sub(NAMED_TEXTS) {
         Some(number) => counted(alloc, number),
         None => String::from_str(alloc, NAMED.split('|').nth(number as usize).unwrap_or("")),
@@ -61,7 +61,7 @@ fn numbered(alloc: Global, number: u32) -> Result<String, AllocError> {
 }
 
 /// The separators that texts are cut by.
-fn separators() -> [&'static str; 6] {
+pub(super) fn separators() -> [&'static str; 6] {
     ["", "a", "aa", "aba", ",", "β"]
 }
 

@@ -9,6 +9,7 @@ mod json;
 mod limited_frames;
 mod make;
 mod next;
+mod once;
 mod pieces;
 mod stream_lines;
 

@@ -102,6 +102,7 @@ fn a_text_that_is_not_made(rt: HostRuntime) {
     let alloc = rt.alloc();
     assert_too_long(&rt, Text::from_chars(alloc, "βγ".chars()));
     assert_too_long(&rt, Text::from_strs(alloc, "a,b,c".split(',')));
+    assert_too_long(&rt, Text::join(alloc, "a".split(','), ","));
     assert!(rt; Text::format(alloc, format_args!("a{}", "b")).is_err());
 }
 

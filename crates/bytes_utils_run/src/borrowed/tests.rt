@@ -1,7 +1,7 @@
 //! Each function once, beside what Rust's method of the same name is known to give.
 use super::{
-    lines, rsplit, rsplitn, split, split_ascii_whitespace, split_character, split_inclusive,
-    split_tested, split_whitespace, splitn,
+    lines, rsplit, rsplit_once, rsplitn, split, split_ascii_whitespace, split_character,
+    split_inclusive, split_once, split_tested, split_whitespace, splitn,
 };
 
 #[test]
@@ -37,4 +37,12 @@ fn parts_with_their_separator(rt: HostRuntime) {
 fn parts_by_characters(rt: HostRuntime) {
     assert!(rt; split_character("αβα", 'β').eq(["α", "α"]));
     assert!(rt; split_tested("a-b c", |c| c == '-' || c == ' ').eq(["a", "b", "c"]));
+}
+
+#[test]
+fn halves(rt: HostRuntime) {
+    assert!(rt; split_once("ababa", "aba") == Some(("", "ba")));
+    assert!(rt; split_once("ab", ",").is_none());
+    assert!(rt; rsplit_once("ababa", "aba") == Some(("ab", "")));
+    assert!(rt; rsplit_once("ab", ",").is_none());
 }

@@ -2,6 +2,7 @@
 mod headers;
 mod inbox;
 mod memory;
+mod paths;
 mod records;
 mod requests;
 mod tokens;

@@ -1,7 +1,11 @@
 //! The laws at characters, as `cut_all` keeps them, and cases in which their premises are needed.
 ghost use Rattle.bytes_utils_run.specs.Cutting.{IsAllowed};
 
-use super::{agree, limits, mirror, unique_backward, unique_forward, unique_inclusive};
+use super::{
+    agree, come_back, limits, mirror, once_as_lent, texts_come_back, unique_backward,
+    unique_forward, unique_inclusive,
+};
+use crate::borrowed::{rsplit_once, split_once};
 use crate::{How, cut_all};
 use bytes_utils::Str;
 use std::alloc::{AllocError, Global};
@@ -73,6 +77,27 @@ fn two_cutters_give_the_same(rt: HostRuntime) -> Result<(), Fail> {
     for (text, separator) in TEXTS {
         assert_same(&rt, rt.alloc(), text, separator)?;
         assert_keeps(&rt, rt.alloc(), text, separator)?;
+    }
+    Ok(())
+}
+
+/// Asserts that a text with the separator in it is cut once as `str` cuts it.
+fn assert_once(rt: &impl Abort, alloc: Global, text: &str, separator: &str) -> Result<(), Fail> {
+    assert!(rt; !separator.is_empty());
+    let (front, back) = split_once(text, separator).ok_or("not cut")?;
+    let (before, behind) = Str::from_str(alloc, text)?.split_once_bytes(separator)?;
+    assert!(rt; before.eq_str(front) && behind.ok_or("not cut")?.eq_str(back));
+    let (front, back) = rsplit_once(text, separator).ok_or("not cut")?;
+    let (before, behind) = Str::from_str(alloc, text)?.rsplit_once_bytes(separator)?;
+    assert!(rt; before.ok_or("not cut")?.eq_str(front) && behind.eq_str(back));
+    Ok(())
+}
+
+#[test]
+fn halves_are_the_lent_ones(rt: HostRuntime) -> Result<(), Fail> {
+    once_as_lent();
+    for (text, separator) in TEXTS {
+        assert_once(&rt, rt.alloc(), text, separator)?;
     }
     Ok(())
 }
@@ -171,4 +196,35 @@ fn a_limit_of_0_leaves_no_part(rt: HostRuntime) -> Result<(), Fail> {
 fn the_empty_separator_leaves_itself_in_a_part(rt: HostRuntime) -> Result<(), Fail> {
     assert_given(&rt, rt.alloc(), "a", How::Split(""), &["", "a", ""])?;
     assert_given(&rt, rt.alloc(), "a", How::RSplit(""), &["", "a", ""])
+}
+
+/// Parts, the separator that they are joined by, and what comes back of them.
+type Joined = (
+    &'static [&'static str],
+    &'static str,
+    &'static [&'static str],
+);
+
+const JOINED: &[Joined] = &[
+    (&["a", "", "β"], ",", &["a", "", "β"]),
+    (&["a", "-b"], "--", &["a", "-b"]),
+    (&["a-", "b"], "--", &["a", "-b"]),
+    (&["a,b", "c"], ",", &["a", "b", "c"]),
+    (&[], ",", &[""]),
+    (&["", "α", "β", ""], "", &["", "α", "β", ""]),
+    (&["αβ"], "", &["", "α", "β", ""]),
+];
+
+// Those of the first two rows are separable. In the third no part holds the separator, but the first
+// one begins within `a-`.
+#[test]
+fn joined_parts_are_cut_again(rt: HostRuntime) -> Result<(), Fail> {
+    come_back::<char>();
+    texts_come_back();
+    for (parts, separator, wanted) in JOINED {
+        let text = Str::join(rt.alloc(), parts.iter().copied(), separator)?;
+        let how = How::Split(separator);
+        assert_given(&rt, rt.alloc(), text.as_str(), how, wanted)?;
+    }
+    Ok(())
 }

@@ -77,6 +77,28 @@ where
     Ok(())
 }
 
+/// What `join` gives of the pieces and what stands between them.
+fn of_parts<S: Storage>(alloc: Global) -> Result<StrInner<S>, Reason>
+where
+    S::Creator: StorageMut,
+    requires creator { (c : S.Creator) → S.created c ≡ S.Creator.stored c }
+{
+    StrInner::join(alloc, items().split(','), ",")
+}
+
+/// As `from_str`, of parts and a separator.
+fn join<S: Storage, R: Abort + Print>(rt: &R, alloc: Global) -> Result<(), Fail>
+where
+    S::Creator: StorageMut,
+    requires creator { (c : S.Creator) → S.created c ≡ S.Creator.stored c }
+{
+    let call = "StrInner::join";
+    if is_refused(rt, call, of_parts::<S>(alloc))? {
+        assert!(rt; !is_refused(rt, call, of_parts::<S>(alloc))?);
+    }
+    Ok(())
+}
+
 /// What `from_strings` gives of owned pieces, unless these are refused.
 fn of_strings<S: Storage>(alloc: Global) -> Option<Result<StrInner<S>, Reason>>
 where
@@ -142,6 +164,16 @@ fn shared_from_strings(rt: HostRuntime) -> Result<(), Fail> {
 #[test]
 fn growing_from_strings(rt: HostRuntime) -> Result<(), Fail> {
     from_strings::<BytesMut, HostRuntime>(&rt, rt.alloc())
+}
+
+#[test]
+fn shared_join(rt: HostRuntime) -> Result<(), Fail> {
+    join::<Bytes, HostRuntime>(&rt, rt.alloc())
+}
+
+#[test]
+fn growing_join(rt: HostRuntime) -> Result<(), Fail> {
+    join::<BytesMut, HostRuntime>(&rt, rt.alloc())
 }
 
 /// The items and a number.

@@ -2,6 +2,7 @@
 //! one prints a line for it.
 use crate::callers::headers::headers;
 use crate::callers::inbox::Inbox;
+use crate::callers::paths::{both, is_name, names_of, path_of, rooted, with_name};
 use crate::callers::records::{RecordError, Records};
 use crate::callers::requests::Requests;
 use crate::callers::tokens::tokens;
@@ -119,4 +120,31 @@ fn headers_of_a_text(rt: HostRuntime) -> Result<(), Fail> {
     let first = headers(alloc, Str::from_static(alloc, "A: b\n")?).ok();
     let second = headers(alloc, Str::from_static(alloc, "A: b\n")?).ok();
     assert_reads(&rt, "headers", first, second)
+}
+
+#[test]
+fn path_of_a_text(rt: HostRuntime) -> Result<(), Fail> {
+    let alloc = rt.alloc();
+    let first = rooted(alloc, "a").ok();
+    assert_reads(&rt, "rooted", first, rooted(alloc, "a").ok())?;
+    let first = both(alloc, "a", "b").ok();
+    assert_reads(&rt, "both", first, both(alloc, "a", "b").ok())
+}
+
+#[test]
+fn path_of_names(rt: HostRuntime) -> Result<(), Fail> {
+    let alloc = rt.alloc();
+    assert!(rt; is_name("b"));
+    let first = path_of(alloc, &["b"]).ok();
+    assert_reads(&rt, "path_of", first, path_of(alloc, &["b"]).ok())?;
+    let first = with_name(alloc, "a", "b").ok();
+    assert_reads(&rt, "with_name", first, with_name(alloc, "a", "b").ok())
+}
+
+#[test]
+fn names_of_a_path(rt: HostRuntime) -> Result<(), Fail> {
+    let alloc = rt.alloc();
+    let first = names_of(alloc, Str::from_static(alloc, "a/b")?).ok();
+    let second = names_of(alloc, Str::from_static(alloc, "a/b")?).ok();
+    assert_reads(&rt, "names_of", first, second)
 }

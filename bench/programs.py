@@ -1,0 +1,83 @@
+"""What the measurements share: their options, the programs that they build and run, and the count of what is right."""
+import argparse, os, shutil, subprocess, sys, tempfile
+from contextlib import contextmanager
+
+ROOT = os.path.dirname(os.path.dirname(os.path.realpath(__file__)))
+sys.path.append(f"{ROOT}/.ci")
+from kit import build
+
+MIB = 1 << 20
+DEBIAN = ["source.crates-io.replace-with='debian'", "source.debian.directory='/usr/share/cargo/registry'"]
+
+
+def options(description, beside_crate=False):
+    """The options that a measurement is given; `--crate` of those beside the Rust crate."""
+    parser = argparse.ArgumentParser(description=description, formatter_class=argparse.RawDescriptionHelpFormatter)
+    parser.add_argument("--quick", action="store_true", help="ours alone on short inputs: whether its counts are right, and no time")
+    parser.add_argument("--in", dest="folder", help="where the programs are built and stay; one that is there is run as it is")
+    if beside_crate:
+        parser.add_argument("--crate", help="the folder of bytes-utils 0.1.4, which has its Cargo.toml")
+    asked = parser.parse_args()
+    if beside_crate and not asked.quick and not asked.crate:
+        parser.error("--crate is needed: the folder of bytes-utils 0.1.4")
+    return asked
+
+
+def called(words, folder=".", given=""):
+    """What a program writes on standard output for this input; where it fails, all ends."""
+    done = subprocess.run(words, cwd=folder, input=given, capture_output=True, text=True)
+    if done.returncode:
+        sys.exit(f"{' '.join(words)} failed in {folder}:\n{(done.stdout + done.stderr)[-3000:]}")
+    return done.stdout
+
+
+@contextmanager
+def programs(folder, builds):
+    """A folder, this one or a temporary one, that has the programs of these names; each is built by its function of the folder."""
+    with tempfile.TemporaryDirectory(prefix="bench-") as made:
+        room = os.path.realpath(folder or made)
+        os.makedirs(room, exist_ok=True)
+        for name, built in builds.items():
+            if not os.path.exists(f"{room}/{name}"):
+                os.rename(built(room), f"{room}/{name}")
+        yield room
+
+
+def ours(bench, *libraries, is_quick=False):
+    """How our program of a bench is built, over the crates of the repository and the kit's. With `is_quick` over what `rt ci` or
+    `rt lib` left, else `rt lib` builds the crates before, as far as they have changed."""
+
+    def built(room):
+        if not is_quick:
+            called(["rt", "lib"], f"{ROOT}/crates/{libraries[0]}")
+        os.makedirs(f"{room}/ours_source/src", exist_ok=True)
+        for name in os.listdir(f"{ROOT}/bench/{bench}/ours"):
+            shutil.copy(f"{ROOT}/bench/{bench}/ours/{name}", f"{room}/ours_source/src/{name.removesuffix('.txt')}")
+        said = build(f"{bench}_bench", ["std", *libraries], f"{room}/ours_source", f"{room}/ours_kept", f"{room}/ours_made")
+        if not os.path.isfile(f"{room}/ours_made"):
+            sys.exit(f"our program of bench/{bench} isn't proved:\n{said[-3000:]}")
+        return f"{room}/ours_made"
+
+    return built
+
+
+def rust(bench, original=""):
+    """How the Rust program of a bench is built: over Debian's crates, and over bytes-utils in the folder `original`, where it is asked for."""
+
+    def built(room):
+        shutil.copytree(f"{ROOT}/bench/{bench}/rust", f"{room}/rust_source", dirs_exist_ok=True)
+        settings = DEBIAN + [f"patch.crates-io.bytes-utils.path='{os.path.realpath(original)}'"] * bool(original)
+        more = [it for setting in settings for it in ("--config", setting)]
+        called(["cargo", "build", "--release", "--offline", *more], f"{room}/rust_source")
+        return f"{room}/rust_source/target/release/{bench}"
+
+    return built
+
+
+def judge(cases):
+    """Counts the cases, each its name, what was told and what is right; the last line is 'N passed, M failed'. Ends with the status."""
+    wrong = [(name, told, right) for name, told, right in cases if told != right]
+    for name, told, right in wrong:
+        print(f"{name}: {told}, where {right} is right")
+    print(f"{len(cases) - len(wrong)} passed, {len(wrong)} failed")
+    sys.exit(1 if wrong or not cases else 0)

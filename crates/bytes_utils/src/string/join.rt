@@ -1,0 +1,39 @@
+//! Text that is put together of parts, with a separator between them.
+ghost use Rattle.std.specs.Prelude.{◌≡◌, ℕ, List, map, ◌⊎◌, IfOk, IfErr};
+ghost use Rattle.std.specs.Iterator.{IsFinite, Drains};
+ghost use Rattle.bytes_utils.specs.Parts.{join};
+ghost use denote.Ref.{Bor};
+
+use crate::string::{Storage, StorageMut, StrInner};
+use bytes_utils_buf::Reason;
+use std::alloc::Global;
+
+impl<S: Storage> StrInner<S>
+where
+    S::Creator: StorageMut,
+{
+    /// The parts with the separator between neighbours, as `join` of a slice has them; of no part the
+    /// empty text. By the empty separator they stand behind one another, as by `from_strs`: cut again
+    /// by it, only an empty part, single characters and an empty part come back.
+    pub fn join<'s, I: Iterator<Item = &'s str> + Drop>(
+        alloc: Global,
+        parts: I,
+        separator: &str,
+    ) -> Result<Self, Reason>
+        requires creator { (c : S.Creator) → S.created c ≡ S.Creator.stored c }
+        requires can { I.can_next parts }
+        requires ends { IsFinite (I.remaining parts) }
+        ensures ok { IfOk result (λ text. (items : List (Bor (List ℕ))) × Drains I.next_gives parts items
+            × (text ≡ join separator.now (map (λ part. part.now) items))) }
+        ensures reason { IfErr result (λ reason. S.refuses reason ⊎ S.Creator.refuses reason) }
+    {
+        let mut text = StrInner::<S::Creator>::new(alloc)?;
+        let mut between = "";
+        for part in parts {
+            text.push_str(between)?;
+            text.push_str(part)?;
+            between = separator;
+        }
+        StrInner::from_built(text)
+    }
+}

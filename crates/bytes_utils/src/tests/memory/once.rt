@@ -1,0 +1,70 @@
+//! Texts cut once: a refused cut tells its reason, and the text is gone.
+use super::given;
+use crate::string::{Storage, StrInner};
+use crate::{Str, StrMut};
+use std::io::Print;
+use std::process::Abort;
+use std::test::Fail;
+
+/// The text that is cut.
+fn field() -> &'static str {
+    "a,β"
+}
+
+/// Whether the cut around the first comma was refused, which is told. Asserts the halves else.
+fn first_is_refused<S: Storage, R: Abort + Print>(rt: &R, text: StrInner<S>) -> Result<bool, Fail> {
+    let cut = text.split_once_bytes(",");
+    let Some((before, behind)) = given(rt, "StrInner::split_once_bytes", cut)? else {
+        return Ok(true);
+    };
+    let behind = behind.ok_or("not cut")?;
+    assert!(rt; before.eq_str("a") && behind.eq_str("β"));
+    Ok(false)
+}
+
+/// As `first_is_refused`, around the last comma.
+fn last_is_refused<S: Storage, R: Abort + Print>(rt: &R, text: StrInner<S>) -> Result<bool, Fail> {
+    let cut = text.rsplit_once_bytes(",");
+    let Some((before, behind)) = given(rt, "StrInner::rsplit_once_bytes", cut)? else {
+        return Ok(true);
+    };
+    let before = before.ok_or("not cut")?;
+    assert!(rt; before.eq_str("a") && behind.eq_str("β"));
+    Ok(false)
+}
+
+#[test]
+fn split_once(rt: HostRuntime) -> Result<(), Fail> {
+    let Ok(text) = StrMut::from_str(rt.alloc(), field()) else {
+        return Ok(());
+    };
+    if first_is_refused(&rt, text)? {
+        assert!(rt; !first_is_refused(&rt, StrMut::from_str(rt.alloc(), field())?)?);
+    }
+    Ok(())
+}
+
+#[test]
+fn rsplit_once(rt: HostRuntime) -> Result<(), Fail> {
+    let Ok(text) = StrMut::from_str(rt.alloc(), field()) else {
+        return Ok(());
+    };
+    if last_is_refused(&rt, text)? {
+        assert!(rt; !last_is_refused(&rt, StrMut::from_str(rt.alloc(), field())?)?);
+    }
+    Ok(())
+}
+
+/// The halves of shared bytes take no memory.
+#[test]
+fn no_memory_needed_by_shared_texts(rt: HostRuntime) -> Result<(), Fail> {
+    let Ok(text) = Str::from_str(rt.alloc(), field()) else {
+        return Ok(());
+    };
+    assert!(rt; !first_is_refused(&rt, text)?);
+    let Ok(text) = Str::from_str(rt.alloc(), field()) else {
+        return Ok(());
+    };
+    assert!(rt; !last_is_refused(&rt, text)?);
+    Ok(())
+}
