@@ -25,6 +25,7 @@ pub mod Steps
 pub mod Walks
 pub mod ToCome
 pub mod Rejoining
+pub mod Indexing
 pub mod PartLists
 pub mod Separable
 pub mod KeepingCut

@@ -13,7 +13,7 @@ use Rattle.bytes_utils.proofs.PartLists.{undivided}
 
 -- a step that gave a part gives the first of those to come
 pub given : {S E : Type 0} {coming : S → List (List ℕ) → Type 0} {cuts : S → Type 0} {refuses : E → Type 0} {s t : S} {item : Result (List ℕ) E} {part : List ℕ}
-    → item ≡ Ok part → GivesItem coming cuts refuses s item t → GivesFirst coming s (chars part) t
+    → item ≡ Ok part → GivesItem chars coming cuts refuses s item t → GivesFirst coming s (chars part) t
 given {coming} {cuts} {refuses} {s} {t} is step =
     subst (λ i. MatchResult i (λ p. GivesFirst coming s (chars p) t) (λ reason. cuts s × refuses reason × coming t [])) is step.gives
 

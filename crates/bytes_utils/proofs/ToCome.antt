@@ -1,7 +1,8 @@
 -- In each state of a splitter at most one list is to come.
-use Rattle.std.proofs.Common.{◌≡◌, sym, ◌∙◌, ℕ, zero, suc, Bool, true, false, List, [], ◌∷◌, Option, None, Some, arith}
+use Rattle.std.proofs.Common.{◌≡◌, sym, ap, ◌∙◌, ℕ, zero, suc, Bool, true, false, List, [], ◌∷◌, Option, None, Some, arith}
 use Rattle.std.specs.Option.{option_map}
 use Rattle.std.specs.Str.{chars}
+use Rattle.bytes_utils.specs.Indices.{Indexing, indexed, AreIndexedPartsToCome}
 use Rattle.bytes_utils.specs.Keeping.{Keeping, AreInclusivePartsToCome}
 use Rattle.bytes_utils.specs.Lines.{AreLinesToCome}
 use Rattle.bytes_utils.specs.Parts.{ArePartsFromFront, ArePartsFromBack}
@@ -50,6 +51,10 @@ from_kept (Some text) separator parts others are also = inclusive_same_any (char
 
 pub one_forward : (s : Splitting) (parts others : List (List ℕ)) → AreForwardPartsToCome s parts → AreForwardPartsToCome s others → parts ≡ others
 one_forward s parts others are also = from_front s.rest s.separator s.limit s.begun parts others are also
+
+pub one_indexed : (s : Indexing) (items others : List (ℕ × List ℕ)) → AreIndexedPartsToCome s items → AreIndexedPartsToCome s others → items ≡ others
+one_indexed s items others are also =
+    are.2 ∙ ap (indexed s.parts.separator s.at) (one_forward s.parts are.0 also.0 are.1 also.1) ∙ sym also.2
 
 pub one_backward : (s : Splitting) (parts others : List (List ℕ)) → AreBackwardPartsToCome s parts → AreBackwardPartsToCome s others → parts ≡ others
 one_backward s parts others are also = from_back s.rest s.separator s.limit s.begun parts others are also

@@ -8,6 +8,7 @@ pub mod Words
 pub mod Outcome
 pub mod Step
 pub mod Splitting
+pub mod Indices
 pub mod Search
 pub mod Keeping
 pub mod Walk

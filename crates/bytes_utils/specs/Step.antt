@@ -2,20 +2,25 @@
 use Rattle.std.specs.Prelude.{ℕ, List, [], ◌∷◌, Option, Result, MatchOption, MatchResult}
 use Rattle.std.specs.Str.{chars}
 
--- Below, `coming s parts` says that in the state s of a splitter these parts are to come, each as its characters; at most one list
--- is. `cuts s` says that a step from s splits the storage, and `refuses reason` that the storage refuses for this reason.
+-- Below, `coming s parts` says that in the state s of a splitter these parts are to come; at most one list is. `seen` makes of an item
+-- that is given what stands in such a list: of a text its characters. `cuts s` says that a step from s splits the storage, and
+-- `refuses reason` that the storage refuses for this reason.
 
 -- the part is the first of those to come in s: some list is to come in t, and behind the part each such list is to come in s
-pub record GivesFirst {S : Type 0} (coming : S → List (List ℕ) → Type 0) (s : S) (part : List ℕ) (t : S) : Type 0 where
-  pub some : (others : List (List ℕ)) × coming t others
-  pub each : (others : List (List ℕ)) → coming t others → coming s (part ∷ others)
+pub record GivesFirst {S X : Type 0} (coming : S → List X → Type 0) (s : S) (part : X) (t : S) : Type 0 where
+  pub some : (others : List X) × coming t others
+  pub each : (others : List X) → coming t others → coming s (part ∷ others)
 
 -- a step from s to t that gives an item: the first part that is to come, or one refusal of a cut, for a reason that the storage refuses
 -- for, after which nothing comes
-pub record GivesItem {S E : Type 0} (coming : S → List (List ℕ) → Type 0) (cuts : S → Type 0) (refuses : E → Type 0) (s : S) (item : Result (List ℕ) E) (t : S) : Type 0 where
+pub record GivesItem {S X Y E : Type 0} (seen : Y → X) (coming : S → List X → Type 0) (cuts : S → Type 0) (refuses : E → Type 0) (s : S) (item : Result Y E) (t : S) : Type 0 where
   pub some : ¬ coming s []
-  pub gives : MatchResult item (λ part. GivesFirst coming s (chars part) t) (λ reason. cuts s × refuses reason × coming t [])
+  pub gives : MatchResult item (λ part. GivesFirst coming s (seen part) t) (λ reason. cuts s × refuses reason × coming t [])
 
 -- A step from s to t that answers r: `None` exactly where no part is to come, else an item.
+abbrev pub IsStepOf : {S X Y E : Type 0} → (Y → X) → (S → List X → Type 0) → (S → Type 0) → (E → Type 0) → S → Option (Result Y E) → S → Type 0
+IsStepOf seen coming cuts refuses s r t = MatchOption r (coming s [] × coming t []) (λ item. GivesItem seen coming cuts refuses s item t)
+
+-- a step of a splitter whose items are texts
 abbrev pub IsStep : {S E : Type 0} → (S → List (List ℕ) → Type 0) → (S → Type 0) → (E → Type 0) → S → Option (Result (List ℕ) E) → S → Type 0
-IsStep coming cuts refuses s r t = MatchOption r (coming s [] × coming t []) (λ item. GivesItem coming cuts refuses s item t)
+IsStep coming cuts refuses s r t = IsStepOf chars coming cuts refuses s r t

@@ -13,6 +13,7 @@ mod frame_search;
 mod frames;
 mod hints;
 mod inclusive;
+mod indices;
 mod join;
 mod json;
 mod limited_frames;

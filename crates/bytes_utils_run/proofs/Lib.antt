@@ -33,3 +33,4 @@ pub mod Separators
 pub mod TokenParts
 pub mod HeaderLines
 pub mod PathNames
+pub mod FieldPlaces

@@ -1,7 +1,8 @@
 -- What follows from the definitions of lists of parts, for lists of elements of any type X. A text is such a list, of characters.
 use Rattle.std.specs.Prelude.{◌≡◌, ◌⊎◌, ◌↔◌, ℕ, ◌-◌, ◌<◌, List, [], ◌∷◌, ◌++◌, length, map, take, drop, reverse, Option, None, Some, IfSome, if◌then◌else◌, nat_lt, All, IsUtf8}
-use Rattle.std.specs.Str.{chars}
-use Rattle.bytes_utils.specs.Occurrence.{NoneOverlap}
+use Rattle.std.specs.Str.{chars, encode_utf8_all}
+use Rattle.bytes_utils.specs.Indices.{indexed}
+use Rattle.bytes_utils.specs.Occurrence.{NoneOverlap, OccursAt}
 use Rattle.bytes_utils.specs.Parts.{join, AreForwardParts, AreBackwardParts, AreSeparable, ArePartsFromFront}
 
 -- any two elements are the same or they aren't, as any two characters are: without this nobody could say where a separator occurs
@@ -48,8 +49,13 @@ TextsComeBackLaw = (separator : List ℕ) (texts parts : List (List ℕ)) → 0 
     → ArePartsFromFront (chars (join separator texts)) (chars separator) None parts → (parts ≡ map chars texts) ↔ AreSeparable (chars separator) (map chars texts)
 
 -- in each state of a splitter at most one list is to come
-abbrev pub OneToComeLaw : {S : Type 0} → (S → List (List ℕ) → Type 0) → Type 0
-OneToComeLaw {S} coming = (s : S) (parts others : List (List ℕ)) → coming s parts → coming s others → parts ≡ others
+abbrev pub OneToComeLaw : {S X : Type 0} → (S → List X → Type 0) → Type 0
+OneToComeLaw {S} {X} coming = (s : S) (parts others : List X) → coming s parts → coming s others → parts ≡ others
+
+-- each of a text's parts stands in the text at its place
+abbrev pub PartsStandLaw : Type 0
+PartsStandLaw = (text separator : List ℕ) (limit : Option ℕ) (parts : List (List ℕ)) → IsUtf8 text → IsUtf8 separator
+    → ArePartsFromFront (chars text) (chars separator) limit parts → All (λ item. OccursAt (encode_utf8_all item.1) text item.0) (indexed separator 0 parts)
 
 -- for p not empty and a limit of at least 1, what a limit makes of the parts, whose rest is joined in the order of the text
 abbrev pub LimitLaw : (X : Type 0) → (List X → List X → Option ℕ → List (List X) → Type 0) → (List (List X) → List (List X)) → Type 0

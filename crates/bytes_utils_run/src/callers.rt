@@ -1,5 +1,6 @@
 //! What a user of the library writes over it, to copy from: each does one thing, with a contract.
 
+pub mod fields;
 pub mod headers;
 pub mod inbox;
 pub mod paths;

@@ -6,10 +6,11 @@
 //! one is of texts.
 ghost use Rattle.bytes_utils_run.specs.Laws.{ExactlyOne, UniqueLaw, MirrorLaw, AgreeLaw};
 ghost use Rattle.bytes_utils_run.specs.Laws.{LimitLaw, JoinLaw, OneToComeLaw};
-ghost use Rattle.bytes_utils_run.specs.Laws.{ComeBackLaw, TextsComeBackLaw};
+ghost use Rattle.bytes_utils_run.specs.Laws.{ComeBackLaw, TextsComeBackLaw, PartsStandLaw};
 ghost use Rattle.std.specs.Prelude.{◌≡◌, ◌<◌, ℕ, Bool, List, length, reverse};
 ghost use Rattle.std.specs.Str.{chars, IsAscii};
 ghost use Rattle.bytes_utils.specs.Halves.{AreHalvesAtFirst, AreHalvesAtLast};
+ghost use Rattle.bytes_utils.specs.Indices.{AreIndexedPartsToCome};
 ghost use Rattle.bytes_utils.specs.Keeping.{AreInclusivePartsToCome};
 ghost use Rattle.bytes_utils.specs.Lines.{AreLinesToCome};
 ghost use Rattle.bytes_utils.specs.Parts.{AreForwardParts, AreBackwardParts, AreInclusiveParts};
@@ -80,10 +81,17 @@ pub fn texts_come_back()
 /// are the ones that were to come when it began.
 pub fn one_to_come()
     ensures forward { OneToComeLaw AreForwardPartsToCome }
+    ensures indexed { OneToComeLaw AreIndexedPartsToCome }
     ensures backward { OneToComeLaw AreBackwardPartsToCome }
     ensures inclusive { OneToComeLaw AreInclusivePartsToCome }
     ensures lines { OneToComeLaw AreLinesToCome }
     ensures words { (is_space : ℕ → Bool) → OneToComeLaw (AreWordsToCome is_space) }
+{}
+
+/// The parts of a text, each with its place as `indices` tells it, stand in the text at their
+/// places: for every separator, the empty one too, and every limit.
+pub fn parts_stand()
+    ensures { PartsStandLaw }
 {}
 
 /// The characters of an ASCII text, as of a separator that a caller writes, are its bytes.

@@ -1,6 +1,7 @@
 //! A text that is cut by a separator, from either end.
-ghost use Rattle.std.specs.Prelude.{◌≡◌, ◌≢◌, ◌<◌, ◌==◌, ℕ, List, Option, Some, length, false, None, IfOk, IfErr, OnErr, OnSome, IfSome};
+ghost use Rattle.std.specs.Prelude.{◌≡◌, ◌≢◌, ◌<◌, ◌==◌, ℕ, List, Option, Some, length, false, None, IfOk, IfErr, OnErr, OnSome, IfSome, IsUtf8};
 ghost use Rattle.std.specs.Bool.{OnTrue};
+ghost use Rattle.std.specs.Option.{option_map_or};
 ghost use Rattle.std.specs.Str.{chars};
 ghost use Rattle.bytes_utils.specs.Occurrence.{Occurs};
 ghost use Rattle.bytes_utils.specs.Search.{end_of, needle_of};
@@ -139,7 +140,7 @@ pub(super) struct Separated<'s, S: Storage> {
 }
 
 impl<'s, S: Storage> Model for Separated<'s, S> {
-    ghost use Rattle.std.specs.Prelude.{◌≡◌, ◌≢◌, length, Some, IfSome};
+    ghost use Rattle.std.specs.Prelude.{◌≡◌, ◌≢◌, length, Some, IfSome, IsUtf8};
     ghost use Rattle.std.specs.Bool.{OnTrue};
     ghost use Rattle.bytes_utils.specs.Search.{SplittingFrom, end_of, needle_of};
 
@@ -155,7 +156,8 @@ impl<'s, S: Storage> Model for Separated<'s, S> {
       end = end_of s.search;
     } };
 
-    ghost invariant = { λ s. (needle_of s.search ≡ s.separator.now) × IfSome s.rest
+    ghost invariant = { λ s. (needle_of s.search ≡ s.separator.now) × IsUtf8 s.separator.now
+        × IfSome s.rest
         (λ _. OnTrue s.begun ((length s.separator.now ≡ 0) × (s.limit ≢ Some 0))) };
 }
 
@@ -181,11 +183,28 @@ impl<'s, S: Storage> Separated<'s, S> {
         }
     }
 
+    /// How many bytes are still to be cut.
+    #[inline(always)]
+    pub(super) fn left(&self) -> usize
+        ensures value { result ≡ option_map_or length self.now.state.rest 0 }
+        ensures utf8 { IfSome self.now.state.rest IsUtf8 }
+        ensures begun { IfSome self.now.state.rest (λ _. OnTrue self.now.state.begun
+            (length self.now.state.separator ≡ 0)) }
+        ensures separator { IsUtf8 self.now.state.separator }
+    {
+        match &self.rest {
+            Some(rest) => rest.as_str().len(),
+            None => 0,
+        }
+    }
+
     /// The next part from its end.
     #[inline(always)]
     pub(super) fn next(&mut self) -> Option<Result<StrInner<S>, Reason>>
         ensures step { IsStep (ArePartsToCome self.old.end) CutsNext S.refuses
             self.old.state result self.new.state }
+        ensures none { result ≡ None → self.new.state ≡ self.old.state }
+        ensures separator { self.new.state.separator ≡ self.old.state.separator }
         ensures end { self.new.end ≡ self.old.end }
         ensures fewer { OnSome result (most_parts self.new.state < most_parts self.old.state) }
     {

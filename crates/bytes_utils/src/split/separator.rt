@@ -6,6 +6,7 @@ ghost use Rattle.bytes_utils.specs.Splitting.{CutsNext, all_of, most_parts};
 ghost use Rattle.bytes_utils.specs.Step.{IsStep};
 
 use super::direction::Direction;
+use super::indices::SplitIndicesBytes;
 use super::separated::Separated;
 use crate::string::{Storage, StrInner};
 use bytes_utils_buf::Reason;
@@ -31,6 +32,17 @@ impl<'s, S: Storage> Model for SplitBytes<'s, S> {
     ghost view = { λ s. s.parts.state };
 
     ghost invariant = { λ s. s.parts.end ≡ Forward };
+}
+
+impl<'s, S: Storage> SplitBytes<'s, S> {
+    /// The parts to come, each with the byte place at which it begins, as `str::match_indices` tells
+    /// it of matches: in the text, where no part was given yet, else in what is left of it.
+    pub fn indices(self) -> SplitIndicesBytes<'s, S>
+        ensures parts { result.parts ≡ self.entry }
+        ensures at { result.at ≡ 0 }
+    {
+        SplitIndicesBytes::new(self.parts)
+    }
 }
 
 impl<S: Storage> StrInner<S> {

@@ -1,4 +1,5 @@
 //! Each caller on an input of the kind that it serves, and where something refuses.
+mod fields;
 mod headers;
 mod inbox;
 mod memory;

@@ -48,6 +48,23 @@ fn split(rt: HostRuntime) -> Result<(), Fail> {
 }
 
 #[test]
+fn indices(rt: HostRuntime) -> Result<(), Fail> {
+    let Ok(text) = StrMut::from_str(rt.alloc(), "a,b") else {
+        return Ok(());
+    };
+    let mut parts = text.split_bytes(",").indices();
+    match parts.next() {
+        Some(Ok((at, part))) => assert!(rt; at == 0 && part.eq_str("a")),
+        Some(Err(reason)) => {
+            assert!(rt; parts.next().is_none());
+            tell(&rt, "SplitIndicesBytes::next", reason)?;
+        }
+        None => assert!(rt; false),
+    }
+    Ok(())
+}
+
+#[test]
 fn rsplit(rt: HostRuntime) -> Result<(), Fail> {
     let row = ("a,b,c", 0, ",", "c|b|a|");
     assert_next::<RSplit, HostRuntime>(&rt, rt.alloc(), "RSplitBytes::next", row)

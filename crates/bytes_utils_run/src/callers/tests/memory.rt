@@ -1,5 +1,6 @@
 //! What stands where a request for memory is refused. With ample memory none is: a run that refuses
 //! one prints a line for it.
+use crate::callers::fields::fields_of;
 use crate::callers::headers::headers;
 use crate::callers::inbox::Inbox;
 use crate::callers::paths::{both, is_name, names_of, path_of, rooted, with_name};
@@ -147,4 +148,11 @@ fn names_of_a_path(rt: HostRuntime) -> Result<(), Fail> {
     let first = names_of(alloc, Str::from_static(alloc, "a/b")?).ok();
     let second = names_of(alloc, Str::from_static(alloc, "a/b")?).ok();
     assert_reads(&rt, "names_of", first, second)
+}
+
+#[test]
+fn fields_of_a_line(rt: HostRuntime) -> Result<(), Fail> {
+    let alloc = rt.alloc();
+    let first = fields_of(alloc, "a,b", ",").ok();
+    assert_reads(&rt, "fields_of", first, fields_of(alloc, "a,b", ",").ok())
 }
