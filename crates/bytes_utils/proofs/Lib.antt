@@ -27,6 +27,8 @@ pub mod ToCome
 pub mod Rejoining
 pub mod Indexing
 pub mod PartLists
+pub mod PartListsBack
+pub mod StepsBack
 pub mod Separable
 pub mod KeepingCut
 pub mod Lines
