@@ -33,4 +33,5 @@ pub mod Separators
 pub mod TokenParts
 pub mod HeaderLines
 pub mod PathNames
+pub mod FileNames
 pub mod FieldPlaces

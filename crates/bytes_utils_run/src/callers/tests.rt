@@ -1,5 +1,6 @@
 //! Each caller on an input of the kind that it serves, and where something refuses.
 mod fields;
+mod files;
 mod headers;
 mod inbox;
 mod memory;
