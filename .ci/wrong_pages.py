@@ -17,7 +17,7 @@ WRONG = {
         (
             "sent::SentBody::poll_frame",
             "match self.0.pop() {",
-            "if let Some(first) = self.0.pop() { let _ = self.0.push(first); }\nmatch self.0.pop() {",
+            "if let Some(first) = self.0.pop() { if self.0.fits(first.len()) { let _ = self.0.push(first); } }\nmatch self.0.pop() {",
         ),
         # counts that are one too high, and a first record that isn't counted
         ("counts::count_words", "let mut count = 0;\n    for word", "let mut count = 1;\n    for word"),
