@@ -1,0 +1,98 @@
+"""Wrong bodies: how an edit is read and applied, and what the check of a copy says of it.
+
+An edit is a file of lines: 'file: PATH'; 'fn: NAME' for each function that it changes, as the prover names it without
+the crate's name in front, or 'test: NAME' for the test that has to catch it; and pairs of 'old: TEXT', which is in the
+file once, and 'new: TEXT'."""
+import re
+from collections import namedtuple
+from pathlib import Path
+
+from kit import CRATES, ROOT, blocks, files_of
+
+PAGES = {"service": "docs/SERVICE.md", "chat": "docs/CHAT.md"}
+# what a proof file says where an edit only took a name away
+LOST_NAME = re.compile(r"\./proofs/.*(has no field|is not in scope|has no `|was not admitted|which was rejected)")
+# a program's files are texts by their paths, and its folder is that of its edits; a pair is an old text and a new one
+Program = namedtuple("Program", "name uses files folder")
+Edit = namedtuple("Edit", "program name file functions test pairs")
+
+
+def program_of(name):
+    """A crate, or the program of a page."""
+    if name in CRATES:
+        return Program(name, CRATES[name], files_of(name), f"crates/{name}")
+    files = blocks(PAGES[name])
+    uses = files["crates.txt"].partition(":")[2].split()
+    return Program(name, ["std", *uses], files, f"examples/{name}")
+
+
+def edits_of(program, kind):
+    paths = sorted(Path(ROOT, program.folder, kind).glob("*.edit"))
+    return [edit_of(program, it.stem, it.read_text("utf-8")) for it in paths]
+
+
+def edit_of(program, name, text):
+    file, functions, test = (re.findall(rf"^{key}: (.*)$", text, re.M) for key in ("file", "fn", "test"))
+    pairs = re.findall(r"^old: (.+)\nnew: ?(.*)$", text, re.M)
+    return Edit(program, f"{program.name}/{name}", "".join(file), functions, "".join(test), pairs)
+
+
+def files_with(edits):
+    """The files of a program with some of its edits, or nothing where an old text isn't in its file once."""
+    files = dict(edits[0].program.files)
+    for edit in edits:
+        for old, new in edit.pairs:
+            if files.get(edit.file, "").count(old) != 1:
+                return None
+            files[edit.file] = files[edit.file].replace(old, new)
+    return files
+
+
+def fault_of(edit):
+    """What is wrong with an edit, as far as its text shows, or nothing."""
+    files = files_with([edit])
+    if not files or not edit.pairs:
+        return f"an old text isn't in {edit.file} once"
+    if any(old == new for old, new in edit.pairs):
+        return "it changes nothing"
+    # tests have files of their own, and an edit of a macro changes functions of any file
+    is_anywhere = edit.test or "macro_rules!" in files[edit.file]
+    text = "".join(it for path, it in files.items() if is_anywhere or path == edit.file)
+    names = [it.split("::")[-1] for it in (*edit.functions, edit.test) if it]
+    lost = [it for it in names if not re.search(rf"\bfn {it}\b", text)]
+    return f"there is no function {lost[0]}" if lost else "" if names else "it names no function and no test"
+
+
+def goals_in(said):
+    """For each function that a check names, its own goals that are refused. A caller that waits for it has none."""
+    found, notes = {}, []
+    errors = [" ".join(it.split()) for it in re.findall(r"^\./proofs/\S+: error: .*(?:\n  .*)?", said, re.M)]
+    for line in said.split("\n"):
+        told = re.match(r"(?:fn|impl) \w+::(\S+): (.*)", line)
+        if re.match(r"note: \S+\.rt:\d+:\d+: ", line):
+            notes.append(line.removeprefix("note: "))
+        elif told:
+            name, verdict = told.groups()
+            own = [it for it in errors if it.startswith(f"./proofs/{name.replace('::', '/')}/")] + notes
+            waits = re.match(r"not proved; it waits|no proof: it calls", verdict)
+            found[name] = [] if verdict.startswith("proved") else own or ([] if waits else [verdict])
+            notes = []
+    return found
+
+
+def judged(edit, said):
+    """What a check says of an edit: 'refused', and at which goal of a function that it changes, or why it isn't."""
+    goals = goals_in(said)
+    if not re.search(r"^logic=", said, re.M):
+        errors = [it for it in said.split("\n") if "error" in it] or [said[-200:]]
+        return f"the prover can't read the copy: {errors[0][:200]}"
+    lost = [it for it in edit.functions if it not in goals]
+    if lost:
+        return f"the prover sees no function {lost[0]}"
+    inside = tuple(f"{it}::" for it in edit.functions)
+    closures = [it for it in goals if "fn::" in it and it.replace("fn::", "", 1).startswith(inside)]
+    refused = [(name, goal) for name in (*edit.functions, *closures) for goal in goals[name]]
+    for name, goal in refused:
+        if not LOST_NAME.match(goal):
+            return f"refused: {name}: {goal.removeprefix('./proofs/')[:200]}"
+    return "a proof file only misses a name: keep the names, change a value" if refused else "it is proved"
