@@ -12,7 +12,7 @@ use bytes_utils::string::{Storage, StrInner};
 use std::alloc::Global;
 
 #[cfg(test)]
-mod tests;
+pub(crate) mod tests;
 
 /// How a text is cut.
 #[derive(Clone, Copy, Debug)]

@@ -195,24 +195,6 @@ impl Write for SlowWriter {
     }
 }
 
-/// Answers 0 to every call, and so holds nothing.
-#[derive(Drop)]
-pub(crate) struct StuckWriter;
-
-impl Write for StuckWriter {
-    ghost use Rattle.std.specs.Prelude.{Some, []};
-
-    ghost contents = { λ _. Some [] };
-
-    fn write(&mut self, _buf: &[u8]) -> io::Result<usize> {
-        Ok(0)
-    }
-
-    fn flush(&mut self) -> io::Result<()> {
-        Ok(())
-    }
-}
-
 /// Takes all it is given, and can't be flushed.
 #[derive(Drop)]
 pub(crate) struct UnflushedWriter {

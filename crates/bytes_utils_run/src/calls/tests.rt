@@ -1,4 +1,4 @@
-//! Worked cases of runs, each reply, and that calls succeed.
+//! Worked cases of runs.
 mod memory;
 mod odd_buffers;
 
@@ -16,9 +16,6 @@ use std::test::Fail;
 enum Want {
     Done,
     PastEnd,
-    TooLong,
-    NoMemory,
-    CopyStopped(usize),
     Number(usize),
     Piece(&'static str),
     Shown(&'static str),
@@ -38,11 +35,6 @@ impl Want {
         match self {
             Want::Done => matches!(reply, Reply::Done),
             Want::PastEnd => matches!(reply, Reply::PastEnd),
-            Want::TooLong => matches!(reply, Reply::TooLong),
-            Want::NoMemory => matches!(reply, Reply::NoMemory),
-            Want::CopyStopped(number) => {
-                matches!(reply, Reply::CopyStopped(taken) if taken == number)
-            }
             Want::Number(number) => matches!(reply, Reply::Number(count) if count == number),
             Want::Piece(text) => {
                 matches!(reply, Reply::Piece(piece) if piece.as_slice() == text.as_bytes())
@@ -64,14 +56,6 @@ fn reads(alloc: Global, rows: &[Row]) -> Result<Vec<ReadCall>, AllocError> {
     rows.iter().map(|row| row.0).collect(alloc)
 }
 
-/// Asserts that each reply is that of its row.
-fn assert_replies<C>(rt: &impl Abort, replies: &Replies, rows: &[(C, Want)]) {
-    assert!(rt; replies.refused.is_none() && replies.given.len() == rows.len());
-    for (reply, (_, want)) in replies.given.iter().zip(rows) {
-        assert!(rt; want.is(reply), "{reply:?}");
-    }
-}
-
 /// Asserts the replies of any buffer, through its bound alone.
 fn assert_reads<B: BufParts>(
     rt: &impl Abort,
@@ -80,100 +64,22 @@ fn assert_reads<B: BufParts>(
     rows: &[Row],
 ) -> Result<(), Fail> {
     let replies = read_calls(alloc, buf, reads(alloc, rows)?);
-    assert_replies(rt, &replies, rows);
-    Ok(())
-}
-
-/// A call as a test writes it.
-enum Step {
-    Push(&'static str),
-    Segments,
-    Read(ReadCall),
-}
-
-fn call_of(step: &Step) -> Call<Bytes> {
-    match step {
-        Step::Push(text) => Call::Push(Bytes::from_static(text.as_bytes())),
-        Step::Segments => Call::Segments,
-        Step::Read(call) => Call::Read(*call),
+    assert!(rt; replies.refused.is_none() && replies.given.len() == rows.len());
+    for (reply, (_, want)) in replies.given.iter().zip(rows) {
+        assert!(rt; want.is(reply), "{reply:?}");
     }
-}
-
-/// Asserts the replies to calls on a held buffer.
-fn assert_drives(
-    rt: &impl Abort,
-    alloc: Global,
-    buf: &mut SegmentedBuf<Bytes>,
-    rows: &[(Step, Want)],
-) -> Result<(), Fail> {
-    let calls: Vec<Call<Bytes>> = rows.iter().map(|row| call_of(&row.0)).collect(alloc)?;
-    let replies = drive(alloc, buf, calls);
-    assert_replies(rt, &replies, rows);
     Ok(())
-}
-
-#[test]
-fn pushes_and_reads(rt: HostRuntime) -> Result<(), Fail> {
-    let mut buf = SegmentedBuf::new(rt.alloc());
-    assert_drives(
-        &rt,
-        rt.alloc(),
-        &mut buf,
-        &[
-            (Step::Push("Hello"), Want::Done),
-            (Step::Push(" "), Want::Done),
-            (Step::Push(""), Want::Done),
-            (Step::Push("World"), Want::Done),
-            (Step::Read(ReadCall::CopyOut(8)), Want::Piece("Hello Wo")),
-            (Step::Segments, Want::Number(1)),
-            (Step::Read(ReadCall::Chunk), Want::Shown("rld")),
-            (Step::Read(ReadCall::Advance(9)), Want::PastEnd),
-            (Step::Read(ReadCall::Chunks(3)), Want::Slices(&["rld"])),
-            (Step::Read(ReadCall::CopyOut(4)), Want::PastEnd),
-            (Step::Read(ReadCall::Remaining), Want::Number(3)),
-            (Step::Read(ReadCall::Advance(3)), Want::Done),
-            (Step::Read(ReadCall::Chunks(usize::MAX)), Want::Slices(&[])),
-            (Step::Segments, Want::Number(0)),
-        ],
-    )?;
-    assert_eq!(rt; buf.remaining(), 0);
-    Ok(())
-}
-
-/// The buffer of as many bytes as there may be, held alone.
-fn longest(alloc: Global) -> Result<SegmentedBuf<Zeros>, Fail> {
-    Ok(SegmentedBuf::from_vec(alloc, vec![in alloc; Zeros::new(usize::MAX)]?)?)
 }
 
 // The third part of the conversions that pass `usize`.
 #[test]
 fn pushed_past_the_greatest_length(rt: HostRuntime) -> Result<(), Fail> {
-    let mut buf = longest(rt.alloc())?;
+    let all = vec![in rt.alloc(); Zeros::new(usize::MAX)]?;
+    let mut buf = SegmentedBuf::from_vec(rt.alloc(), all)?;
     let calls = vec![in rt.alloc(); Call::Push(Zeros::new(1)), Call::Segments]?;
     let replies = drive(rt.alloc(), &mut buf, calls);
     assert!(rt; replies.refused.is_none() && buf.remaining() == usize::MAX);
     assert!(rt; matches!(replies.given.as_slice(), [Reply::TooLong, Reply::Number(1)]));
-    Ok(())
-}
-
-/// What is answered where no allocation is that long.
-const TOO_MUCH: &[Row] = &[
-    (ReadCall::CopyOut(usize::MAX), Want::CopyStopped(0)),
-    (ReadCall::Chunks(usize::MAX), Want::NoMemory),
-    (ReadCall::Remaining, Want::Number(usize::MAX)),
-];
-
-#[test]
-fn no_allocation_is_that_long(rt: HostRuntime) -> Result<(), Fail> {
-    assert_reads(&rt, rt.alloc(), &mut Zeros::new(usize::MAX), TOO_MUCH)
-}
-
-#[test]
-fn no_allocation_is_that_long_of_held_buffers(rt: HostRuntime) -> Result<(), Fail> {
-    let calls = reads(rt.alloc(), TOO_MUCH)?;
-    let calls: Vec<Call<Zeros>> = calls.into_iter().map(Call::Read).collect(rt.alloc())?;
-    let replies = drive(rt.alloc(), &mut longest(rt.alloc())?, calls);
-    assert_replies(&rt, &replies, TOO_MUCH);
     Ok(())
 }
 
@@ -207,23 +113,4 @@ fn reads_nested_buffers(rt: HostRuntime) -> Result<(), Fail> {
             (ReadCall::Remaining, Want::Number(0)),
         ],
     )
-}
-
-#[test]
-fn reads_plain_bytes(rt: HostRuntime) -> Result<(), Fail> {
-    let mut bytes: &[u8] = b"Hello";
-    assert_reads(
-        &rt,
-        rt.alloc(),
-        &mut bytes,
-        &[
-            (ReadCall::Chunks(0), Want::Slices(&[])),
-            (ReadCall::Chunks(2), Want::Slices(&["Hello"])),
-            (ReadCall::CopyOut(6), Want::PastEnd),
-            (ReadCall::CopyOut(5), Want::Piece("Hello")),
-            (ReadCall::CopyOut(0), Want::Piece("")),
-            (ReadCall::Chunks(1), Want::Slices(&[])),
-        ],
-    )?;
-    assert_reads(&rt, rt.alloc(), &mut bytes, &[])
 }

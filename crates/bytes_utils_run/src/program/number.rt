@@ -3,9 +3,6 @@ ghost use Rattle.std.specs.Prelude.{ℕ, MatchOption};
 ghost use Rattle.std.specs.Str.{chars};
 ghost use Rattle.bytes_utils_run.specs.Number.{IsNumber};
 
-#[cfg(test)]
-mod tests;
-
 /// How many digits a number may have, leading zeros too.
 const MOST_DIGITS: usize = 20;
 

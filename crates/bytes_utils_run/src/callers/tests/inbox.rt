@@ -30,38 +30,3 @@ fn bodies_come_out_whole(rt: HostRuntime) -> Result<(), Fail> {
     }
     Ok(())
 }
-
-#[test]
-fn none_in_nothing(rt: HostRuntime) -> Result<(), Fail> {
-    let mut inbox = Inbox::new(rt.alloc());
-    assert!(rt; inbox.next_body(rt.alloc())?.is_none());
-    Ok(())
-}
-
-/// A piece that comes in, and the body that is whole then, if one is.
-type Piece = (&'static [u8], Option<&'static [u8]>);
-
-// Three bytes of a prefix are no prefix, and the next one decides. 300 is told by two bytes.
-const PIECES: &[Piece] = &[
-    (b"\0\0\0", None),
-    (b"\x0cHello World", None),
-    (b"!\0\0\0", Some(b"Hello World!")),
-    (b"", None),
-    (b"\0", Some(b"")),
-    (b"\0\0\x01", None),
-    (b"\x2c", None),
-    (&[b'a'; 299], None),
-    (b"a", Some(&[b'a'; 300])),
-];
-
-#[test]
-fn bodies_behind_prefixes_in_parts(rt: HostRuntime) -> Result<(), Fail> {
-    let alloc = rt.alloc();
-    let mut inbox = Inbox::new(alloc);
-    for (piece, wanted) in PIECES {
-        inbox.push(Bytes::from_static(*piece))?;
-        let body = inbox.next_body(alloc)?;
-        assert!(rt; body.as_ref().map(Bytes::as_slice) == *wanted, "{piece:?}");
-    }
-    Ok(())
-}

@@ -1,5 +1,5 @@
 //! Texts over storages that refuse their splits.
-use super::{begins, is_allowed};
+use super::{behind, is_allowed};
 use crate::odd::RefuseAfter;
 use crate::{How, cut_all};
 use bytes::{Bytes, BytesMut};
@@ -20,71 +20,55 @@ pub(super) fn granting(
     Ok(text.ok_or("not UTF-8")?)
 }
 
-/// Asserts that a text is cut into these parts, and then refused.
+/// Asserts that a text is cut into these parts, and then refused for this reason, or not.
 fn assert_refused<S: Storage>(
     rt: &impl Abort,
     alloc: Global,
     text: StrInner<S>,
     how: How<'_>,
-    wanted: &[&str],
-    refused: Option<Reason>,
+    (wanted, refused): (&str, Option<Reason>),
 ) {
     assert!(rt; is_allowed(how));
     let parts = cut_all(alloc, text, how);
     assert!(rt;
-        parts.given.len() == wanted.len() && begins(&parts, wanted),
+        behind(&parts, wanted) == Some("") && parts.refused == refused,
         "{how:?}"
     );
-    assert_eq!(rt; parts.refused, refused, "{how:?}");
 }
 
 const REFUSED: Option<Reason> = Some(Reason::OutOfMemory);
 
-/// How many splits are granted, a way to cut, and what comes of it.
-type Row = (usize, How<'static>, &'static [&'static str], Option<Reason>);
+/// A text, how many splits are granted, a way to cut, and what comes of it.
+type Row = (
+    &'static str,
+    usize,
+    How<'static>,
+    (&'static str, Option<Reason>),
+);
 
-fn assert_granted(rt: &impl Abort, alloc: Global, text: &str, rows: &[Row]) -> Result<(), Fail> {
-    for (splits, how, wanted, refused) in rows {
-        let text = granting(alloc, text, *splits)?;
-        assert_refused(rt, alloc, text, *how, wanted, *refused);
-    }
-    Ok(())
-}
+// Each part but the last takes two splits, and one where it keeps its separator.
+const ROWS: &[Row] = &[
+    ("a,b,c", 0, How::Split(","), ("", REFUSED)),
+    ("a,b,c", 1, How::Split(","), ("", REFUSED)),
+    ("a,b,c", 2, How::Split(","), ("a|", REFUSED)),
+    ("a,b,c", 3, How::Split(","), ("a|", REFUSED)),
+    ("a,b,c", 4, How::Split(","), ("a|b|c|", None)),
+    ("a,b,c", 0, How::RSplit(","), ("", REFUSED)),
+    ("a,b,c", 1, How::RSplit(","), ("", REFUSED)),
+    ("a,b,c", 2, How::RSplit(","), ("c|", REFUSED)),
+    ("a,b,c", 3, How::RSplit(","), ("c|", REFUSED)),
+    ("a,b,c", 4, How::RSplit(","), ("c|b|a|", None)),
+    ("a,b,", 0, How::Inclusive(","), ("", REFUSED)),
+    ("a,b,", 1, How::Inclusive(","), ("a,|b,|", None)),
+];
 
-// Each part but the last takes two splits.
 #[test]
 fn refused_after_each_split(rt: HostRuntime) -> Result<(), Fail> {
-    assert_granted(
-        &rt,
-        rt.alloc(),
-        "a,b,c",
-        &[
-            (0, How::Split(","), &[], REFUSED),
-            (1, How::Split(","), &[], REFUSED),
-            (2, How::Split(","), &["a"], REFUSED),
-            (3, How::Split(","), &["a"], REFUSED),
-            (4, How::Split(","), &["a", "b", "c"], None),
-            (0, How::RSplit(","), &[], REFUSED),
-            (1, How::RSplit(","), &[], REFUSED),
-            (2, How::RSplit(","), &["c"], REFUSED),
-            (3, How::RSplit(","), &["c"], REFUSED),
-            (4, How::RSplit(","), &["c", "b", "a"], None),
-        ],
-    )
-}
-
-// Each part but the last takes one split.
-#[test]
-fn refused_behind_a_separator(rt: HostRuntime) -> Result<(), Fail> {
-    assert_granted(
-        &rt,
-        rt.alloc(),
-        "a,b,",
-        &[
-            (0, How::Inclusive(","), &[], REFUSED),
-            (1, How::Inclusive(","), &["a,", "b,"], None),
-        ],
-    )
+    for (text, splits, how, outcome) in ROWS {
+        let text = granting(rt.alloc(), text, *splits)?;
+        assert_refused(&rt, rt.alloc(), text, *how, *outcome);
+    }
+    Ok(())
 }
 
 /// What refuses its splits as [`RefuseAfter`] does, for another reason.
@@ -123,16 +107,9 @@ impl Storage for Long {
 
 #[test]
 fn the_reason_is_told(rt: HostRuntime) -> Result<(), Fail> {
-    let bytes = Bytes::copy_from_slice(rt.alloc(), b"a,b,c")?;
-    let text = StrInner::from_inner(Long(RefuseAfter::new(bytes, 2))).ok();
+    let text = StrInner::from_inner(Long(RefuseAfter::new(Bytes::from_static(b"a,b,c"), 2))).ok();
     let text = text.ok_or("not UTF-8")?;
-    assert_refused(
-        &rt,
-        rt.alloc(),
-        text,
-        How::Split(","),
-        &["a"],
-        Some(Reason::TooLong),
-    );
+    let outcome = ("a|", Some(Reason::TooLong));
+    assert_refused(&rt, rt.alloc(), text, How::Split(","), outcome);
     Ok(())
 }

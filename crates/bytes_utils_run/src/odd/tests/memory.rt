@@ -1,73 +1,39 @@
 //! What stands where a request for memory is refused. With ample memory none is: a run that refuses
 //! one prints a line for it.
-use crate::odd::{Drip, RefuseAfter, Zeros};
-use bytes::{Bytes, BytesMut};
+use crate::odd::{RefuseAfter, Zeros};
+use bytes::{Buf, BytesMut};
 use bytes_utils::Reason;
 use bytes_utils::parts::BufParts;
 use bytes_utils::string::Storage;
-use std::alloc::Global;
-use std::process::Abort;
 use std::test::Fail;
 
-/// Asserts that these bytes are taken out. Where a request was refused it tells of it, and asserts
-/// that they are still there and then taken out.
-fn assert_copies<B: BufParts>(
-    rt: &(impl Abort + Print),
-    alloc: Global,
-    buf: &mut B,
-    wanted: &[u8],
-    name: &str,
-) -> Result<(), Fail> {
-    let whole = buf.remaining();
-    assert!(rt; whole >= wanted.len());
-    let copy = match buf.copy_out(alloc, wanted.len()) {
-        Ok(copy) => copy,
-        Err(refused) => {
-            println!(rt; "refused copy_out of {name}")?;
-            assert!(rt; refused.taken == 0 && buf.remaining() == whole);
-            let Ok(copy) = buf.copy_out(alloc, wanted.len()) else {
-                panic!(rt; "{name} refuses again");
-            };
-            copy
-        }
-    };
-    assert!(rt; copy.as_slice() == wanted && whole - wanted.len() == buf.remaining());
-    Ok(())
-}
-
+// A refused copy has taken nothing, and the next one takes all.
 #[test]
 fn copy_out_of_zeros(rt: HostRuntime) -> Result<(), Fail> {
-    assert_copies(&rt, rt.alloc(), &mut Zeros::new(20), &[0; 9], "Zeros")
-}
-
-#[test]
-fn copy_out_of_drip(rt: HostRuntime) -> Result<(), Fail> {
-    let Ok(bytes) = Bytes::copy_from_slice(rt.alloc(), b"abc") else {
-        return Ok(());
-    };
-    assert_copies(&rt, rt.alloc(), &mut Drip::new(bytes), b"ab", "Drip")
-}
-
-/// Asserts that a storage is made of these bytes. Where a request was refused it tells of it, and
-/// asserts that it is then made of what was handed back.
-fn assert_made(rt: &(impl Abort + Print), creator: BytesMut, wanted: &[u8]) -> Result<(), Fail> {
-    let made = match RefuseAfter::from_creator(creator) {
-        Ok(made) => made,
-        Err(refused) => {
-            println!(rt; "refused from_creator of RefuseAfter")?;
-            assert!(rt; refused.reason == Reason::OutOfMemory);
-            assert!(rt; refused.back.as_slice() == wanted);
-            RefuseAfter::from_creator(refused.back).map_err(|refused| refused.reason)?
-        }
-    };
-    assert!(rt; made.as_bytes() == wanted);
+    let mut zeros = Zeros::new(20);
+    let mut copy = zeros.copy_out(rt.alloc(), 9);
+    if let Err(refused) = &copy {
+        println!(rt; "refused copy_out of Zeros")?;
+        assert!(rt; refused.taken == 0 && zeros.remaining() == 20);
+        copy = zeros.copy_out(rt.alloc(), 9);
+    }
+    assert!(rt; copy.is_ok_and(|copy| copy.as_slice() == [0; 9].as_slice()));
+    assert_eq!(rt; zeros.remaining(), 11);
     Ok(())
 }
 
+// What is handed back makes a storage then.
 #[test]
 fn from_creator_of_refuse_after(rt: HostRuntime) -> Result<(), Fail> {
     let Ok(creator) = BytesMut::copy_from_slice(rt.alloc(), b"hello") else {
         return Ok(());
     };
-    assert_made(&rt, creator, b"hello")
+    let mut made = RefuseAfter::from_creator(creator);
+    if let Err(refused) = made {
+        println!(rt; "refused from_creator of RefuseAfter")?;
+        assert!(rt; refused.reason == Reason::OutOfMemory);
+        made = RefuseAfter::from_creator(refused.back);
+    }
+    assert!(rt; made.is_ok_and(|made| made.as_bytes() == b"hello".as_slice()));
+    Ok(())
 }
