@@ -1,4 +1,4 @@
-//! Each function once, to its last part: that which Rust's method of the same name is known to give.
+//! The last part that each function gives, as Rust's method of the same name documents it.
 use super::{
     lines, rsplit, rsplit_once, rsplitn, split, split_ascii_whitespace, split_character,
     split_inclusive, split_once, split_tested, split_whitespace, splitn,

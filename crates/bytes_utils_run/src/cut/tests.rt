@@ -23,8 +23,8 @@ fn is_allowed(how: How<'_>) -> bool
     }
 }
 
-/// What is left of `wanted` behind these parts, where it begins with them. In `wanted` a bar stands
-/// behind each part.
+/// What is left of `wanted` after these parts, where it begins with them. In `wanted` a bar comes
+/// after each part.
 fn behind<'w, S: Storage>(parts: &Parts<S>, wanted: &'w str) -> Option<&'w str> {
     let mut rest = wanted;
     for part in &parts.given {
@@ -33,11 +33,12 @@ fn behind<'w, S: Storage>(parts: &Parts<S>, wanted: &'w str) -> Option<&'w str> 
     Some(rest)
 }
 
-/// A text, how it's cut, and its parts, a bar behind each.
+/// A text, how it's cut, and its parts, a bar after each.
 pub(crate) type Row<'r> = (&'r str, How<'r>, &'r str);
 
 const ROWS: &[Row<'static>] = &[
     ("a,b,,c", How::Split(","), "a|b||c|"),
+    ("a,b,c", How::Split(","), "a|b|c|"),
     ("a", How::Split("a"), "||"),
     ("a", How::Split(""), "|a||"),
     ("", How::Split(""), "||"),

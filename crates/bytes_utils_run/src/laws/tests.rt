@@ -34,7 +34,7 @@ fn parts_are_as_the_laws_say(rt: HostRuntime) -> Result<(), Fail> {
     Ok(())
 }
 
-/// Parts, the separator that they are joined by, and what comes back of them, a bar behind each.
+/// Parts, the separator that they are joined by, and what comes back of them, a bar after each.
 type Joined = (&'static [&'static str], &'static str, &'static str);
 
 // The first parts are separable. In the second row no part holds the separator, but the first one

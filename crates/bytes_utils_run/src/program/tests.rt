@@ -46,8 +46,8 @@ fn reader_endless(rt: HostRuntime) {
     assert!(rt; reader.calls == 1_048_576 && writer.is_empty());
 }
 
-/// Asserts what comes of a writer of at most so many bytes a call that fails at one of its calls, or
-/// at none.
+/// Asserts what comes of a writer that takes at most `most` bytes a call, and fails at one of its
+/// calls, or at none.
 fn assert_slow(
     rt: &impl Abort,
     alloc: Global,

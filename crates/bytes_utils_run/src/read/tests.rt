@@ -36,7 +36,7 @@ fn assert_reads<R: Read, A: Abort>(
 
 const INPUT: &[u8] = b"GET /\r\n\r\na\rb\r\nrest";
 
-// It is read by 19 calls of one byte and one at the end, of which one is interrupted.
+// It has 18 bytes. With two reads at the end and one that is interrupted there are at most 21.
 #[test]
 fn slow_and_interrupted_reads(rt: HostRuntime) -> Result<(), Fail> {
     read_frames_law();

@@ -5,7 +5,7 @@ use bytes_utils::Str;
 use std::process::Abort;
 use std::test::Fail;
 
-/// What a call tells: a record, one that is too long, or the bytes of one that isn't UTF-8.
+/// What a call reports: a record, one that is too long, or the bytes of one that isn't UTF-8.
 #[derive(Clone, Copy, Debug)]
 enum Told {
     Record(&'static str),

@@ -4,7 +4,7 @@ use bytes::Bytes;
 use std::process::Abort;
 use std::test::Fail;
 
-// A body is waited for, may hold an empty line, and is of as many segments as it came in.
+// The body is waited for. It may hold an empty line, and has the segments in which it came.
 #[test]
 fn a_head_and_its_body(rt: HostRuntime) -> Result<(), Fail> {
     let alloc = rt.alloc();

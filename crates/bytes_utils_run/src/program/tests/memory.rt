@@ -35,8 +35,8 @@ fn whole_replies(written: &[u8]) -> Option<usize> {
     }
 }
 
-/// Runs the program on calls that come in small pieces, and tells how much of the replies it has
-/// written.
+/// Runs the program on calls that come in small pieces, and returns how many bytes of the replies it
+/// has written.
 fn run(alloc: Global) -> (Result<(), Fault>, Option<usize>) {
     let mut reader = SlowReader::new(CALLS, 7, 0);
     let mut place = [0; 80];
