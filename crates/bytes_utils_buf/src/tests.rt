@@ -3,10 +3,8 @@
 mod accept;
 mod buf;
 mod caller;
-mod copies;
 mod fixtures;
 mod front;
-mod join;
 mod looks;
 mod many;
 mod memory;

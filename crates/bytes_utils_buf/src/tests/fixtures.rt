@@ -5,6 +5,7 @@ use crate::parts::{BufParts, CopyRefused};
 use crate::segmented::{SegmentedBuf, SegmentedSlice};
 use bytes::{Buf, Bytes};
 use std::alloc::{AllocError, Global};
+use std::fmt;
 use std::io::Read;
 use std::process::Abort;
 use std::test::Fail;
@@ -35,22 +36,29 @@ pub(super) fn slices_of(
     Ok(bufs)
 }
 
+/// A buffer, and another that has its storage alone once the first is dropped.
+pub(super) fn shared(alloc: Global) -> Result<(Bytes, Bytes), Fail> {
+    let bytes = Bytes::copy_from_slice(alloc, JOINED.as_bytes())?;
+    let other = bytes.clone()?;
+    Ok((bytes, other))
+}
+
 /// A thousand buffers of one byte each.
 pub(super) fn thousand(alloc: Global) -> Result<Vec<Asked>, AllocError> {
     let mut bufs = Vec::with_capacity(alloc, 1000)?;
     for _ in 0..1000 {
-        bufs.push(Asked::new(Bytes::from_static(b"x")))?;
+        bufs.push(Asked::of("x"))?;
     }
     Ok(bufs)
-}
-
-pub(super) fn held(alloc: Global, texts: &[&'static str]) -> Result<SegmentedBuf<Bytes>, Fail> {
-    Ok(SegmentedBuf::from_vec(alloc, bytes_of(alloc, texts)?)?)
 }
 
 /// Buffers of any type, held by one.
 pub(super) fn gather<B: Buf + Drop>(alloc: Global, bufs: Vec<B>) -> Result<SegmentedBuf<B>, Fail> {
     Ok(SegmentedBuf::from_vec(alloc, bufs).ok().ok_or("too long")?)
+}
+
+pub(super) fn held(alloc: Global, texts: &[&'static str]) -> Result<SegmentedBuf<Bytes>, Fail> {
+    gather(alloc, bytes_of(alloc, texts)?)
 }
 
 /// Buffers of any type, held by one that takes them in turn.
@@ -88,18 +96,6 @@ pub(super) fn extend<B: Buf + Drop>(buf: &mut SegmentedBuf<B>, bufs: Vec<B>) -> 
     Ok(buf.extend(bufs.into_iter()).ok().ok_or("refused")?)
 }
 
-/// A `SegmentedBuf` for each of these lists.
-pub(super) fn held_each(
-    alloc: Global,
-    lists: &[&[&'static str]],
-) -> Result<Vec<SegmentedBuf<Bytes>>, Fail> {
-    let mut bufs = Vec::new(alloc);
-    for list in lists {
-        bufs.push(held(alloc, list)?)?;
-    }
-    Ok(bufs)
-}
-
 pub(super) fn lend<'a, B: Buf>(rt: &impl Abort, bufs: &'a mut [B]) -> SegmentedSlice<'a, B> {
     assert!(rt; SegmentedSlice::total(bufs).is_some());
     SegmentedSlice::new(bufs)
@@ -109,18 +105,6 @@ pub(super) fn lend<'a, B: Buf>(rt: &impl Abort, bufs: &'a mut [B]) -> SegmentedS
 pub(super) fn skip<B: Buf>(rt: &impl Abort, buf: &mut B, cnt: usize) {
     assert!(rt; cnt <= buf.remaining());
     buf.advance(cnt);
-}
-
-/// As `skip`, by the call of the type.
-pub(super) fn skip_held<B: Buf + Drop>(rt: &impl Abort, buf: &mut SegmentedBuf<B>, cnt: usize) {
-    assert!(rt; cnt <= buf.remaining());
-    buf.advance(cnt);
-}
-
-/// As `skip`, by the call of the type.
-pub(super) fn skip_lent<B: Buf>(rt: &impl Abort, all: &mut SegmentedSlice<'_, B>, cnt: usize) {
-    assert!(rt; cnt <= all.remaining());
-    all.advance(cnt);
 }
 
 /// Takes the first bytes out of a buffer of any type.
@@ -134,37 +118,23 @@ pub(super) fn take_out<B: BufParts>(
     buf.copy_out(alloc, len)
 }
 
-/// As `take_out`, by the call of the type.
-pub(super) fn take_held<B: BufParts + Drop>(
-    rt: &impl Abort,
-    alloc: Global,
-    buf: &mut SegmentedBuf<B>,
-    len: usize,
-) -> Result<Bytes, CopyRefused> {
-    assert!(rt; len <= buf.remaining());
-    buf.copy_to_bytes(alloc, len)
-}
-
-/// As `take_out`, by the call of the type.
-pub(super) fn take_lent<B: BufParts>(
-    rt: &impl Abort,
-    alloc: Global,
-    all: &mut SegmentedSlice<'_, B>,
-    len: usize,
-) -> Result<Bytes, CopyRefused> {
-    assert!(rt; len <= all.remaining());
-    all.copy_to_bytes(alloc, len)
-}
-
 pub(super) fn assert_bytes(rt: &impl Abort, found: &[u8], wanted: &str) {
     assert!(rt; found == wanted.as_bytes(), "these are not {wanted}");
 }
 
 pub(super) fn assert_hold(rt: &impl Abort, bufs: &[Bytes], texts: &[&'static str]) {
-    assert_eq!(rt; bufs.len(), texts.len());
-    for (buf, text) in bufs.iter().zip(texts) {
-        assert_bytes(rt, buf.as_slice(), text);
+    assert!(rt; bufs.len() == texts.len());
+    for place in 0..texts.len() {
+        assert_bytes(rt, bufs[place].as_slice(), texts[place]);
     }
+}
+
+/// The block of `other`, which went out whole, has one more owner and no third one. A copy of it
+/// would have been a block of its own.
+pub(super) fn assert_moved(rt: &impl Abort, front: Bytes, other: &Bytes) {
+    assert!(rt; front == *other && !other.is_unique());
+    drop(front);
+    assert!(rt; other.is_unique());
 }
 
 /// So many bytes are unread, and this is the chunk in front.
@@ -182,31 +152,41 @@ pub(super) fn assert_shows<B: Buf + Drop>(rt: &impl Abort, buf: &SegmentedBuf<B>
     assert_reads(rt, buf, left, chunk);
 }
 
-/// An empty buffer reads as nothing, also after calls on no bytes.
-pub(super) fn reads_nothing<B: BufParts + Drop>(
+/// The debug text of a value of any type begins with this.
+pub(super) fn assert_debugs<T: fmt::Debug>(
     rt: &impl Abort,
     alloc: Global,
-    mut buf: B,
+    value: &T,
+    front: &str,
 ) -> Result<(), Fail> {
+    let text = format!(in alloc; "{value:?}")?;
+    assert!(rt; text.as_str().starts_with(front), "no debug text: {front}");
+    Ok(())
+}
+
+/// The next bytes of a buffer of any type are these, and go.
+pub(super) fn gives<B: BufParts>(
+    rt: &impl Abort,
+    alloc: Global,
+    buf: &mut B,
+    piece: &str,
+) -> Result<(), CopyRefused> {
+    let copy = take_out(rt, alloc, buf, piece.len())?;
+    assert_bytes(rt, copy.as_slice(), piece);
+    Ok(())
+}
+
+/// An empty buffer reads as nothing, also after calls on no bytes.
+pub(super) fn reads_nothing<B: Buf + Drop>(rt: &impl Abort, mut buf: B) -> Result<(), Fail> {
     assert_reads(rt, &buf, 0, "");
-    takes_nothing(rt, alloc, &mut buf)?;
+    buf.copy_to_slice(&mut [0; 0]);
+    skip(rt, &mut buf, 0);
     assert_reads(rt, &buf, 0, "");
     assert_eq!(rt; buf.reader().read(&mut [0; 10])?, 0);
     Ok(())
 }
 
-fn takes_nothing<B: BufParts>(
-    rt: &impl Abort,
-    alloc: Global,
-    buf: &mut B,
-) -> Result<(), CopyRefused> {
-    buf.copy_to_slice(&mut [0; 0]);
-    skip(rt, buf, 0);
-    assert_eq!(rt; take_out(rt, alloc, buf, 0)?.len(), 0);
-    Ok(())
-}
-
-/// The first `places` places of a table are filled with these slices, and no others.
+/// The first `places` places of a table are filled with these slices.
 pub(super) fn assert_fills<B: BufParts>(
     rt: &impl Abort,
     buf: &B,
@@ -215,18 +195,14 @@ pub(super) fn assert_fills<B: BufParts>(
 ) {
     let mut table: [&[u8]; 10] = [b"-"; 10];
     assert!(rt; places <= 10);
-    assert_eq!(rt; buf.chunks_into(&mut table[..places]), slices.len());
+    let filled = buf.chunks_into(&mut table[..places]);
+    assert!(rt; filled == slices.len() && filled <= 10);
     assert_table(rt, &table, slices);
 }
 
 fn assert_table(rt: &impl Abort, table: &[&[u8]], slices: &[&'static str]) {
     assert!(rt; slices.len() <= table.len());
-    for (place, slice) in table.iter().zip(slices) {
-        assert_bytes(rt, *place, slice);
+    for place in 0..slices.len() {
+        assert_bytes(rt, table[place], slices[place]);
     }
-    assert!(rt;
-        table[slices.len()..]
-            .iter()
-            .all(|place| *place == b"-".as_slice())
-    );
 }

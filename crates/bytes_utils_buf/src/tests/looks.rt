@@ -1,11 +1,12 @@
 //! How often buffers are advanced and looked at.
-use super::fixtures::{assert_reads, extend, gather, hold, lend, skip, take_out, thousand};
+use super::fixtures::{extend, gather, lend, push, skip, take_out, thousand};
 use super::odd::Asked;
-use crate::parts::BufParts;
-use crate::segmented::SegmentedBuf;
-use bytes::{Buf, Bytes};
+use crate::parts::{BufParts, CopyRefused};
+use crate::segmented::{SegmentedBuf, SegmentedSlice};
+use crate::whole::BufWhole;
+use crate::{Reason, Refused};
+use bytes::Buf;
 use std::alloc::Global;
-use std::collections::VecDeque;
 use std::process::Abort;
 use std::test::Fail;
 
@@ -22,14 +23,19 @@ fn walks<B: Buf>(rt: &impl Abort, buf: &mut B, cnt: usize) {
     }
 }
 
+// The same by the call of the type.
+fn walks_lent<B: Buf>(rt: &impl Abort, all: &mut SegmentedSlice<'_, B>, cnt: usize) {
+    for _ in 0..cnt {
+        assert!(rt; all.remaining() >= 1);
+        all.advance(1);
+    }
+}
+
 #[test]
 fn walks_once(rt: HostRuntime) -> Result<(), Fail> {
     let mut bufs = thousand(rt.alloc())?;
     let mut all = lend(&rt, &mut bufs);
-    for _ in 0..1000 {
-        assert!(rt; all.remaining() >= 1);
-        all.advance(1);
-    }
+    walks_lent(&rt, &mut all, 1000);
     assert_asked_seldom(&rt, all.into_lent());
     Ok(())
 }
@@ -48,27 +54,29 @@ fn walks_together(rt: HostRuntime) -> Result<(), Fail> {
     let mut bufs = thousand(rt.alloc())?;
     let mut all = lend(&rt, &mut bufs);
     skip(&rt, &mut all, 1000);
-    assert_reads(&rt, &all, 0, "");
-    for buf in all.into_lent().iter() {
-        assert_eq!(rt; buf.advanced, 1);
-    }
+    assert_asked_seldom(&rt, all.into_lent());
     Ok(())
 }
 
+// The same by the call of the type.
+fn walks_held<B: Buf + Drop>(rt: &impl Abort, buf: &mut SegmentedBuf<B>, cnt: usize) {
+    for _ in 0..cnt {
+        assert!(rt; buf.remaining() >= 1);
+        buf.advance(1);
+    }
+}
+
 // The last buffer alone is left.
-fn assert_last(rt: &impl Abort, left: &VecDeque<Asked>) {
-    assert_eq!(rt; left.len(), 1);
+fn assert_last(rt: &impl Abort, left: &[Asked]) {
+    assert!(rt; left.len() == 1);
     assert!(rt; left[0].advanced <= 2 && left[0].looks.get() <= 32);
 }
 
 #[test]
 fn walks_held_once(rt: HostRuntime) -> Result<(), Fail> {
     let mut buf = gather(rt.alloc(), thousand(rt.alloc())?)?;
-    for _ in 0..999 {
-        assert!(rt; buf.remaining() >= 1);
-        buf.advance(1);
-    }
-    assert_last(&rt, &buf.into_inner());
+    walks_held(&rt, &mut buf, 999);
+    assert_last(&rt, &buf.into_inner().into_vec());
     Ok(())
 }
 
@@ -76,24 +84,22 @@ fn walks_held_once(rt: HostRuntime) -> Result<(), Fail> {
 fn walks_held_once_by_the_trait(rt: HostRuntime) -> Result<(), Fail> {
     let mut buf = gather(rt.alloc(), thousand(rt.alloc())?)?;
     walks(&rt, &mut buf, 999);
-    assert_last(&rt, &buf.into_inner());
+    assert_last(&rt, &buf.into_inner().into_vec());
     Ok(())
 }
 
-// Buffers of one byte each, which come in one after another.
-fn pushed(rt: &impl Abort, alloc: Global, count: usize) -> Result<SegmentedBuf<Asked>, Fail> {
+// Twenty buffers of one byte each, which come in one after another.
+fn twenty(rt: &impl Abort, alloc: Global) -> Result<SegmentedBuf<Asked>, Refused<Asked>> {
     let mut buf = SegmentedBuf::new(alloc);
-    for _ in 0..count {
-        let asked = Asked::new(Bytes::from_static(b"x"));
-        assert!(rt; buf.fits(asked.bytes.len()));
-        buf.push(asked)?;
+    for _ in 0..20 {
+        push(rt, &mut buf, Asked::of("x"))?;
     }
     Ok(buf)
 }
 
-// None of these behind the first few was advanced or copied from. Each was looked at when it came
-// in, and hardly again.
-fn assert_untouched(rt: &impl Abort, bufs: &[Asked], few: usize) {
+/// None of these behind the first few was advanced or copied from. Each was looked at when it came
+/// in, and hardly again.
+pub(super) fn assert_untouched(rt: &impl Abort, bufs: &[Asked], few: usize) {
     for i in few..bufs.len() {
         assert!(rt; bufs[i].advanced == 0 && bufs[i].looks.get() <= 3);
     }
@@ -101,8 +107,7 @@ fn assert_untouched(rt: &impl Abort, bufs: &[Asked], few: usize) {
 
 #[test]
 fn push_looks_at_no_segment(rt: HostRuntime) -> Result<(), Fail> {
-    let left = pushed(&rt, rt.alloc(), 20)?.into_inner().into_vec();
-    assert_eq!(rt; left.len(), 20);
+    let left = twenty(&rt, rt.alloc())?.into_inner().into_vec();
     assert_untouched(&rt, &left, 0);
     Ok(())
 }
@@ -115,38 +120,26 @@ fn extend_looks_at_no_segment(rt: HostRuntime) -> Result<(), Fail> {
     Ok(())
 }
 
-const TEN: &[usize] = &[1, 1, 2, 1, 3, 1, 1];
-
-// Ten bytes are copied. The buffer behind them may be looked at, to see that it isn't empty.
-fn copies<B: BufParts>(rt: &impl Abort, alloc: Global, buf: &mut B) -> Result<(), Fail> {
-    for &len in TEN {
+fn copies<B: BufParts>(
+    rt: &impl Abort,
+    alloc: Global,
+    buf: &mut B,
+    lens: &[usize],
+) -> Result<(), CopyRefused> {
+    for &len in lens {
         let _ = take_out(rt, alloc, buf, len)?;
     }
     Ok(())
 }
 
+/// Ten bytes are copied. The buffer behind them may be looked at, to see that it isn't empty.
+const TEN: &[usize] = &[1, 1, 2, 1, 3, 1, 1];
+
 #[test]
 fn copy_looks_at_no_more(rt: HostRuntime) -> Result<(), Fail> {
-    let mut buf = pushed(&rt, rt.alloc(), 20)?;
-    copies(&rt, rt.alloc(), &mut buf)?;
-    let left = buf.into_inner().into_vec();
-    assert_eq!(rt; left.len(), 10);
-    assert_untouched(&rt, &left, 1);
-    Ok(())
-}
-
-// What holds the first ten bytes is looked at, and none is advanced.
-#[test]
-fn first_looks_at_no_more(rt: HostRuntime) -> Result<(), Fail> {
-    let buf = pushed(&rt, rt.alloc(), 20)?;
-    assert!(rt; buf.remaining() >= 10);
-    assert_eq!(rt; buf.peek(&mut [0; 10]), 10);
-    assert!(rt; buf.starts_with(b"xxxxxxxxxx") && !buf.starts_with(b"xy"));
-    assert_eq!(rt; buf.copy_front(rt.alloc(), 10)?.len(), 10);
-    assert_eq!(rt; buf.first(rt.alloc(), 10)?.segments(), 10);
-    let left = buf.into_inner().into_vec();
-    assert!(rt; left.iter().all(|buf| buf.advanced == 0));
-    assert_untouched(&rt, &left, 10);
+    let mut buf = twenty(&rt, rt.alloc())?;
+    copies(&rt, rt.alloc(), &mut buf, TEN)?;
+    assert_untouched(&rt, &buf.into_inner().into_vec(), 1);
     Ok(())
 }
 
@@ -154,20 +147,55 @@ fn first_looks_at_no_more(rt: HostRuntime) -> Result<(), Fail> {
 fn lent_copy_looks_at_no_more(rt: HostRuntime) -> Result<(), Fail> {
     let mut bufs = thousand(rt.alloc())?;
     let mut all = lend(&rt, &mut bufs);
-    copies(&rt, rt.alloc(), &mut all)?;
-    assert_eq!(rt; all.remaining(), 990);
+    copies(&rt, rt.alloc(), &mut all, TEN)?;
     assert_untouched(&rt, all.into_lent(), 11);
     Ok(())
 }
 
-// The buffer in front is advanced once, however short the way.
+// Ten bytes are seen and shared.
+fn sees_ten<B: BufWhole + Drop>(
+    rt: &impl Abort,
+    alloc: Global,
+    buf: &SegmentedBuf<B>,
+) -> Result<(), Reason> {
+    assert!(rt; buf.peek(&mut [0; 10]) == 10 && buf.starts_with(b"xxxxxxxxxx"));
+    assert!(rt; buf.remaining() >= 10);
+    let _ = buf.copy_front(alloc, 10)?;
+    let _ = buf.first(alloc, 10)?;
+    Ok(())
+}
+
 #[test]
-fn trait_advances_once(rt: HostRuntime) -> Result<(), Fail> {
-    let asked = Asked::new(Bytes::from_static(b"ab"));
-    let mut buf = hold(&rt, rt.alloc(), asked)?;
+fn first_looks_at_no_more(rt: HostRuntime) -> Result<(), Fail> {
+    let buf = twenty(&rt, rt.alloc())?;
+    sees_ten(&rt, rt.alloc(), &buf)?;
+    assert_untouched(&rt, &buf.into_inner().into_vec(), 10);
+    Ok(())
+}
+
+/// Two buffers, the first of three bytes and the second of six.
+fn two(alloc: Global) -> Result<Vec<Asked>, Fail> {
+    Ok(vec![in alloc; Asked::of("abc"), Asked::of("defghi")]?)
+}
+
+// A copy takes a chunk whole, by one call. No call for no bytes comes before it.
+#[test]
+fn copy_advances_once(rt: HostRuntime) -> Result<(), Fail> {
+    let mut bufs = two(rt.alloc())?;
+    let mut all = lend(&rt, &mut bufs);
+    copies(&rt, rt.alloc(), &mut all, &[1, 7])?;
+    let left = all.into_lent();
+    assert!(rt; left.len() == 2 && left[0].advanced == 2 && left[1].advanced == 1);
+    Ok(())
+}
+
+// By a copy across the end of the first, by one of the second alone, and by a skip.
+#[test]
+fn held_are_advanced_once_a_call(rt: HostRuntime) -> Result<(), Fail> {
+    let mut buf = gather(rt.alloc(), two(rt.alloc())?)?;
+    copies(&rt, rt.alloc(), &mut buf, &[5, 1])?;
     skip(&rt, &mut buf, 1);
     let left = buf.into_inner();
-    assert_eq!(rt; left.len(), 1);
-    assert_eq!(rt; left[0].advanced, 1);
+    assert!(rt; left.len() == 1 && left[0].advanced == 3);
     Ok(())
 }

@@ -7,7 +7,7 @@ mod queue;
 use super::fixtures;
 use super::fixtures::{
     FOUR, JOINED, assert_bytes, assert_fills, assert_reads, bytes_of, collect, gather, lend, skip,
-    slices_of, take_held, take_lent, take_out,
+    slices_of, take_out,
 };
 use crate::parts::{BufParts, CopyRefused};
 use crate::segmented::{SegmentedBuf, SegmentedSlice};
@@ -28,6 +28,11 @@ fn letters(alloc: Global) -> Result<Vec<Bytes>, AllocError> {
 fn tell_refused(rt: &impl Print, call: &str) -> Result<(), Fail> {
     println!(rt; "refused {call}")?;
     Ok(())
+}
+
+fn tell(rt: &(impl Abort + Print), call: &str, reason: Reason) -> Result<(), Fail> {
+    assert!(rt; reason == Reason::OutOfMemory);
+    tell_refused(rt, call)
 }
 
 // The first `held` letters are held.
@@ -128,8 +133,7 @@ fn clones(
     match buf.try_clone() {
         Ok(clone) => Ok(clone),
         Err(reason) => {
-            tell_refused(rt, "SegmentedBuf::try_clone")?;
-            assert_eq!(rt; reason, Reason::OutOfMemory);
+            tell(rt, "SegmentedBuf::try_clone", reason)?;
             Ok(buf.try_clone()?)
         }
     }
@@ -212,15 +216,20 @@ fn copy_out_of_slices(rt: HostRuntime) -> Result<(), Fail> {
 fn copies_held<B: BufParts + Drop>(
     rt: &(impl Abort + Print),
     alloc: Global,
-    bufs: Vec<B>,
+    buf: &mut SegmentedBuf<B>,
 ) -> Result<(), Fail> {
-    let mut buf = gather(alloc, bufs)?;
-    let call = "SegmentedBuf::copy_to_bytes";
     let mut rest = JOINED.as_bytes();
     for &len in PIECES {
         let len = buf.remaining().min(len);
-        let copy = take_held(rt, alloc, &mut buf, len);
-        rest = behind(rt, call, copy, len, buf.remaining(), rest)?;
+        let copy = buf.copy_to_bytes(alloc, len);
+        rest = behind(
+            rt,
+            "SegmentedBuf::copy_to_bytes",
+            copy,
+            len,
+            buf.remaining(),
+            rest,
+        )?;
     }
     assert!(rt; rest.is_empty());
     Ok(())
@@ -228,44 +237,17 @@ fn copies_held<B: BufParts + Drop>(
 
 #[test]
 fn copy_to_bytes_of_held(rt: HostRuntime) -> Result<(), Fail> {
-    if let Ok(bufs) = bytes_of(rt.alloc(), &FOUR) {
-        copies_held(&rt, rt.alloc(), bufs)?;
-    }
     if let Ok(bufs) = slices_of(rt.alloc(), &FOUR) {
-        copies_held(&rt, rt.alloc(), bufs)?;
+        copies_held(&rt, rt.alloc(), &mut gather(rt.alloc(), bufs)?)?;
     }
     Ok(())
-}
-
-fn copies_out_held<B: BufParts + Drop>(
-    rt: &(impl Abort + Print),
-    alloc: Global,
-    bufs: Vec<B>,
-) -> Result<(), Fail> {
-    let mut buf = gather(alloc, bufs)?;
-    copies_out(rt, alloc, "copy_out of SegmentedBuf", &mut buf)
 }
 
 #[test]
 fn copy_out_of_held(rt: HostRuntime) -> Result<(), Fail> {
-    if let Ok(bufs) = bytes_of(rt.alloc(), &FOUR) {
-        copies_out_held(&rt, rt.alloc(), bufs)?;
-    }
     if let Ok(bufs) = slices_of(rt.alloc(), &FOUR) {
-        copies_out_held(&rt, rt.alloc(), bufs)?;
-    }
-    Ok(())
-}
-
-// A buffer that is alone in another is asked itself. What its refusal took is gone from both.
-#[test]
-fn copy_out_of_nested(rt: HostRuntime) -> Result<(), Fail> {
-    let Ok(bufs) = bytes_of(rt.alloc(), &FOUR) else {
-        return Ok(());
-    };
-    let inner = gather(rt.alloc(), bufs)?;
-    if let Ok(outer) = vec![in rt.alloc(); inner] {
-        copies_out_held(&rt, rt.alloc(), outer)?;
+        let mut buf = gather(rt.alloc(), bufs)?;
+        copies_out(&rt, rt.alloc(), "copy_out of SegmentedBuf", &mut buf)?;
     }
     Ok(())
 }
@@ -274,15 +256,20 @@ fn copy_out_of_nested(rt: HostRuntime) -> Result<(), Fail> {
 fn copies_lent<B: BufParts>(
     rt: &(impl Abort + Print),
     alloc: Global,
-    bufs: &mut [B],
+    all: &mut SegmentedSlice<'_, B>,
 ) -> Result<(), Fail> {
-    let mut all = lend(rt, bufs);
-    let call = "SegmentedSlice::copy_to_bytes";
     let mut rest = JOINED.as_bytes();
     for &len in PIECES {
         let len = all.remaining().min(len);
-        let copy = take_lent(rt, alloc, &mut all, len);
-        rest = behind(rt, call, copy, len, all.remaining(), rest)?;
+        let copy = all.copy_to_bytes(alloc, len);
+        rest = behind(
+            rt,
+            "SegmentedSlice::copy_to_bytes",
+            copy,
+            len,
+            all.remaining(),
+            rest,
+        )?;
     }
     assert!(rt; rest.is_empty());
     Ok(())
@@ -290,32 +277,30 @@ fn copies_lent<B: BufParts>(
 
 #[test]
 fn copy_to_bytes_of_lent(rt: HostRuntime) -> Result<(), Fail> {
-    if let Ok(mut bufs) = bytes_of(rt.alloc(), &FOUR) {
-        copies_lent(&rt, rt.alloc(), &mut bufs)?;
-    }
     if let Ok(mut bufs) = slices_of(rt.alloc(), &FOUR) {
-        copies_lent(&rt, rt.alloc(), &mut bufs)?;
+        copies_lent(&rt, rt.alloc(), &mut lend(&rt, &mut bufs))?;
     }
     Ok(())
 }
 
-fn copies_out_lent<B: BufParts>(
-    rt: &(impl Abort + Print),
-    alloc: Global,
-    bufs: &mut [B],
-) -> Result<(), Fail> {
-    let mut all = lend(rt, bufs);
-    copies_out(rt, alloc, "copy_out of SegmentedSlice", &mut all)
-}
-
 #[test]
 fn copy_out_of_lent(rt: HostRuntime) -> Result<(), Fail> {
-    if let Ok(mut bufs) = bytes_of(rt.alloc(), &FOUR) {
-        copies_out_lent(&rt, rt.alloc(), &mut bufs)?;
-    }
     if let Ok(mut bufs) = slices_of(rt.alloc(), &FOUR) {
-        copies_out_lent(&rt, rt.alloc(), &mut bufs)?;
+        let mut all = lend(&rt, &mut bufs);
+        copies_out(&rt, rt.alloc(), "copy_out of SegmentedSlice", &mut all)?;
     }
+    Ok(())
+}
+
+// An empty buffer comes in, and bytes are skipped.
+fn passes<B: Buf + Drop>(
+    rt: &impl Abort,
+    buf: &mut SegmentedBuf<B>,
+    empty: B,
+    cnt: usize,
+) -> Result<(), Fail> {
+    fixtures::push(rt, buf, empty).ok().ok_or("refused")?;
+    skip(rt, buf, cnt);
     Ok(())
 }
 
@@ -324,8 +309,7 @@ fn copy_out_of_lent(rt: HostRuntime) -> Result<(), Fail> {
 fn no_memory_needed(rt: HostRuntime) -> Result<(), Fail> {
     let mut buf = SegmentedBuf::new(rt.alloc());
     assert!(rt; buf.fits(usize::MAX));
-    buf.push(Bytes::new())?;
-    buf.advance(0);
+    passes(&rt, &mut buf, Bytes::new(), 0)?;
     assert_holds(&rt, &buf, 0);
     assert!(rt; buf.chunk().is_empty() && buf.into_inner().capacity() == 0);
     Ok(())
@@ -344,12 +328,9 @@ fn no_memory_needed_by_deques(rt: HostRuntime) -> Result<(), Fail> {
     let Ok(letters) = letters(rt.alloc()) else {
         return Ok(());
     };
-    let mut buf = SegmentedBuf::from_deque(VecDeque::from_vec(letters))
-        .ok()
-        .ok_or("too long")?;
-    fixtures::push(&rt, &mut buf, Bytes::new())?;
-    assert_holds(&rt, &buf, 6);
-    skip(&rt, &mut buf, 5);
+    let held = SegmentedBuf::from_deque(VecDeque::from_vec(letters));
+    let mut buf = held.ok().ok_or("too long")?;
+    passes(&rt, &mut buf, Bytes::new(), 5)?;
     assert_reads(&rt, &buf, 1, "f");
     Ok(())
 }

@@ -1,5 +1,5 @@
 //! What becomes of buffers that are passed, read out or empty.
-use super::fixtures::{JOINED, extend, gather, hold, lend, push, skip, take_out};
+use super::fixtures::{hold, lend, shared, skip, take_out};
 use super::odd::Asked;
 use bytes::{Buf, Bytes};
 use std::alloc::{AllocError, Global};
@@ -17,20 +17,14 @@ fn numbered(alloc: Global, texts: &[&'static str]) -> Result<Vec<Asked>, AllocEr
     Ok(bufs)
 }
 
+fn assert_in_order(rt: &impl Abort, bufs: &[Asked]) {
+    for place in 0..bufs.len() {
+        assert!(rt; bufs[place].looks.get() / 1000 == place);
+    }
+}
+
 /// Buffers, how many bytes are skipped, and how many are copied then.
 type Row = (&'static [&'static str], usize, usize);
-
-fn come_back(rt: &impl Abort, alloc: Global, row: Row) -> Result<(), Fail> {
-    let (texts, cnt, len) = row;
-    let mut bufs = numbered(alloc, texts)?;
-    let mut all = lend(rt, &mut bufs);
-    skip(rt, &mut all, cnt);
-    let _ = take_out(rt, alloc, &mut all, len)?;
-    for (place, buf) in all.into_lent().iter().enumerate() {
-        assert_eq!(rt; buf.looks.get() / 1000, place);
-    }
-    Ok(())
-}
 
 const ROWS: &[Row] = &[
     (&["a", "b", "c", "d"], 3, 0),
@@ -39,24 +33,26 @@ const ROWS: &[Row] = &[
     (&["a", "", "c", "d"], 0, 1),
 ];
 
+fn come_back(rt: &impl Abort, alloc: Global, row: &Row) -> Result<(), Fail> {
+    let mut bufs = numbered(alloc, row.0)?;
+    let mut all = lend(rt, &mut bufs);
+    skip(rt, &mut all, row.1);
+    let _ = take_out(rt, alloc, &mut all, row.2)?;
+    assert_in_order(rt, all.into_lent());
+    Ok(())
+}
+
 #[test]
 fn lent_come_back_in_their_order(rt: HostRuntime) -> Result<(), Fail> {
     for row in ROWS {
-        come_back(&rt, rt.alloc(), *row)?;
+        come_back(&rt, rt.alloc(), row)?;
     }
     Ok(())
 }
 
-// A buffer, and another that has its storage alone once the first is dropped.
-fn sharing(alloc: Global) -> Result<(Bytes, Bytes), Fail> {
-    let bytes = Bytes::copy_from_slice(alloc, JOINED.as_bytes())?;
-    let other = bytes.clone()?;
-    Ok((bytes, other))
-}
-
 #[test]
 fn passed_segments_are_dropped(rt: HostRuntime) -> Result<(), Fail> {
-    let (bytes, other) = sharing(rt.alloc())?;
+    let (bytes, other) = shared(rt.alloc())?;
     let mut held = hold(&rt, rt.alloc(), bytes)?;
     skip(&rt, &mut held, 10);
     assert!(rt; !other.is_unique());
@@ -65,26 +61,9 @@ fn passed_segments_are_dropped(rt: HostRuntime) -> Result<(), Fail> {
     Ok(())
 }
 
-// What the copy shares is dropped with it.
-fn drops_copied(rt: &impl Abort, alloc: Global, len: usize) -> Result<(), Fail> {
-    let (bytes, other) = sharing(alloc)?;
-    let mut held = hold(rt, alloc, bytes)?;
-    push(rt, &mut held, Bytes::from_static(b"xy"))?;
-    let _ = take_out(rt, alloc, &mut held, len)?;
-    assert_eq!(rt; held.segments(), 1);
-    assert!(rt; other.is_unique());
-    Ok(())
-}
-
-#[test]
-fn copied_segments_are_dropped(rt: HostRuntime) -> Result<(), Fail> {
-    drops_copied(&rt, rt.alloc(), 11)?;
-    drops_copied(&rt, rt.alloc(), 12)
-}
-
-// As `sharing`, and the first is read out.
+// A buffer that is read out, and another that has its storage alone once the first is dropped.
 fn read_out(rt: &impl Abort, alloc: Global) -> Result<(Bytes, Bytes), Fail> {
-    let (mut bytes, other) = sharing(alloc)?;
+    let (mut bytes, other) = shared(alloc)?;
     let len = bytes.remaining();
     skip(rt, &mut bytes, len);
     assert!(rt; !other.is_unique());
@@ -93,15 +72,9 @@ fn read_out(rt: &impl Abort, alloc: Global) -> Result<(Bytes, Bytes), Fail> {
 
 #[test]
 fn empty_segments_are_dropped(rt: HostRuntime) -> Result<(), Fail> {
-    let alloc = rt.alloc();
-    let (empty, pushed) = read_out(&rt, alloc)?;
-    let mut held = hold(&rt, alloc, empty)?;
-    let (empty, extended) = read_out(&rt, alloc)?;
-    extend(&mut held, vec![in alloc; empty]?)?;
-    let (empty, gathered) = read_out(&rt, alloc)?;
-    let all = gather(alloc, vec![in alloc; empty]?)?;
-    assert!(rt; pushed.is_unique() && extended.is_unique() && gathered.is_unique());
-    assert!(rt; held.segments() == 0 && all.segments() == 0);
+    let (empty, other) = read_out(&rt, rt.alloc())?;
+    let held = hold(&rt, rt.alloc(), empty)?;
+    assert!(rt; held.segments() == 0 && other.is_unique());
     Ok(())
 }
 
@@ -110,8 +83,13 @@ fn passes<B: Buf + Drop>(rt: &impl Abort, alloc: Global, buf: B) -> Result<(), F
     let mut held = hold(rt, alloc, buf)?;
     let len = held.remaining();
     skip(rt, &mut held, len);
-    assert_eq!(rt; held.segments(), 0);
     Ok(())
+}
+
+fn assert_not_advanced(rt: &impl Abort, bufs: &[Asked]) {
+    for buf in bufs {
+        assert!(rt; buf.advanced == 0 && buf.bytes.len() == 2);
+    }
 }
 
 // It is dropped as it is: the buffers that it lent have all of their bytes.
@@ -119,8 +97,6 @@ fn passes<B: Buf + Drop>(rt: &impl Abort, alloc: Global, buf: B) -> Result<(), F
 fn passed_segments_are_not_advanced(rt: HostRuntime) -> Result<(), Fail> {
     let mut bufs = numbered(rt.alloc(), &["ab", "cd"])?;
     passes(&rt, rt.alloc(), lend(&rt, &mut bufs))?;
-    for buf in bufs.iter() {
-        assert!(rt; buf.advanced == 0 && buf.bytes.len() == 2);
-    }
+    assert_not_advanced(&rt, &bufs);
     Ok(())
 }

@@ -1,7 +1,7 @@
 //! Reading a `SegmentedSlice`.
 use super::fixtures::{
-    FIVE, assert_bytes, assert_hold, assert_reads, bytes_of, lend, reads_nothing, skip, skip_lent,
-    slices_of, take_lent,
+    FIVE, assert_bytes, assert_debugs, assert_hold, assert_reads, bytes_of, lend, reads_nothing,
+    skip, slices_of,
 };
 use super::odd::Zeros;
 use crate::segmented::SegmentedSlice;
@@ -15,78 +15,43 @@ use std::test::Fail;
 /// buffers hold.
 type Left = (usize, &'static str, &'static [&'static str]);
 
-// Skips bytes of `FIVE` by the type's own call, until the borrow ends.
-fn skips_itself(rt: &impl Abort, alloc: Global, cnt: usize, left: Left) -> Result<(), Fail> {
-    let (left, chunk, texts) = left;
+// Skips bytes of `FIVE`, until the borrow ends.
+fn skips(rt: &impl Abort, alloc: Global, cnt: usize, left: &Left) -> Result<(), Fail> {
     let mut bufs = bytes_of(alloc, &FIVE)?;
     {
         let mut all = lend(rt, &mut bufs);
-        skip_lent(rt, &mut all, cnt);
-        assert_reads(rt, &all, left, chunk);
+        skip(rt, &mut all, cnt);
+        assert_reads(rt, &all, left.0, left.1);
     }
-    assert_hold(rt, &bufs, texts);
+    assert_hold(rt, &bufs, left.2);
     Ok(())
 }
 
-// Skips bytes of `FIVE` by the call of the trait, and hands the buffers back.
-fn skips_by_the_trait(rt: &impl Abort, alloc: Global, cnt: usize, left: Left) -> Result<(), Fail> {
-    let (left, chunk, texts) = left;
-    let mut bufs = bytes_of(alloc, &FIVE)?;
-    let mut all = lend(rt, &mut bufs);
-    skip(rt, &mut all, cnt);
-    assert_reads(rt, &all, left, chunk);
-    assert_hold(rt, all.into_lent(), texts);
-    Ok(())
+#[test]
+fn slice_advance(rt: HostRuntime) -> Result<(), Fail> {
+    skips(&rt, rt.alloc(), 0, &(11, "Hello", &FIVE))?;
+    skips(
+        &rt,
+        rt.alloc(),
+        6,
+        &(5, "World", &["", "", "", "", "World"]),
+    )
 }
-
-fn skips(rt: &impl Abort, alloc: Global, rows: &[(usize, Left)]) -> Result<(), Fail> {
-    for (cnt, left) in rows {
-        skips_itself(rt, alloc, *cnt, *left)?;
-        skips_by_the_trait(rt, alloc, *cnt, *left)?;
-    }
-    Ok(())
-}
-
-const INSIDE: &[(usize, Left)] = &[
-    (0, (11, "Hello", &["Hello", "", " ", "", "World"])),
-    (3, (8, "lo", &["lo", "", " ", "", "World"])),
-];
 
 #[test]
 fn slice_advance_inside(rt: HostRuntime) -> Result<(), Fail> {
-    skips(&rt, rt.alloc(), INSIDE)
-}
-
-const TO_A_BORDER: &[(usize, Left)] = &[
-    (5, (6, " ", &["", "", " ", "", "World"])),
-    (6, (5, "World", &["", "", "", "", "World"])),
-];
-
-#[test]
-fn slice_advance_to_a_border(rt: HostRuntime) -> Result<(), Fail> {
-    skips(&rt, rt.alloc(), TO_A_BORDER)
-}
-
-const ACROSS: &[(usize, Left)] = &[
-    (7, (4, "orld", &["", "", "", "", "orld"])),
-    (11, (0, "", &["", "", "", "", ""])),
-];
-
-#[test]
-fn slice_advance_across(rt: HostRuntime) -> Result<(), Fail> {
-    skips(&rt, rt.alloc(), ACROSS)
+    skips(
+        &rt,
+        rt.alloc(),
+        3,
+        &(8, "lo", &["lo", "", " ", "", "World"]),
+    )
 }
 
 #[test]
 fn empty_slices(rt: HostRuntime) -> Result<(), Fail> {
     let mut none: [&[u8]; 0] = [];
-    reads_nothing(&rt, rt.alloc(), lend(&rt, &mut none))
-}
-
-#[test]
-fn reads_empty_buffers(rt: HostRuntime) -> Result<(), Fail> {
-    let mut bufs = slices_of(rt.alloc(), &["", ""])?;
-    reads_nothing(&rt, rt.alloc(), lend(&rt, &mut bufs))
+    reads_nothing(&rt, lend(&rt, &mut none))
 }
 
 #[test]
@@ -100,61 +65,25 @@ fn sliced_hello(rt: HostRuntime) -> Result<(), Fail> {
     Ok(())
 }
 
-// Skips bytes of `FIVE`, and copies the next ones by the type's own call.
-fn copies(
-    rt: &impl Abort,
-    alloc: Global,
-    cnt: usize,
-    piece: &str,
-    left: usize,
-    chunk: &str,
-) -> Result<(), Fail> {
-    let mut bufs = bytes_of(alloc, &FIVE)?;
-    let mut all = lend(rt, &mut bufs);
-    skip(rt, &mut all, cnt);
-    let copy = take_lent(rt, alloc, &mut all, piece.len())?;
-    assert_bytes(rt, copy.as_slice(), piece);
-    assert_reads(rt, &all, left, chunk);
-    Ok(())
-}
-
-#[test]
-fn slice_to_bytes(rt: HostRuntime) -> Result<(), Fail> {
-    let alloc = rt.alloc();
-    copies(&rt, alloc, 3, "lo Wor", 2, "ld")?;
-    copies(&rt, alloc, 0, "Hello World", 0, "")?;
-    copies(&rt, alloc, 0, "Hello", 6, " ")?;
-    copies(&rt, alloc, 5, "", 6, " ")?;
-    copies(&rt, alloc, 11, "", 0, "")
-}
-
 #[test]
 fn totals(rt: HostRuntime) -> Result<(), Fail> {
-    let five = bytes_of(rt.alloc(), &FIVE)?;
-    assert_eq!(rt; SegmentedSlice::total(&five), Some(11));
-    assert_eq!(rt; SegmentedSlice::<Bytes>::total(&[]), Some(0));
-    let most = [Zeros { left: usize::MAX }, Zeros { left: 0 }];
-    assert_eq!(rt; SegmentedSlice::total(&most), Some(usize::MAX));
+    assert!(rt; SegmentedSlice::total(&bytes_of(rt.alloc(), &FIVE)?) == Some(11));
     let more = [Zeros { left: usize::MAX }, Zeros { left: 1 }];
-    assert_eq!(rt; SegmentedSlice::total(&more), None);
+    assert!(rt; SegmentedSlice::total(&more).is_none());
     Ok(())
 }
 
 #[test]
 fn has_a_debug_text(rt: HostRuntime) -> Result<(), Fail> {
-    let alloc = rt.alloc();
-    let mut bufs = bytes_of(alloc, &["a"])?;
-    let text = format!(in alloc; "{:?}", lend(&rt, &mut bufs))?;
-    assert!(rt; text.as_str().starts_with("SegmentedSlice"));
-    Ok(())
+    let mut bufs = bytes_of(rt.alloc(), &["a"])?;
+    assert_debugs(&rt, rt.alloc(), &lend(&rt, &mut bufs), "SegmentedSlice")
 }
 
 // What contracts alone see has no bytes: the borrow, the place and the sum are all there is.
 #[test]
-fn ghosts_have_no_bytes(rt: HostRuntime) -> Result<(), Fail> {
+fn ghosts_have_no_bytes(rt: HostRuntime) {
     assert_eq!(rt;
         size_of::<SegmentedSlice<'static, Bytes>>(),
         size_of::<&'static mut [Bytes]>() + 2 * size_of::<usize>()
     );
-    Ok(())
 }

@@ -1,42 +1,52 @@
 //! The same of the first bytes, and of buffers put in front and behind.
-use super::{LETTERS, assert_holds, letters, tell_refused};
+use super::{LETTERS, assert_holds, letters, tell};
+use crate::Refused;
 use crate::segmented::SegmentedBuf;
-use crate::tests::fixtures::{JOINED, assert_bytes, gather, slices_of};
-use crate::tests::join;
+use crate::tests::fixtures::{JOINED, assert_bytes, gather};
 use crate::whole::BufWhole;
-use crate::{Reason, Refused};
 use bytes::{Buf, Bytes};
 use std::alloc::Global;
 use std::process::Abort;
 use std::test::Fail;
 
-fn tell(rt: &(impl Abort + Print), call: &str, reason: Reason) -> Result<(), Fail> {
-    assert_eq!(rt; reason, Reason::OutOfMemory);
-    tell_refused(rt, call)
+/// One more buffer in front of those that are held.
+fn put_in_front(
+    rt: &impl Abort,
+    buf: &mut SegmentedBuf<Bytes>,
+    front: Bytes,
+) -> Result<(), Refused<Bytes>> {
+    assert!(rt; buf.fits(front.len()));
+    buf.prepend(front)
+}
+
+/// All segments of another value behind those that are held.
+fn put_behind(
+    rt: &impl Abort,
+    buf: &mut SegmentedBuf<Bytes>,
+    other: SegmentedBuf<Bytes>,
+) -> Result<(), Refused<SegmentedBuf<Bytes>>> {
+    assert!(rt; buf.fits(other.remaining()));
+    buf.append(other)
 }
 
 // The six letters, which stay, also where they are refused once.
-fn shares(
-    rt: &(impl Abort + Print),
-    alloc: Global,
-    buf: &SegmentedBuf<Bytes>,
-) -> Result<SegmentedBuf<Bytes>, Fail> {
+fn shares(rt: &(impl Abort + Print), alloc: Global, buf: &SegmentedBuf<Bytes>) -> Result<(), Fail> {
     assert!(rt; buf.remaining() >= 6);
     match buf.first(alloc, 6) {
-        Ok(first) => Ok(first),
+        Ok(first) => assert_holds(rt, &first, 6),
         Err(reason) => {
             tell(rt, "SegmentedBuf::first", reason)?;
-            Ok(buf.first(alloc, 6)?)
+            assert_holds(rt, &buf.first(alloc, 6)?, 6);
         }
     }
+    assert_holds(rt, buf, 6);
+    Ok(())
 }
 
 #[test]
 fn first(rt: HostRuntime) -> Result<(), Fail> {
     if let Ok(letters) = letters(rt.alloc()) {
-        let buf = gather(rt.alloc(), letters)?;
-        assert_holds(&rt, &shares(&rt, rt.alloc(), &buf)?, 6);
-        assert_holds(&rt, &buf, 6);
+        shares(&rt, rt.alloc(), &gather(rt.alloc(), letters)?)?;
     }
     Ok(())
 }
@@ -46,44 +56,43 @@ fn splits(
     rt: &(impl Abort + Print),
     alloc: Global,
     buf: &mut SegmentedBuf<Bytes>,
-) -> Result<SegmentedBuf<Bytes>, Fail> {
+) -> Result<(), Fail> {
     assert!(rt; buf.remaining() >= 6);
     match buf.split_to(alloc, 6) {
-        Ok(first) => Ok(first),
+        Ok(first) => assert_holds(rt, &first, 6),
         Err(reason) => {
             tell(rt, "SegmentedBuf::split_to", reason)?;
             assert_holds(rt, buf, 6);
-            Ok(buf.split_to(alloc, 6)?)
+            assert_holds(rt, &buf.split_to(alloc, 6)?, 6);
         }
     }
+    assert_holds(rt, buf, 0);
+    Ok(())
 }
 
 #[test]
 fn split_to(rt: HostRuntime) -> Result<(), Fail> {
     if let Ok(letters) = letters(rt.alloc()) {
-        let mut buf = gather(rt.alloc(), letters)?;
-        assert_holds(&rt, &splits(&rt, rt.alloc(), &mut buf)?, 6);
-        assert_holds(&rt, &buf, 0);
+        splits(&rt, rt.alloc(), &mut gather(rt.alloc(), letters)?)?;
     }
     Ok(())
 }
 
-// Some first bytes of a text in one, also where they are refused once.
+// The six letters in one, also where they are refused once.
 fn copies<B: BufWhole + Drop>(
     rt: &(impl Abort + Print),
     alloc: Global,
     buf: &SegmentedBuf<B>,
-    front: &str,
 ) -> Result<(), Fail> {
-    assert!(rt; front.len() <= buf.remaining());
-    let copy = match buf.copy_front(alloc, front.len()) {
+    assert!(rt; buf.remaining() >= 6);
+    let copy = match buf.copy_front(alloc, 6) {
         Ok(copy) => copy,
         Err(reason) => {
             tell(rt, "SegmentedBuf::copy_front", reason)?;
-            buf.copy_front(alloc, front.len())?
+            buf.copy_front(alloc, 6)?
         }
     };
-    assert_bytes(rt, copy.as_slice(), front);
+    assert_bytes(rt, copy.as_slice(), "abcdef");
     Ok(())
 }
 
@@ -91,16 +100,8 @@ fn copies<B: BufWhole + Drop>(
 fn copy_front(rt: HostRuntime) -> Result<(), Fail> {
     if let Ok(letters) = letters(rt.alloc()) {
         let buf = gather(rt.alloc(), letters)?;
-        copies(&rt, rt.alloc(), &buf, "abcdef")?;
+        copies(&rt, rt.alloc(), &buf)?;
         assert_holds(&rt, &buf, 6);
-    }
-    Ok(())
-}
-
-#[test]
-fn copy_front_of_slices(rt: HostRuntime) -> Result<(), Fail> {
-    if let Ok(slices) = slices_of(rt.alloc(), &[JOINED]) {
-        copies(&rt, rt.alloc(), &gather(rt.alloc(), slices)?, "Hello")?;
     }
     Ok(())
 }
@@ -137,21 +138,19 @@ fn first_of_bytes(rt: HostRuntime) -> Result<(), Fail> {
     gives_first(&rt, rt.alloc(), "first of Bytes", &bytes)
 }
 
-// The letter in front of the last `held` ones was refused. It can be put there again.
-fn prepends_again(
-    rt: &impl Abort,
+// Where the letter in front of the held ones is refused, it can be put there again.
+fn prepends(
+    rt: &(impl Abort + Print),
     buf: &mut SegmentedBuf<Bytes>,
-    refused: Refused<Bytes>,
-    held: usize,
+    letter: Bytes,
 ) -> Result<(), Fail> {
-    assert!(rt; buf.segments() == held && held < LETTERS.len());
-    assert_eq!(rt; refused.reason, Reason::OutOfMemory);
-    assert_bytes(
-        rt,
-        refused.back.as_slice(),
-        LETTERS[LETTERS.len() - 1 - held],
-    );
-    join::prepend(rt, buf, refused.back)?;
+    let held = buf.segments();
+    if let Err(refused) = put_in_front(rt, buf, letter) {
+        tell(rt, "SegmentedBuf::prepend", refused.reason)?;
+        assert!(rt; buf.segments() == held && held < 6);
+        assert_bytes(rt, refused.back.as_slice(), LETTERS[5 - held]);
+        put_in_front(rt, buf, refused.back)?;
+    }
     Ok(())
 }
 
@@ -162,11 +161,7 @@ fn prepend(rt: HostRuntime) -> Result<(), Fail> {
     };
     let mut buf = SegmentedBuf::new(rt.alloc());
     for letter in letters.into_iter().rev() {
-        let held = buf.segments();
-        if let Err(refused) = join::prepend(&rt, &mut buf, letter) {
-            tell_refused(&rt, "SegmentedBuf::prepend")?;
-            prepends_again(&rt, &mut buf, refused, held)?;
-        }
+        prepends(&rt, &mut buf, letter)?;
     }
     assert_holds(&rt, &buf, 6);
     Ok(())
@@ -178,11 +173,11 @@ fn appends(
     buf: &mut SegmentedBuf<Bytes>,
     other: SegmentedBuf<Bytes>,
 ) -> Result<(), Fail> {
-    if let Err(refused) = join::append(rt, buf, other) {
+    if let Err(refused) = put_behind(rt, buf, other) {
         tell(rt, "SegmentedBuf::append", refused.reason)?;
         assert_holds(rt, buf, 6);
         assert_holds(rt, &refused.back, 6);
-        join::append(rt, buf, refused.back)?;
+        put_behind(rt, buf, refused.back)?;
     }
     assert!(rt; buf.segments() == 12 && buf.remaining() == 12);
     Ok(())

@@ -1,16 +1,20 @@
 //! The same of segments moved from and to a queue.
-use super::{LETTERS, assert_holds, letters, tell_refused};
-use crate::Reason;
+use super::{LETTERS, assert_holds, letters, tell};
 use crate::segmented::SegmentedBuf;
 use crate::tests::fixtures::{assert_fills, gather};
-use crate::tests::queue::{append_queue, assert_queued, drain_into_queue, queue_of};
-use bytes::{Bytes, BytesQueue};
+use crate::tests::queue::{append_queue, come_and_go, drain_into_queue};
+use bytes::{Buf, Bytes, BytesQueue};
+use std::alloc::Global;
 use std::process::Abort;
 use std::test::Fail;
 
-fn tell(rt: &(impl Abort + Print), call: &str, reason: Reason) -> Result<(), Fail> {
-    assert_eq!(rt; reason, Reason::OutOfMemory);
-    tell_refused(rt, call)
+/// The six letters in a queue, if there is memory for it.
+fn queued(alloc: Global) -> Option<BytesQueue> {
+    let mut queue = BytesQueue::new(alloc);
+    for letter in letters(alloc).ok()? {
+        queue.push(letter).ok()?;
+    }
+    Some(queue)
 }
 
 // The six letters. Those that were moved before a refusal are held, and the others are in the queue.
@@ -31,7 +35,7 @@ fn appends(
 
 #[test]
 fn append_letters(rt: HostRuntime) -> Result<(), Fail> {
-    let Ok(mut queue) = queue_of(rt.alloc(), LETTERS) else {
+    let Some(mut queue) = queued(rt.alloc()) else {
         return Ok(());
     };
     let mut buf = SegmentedBuf::new(rt.alloc());
@@ -66,7 +70,7 @@ fn drain_letters(rt: HostRuntime) -> Result<(), Fail> {
     let mut queue = BytesQueue::new(rt.alloc());
     drains(&rt, &mut buf, &mut queue)?;
     assert_holds(&rt, &buf, 0);
-    assert_queued(&rt, &mut queue, LETTERS);
+    assert!(rt; queue.len() == 6 && queue.chunk() == b"a".as_slice());
     Ok(())
 }
 
@@ -75,8 +79,7 @@ fn drain_letters(rt: HostRuntime) -> Result<(), Fail> {
 fn no_memory_needed_by_no_chunks(rt: HostRuntime) -> Result<(), Fail> {
     let mut buf = SegmentedBuf::new(rt.alloc());
     let mut queue = BytesQueue::new(rt.alloc());
-    append_queue(&rt, &mut buf, &mut queue)?;
-    drain_into_queue(&rt, &mut buf, &mut queue)?;
+    come_and_go(&rt, &mut buf, &mut queue)?;
     assert!(rt; buf.segments() == 0 && queue.is_empty());
     Ok(())
 }
