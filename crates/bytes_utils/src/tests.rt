@@ -1,29 +1,23 @@
 //! What no clause says: that calls succeed with ample memory, printed text, and worked cases.
 ghost use Rattle.std.specs.Iterator.{IsFinite};
 
-mod blocks;
 mod borrowed;
 mod build;
 mod closure;
 mod compare;
 mod errors;
-mod find;
 mod format;
 mod frame_search;
 mod frames;
 mod hints;
-mod inclusive;
 mod indices;
-mod join;
 mod json;
 mod limited_frames;
 mod lines;
 mod memory;
-mod names;
 mod once;
 mod parts;
 mod refused_builds;
-mod refused_cuts;
 mod refusing;
 mod show;
 mod slices;
@@ -68,7 +62,7 @@ fn assert_text(rt: &impl Abort, text: &str, want: &str) {
 }
 
 /// Asserts that the parts are those wanted and then the end, or a beginning of them, one refusal
-/// and then the end. Answers how many there were, and the reason of the refusal.
+/// and then the end. Returns how many there were, and the reason of the refusal.
 fn taken<'t, S, P, W>(rt: &impl Abort, parts: &mut P, wanted: W) -> (usize, Option<Reason>)
 where
     S: Storage,

@@ -25,7 +25,7 @@ fn assert_says<E: Error>(
     Ok(())
 }
 
-/// Asserts that the error's other form has each of its fields. Answers the bytes that it hands back.
+/// Asserts that the error's other form has each of its fields. Returns the bytes that it hands back.
 fn assert_debugs<S: Storage + Debug>(
     rt: &impl Abort,
     alloc: Global,
@@ -72,20 +72,14 @@ fn assert_refused<S: Storage + Debug>(
 
 #[test]
 fn from_inner_refuses(rt: HostRuntime) -> Result<(), Fail> {
-    let alloc = rt.alloc();
-    let bytes = Bytes::copy_from_slice(alloc, &NOT_UTF8)?;
-    assert_refused(&rt, alloc, Str::from_inner(bytes))?;
-    let bytes = BytesMut::copy_from_slice(alloc, &NOT_UTF8)?;
-    assert_refused(&rt, alloc, StrMut::from_inner(bytes))
+    let bytes = Bytes::copy_from_slice(rt.alloc(), &NOT_UTF8)?;
+    assert_refused(&rt, rt.alloc(), Str::from_inner(bytes))
 }
 
 #[test]
 fn try_from_refuses(rt: HostRuntime) -> Result<(), Fail> {
-    let alloc = rt.alloc();
-    let bytes = Bytes::copy_from_slice(alloc, &NOT_UTF8)?;
-    assert_refused(&rt, alloc, Str::try_from(bytes))?;
-    let bytes = BytesMut::copy_from_slice(alloc, &NOT_UTF8)?;
-    assert_refused(&rt, alloc, StrMut::try_from(bytes))
+    let bytes = BytesMut::copy_from_slice(rt.alloc(), &NOT_UTF8)?;
+    assert_refused(&rt, rt.alloc(), StrMut::try_from(bytes))
 }
 
 #[test]

@@ -128,17 +128,9 @@ fn assert_refuses(rt: &impl Abort, alloc: Global, list: &str, want: JsonRefused)
 }
 
 #[test]
-fn refuses_what_is_no_json(rt: HostRuntime) {
+fn refuses_all_other(rt: HostRuntime) {
     assert_refuses(&rt, rt.alloc(), NOT_JSON, JsonRefused::NotJson);
-}
-
-#[test]
-fn refuses_each_other_kind_of_json(rt: HostRuntime) {
     assert_refuses(&rt, rt.alloc(), NOT_TEXT, JsonRefused::NotText);
-}
-
-#[test]
-fn refuses_other_bytes(rt: HostRuntime) {
     assert_refuses(&rt, rt.alloc(), NOT_UTF8, JsonRefused::NotUtf8);
 }
 

@@ -1,28 +1,23 @@
 //! Printed texts, against what their `str` writes.
-use super::{assert_text, growing, shared};
+use super::{assert_text, shared};
 use crate::{Reason, StrMut};
 use std::alloc::{AllocError, Global};
 use std::fmt;
 use std::process::Abort;
 use std::test::Fail;
 
-fn texts() -> [&'static str; 5] {
-    ["", "a", "aβ\n\"", "😈😉 \0", "longer than it"]
+fn texts() -> [&'static str; 3] {
+    ["", "aβ\n\"😈\0", "longer than it"]
 }
 
-/// The value, padded.
-fn padded<T: fmt::Display>(alloc: Global, value: &T) -> Result<String, AllocError> {
-    format!(in alloc; "{value}|{value:8}|{value:<8}|{value:>8}|{value:^8}")
-}
-
-/// The value, padded by other characters, and cut.
-fn cut<T: fmt::Display>(alloc: Global, value: &T) -> Result<String, AllocError> {
-    format!(in alloc; "{value:*^9}|{value:.2}|{value:é>5.1}")
+/// The value, padded and cut.
+fn displayed<T: fmt::Display>(alloc: Global, value: &T) -> Result<String, AllocError> {
+    format!(in alloc; "{value}|{value:>8}|{value:*^9}|{value:.2}")
 }
 
 /// The value in quotes.
 fn quoted<T: fmt::Debug>(alloc: Global, value: &T) -> Result<String, AllocError> {
-    format!(in alloc; "{value:?}|{value:12?}|{value:#?}")
+    format!(in alloc; "{value:?}|{value:12?}")
 }
 
 /// Asserts that two values were written alike.
@@ -42,8 +37,7 @@ fn assert_shows<T: fmt::Display + fmt::Debug>(
     value: &T,
     text: &str,
 ) -> Result<(), Fail> {
-    assert_alike(rt, padded(alloc, value), padded(alloc, &text))?;
-    assert_alike(rt, cut(alloc, value), cut(alloc, &text))?;
+    assert_alike(rt, displayed(alloc, value), displayed(alloc, &text))?;
     assert_alike(rt, quoted(alloc, value), quoted(alloc, &text))
 }
 
@@ -51,7 +45,6 @@ fn assert_shows<T: fmt::Display + fmt::Debug>(
 fn shows_as_str(rt: HostRuntime) -> Result<(), Fail> {
     for text in texts() {
         assert_shows(&rt, rt.alloc(), &shared(rt.alloc(), text)?, text)?;
-        assert_shows(&rt, rt.alloc(), &growing(rt.alloc(), text)?, text)?;
     }
     Ok(())
 }
@@ -68,7 +61,5 @@ fn long(alloc: Global) -> Result<StrMut, Reason> {
 #[test]
 fn long_texts(rt: HostRuntime) -> Result<(), Fail> {
     let text = long(rt.alloc())?;
-    assert_shows(&rt, rt.alloc(), &text, text.as_str())?;
-    let text = text.freeze()?;
     assert_shows(&rt, rt.alloc(), &text, text.as_str())
 }

@@ -1,10 +1,10 @@
 //! How often a storage is split: as often as a run has cuts, and none again after a refusal.
 ghost use Rattle.std.specs.Prelude.{◌≤◌, length};
 
-use super::closure::{Characters, Fields};
+use super::closure::Fields;
 use super::ways::{
-    Lines, RSplit, RSplitN, Row, Split, SplitAsciiWhitespace, SplitInclusive, SplitN,
-    SplitWhitespace, Way,
+    Lines, RSplit, RSplitN, Split, SplitAsciiWhitespace, SplitInclusive, SplitN, SplitWhitespace,
+    StrWay,
 };
 use crate::string::{Storage, StrInner};
 use crate::{Reason, Refused};
@@ -22,7 +22,7 @@ struct Splits {
 }
 
 impl Splits {
-    /// Counts one more. Answers whether it is granted.
+    /// Counts one more. Returns whether it is granted.
     fn ask(&self) -> bool {
         let asked = self.asked.get().saturating_add(1);
         self.asked.set(asked);
@@ -82,15 +82,15 @@ impl<'c> Storage for Counted<'c> {
     }
 }
 
-/// Asserts how many splits a run over the row's text asks for: so many where all are granted, and
-/// where one is refused none behind it.
-fn assert_splits<W: Way, R: Abort>(
+/// Asserts how many splits a run over the text asks for: as many as it has cuts where all are
+/// granted, and where one is refused none after it. A limit is two parts.
+fn assert_splits<W: StrWay, R: Abort>(
     rt: &R,
     alloc: Global,
-    row: Row,
+    text: &str,
+    separator: &str,
     cuts: usize,
 ) -> Result<(), Fail> {
-    let (text, most, separator, wanted) = row;
     for granted in 0..4 {
         let asked = Cell::new(0);
         let splits = Splits { asked, granted };
@@ -100,7 +100,7 @@ fn assert_splits<W: Way, R: Abort>(
             splits: &splits,
         });
         let counted = counted.ok().ok_or("not UTF-8")?;
-        let (_, refused) = W::taken(rt, counted, most, separator, wanted);
+        let (_, refused) = W::beside(rt, counted, 2, separator, text);
         assert_eq!(rt; refused.is_some(), granted < cuts);
         assert_eq!(rt; splits.asked.get(), cuts.min(granted + 1));
     }
@@ -110,38 +110,25 @@ fn assert_splits<W: Way, R: Abort>(
 #[test]
 fn separated(rt: HostRuntime) -> Result<(), Fail> {
     let alloc = rt.alloc();
-    assert_splits::<Split, HostRuntime>(&rt, alloc, ("a,b,c", 0, ",", "a|b|c|"), 2)?;
-    assert_splits::<RSplit, HostRuntime>(&rt, alloc, ("a,b,c", 0, ",", "c|b|a|"), 2)?;
-    assert_splits::<SplitN, HostRuntime>(&rt, alloc, ("a,b,c", 2, ",", "a|b,c|"), 1)?;
-    assert_splits::<RSplitN, HostRuntime>(&rt, alloc, ("a,b,c", 2, ",", "c|a,b|"), 1)
+    assert_splits::<Split, HostRuntime>(&rt, alloc, "a,b,c", ",", 2)?;
+    assert_splits::<RSplit, HostRuntime>(&rt, alloc, "a,b,c", ",", 2)?;
+    assert_splits::<SplitN, HostRuntime>(&rt, alloc, "a,b,c", ",", 1)?;
+    assert_splits::<RSplitN, HostRuntime>(&rt, alloc, "a,b,c", ",", 1)?;
+    assert_splits::<Fields, HostRuntime>(&rt, alloc, "a,b,c", ",", 2)
 }
 
 #[test]
 fn characters(rt: HostRuntime) -> Result<(), Fail> {
-    let alloc = rt.alloc();
-    assert_splits::<Split, HostRuntime>(&rt, alloc, ("αβ", 0, "", "|α|β||"), 3)?;
-    assert_splits::<RSplit, HostRuntime>(&rt, alloc, ("αβ", 0, "", "|β|α||"), 3)
+    assert_splits::<Split, HostRuntime>(&rt, rt.alloc(), "αβ", "", 3)?;
+    assert_splits::<RSplit, HostRuntime>(&rt, rt.alloc(), "αβ", "", 3)
 }
 
 /// A part that reaches to the end of the text takes no split.
 #[test]
-fn kept_separators(rt: HostRuntime) -> Result<(), Fail> {
-    let row = ("a,b,", 0, ",", "a,|b,|");
-    assert_splits::<SplitInclusive, HostRuntime>(&rt, rt.alloc(), row, 1)
-}
-
-#[test]
-fn lines_and_words(rt: HostRuntime) -> Result<(), Fail> {
+fn pieces(rt: HostRuntime) -> Result<(), Fail> {
     let alloc = rt.alloc();
-    let row = (" a b", 0, "", "a|b|");
-    assert_splits::<SplitWhitespace, HostRuntime>(&rt, alloc, row, 1)?;
-    assert_splits::<SplitAsciiWhitespace, HostRuntime>(&rt, alloc, row, 1)?;
-    assert_splits::<Lines, HostRuntime>(&rt, alloc, ("a\nb\n", 0, "", "a|b|"), 2)
-}
-
-#[test]
-fn by_a_closure(rt: HostRuntime) -> Result<(), Fail> {
-    let alloc = rt.alloc();
-    assert_splits::<Fields, HostRuntime>(&rt, alloc, ("a,b,c", 0, ",", "a|b|c|"), 2)?;
-    assert_splits::<Characters, HostRuntime>(&rt, alloc, ("aβ", 0, "", "β|a||"), 2)
+    assert_splits::<SplitInclusive, HostRuntime>(&rt, alloc, "a,b,", ",", 1)?;
+    assert_splits::<SplitWhitespace, HostRuntime>(&rt, alloc, " a b", "", 1)?;
+    assert_splits::<SplitAsciiWhitespace, HostRuntime>(&rt, alloc, " a b", "", 1)?;
+    assert_splits::<Lines, HostRuntime>(&rt, alloc, "a\nb\n", "", 2)
 }

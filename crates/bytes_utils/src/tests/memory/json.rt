@@ -6,8 +6,8 @@ use super::super::json::is_answer;
 use super::{given, say};
 use crate::json::JsonRefused;
 use crate::string::{Storage, StorageMut, StrInner};
-use crate::{Reason, Str, StrMut};
-use bytes::{Bytes, BytesMut};
+use crate::{Reason, Str};
+use bytes::Bytes;
 use std::alloc::Global;
 use std::io::Print;
 use std::process::Abort;
@@ -38,16 +38,8 @@ fn assert_writes<S: Storage, R: Abort + Print>(
 }
 
 #[test]
-fn shared_to_json(rt: HostRuntime) -> Result<(), Fail> {
+fn to_json(rt: HostRuntime) -> Result<(), Fail> {
     let Ok(text) = Str::from_str(rt.alloc(), "aβ\n") else {
-        return Ok(());
-    };
-    assert_writes(&rt, rt.alloc(), &text)
-}
-
-#[test]
-fn growing_to_json(rt: HostRuntime) -> Result<(), Fail> {
-    let Ok(text) = StrMut::from_str(rt.alloc(), "aβ\n") else {
         return Ok(());
     };
     assert_writes(&rt, rt.alloc(), &text)
@@ -88,31 +80,8 @@ where
 }
 
 #[test]
-fn shared_from_string(rt: HostRuntime) -> Result<(), Fail> {
-    assert_reads::<Bytes, HostRuntime>(&rt, rt.alloc(), "\"aβ\\n\"", Ok("aβ\n"))
-}
-
-#[test]
-fn growing_from_string(rt: HostRuntime) -> Result<(), Fail> {
-    assert_reads::<BytesMut, HostRuntime>(&rt, rt.alloc(), "\"aβ\\n\"", Ok("aβ\n"))
-}
-
-#[test]
-fn shared_from_list(rt: HostRuntime) -> Result<(), Fail> {
-    assert_reads::<Bytes, HostRuntime>(&rt, rt.alloc(), "[72,105]", Ok("Hi"))
-}
-
-#[test]
-fn growing_from_list(rt: HostRuntime) -> Result<(), Fail> {
-    assert_reads::<BytesMut, HostRuntime>(&rt, rt.alloc(), "[72,105]", Ok("Hi"))
-}
-
-#[test]
-fn from_other_bytes(rt: HostRuntime) -> Result<(), Fail> {
-    assert_reads::<Bytes, HostRuntime>(&rt, rt.alloc(), "[255]", Err(JsonRefused::NotUtf8))
-}
-
-#[test]
-fn from_no_json(rt: HostRuntime) -> Result<(), Fail> {
-    assert_reads::<Bytes, HostRuntime>(&rt, rt.alloc(), "[72,", Err(JsonRefused::NotJson))
+fn from_json(rt: HostRuntime) -> Result<(), Fail> {
+    let alloc = rt.alloc();
+    assert_reads::<Bytes, HostRuntime>(&rt, alloc, "\"aβ\\n\"", Ok("aβ\n"))?;
+    assert_reads::<Bytes, HostRuntime>(&rt, alloc, "[72,105]", Ok("Hi"))
 }

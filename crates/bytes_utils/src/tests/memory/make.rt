@@ -5,7 +5,7 @@ use super::super::{assert_text, strings};
 use super::{given, items, say};
 use crate::string::{Storage, StorageMut, StrInner};
 use crate::{Reason, Str, StrMut, format_bytes, format_bytes_mut};
-use bytes::{Bytes, BytesMut};
+use bytes::Bytes;
 use std::alloc::Global;
 use std::fmt;
 use std::io::Print;
@@ -77,7 +77,7 @@ where
     Ok(())
 }
 
-/// What `join` gives of the pieces and what stands between them.
+/// What `join` gives of the pieces and what is between them.
 fn of_parts<S: Storage>(alloc: Global) -> Result<StrInner<S>, Reason>
 where
     S::Creator: StorageMut,
@@ -132,18 +132,8 @@ fn shared_from_str(rt: HostRuntime) -> Result<(), Fail> {
 }
 
 #[test]
-fn growing_from_str(rt: HostRuntime) -> Result<(), Fail> {
-    from_str::<BytesMut, HostRuntime>(&rt, rt.alloc())
-}
-
-#[test]
 fn shared_from_chars(rt: HostRuntime) -> Result<(), Fail> {
     from_chars::<Bytes, HostRuntime>(&rt, rt.alloc())
-}
-
-#[test]
-fn growing_from_chars(rt: HostRuntime) -> Result<(), Fail> {
-    from_chars::<BytesMut, HostRuntime>(&rt, rt.alloc())
 }
 
 #[test]
@@ -152,28 +142,13 @@ fn shared_from_strs(rt: HostRuntime) -> Result<(), Fail> {
 }
 
 #[test]
-fn growing_from_strs(rt: HostRuntime) -> Result<(), Fail> {
-    from_strs::<BytesMut, HostRuntime>(&rt, rt.alloc())
-}
-
-#[test]
 fn shared_from_strings(rt: HostRuntime) -> Result<(), Fail> {
     from_strings::<Bytes, HostRuntime>(&rt, rt.alloc())
 }
 
 #[test]
-fn growing_from_strings(rt: HostRuntime) -> Result<(), Fail> {
-    from_strings::<BytesMut, HostRuntime>(&rt, rt.alloc())
-}
-
-#[test]
 fn shared_join(rt: HostRuntime) -> Result<(), Fail> {
     join::<Bytes, HostRuntime>(&rt, rt.alloc())
-}
-
-#[test]
-fn growing_join(rt: HostRuntime) -> Result<(), Fail> {
-    join::<BytesMut, HostRuntime>(&rt, rt.alloc())
 }
 
 /// The items and a number.

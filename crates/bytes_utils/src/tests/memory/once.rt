@@ -1,7 +1,7 @@
 //! Texts cut once: a refused cut tells its reason, and the text is gone.
 use super::given;
+use crate::StrMut;
 use crate::string::{Storage, StrInner};
-use crate::{Str, StrMut};
 use std::io::Print;
 use std::process::Abort;
 use std::test::Fail;
@@ -52,19 +52,5 @@ fn rsplit_once(rt: HostRuntime) -> Result<(), Fail> {
     if last_is_refused(&rt, text)? {
         assert!(rt; !last_is_refused(&rt, StrMut::from_str(rt.alloc(), field())?)?);
     }
-    Ok(())
-}
-
-/// The halves of shared bytes take no memory.
-#[test]
-fn no_memory_needed_by_shared_texts(rt: HostRuntime) -> Result<(), Fail> {
-    let Ok(text) = Str::from_str(rt.alloc(), field()) else {
-        return Ok(());
-    };
-    assert!(rt; !first_is_refused(&rt, text)?);
-    let Ok(text) = Str::from_str(rt.alloc(), field()) else {
-        return Ok(());
-    };
-    assert!(rt; !last_is_refused(&rt, text)?);
     Ok(())
 }

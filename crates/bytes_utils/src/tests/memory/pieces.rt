@@ -3,11 +3,12 @@ use super::super::assert_text;
 use super::{given, tell, two_characters};
 use crate::string::{Storage, StrInner};
 use crate::{Reason, Str, StrMut};
+use bytes::Bytes;
 use std::io::Print;
 use std::process::Abort;
 use std::test::Fail;
 
-/// The text, where its cut behind the first character was refused, which is told. Asserts the two
+/// The text, where its cut after the first character was refused, which is told. Asserts the two
 /// pieces else.
 fn back<S: Storage, R: Abort + Print>(
     rt: &R,
@@ -26,7 +27,8 @@ fn back<S: Storage, R: Abort + Print>(
     }
 }
 
-/// Asserts the two pieces behind the first character, the second time where the first is refused.
+/// Asserts the two pieces around the end of the first character, the second time where the first is
+/// refused.
 fn assert_splits<S: Storage, R: Abort + Print>(rt: &R, text: StrInner<S>) -> Result<(), Fail> {
     if let Some(text) = back(rt, text)? {
         assert_text(rt, text.as_str(), two_characters());
@@ -86,14 +88,6 @@ fn split_built(rt: HostRuntime) -> Result<(), Fail> {
     Ok(())
 }
 
-/// These take no memory, whichever request is refused.
-#[test]
-fn no_memory_needed(rt: HostRuntime) {
-    let alloc = rt.alloc();
-    assert!(rt; Str::new(alloc).is_ok() && StrMut::new(alloc).is_ok());
-    assert!(rt; Str::from_static(alloc, two_characters()).is_ok());
-}
-
 /// Whether the text's piece was given.
 fn is_given(piece: Result<Str, Reason>, want: &str) -> bool {
     match piece {
@@ -102,10 +96,13 @@ fn is_given(piece: Result<Str, Reason>, want: &str) -> bool {
     }
 }
 
-/// Nor do these: a piece of shared bytes is one more owner of them.
+/// These take no memory: a piece of shared bytes is one more owner of them.
 #[test]
-fn no_memory_needed_for_shared_pieces(rt: HostRuntime) -> Result<(), Fail> {
-    let Ok(text) = Str::from_str(rt.alloc(), two_characters()) else {
+fn no_memory_needed(rt: HostRuntime) -> Result<(), Fail> {
+    let alloc = rt.alloc();
+    assert!(rt; Str::from_inner(Bytes::from_static(b"a")).is_ok());
+    assert!(rt; is_given(Str::from_static(alloc, two_characters()), two_characters()));
+    let Ok(text) = Str::from_str(alloc, two_characters()) else {
         return Ok(());
     };
     assert_pieces(&rt, &text);
