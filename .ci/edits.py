@@ -55,9 +55,10 @@ def fault_of(edit):
         return f"an old text isn't in {edit.file} once"
     if any(old == new for old, new in edit.pairs):
         return "it changes nothing"
-    # tests have files of their own, and an edit of a macro changes functions of any file
-    is_anywhere = edit.test or "macro_rules!" in files[edit.file]
-    text = "".join(it for path, it in files.items() if is_anywhere or path == edit.file)
+    *module, _ = edit.test.split("::")
+    # an edit of a macro changes functions of any file
+    paths = files if "macro_rules!" in files[edit.file] else [edit.file]
+    text = "".join(files.get(it, "") for it in ([f"src/{'/'.join(module)}.rt"] if edit.test else paths))
     names = [it.split("::")[-1] for it in (*edit.functions, edit.test) if it]
     lost = [it for it in names if not re.search(rf"\bfn {it}\b", text)]
     return f"there is no function {lost[0]}" if lost else "" if names else "it names no function and no test"
@@ -89,8 +90,7 @@ def judged(edit, said):
     lost = [it for it in edit.functions if it not in goals]
     if lost:
         return f"the prover sees no function {lost[0]}"
-    inside = tuple(f"{it}::" for it in edit.functions)
-    closures = [it for it in goals if "fn::" in it and it.replace("fn::", "", 1).startswith(inside)]
+    closures = [it for it in goals if any(it.replace("fn::", "", 1).startswith(f"{of}::") for of in edit.functions)]
     refused = [(name, goal) for name in (*edit.functions, *closures) for goal in goals[name]]
     for name, goal in refused:
         if not LOST_NAME.match(goal):
