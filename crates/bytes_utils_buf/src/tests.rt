@@ -6,7 +6,6 @@ mod caller;
 mod fixtures;
 mod front;
 mod looks;
-mod many;
 mod memory;
 mod nested;
 mod odd;

@@ -1,6 +1,6 @@
 //! Buffers that come into a `SegmentedBuf`.
 use super::fixtures::{
-    FOUR, Shown, assert_shows, bytes_of, collect, extend, gather, gives, held, hold, push, skip,
+    FOUR, Shown, assert_shows, bytes_of, collect, extend, gather, gives, held, hold, put, skip,
 };
 use super::odd::Zeros;
 use crate::segmented::SegmentedBuf;
@@ -25,11 +25,11 @@ const ADVANCED: &[(usize, Shown)] = &[
 fn push_and_advance(rt: HostRuntime) -> Result<(), Fail> {
     let mut buf: SegmentedBuf<Bytes> = SegmentedBuf::new(rt.alloc());
     for text in &FOUR {
-        push(&rt, &mut buf, Bytes::from_static(text.as_bytes()))?;
+        put(&rt, &mut buf, Bytes::from_static(text.as_bytes()))?;
     }
     for (cnt, shown) in ADVANCED {
         skip(&rt, &mut buf, *cnt);
-        push(&rt, &mut buf, Bytes::new())?;
+        put(&rt, &mut buf, Bytes::new())?;
         assert_shows(&rt, &buf, *shown);
     }
     Ok(())
@@ -46,7 +46,7 @@ const COPIED: &[(&str, &str, Shown)] = &[
 fn push_and_copy(rt: HostRuntime) -> Result<(), Fail> {
     let mut buf = SegmentedBuf::new(rt.alloc());
     for (text, piece, shown) in COPIED {
-        push(&rt, &mut buf, Bytes::from_static(text.as_bytes()))?;
+        put(&rt, &mut buf, Bytes::from_static(text.as_bytes()))?;
         gives(&rt, rt.alloc(), &mut buf, piece)?;
         assert_shows(&rt, &buf, *shown);
     }

@@ -77,7 +77,7 @@ pub(super) fn hold<B: Buf + Drop>(
     buf: B,
 ) -> Result<SegmentedBuf<B>, Fail> {
     let mut held = SegmentedBuf::new(alloc);
-    push(rt, &mut held, buf).ok().ok_or("refused")?;
+    put(rt, &mut held, buf)?;
     Ok(held)
 }
 
@@ -89,6 +89,16 @@ pub(super) fn push<B: Buf + Drop>(
 ) -> Result<(), Refused<B>> {
     assert!(rt; held.fits(buf.remaining()));
     held.push(buf)
+}
+
+/// As `push`, where it isn't refused.
+pub(super) fn put<B: Buf + Drop>(
+    rt: &impl Abort,
+    held: &mut SegmentedBuf<B>,
+    buf: B,
+) -> Result<(), Fail> {
+    push(rt, held, buf).ok().ok_or("refused")?;
+    Ok(())
 }
 
 /// More buffers behind those that are held.

@@ -1,8 +1,7 @@
 //! The first bytes of held buffers: seen, and shared or moved where they can be.
 use super::fixtures::{
-    FOUR, assert_bytes, assert_moved, gather, held, hold, lend, shared, take_out,
+    FOUR, JOINED, assert_bytes, assert_moved, gather, held, hold, lend, shared, take_out,
 };
-use crate::Reason;
 use crate::parts::BufParts;
 use crate::segmented::SegmentedBuf;
 use crate::whole::BufWhole;
@@ -10,17 +9,6 @@ use bytes::{Buf, Bytes};
 use std::alloc::Global;
 use std::process::Abort;
 use std::test::Fail;
-
-/// Takes the first bytes off, as segments of their own.
-fn split_to<B: BufWhole + Drop>(
-    rt: &impl Abort,
-    alloc: Global,
-    buf: &mut SegmentedBuf<B>,
-    len: usize,
-) -> Result<SegmentedBuf<Bytes>, Reason> {
-    assert!(rt; len <= buf.remaining());
-    buf.split_to(alloc, len)
-}
 
 #[test]
 fn first_bytes_are_seen(rt: HostRuntime) -> Result<(), Fail> {
@@ -33,16 +21,28 @@ fn first_bytes_are_seen(rt: HostRuntime) -> Result<(), Fail> {
     Ok(())
 }
 
-// Each of these has its bytes from the one held segment.
+// The first five bytes, each time from the block of the held segment.
+fn shares_first<B: BufWhole + Drop>(
+    rt: &impl Abort,
+    alloc: Global,
+    buf: &mut SegmentedBuf<B>,
+) -> Result<(), Fail> {
+    assert!(rt; buf.remaining() >= 5);
+    let copy = buf.copy_front(alloc, 5)?;
+    assert!(rt; !copy.is_unique());
+    drop(copy);
+    let mut pieces = buf.split_to(alloc, 5)?;
+    let piece = pieces.pop().ok_or("no piece")?;
+    assert_bytes(rt, piece.as_slice(), "Hello");
+    assert!(rt; !piece.is_unique());
+    Ok(())
+}
+
 #[test]
 fn first_bytes_are_shared(rt: HostRuntime) -> Result<(), Fail> {
-    let bytes = Bytes::copy_from_slice(rt.alloc(), b"Hello World")?;
+    let bytes = Bytes::copy_from_slice(rt.alloc(), JOINED.as_bytes())?;
     let mut buf = hold(&rt, rt.alloc(), bytes)?;
-    assert!(rt; buf.remaining() >= 5);
-    assert!(rt; !buf.copy_front(rt.alloc(), 5)?.is_unique());
-    let front = split_to(&rt, rt.alloc(), &mut buf, 5)?.pop();
-    assert!(rt; !front.ok_or("no piece")?.is_unique());
-    Ok(())
+    shares_first(&rt, rt.alloc(), &mut buf)
 }
 
 // A front that is taken out at exactly its length isn't copied, and no owner is added.
@@ -69,13 +69,4 @@ fn whole_lent_front_is_moved(rt: HostRuntime) -> Result<(), Fail> {
     let (front, other) = shared(rt.alloc())?;
     let mut bufs = [front, Bytes::from_static(b"!")];
     moves_front(&rt, rt.alloc(), &mut lend(&rt, &mut bufs), &other)
-}
-
-#[test]
-fn whole_front_is_split_off(rt: HostRuntime) -> Result<(), Fail> {
-    let (front, other) = shared(rt.alloc())?;
-    let mut buf = hold(&rt, rt.alloc(), front)?;
-    let piece = split_to(&rt, rt.alloc(), &mut buf, other.len())?.pop();
-    assert_moved(&rt, piece.ok_or("no piece")?, &other);
-    Ok(())
 }

@@ -6,8 +6,8 @@ mod queue;
 
 use super::fixtures;
 use super::fixtures::{
-    FOUR, JOINED, assert_bytes, assert_fills, assert_reads, bytes_of, collect, gather, lend, skip,
-    slices_of, take_out,
+    FOUR, JOINED, assert_bytes, assert_fills, assert_reads, bytes_of, collect, gather, lend, put,
+    skip, slices_of, take_out,
 };
 use crate::parts::{BufParts, CopyRefused};
 use crate::segmented::{SegmentedBuf, SegmentedSlice};
@@ -299,7 +299,7 @@ fn passes<B: Buf + Drop>(
     empty: B,
     cnt: usize,
 ) -> Result<(), Fail> {
-    fixtures::push(rt, buf, empty).ok().ok_or("refused")?;
+    put(rt, buf, empty)?;
     skip(rt, buf, cnt);
     Ok(())
 }
