@@ -1,14 +1,20 @@
 //! Text over a storage whose bytes are UTF-8.
 
+mod borrow;
 mod build;
 mod byte_str;
+mod collect;
 mod compare;
 mod convert;
+mod copies;
+mod extend;
 mod format;
 mod freeze;
 mod items;
 mod join;
+mod literal;
 mod owned;
+mod serialize;
 mod show;
 mod slice;
 mod storage;

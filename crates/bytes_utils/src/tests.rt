@@ -19,12 +19,14 @@ mod once;
 mod parts;
 mod refused_builds;
 mod refusing;
+mod serialize;
 mod show;
 mod slices;
 mod splits;
 mod storages;
 mod stream_lines;
 mod texts;
+mod traits;
 mod ways;
 mod words;
 

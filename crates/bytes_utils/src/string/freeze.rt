@@ -29,16 +29,6 @@ where
 }
 
 impl StrInner<Bytes> {
-    /// A text that lasts as long as the program. It takes no memory.
-    pub fn from_static(_alloc: Global, text: &'static str) -> Result<Str, Reason>
-        ensures ok { IfOk result (λ made. made ≡ text.now) }
-        ensures succeeds { IsOk result }
-    {
-        Ok(StrInner {
-            storage: Bytes::from_static(text.as_bytes()),
-        })
-    }
-
     /// The text of a `String`, whose bytes aren't copied.
     pub fn from_string(_alloc: Global, text: String) -> Result<Str, Refused<String>>
         ensures ok { IfOk result (λ made. made ≡ string_bytes text) }

@@ -11,7 +11,9 @@ mod make;
 mod next;
 mod once;
 mod pieces;
+mod serialize;
 mod stream_lines;
+mod traits;
 
 use crate::Reason;
 use std::io::Print;

@@ -10,8 +10,8 @@ use std::test::Fail;
 #[test]
 fn a_file_name_and_its_extension(rt: HostRuntime) -> Result<(), Fail> {
     let path = "usr/share.d/ü.tar.gz";
-    let name = file_name(Str::from_static(rt.alloc(), path)?)?;
-    let behind = extension(Str::from_static(rt.alloc(), path)?)?.ok_or("no extension")?;
+    let name = file_name(Str::from_static(path))?;
+    let behind = extension(Str::from_static(path))?.ok_or("no extension")?;
     assert!(rt; name.eq_str("ü.tar.gz") && behind.eq_str("gz"));
     Ok(())
 }

@@ -110,16 +110,16 @@ fn assert_reads<T: Drop>(
 #[test]
 fn tokens_of_a_text(rt: HostRuntime) -> Result<(), Fail> {
     let alloc = rt.alloc();
-    let first = tokens(alloc, Str::from_static(alloc, "a,b")?).ok();
-    let second = tokens(alloc, Str::from_static(alloc, "a,b")?).ok();
+    let first = tokens(alloc, Str::from_static("a,b")).ok();
+    let second = tokens(alloc, Str::from_static("a,b")).ok();
     assert_reads(&rt, "tokens", first, second)
 }
 
 #[test]
 fn headers_of_a_text(rt: HostRuntime) -> Result<(), Fail> {
     let alloc = rt.alloc();
-    let first = headers(alloc, Str::from_static(alloc, "A: b\n")?).ok();
-    let second = headers(alloc, Str::from_static(alloc, "A: b\n")?).ok();
+    let first = headers(alloc, Str::from_static("A: b\n")).ok();
+    let second = headers(alloc, Str::from_static("A: b\n")).ok();
     assert_reads(&rt, "headers", first, second)
 }
 
@@ -145,8 +145,8 @@ fn path_of_names(rt: HostRuntime) -> Result<(), Fail> {
 #[test]
 fn names_of_a_path(rt: HostRuntime) -> Result<(), Fail> {
     let alloc = rt.alloc();
-    let first = names_of(alloc, Str::from_static(alloc, "a/b")?).ok();
-    let second = names_of(alloc, Str::from_static(alloc, "a/b")?).ok();
+    let first = names_of(alloc, Str::from_static("a/b")).ok();
+    let second = names_of(alloc, Str::from_static("a/b")).ok();
     assert_reads(&rt, "names_of", first, second)
 }
 

@@ -8,7 +8,7 @@ const NAMES: &[&str] = &["", "usr", "ü", ""];
 
 #[test]
 fn names_stand_between_slashes(rt: HostRuntime) -> Result<(), Fail> {
-    let names = names_of(rt.alloc(), Str::from_static(rt.alloc(), "/usr/ü/")?)?;
+    let names = names_of(rt.alloc(), Str::from_static("/usr/ü/"))?;
     assert_eq!(rt; names.len(), NAMES.len());
     for (name, want) in names.iter().zip(NAMES) {
         assert!(rt; name.eq_str(want), "{want:?}");
@@ -29,7 +29,7 @@ fn paths_are_put_together(rt: HostRuntime) -> Result<(), Fail> {
 
 #[test]
 fn a_first_name_stands_in_front_of_a_slash(rt: HostRuntime) -> Result<(), Fail> {
-    let path = Str::from_static(rt.alloc(), "usr/share/ü")?;
+    let path = Str::from_static("usr/share/ü");
     let (name, behind) = first_name(path)?.ok_or("no name")?;
     assert!(rt; name.eq_str("usr") && behind.eq_str("share/ü"));
     Ok(())

@@ -1,0 +1,24 @@
+//! Copies by std's trait, for types that derive theirs.
+ghost use Rattle.std.specs.Prelude.{◌≡◌};
+
+use crate::string::{Str, StrInner, StrMut};
+use bytes::{Bytes, BytesMut};
+use std::alloc::AllocError;
+
+/// The same text, sharing the bytes, as `try_clone`.
+impl Clone for StrInner<Bytes> {
+    ghost is_clone = { λ text copy. copy ≡ text };
+
+    fn clone(&self) -> Result<Str, AllocError> {
+        self.try_clone().map_err(|_| AllocError)
+    }
+}
+
+/// A copy of the text, as `try_clone`.
+impl Clone for StrInner<BytesMut> {
+    ghost is_clone = { λ text copy. copy ≡ text };
+
+    fn clone(&self) -> Result<StrMut, AllocError> {
+        self.try_clone().map_err(|_| AllocError)
+    }
+}

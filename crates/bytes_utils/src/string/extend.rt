@@ -1,0 +1,50 @@
+//! Items that `extend` appends to a text: std's trait, by which a refused item is dropped.
+ghost use Rattle.std.specs.Prelude.{◌≡◌, ◌++◌, string_bytes};
+ghost use Rattle.std.specs.List.{flat_map};
+ghost use Rattle.std.specs.Str.{encode_utf8_all};
+
+use crate::string::StrInner;
+use bytes::BytesMut;
+use std::alloc::AllocError;
+
+/// As `extend_chars`, but for the refused character, which is dropped.
+impl Extend<char> for StrInner<BytesMut> {
+    ghost extend_gives = { λ text cs longer. longer ≡ text ++ encode_utf8_all cs };
+
+    fn extend<U: IntoIterator<Item = char>>(&mut self, iter: U) -> Result<(), AllocError> {
+        for c in iter {
+            if let Err(_) = self.push(c) {
+                return Err(AllocError);
+            }
+        }
+        Ok(())
+    }
+}
+
+/// As `extend_strs`, but for the refused item, which is dropped.
+impl<'a> Extend<&'a str> for StrInner<BytesMut> {
+    ghost extend_gives = { λ text items longer. longer ≡ text ++ flat_map (λ item. item.now) items };
+
+    fn extend<U: IntoIterator<Item = &'a str>>(&mut self, iter: U) -> Result<(), AllocError> {
+        for part in iter {
+            if let Err(_) = self.push_str(part) {
+                return Err(AllocError);
+            }
+        }
+        Ok(())
+    }
+}
+
+/// As `extend_strings`, but for the refused item, which is dropped.
+impl Extend<String> for StrInner<BytesMut> {
+    ghost extend_gives = { λ text items longer. longer ≡ text ++ flat_map string_bytes items };
+
+    fn extend<U: IntoIterator<Item = String>>(&mut self, iter: U) -> Result<(), AllocError> {
+        for string in iter {
+            if let Err(_) = self.push_str(string.as_str()) {
+                return Err(AllocError);
+            }
+        }
+        Ok(())
+    }
+}

@@ -1,0 +1,43 @@
+//! Texts that are read by `serde`.
+use super::super::assert_text;
+use super::say;
+use crate::{Str, StrMut};
+use serde::Deserialize;
+use serde_json::{Error, from_str};
+use std::alloc::Global;
+use std::convert::AsStr;
+use std::io::Print;
+use std::process::Abort;
+use std::test::Fail;
+
+/// The text that is read of a JSON string.
+fn read<T: Deserialize<'static>>(alloc: Global) -> Result<T, Error> {
+    from_str(alloc, "\"a\\u03b2\\n\"")
+}
+
+/// Asserts what is read, the second time where the first is refused.
+fn assert_reads<T: Deserialize<'static> + AsStr, R: Abort + Print>(
+    rt: &R,
+    alloc: Global,
+    call: &str,
+) -> Result<(), Fail> {
+    match read::<T>(alloc) {
+        Ok(text) => assert_text(rt, text.as_str(), "aβ\n"),
+        Err(error) => {
+            assert!(rt; error.is_memory());
+            say(rt, call)?;
+            assert_text(rt, read::<T>(alloc)?.as_str(), "aβ\n");
+        }
+    }
+    Ok(())
+}
+
+#[test]
+fn shared_is_read(rt: HostRuntime) -> Result<(), Fail> {
+    assert_reads::<Str, HostRuntime>(&rt, rt.alloc(), "Str::deserialize")
+}
+
+#[test]
+fn growing_is_read(rt: HostRuntime) -> Result<(), Fail> {
+    assert_reads::<StrMut, HostRuntime>(&rt, rt.alloc(), "StrMut::deserialize")
+}

@@ -1,0 +1,55 @@
+//! Texts as values of `serde`, by the kit's JSON.
+use super::{assert_text, growing, shared};
+use crate::{Str, StrMut};
+use serde::{Deserialize, DeserializeOwned, Serialize};
+use serde_json::{Value, from_str, from_value, to_string};
+use std::alloc::Global;
+use std::convert::AsStr;
+use std::process::Abort;
+use std::test::Fail;
+
+/// A text of characters that JSON escapes, and what it is written as.
+const TEXT: &str = "\u{1}\"\\\né😈";
+
+const JSON: &str = "\"\\u0001\\\"\\\\\\né😈\"";
+
+/// What is no string of JSON, with a bar between. `from_json` reads the first, a list of bytes.
+const NO_STRING: &str = "[72,105]|1|null|{}|\"a|\"a\" 1";
+
+/// Asserts what is written of a text.
+fn assert_writes<T: Serialize>(rt: &impl Abort, alloc: Global, text: &T) -> Result<(), Fail> {
+    assert_text(rt, to_string(alloc, text)?.as_str(), JSON);
+    Ok(())
+}
+
+#[test]
+fn writes(rt: HostRuntime) -> Result<(), Fail> {
+    assert_writes(&rt, rt.alloc(), &shared(rt.alloc(), TEXT)?)?;
+    assert_writes(&rt, rt.alloc(), &growing(rt.alloc(), TEXT)?)
+}
+
+/// Asserts what is read of the JSON, by both traits.
+fn assert_reads<T: Deserialize<'static> + DeserializeOwned + AsStr>(
+    rt: &impl Abort,
+    alloc: Global,
+) -> Result<(), Fail> {
+    let text: T = from_str(alloc, JSON)?;
+    assert_text(rt, text.as_str(), TEXT);
+    let owned: T = from_value(alloc, Value::from_str(alloc, JSON)?)?;
+    assert_text(rt, owned.as_str(), TEXT);
+    Ok(())
+}
+
+#[test]
+fn reads(rt: HostRuntime) -> Result<(), Fail> {
+    assert_reads::<Str>(&rt, rt.alloc())?;
+    assert_reads::<StrMut>(&rt, rt.alloc())
+}
+
+#[test]
+fn reads_no_other_json(rt: HostRuntime) {
+    for json in NO_STRING.split('|') {
+        assert!(rt; from_str::<Str>(rt.alloc(), json).is_err(), "{json}");
+        assert!(rt; from_str::<StrMut>(rt.alloc(), json).is_err(), "{json}");
+    }
+}
