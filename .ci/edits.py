@@ -1,8 +1,8 @@
 """Wrong bodies: how an edit is read and applied, and what the check of a copy says of it.
 
-An edit is a file of lines: 'file: PATH'; 'fn: NAME' for each function that it changes, as the prover names it without
-the crate's name in front, or 'test: NAME' for the test that has to catch it; and pairs of 'old: TEXT', which is in the
-file once, and 'new: TEXT'."""
+An edit is a file of lines: 'file: PATH'; '# fn: NAME' for each function that it changes, as the prover names it without
+the crate's name in front, or '# test: NAME' for the test that has to catch it; and pairs of 'old: TEXT', which is in the
+file once, and 'new: TEXT'. `rt ci` reads the lines without '#'."""
 import re
 from collections import namedtuple
 from pathlib import Path
@@ -32,7 +32,7 @@ def edits_of(program, kind):
 
 
 def edit_of(program, name, text):
-    file, functions, test = (re.findall(rf"^{key}: (.*)$", text, re.M) for key in ("file", "fn", "test"))
+    file, functions, test = (re.findall(rf"^{key}: (.*)$", text, re.M) for key in ("file", "# fn", "# test"))
     pairs = re.findall(r"^old: (.+)\nnew: ?(.*)$", text, re.M)
     return Edit(program, f"{program.name}/{name}", "".join(file), functions, "".join(test), pairs)
 
