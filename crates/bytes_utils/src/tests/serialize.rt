@@ -29,21 +29,22 @@ fn writes(rt: HostRuntime) -> Result<(), Fail> {
 }
 
 /// Asserts what is read of the JSON, by both traits.
-fn assert_reads<T: Deserialize<'static> + DeserializeOwned + AsStr>(
+fn assert_reads<'j, T: Deserialize<'j> + DeserializeOwned + AsStr>(
     rt: &impl Abort,
     alloc: Global,
+    json: &'j str,
 ) -> Result<(), Fail> {
-    let text: T = from_str(alloc, JSON)?;
+    let text: T = from_str(alloc, json)?;
     assert_text(rt, text.as_str(), TEXT);
-    let owned: T = from_value(alloc, Value::from_str(alloc, JSON)?)?;
+    let owned: T = from_value(alloc, Value::from_str(alloc, json)?)?;
     assert_text(rt, owned.as_str(), TEXT);
     Ok(())
 }
 
 #[test]
 fn reads(rt: HostRuntime) -> Result<(), Fail> {
-    assert_reads::<Str>(&rt, rt.alloc())?;
-    assert_reads::<StrMut>(&rt, rt.alloc())
+    assert_reads::<Str>(&rt, rt.alloc(), JSON)?;
+    assert_reads::<StrMut>(&rt, rt.alloc(), JSON)
 }
 
 #[test]

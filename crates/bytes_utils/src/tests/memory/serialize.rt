@@ -10,23 +10,24 @@ use std::io::Print;
 use std::process::Abort;
 use std::test::Fail;
 
-/// The text that is read of a JSON string.
-fn read<T: Deserialize<'static>>(alloc: Global) -> Result<T, Error> {
-    from_str(alloc, "\"a\\u03b2\\n\"")
-}
+/// A text as JSON.
+const JSON: &str = "\"a\\u03b2\\n\"";
 
 /// Asserts what is read, the second time where the first is refused.
-fn assert_reads<T: Deserialize<'static> + AsStr, R: Abort + Print>(
+fn assert_reads<'j, T: Deserialize<'j> + AsStr, R: Abort + Print>(
     rt: &R,
     alloc: Global,
     call: &str,
+    json: &'j str,
 ) -> Result<(), Fail> {
-    match read::<T>(alloc) {
+    let read: Result<T, Error> = from_str(alloc, json);
+    match read {
         Ok(text) => assert_text(rt, text.as_str(), "aβ\n"),
         Err(error) => {
             assert!(rt; error.is_memory());
             say(rt, call)?;
-            assert_text(rt, read::<T>(alloc)?.as_str(), "aβ\n");
+            let again: T = from_str(alloc, json)?;
+            assert_text(rt, again.as_str(), "aβ\n");
         }
     }
     Ok(())
@@ -34,10 +35,10 @@ fn assert_reads<T: Deserialize<'static> + AsStr, R: Abort + Print>(
 
 #[test]
 fn shared_is_read(rt: HostRuntime) -> Result<(), Fail> {
-    assert_reads::<Str, HostRuntime>(&rt, rt.alloc(), "Str::deserialize")
+    assert_reads::<Str, HostRuntime>(&rt, rt.alloc(), "Str::deserialize", JSON)
 }
 
 #[test]
 fn growing_is_read(rt: HostRuntime) -> Result<(), Fail> {
-    assert_reads::<StrMut, HostRuntime>(&rt, rt.alloc(), "StrMut::deserialize")
+    assert_reads::<StrMut, HostRuntime>(&rt, rt.alloc(), "StrMut::deserialize", JSON)
 }
