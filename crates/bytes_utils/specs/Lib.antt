@@ -26,4 +26,6 @@ pub use Rattle.bytes_utils_buf.specs.Copies
 pub use Rattle.bytes_utils_buf.specs.Log
 pub use Rattle.bytes_utils_buf.specs.Refusals
 pub use Rattle.bytes_utils_buf.specs.Slices
+pub use Rattle.bytes_utils_buf.specs.Chunks
+pub use Rattle.bytes_utils_buf.specs.Either
 pub use Rattle.bytes_utils_buf.specs.declared.refused.Reason as Reason

@@ -10,7 +10,7 @@ pub mod json;
 pub mod split;
 pub mod string;
 
-pub use bytes_utils_buf::{Reason, Refused, parts, segmented, whole};
+pub use bytes_utils_buf::{EitherBuf, Reason, Refused, parts, segmented, whole};
 pub use segmented::{SegmentedBuf, SegmentedSlice};
 pub use string::{Str, StrMut};
 

@@ -1,10 +1,11 @@
--- The first bytes of many lists, taken list by list.
+-- The next bytes of many lists, taken list by list.
 use Rattle.std.proofs.Common.{◌≡◌, ◌≢◌, ℕ, ◌+◌, ◌-◌, ◌<◌, ◌≤◌, List, [], ◌∷◌, ◌++◌, zero, suc, length, take, drop, min, get_or, ap, ◌∙◌, sym, refl, arith, append_assoc, length-append, length-drop, length-take}
-use Rattle.std.proofs.lemmas.List.{append_cancel_left, drop_more, take_min}
+use Rattle.std.proofs.lemmas.List.{append_cancel_left, drop_all, drop-drop, take-append-le, take_min}
 use Rattle.std.proofs.lemmas.List.Elements.{All-nil, All-cons, All-head, All-tail}
-use Rattle.std.specs.List.{concat}
+use Rattle.std.specs.List.{concat, slice_get}
 use Rattle.bytes.proofs.Chunks.{concat_some}
-use Rattle.bytes_utils_buf.specs.Segments.{take_bytes, NoneEmpty}
+use Rattle.bytes_utils_buf.specs.Segments.{cut_front, front_of, IsInside, lists_from, take_bytes, NoneEmpty, Skips}
+use Rattle.bytes_utils_buf.proofs.Lists.{cut_front-none, front_of_drop, length-cut_front}
 
 -- what is wanted of the first list, and then of those behind it
 take_first : (n : ℕ) (x ys : List ℕ) → take n (x ++ ys) ≡ take n x ++ take (n - length (take n x)) ys
@@ -14,82 +15,141 @@ take_first (suc n) (b ∷ x) ys =
     let d : suc n - suc (length (take n x)) ≡ n - length (take n x) = omega arith in
     rw d (ap (λ l. b ∷ l) (take_first n x ys))
 
--- bytes are wanted from place i on, so there is a list
-pub inside : (xs : List (List ℕ)) (i n : ℕ) → 0 < n → n ≤ length (concat (drop i xs)) → i < length xs
-inside xs i n some enough = omega (arith, concat_some (drop i xs) (omega (arith, some, enough)), length-drop i xs)
+-- ---- lists from a place on
 
--- so many bytes are wanted of the lists: these are the first of them, and the others are in the lists from place i on
-pub record Has (xs : List (List ℕ)) (wanted : ℕ) (had : List ℕ) (i : ℕ) : Type 0 where
+-- bytes are wanted from there on, so there is a list
+pub inside : (xs : List (List ℕ)) (passed offset n : ℕ) → 0 < n → n ≤ length (concat (lists_from passed offset xs)) → passed < length xs
+inside xs passed offset n some enough =
+    omega (arith, concat_some (lists_from passed offset xs) (omega (arith, some, enough)), length-cut_front offset (drop passed xs), length-drop passed xs)
+
+-- the first of them
+pub front_from : (xs : List (List ℕ)) (passed offset : ℕ) → front_of (lists_from passed offset xs) ≡ drop offset (get_or xs passed [])
+front_from xs passed offset = cut (drop passed xs) ∙ ap (drop offset) (front_of_drop xs passed)
+  where
+    cut : (ys : List (List ℕ)) → front_of (cut_front offset ys) ≡ drop offset (front_of ys)
+    cut [] = sym (drop_all offset [] (omega arith))
+    cut (y ∷ ys) = refl
+
+-- those after it
+pub next_from : (xs : List (List ℕ)) (passed offset : ℕ) → drop 1 (lists_from passed offset xs) ≡ lists_from (passed + 1) 0 xs
+next_from xs passed offset = cut (drop passed xs) ∙ drop-drop 1 passed xs ∙ cut_front-none (drop (passed + 1) xs)
+  where
+    cut : (ys : List (List ℕ)) → drop 1 (cut_front offset ys) ≡ drop 1 ys
+    cut [] = refl
+    cut (y ∷ ys) = refl
+
+-- before all
+pub all_from : (xs : List (List ℕ)) → lists_from 0 0 xs ≡ xs
+all_from xs = sym (cut_front-none xs)
+
+-- a search of the place after that many bytes has come to its list, or past all
+pub IsInside-found : (xs : List (List ℕ)) (passed offset at : ℕ) → length (concat (take passed xs)) + offset ≡ at → at ≤ length (concat xs)
+    → (passed < length xs → offset < length (get_or xs passed [])) → IsInside passed offset xs
+IsInside-found [] zero offset at sum fits next = omega arith
+IsInside-found [] (suc passed) offset at sum fits next = omega arith
+IsInside-found (x ∷ xs) zero offset at sum fits next = omega (arith, next (omega arith))
+IsInside-found (x ∷ xs) (suc passed) offset at sum fits next =
+    IsInside-found xs passed offset (length (concat (take passed xs)) + offset) refl
+    (omega (arith, sum, fits, length-append x (concat (take passed xs)), length-append x (concat xs))) (λ h. next (omega arith))
+
+-- there are bytes after the place, so there is a list
+pub Skips-inside : (xs : List (List ℕ)) (passed offset at : ℕ) → Skips at xs (lists_from passed offset xs) → at < length (concat xs) → passed < length xs
+Skips-inside xs passed offset at skips more =
+    inside xs passed offset 1 (omega arith) (omega (arith, more, ap length skips.bytes, length-drop at (concat xs)))
+
+-- the byte at a place is the first one from there on
+pub byte_behind : (xs behind : List (List ℕ)) (at : ℕ) → Skips at xs behind → at < length (concat xs)
+    → (0 < length (front_of behind)) × (slice_get (front_of behind) 0 ≡ slice_get (concat xs) at)
+byte_behind xs behind at skips more =
+    let size : 0 < length (concat behind) = omega (arith, more, ap length skips.bytes, length-drop at (concat xs)) in
+    let some = skips.front (concat_some behind size) in
+    (some, first_byte behind some ∙ ap (λ l. slice_get l 0) skips.bytes ∙ dropped (concat xs) at)
+  where
+    first_byte : (lists : List (List ℕ)) → 0 < length (front_of lists) → slice_get (front_of lists) 0 ≡ slice_get (concat lists) 0
+    first_byte [] some = absurd (omega arith)
+    first_byte ([] ∷ lists) some = absurd (omega arith)
+    first_byte ((b ∷ x) ∷ lists) some = refl
+
+    dropped : (bytes : List ℕ) (n : ℕ) → slice_get (drop n bytes) 0 ≡ slice_get bytes n
+    dropped [] zero = refl
+    dropped [] (suc n) = refl
+    dropped (b ∷ bytes) zero = refl
+    dropped (b ∷ bytes) (suc n) = dropped bytes n
+
+-- bytes that the first list holds alone
+pub front_alone : (behind : List (List ℕ)) (n : ℕ) → n ≤ length (front_of behind) → take n (concat behind) ≡ take n (front_of behind)
+front_alone [] n fits = refl
+front_alone (x ∷ xs) n fits = take-append-le n x (concat xs) fits
+
+-- ---- a number of bytes is wanted
+
+-- these are the first of them, and with the others, which are in the lists, they are all
+pub record Has (lists : List (List ℕ)) (wanted : ℕ) (all had : List ℕ) : Type 0 where
   pub within : length had ≤ wanted
-  pub enough : wanted - length had ≤ length (concat (drop i xs))
-  pub bytes : had ++ take (wanted - length had) (concat (drop i xs)) ≡ take wanted (concat xs)
+  pub enough : wanted - length had ≤ length (concat lists)
+  pub bytes : had ++ take (wanted - length had) (concat lists) ≡ all
 
-pub Has-more : (xs : List (List ℕ)) (wanted : ℕ) (had piece : List ℕ) (i : ℕ) → Has xs wanted had i → length had < wanted
-    → piece ≡ take (wanted - length had) (get_or xs i []) → Has xs wanted (had ++ piece) (i + 1)
-Has-more xs wanted had piece i h more is =
+pub Has-more : (lists : List (List ℕ)) (wanted : ℕ) (all had piece : List ℕ) → Has lists wanted all had → length had < wanted
+    → piece ≡ take (wanted - length had) (front_of lists) → Has (drop 1 lists) wanted all (had ++ piece)
+Has-more [] wanted all had piece h more is = absurd (omega (arith, more, h.enough))
+Has-more (x ∷ rest) wanted all had piece h more is =
     let n = wanted - length had in
-    let x = get_or xs i [] in
-    let rest = concat (drop (i + 1) xs) in
-    let lists : concat (drop i xs) ≡ x ++ rest = ap concat (drop_more xs i [] (inside xs i n (omega (arith, more)) h.enough)) in
     let size = length-append had piece in
     let part : length piece ≡ min n (length x) = ap length is ∙ length-take n x in
     let left : wanted - length (had ++ piece) ≡ n - length piece = omega (arith, size) in
     record {
       within = omega (arith, size, part, h.within);
-      enough = omega (arith, left, part, h.enough, ap length lists, length-append x rest);
-      bytes = append_assoc had piece _ ∙ ap (λ m. had ++ (piece ++ take m rest)) left
-          ∙ ap (λ l. had ++ (l ++ take (n - length l) rest)) is ∙ ap (λ l. had ++ l) (sym (take_first n x rest) ∙ ap (take n) (sym lists)) ∙ h.bytes;
+      enough = omega (arith, left, part, h.enough, length-append x (concat rest));
+      bytes = append_assoc had piece _ ∙ ap (λ m. had ++ (piece ++ take m (concat rest))) left
+          ∙ ap (λ l. had ++ (l ++ take (n - length l) (concat rest))) is ∙ ap (λ l. had ++ l) (sym (take_first n x (concat rest))) ∙ h.bytes;
     }
 
 -- ---- a text that the lists may begin with
 
--- the front of the text is their first bytes, and the rest is to be compared from place i on
-pub record Matches (xs : List (List ℕ)) (text rest : List ℕ) (i : ℕ) : Type 0 where
+-- the front of the text is their first bytes, and the rest is to be compared with the lists
+pub record Matches (lists : List (List ℕ)) (text all rest : List ℕ) : Type 0 where
   pub front : List ℕ
   pub split : text ≡ front ++ rest
-  pub has : Has xs (length text) front i
+  pub has : Has lists (length text) all front
 
-Matches-piece : (xs : List (List ℕ)) (text rest piece : List ℕ) (i : ℕ) (m : Matches xs text rest i) → 0 < length rest
-    → piece ≡ take (length rest) (get_or xs i []) → Has xs (length text) (m.front ++ piece) (i + 1)
-Matches-piece xs text rest piece i m some is =
+Matches-piece : (lists : List (List ℕ)) (text all rest piece : List ℕ) (m : Matches lists text all rest) → 0 < length rest
+    → piece ≡ take (length rest) (front_of lists) → Has (drop 1 lists) (length text) all (m.front ++ piece)
+Matches-piece lists text all rest piece m some is =
     let size = ap length m.split ∙ length-append m.front rest in
     let left : length rest ≡ length text - length m.front = omega (arith, size) in
-    Has-more xs (length text) m.front piece i m.has (omega (arith, size, some)) (is ∙ ap (λ n. take n (get_or xs i [])) left)
+    Has-more lists (length text) all m.front piece m.has (omega (arith, size, some)) (is ∙ ap (λ n. take n (front_of lists)) left)
 
-pub Matches-more : (xs : List (List ℕ)) (text rest piece behind : List ℕ) (i : ℕ) → Matches xs text rest i → 0 < length rest
-    → piece ≡ take (length rest) (get_or xs i []) → rest ≡ piece ++ behind → Matches xs text behind (i + 1)
-Matches-more xs text rest piece behind i m some is same =
+pub Matches-more : (lists : List (List ℕ)) (text all rest piece behind : List ℕ) → Matches lists text all rest → 0 < length rest
+    → piece ≡ take (length rest) (front_of lists) → rest ≡ piece ++ behind → Matches (drop 1 lists) text all behind
+Matches-more lists text all rest piece behind m some is same =
     record {
       front = m.front ++ piece;
       split = m.split ∙ ap (λ l. m.front ++ l) same ∙ sym (append_assoc m.front piece behind);
-      has = Matches-piece xs text rest piece i m some is;
+      has = Matches-piece lists text all rest piece m some is;
     }
 
 -- where the rest doesn't begin with the next piece, nor do the lists with the text
-pub Matches-differs : (xs : List (List ℕ)) (text rest piece : List ℕ) (i : ℕ) → Matches xs text rest i → 0 < length rest
-    → piece ≡ take (length rest) (get_or xs i []) → ((behind : List ℕ) → rest ≢ piece ++ behind) → take (length text) (concat xs) ≢ text
-Matches-differs xs text rest piece i m some is none same =
-    let h = Matches-piece xs text rest piece i m some is in
-    let behind = take (length text - length (m.front ++ piece)) (concat (drop (i + 1) xs)) in
+pub Matches-differs : (lists : List (List ℕ)) (text all rest piece : List ℕ) → Matches lists text all rest → 0 < length rest
+    → piece ≡ take (length rest) (front_of lists) → ((behind : List ℕ) → rest ≢ piece ++ behind) → all ≢ text
+Matches-differs lists text all rest piece m some is none same =
+    let h = Matches-piece lists text all rest piece m some is in
+    let behind = take (length text - length (m.front ++ piece)) (concat (drop 1 lists)) in
     none behind (append_cancel_left m.front rest (piece ++ behind) (sym m.split ∙ sym same ∙ sym h.bytes ∙ append_assoc m.front piece behind))
 
 -- ---- the same, list by list
 
--- so many bytes are wanted of the lists: these lists are the first of them, and those left are in the lists from place i on
-pub record Gives (xs : List (List ℕ)) (wanted left : ℕ) (given : List (List ℕ)) (i : ℕ) : Type 0 where
-  pub enough : left ≤ length (concat (drop i xs))
-  pub lists : given ++ take_bytes left (drop i xs) ≡ take_bytes wanted xs
+-- these lists are the first of those that are given, and what is left of the bytes is in the lists
+pub record Gives (ahead : List (List ℕ)) (left : ℕ) (all given : List (List ℕ)) : Type 0 where
+  pub enough : left ≤ length (concat ahead)
+  pub lists : given ++ take_bytes left ahead ≡ all
 
-pub Gives-more : (xs : List (List ℕ)) (wanted left count : ℕ) (given : List (List ℕ)) (i : ℕ) → Gives xs wanted left given i → 0 < left
-    → count ≡ min (length (get_or xs i [])) left → Gives xs wanted (left - count) (given ++ take count (get_or xs i []) ∷ []) (i + 1)
-Gives-more xs wanted left count given i h some is =
-    let x = get_or xs i [] in
-    let rest = drop (i + 1) xs in
-    let here = drop_more xs i [] (inside xs i left some h.enough) in
+pub Gives-more : (lists : List (List ℕ)) (left count : ℕ) (all given : List (List ℕ)) → Gives lists left all given → 0 < left
+    → count ≡ min (length (front_of lists)) left → Gives (drop 1 lists) (left - count) all (given ++ take count (front_of lists) ∷ [])
+Gives-more [] left count all given h some is = absurd (omega (arith, some, h.enough))
+Gives-more (x ∷ rest) left count all given h some is =
     record {
-      enough = omega (arith, is, h.enough, ap (λ l. length (concat l)) here, length-append x (concat rest));
-      lists = append_assoc given (take count x ∷ []) (take_bytes (left - count) rest)
-          ∙ ap (λ l. given ++ l) (sym (ap (take_bytes left) here ∙ by left x rest count some is)) ∙ h.lists;
+      enough = omega (arith, is, h.enough, length-append x (concat rest));
+      lists = append_assoc given (take count x ∷ []) (take_bytes (left - count) rest) ∙ ap (λ l. given ++ l) (sym (by left x rest count some is)) ∙ h.lists;
     }
   where
     by : (n : ℕ) (x : List ℕ) (ys : List (List ℕ)) (count : ℕ) → 0 < n → count ≡ min (length x) n → take_bytes n (x ∷ ys) ≡ take count x ∷ take_bytes (n - count) ys

@@ -5,3 +5,5 @@ pub mod Tally
 pub mod Lent
 pub mod Copies
 pub mod Refusals
+pub mod Either
+pub mod Chunks

@@ -52,6 +52,14 @@ pub record Skips (n : ℕ) (old new : List (List ℕ)) : Type 0 where
   pub bytes : concat new ≡ drop n (concat old)
   pub front : FrontUnread new
 
+-- the lists from a place on: some are passed, and some bytes of the next one
+abbrev pub lists_from : ℕ → ℕ → List (List ℕ) → List (List ℕ)
+lists_from passed offset segments = cut_front offset (drop passed segments)
+
+-- the place lies within that list, or after all of them
+abbrev pub IsInside : ℕ → ℕ → List (List ℕ) → Type 0
+IsInside passed offset segments = offset ≤ length (front_of (drop passed segments))
+
 -- after a counted call that accepts buffers with these unread lists, in order: empty ones are given too, but dropped and not held
 abbrev pub after_accepting : Held → List (List ℕ) → Held
 after_accepting held lists =

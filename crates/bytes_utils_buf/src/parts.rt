@@ -1,5 +1,5 @@
 //! Buffers that hand out their unread bytes in parts.
-ghost use Rattle.std.specs.Prelude.{ℕ, ⊤, ◌≡◌, ◌<◌, ◌≤◌, length, take, drop, IfOk, IfErr, OnErr};
+ghost use Rattle.std.specs.Prelude.{ℕ, ⊤, ◌≡◌, ◌<◌, ◌≤◌, length, take, drop, IfOk, IfErr, OnErr, ◌⊎◌};
 ghost use Rattle.bytes_utils_buf.specs.Slices.{taken_by, joined, FillsTable};
 
 use bytes::{Buf, Bytes};
@@ -98,4 +98,38 @@ impl BufParts for &[u8] {
         dst[0] = *self;
         1
     }
+}
+
+/// Takes the first `len` bytes out of any buffer, by a copy: a body for `copy_out`. A refusal has
+/// taken none, or all. `remaining` tests the condition.
+pub fn copy_out_of<B: Buf>(buf: &mut B, alloc: Global, len: usize) -> Result<Bytes, CopyRefused>
+    requires { len ≤ length (B.unread buf.old) }
+    ensures value { IfOk result (λ copy. copy ≡ take len (B.unread buf.old)) }
+    ensures taken { taken_by len result ≤ len }
+    ensures refused { IfErr result (λ e. (e.taken ≡ 0) ⊎ (e.taken ≡ len)) }
+    ensures rest { B.unread buf.new ≡ drop (taken_by len result) (B.unread buf.old) }
+    ensures kept { B.kept buf.new ≡ B.kept buf.old }
+{
+    let Ok(mut copy) = vec![in alloc; 0; len] else {
+        return Err(CopyRefused { taken: 0 });
+    };
+    buf.copy_to_slice(&mut copy);
+    match Bytes::from_vec(copy) {
+        Ok(copy) => Ok(copy),
+        Err(_) => Err(CopyRefused { taken: len }),
+    }
+}
+
+/// Shows bytes that lie together in the first place of a table, and returns how many places it
+/// filled: a body for `chunks_into` where one slice is all there is.
+pub fn slice_into<'s>(bytes: &'s [u8], dst: &mut [&'s [u8]]) -> usize
+    ensures fills { FillsTable result dst.old dst.new bytes.now }
+    ensures one { result ≤ 1 }
+    ensures all { 0 < length dst.old → joined (take result dst.new) ≡ bytes.now }
+{
+    if bytes.is_empty() || dst.is_empty() {
+        return 0;
+    }
+    dst[0] = bytes;
+    1
 }

@@ -2,7 +2,9 @@
 //! asked, and what is left where memory is refused.
 mod accept;
 mod buf;
+mod buffers;
 mod caller;
+mod either_buf;
 mod fixtures;
 mod front;
 mod looks;
@@ -13,6 +15,7 @@ mod parts;
 mod passed;
 mod queue;
 mod random;
+mod range;
 mod reads;
 mod refused;
 mod slice;

@@ -6,11 +6,13 @@ ghost use Rattle.bytes_utils_buf.specs.Segments.{NoneEmpty, newly_held, nothing_
 ghost use Rattle.bytes_utils_buf.specs.Tally.{IsBalanced, IsCovered, IsPaid, lined_up};
 
 mod accept;
+mod chunks;
 mod front;
 mod hand_out;
 mod join;
 mod look;
 mod queue;
+mod range;
 mod share;
 mod take_out;
 
@@ -19,6 +21,7 @@ use super::tally::Tally;
 use super::walk::skip_held;
 use crate::Reason;
 use bytes::Buf;
+pub use chunks::Chunks;
 use std::alloc::Global;
 use std::collections::VecDeque;
 use std::marker::Model;

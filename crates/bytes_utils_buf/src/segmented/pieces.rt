@@ -1,22 +1,36 @@
-//! The first bytes of held buffers, in pieces: of each buffer what is wanted of it.
-ghost use Rattle.std.specs.Prelude.{◌≡◌, ◌<◌, ◌≤◌, [], length, map, take, slice_index_or, vec_capacity, IsTrue, ◌↔◌, IsOk, IfOk, IfErr};
+//! The bytes of held buffers from a place on, in pieces: of each buffer what is wanted of it.
+ghost use Rattle.std.specs.Prelude.{◌≡◌, ◌<◌, ◌≤◌, [], length, map, take, vec_capacity, IsTrue, ◌↔◌, IsOk, IfOk, IfErr};
 ghost use Rattle.std.specs.List.{concat};
-ghost use Rattle.bytes_utils_buf.specs.Segments.{take_bytes};
+ghost use Rattle.bytes_utils_buf.specs.Segments.{IsInside, front_of, lists_from, take_bytes};
 
 use super::copy::append_chunk;
+use super::place::{FRONT, Place};
 use crate::Reason;
 use crate::whole::BufWhole;
 use bytes::{Buf, Bytes};
 use std::alloc::Global;
 use std::collections::VecDeque;
 
-/// The first bytes of the buffer at a place, at most so many.
+/// What the buffer at a place holds from there on.
 #[inline]
-fn piece_at<B: BufWhole>(bufs: &VecDeque<B>, place: usize, most: usize) -> &[u8]
-    requires { place < length bufs.now.items }
-    ensures { result.now ≡ take most (slice_index_or (map B.unread bufs.now.items) place []) }
+pub(super) fn rest_at<B: BufWhole>(bufs: &VecDeque<B>, place: Place) -> &[u8]
+    requires some { place.passed < length bufs.now.items }
+    requires inside { IsInside place.passed place.offset (map B.unread bufs.now.items) }
+    ensures { result.now
+        ≡ front_of (lists_from place.passed place.offset (map B.unread bufs.now.items)) }
 {
-    let whole = bufs[place].whole();
+    &bufs[place.passed].whole()[place.offset..]
+}
+
+/// The same, at most `most` bytes.
+#[inline]
+fn piece_at<B: BufWhole>(bufs: &VecDeque<B>, place: Place, most: usize) -> &[u8]
+    requires some { place.passed < length bufs.now.items }
+    requires inside { IsInside place.passed place.offset (map B.unread bufs.now.items) }
+    ensures { result.now ≡ take most
+        (front_of (lists_from place.passed place.offset (map B.unread bufs.now.items))) }
+{
+    let whole = rest_at(bufs, place);
     &whole[..whole.len().min(most)]
 }
 
@@ -26,67 +40,86 @@ pub(super) fn copy_into<B: BufWhole>(bufs: &VecDeque<B>, dst: &mut [u8])
     ensures { dst.new ≡ take (length dst.old) (concat (map B.unread bufs.now.items)) }
 {
     let mut copied = 0;
-    let mut place = 0;
+    let mut place = FRONT;
     while copied < dst.len() {
         let piece = piece_at(bufs, place, dst.len() - copied);
         dst[copied..copied + piece.len()].copy_from_slice(piece);
         copied += piece.len();
-        place += 1;
+        place.passed += 1;
+        place.offset = 0;
     }
 }
 
-/// Appends the first `len` bytes to an empty copy that has room for them.
-pub(super) fn copy_pieces<B: BufWhole>(bufs: &VecDeque<B>, copy: &mut Vec<u8>, len: usize)
-    requires some { len ≤ length (concat (map B.unread bufs.now.items)) }
+/// Appends the next `len` bytes to an empty copy that has room for them.
+pub(super) fn copy_pieces<B: BufWhole>(
+    bufs: &VecDeque<B>,
+    from: Place,
+    copy: &mut Vec<u8>,
+    len: usize,
+)
+    requires inside { IsInside from.passed from.offset (map B.unread bufs.now.items) }
+    requires some { len
+        ≤ length (concat (lists_from from.passed from.offset (map B.unread bufs.now.items))) }
     requires room { (copy.old.items ≡ []) × (len ≤ vec_capacity copy.old) }
-    ensures { copy.new.items ≡ take len (concat (map B.unread bufs.now.items)) }
+    ensures { copy.new.items
+        ≡ take len (concat (lists_from from.passed from.offset (map B.unread bufs.now.items))) }
 {
-    let mut place = 0;
+    let mut place = from;
     while copy.len() < len {
-        append_chunk(copy, bufs[place].whole(), len);
-        place += 1;
+        append_chunk(copy, rest_at(bufs, place), len);
+        place.passed += 1;
+        place.offset = 0;
     }
 }
 
-/// Whether the bytes, which are as many at least, begin with these.
-pub(super) fn starts_with<B: BufWhole>(bufs: &VecDeque<B>, prefix: &[u8]) -> bool
-    requires { length prefix.now ≤ length (concat (map B.unread bufs.now.items)) }
-    ensures { IsTrue result
-        ↔ (take (length prefix.now) (concat (map B.unread bufs.now.items)) ≡ prefix.now) }
+/// Whether the next bytes, which are as many at least, are these.
+pub(super) fn starts_with<B: BufWhole>(bufs: &VecDeque<B>, from: Place, prefix: &[u8]) -> bool
+    requires inside { IsInside from.passed from.offset (map B.unread bufs.now.items) }
+    requires some { length prefix.now
+        ≤ length (concat (lists_from from.passed from.offset (map B.unread bufs.now.items))) }
+    ensures { IsTrue result ↔ (take (length prefix.now)
+        (concat (lists_from from.passed from.offset (map B.unread bufs.now.items)))
+        ≡ prefix.now) }
 {
     let mut rest = prefix;
-    let mut place = 0;
+    let mut place = from;
     while !rest.is_empty() {
         let Some(behind) = rest.strip_prefix(piece_at(bufs, place, rest.len())) else {
             return false;
         };
         rest = behind;
-        place += 1;
+        place.passed += 1;
+        place.offset = 0;
     }
     true
 }
 
-/// The first `len` bytes, shared where a buffer shares its own.
+/// The next `len` bytes, shared where a buffer shares its own.
 pub(super) fn share_pieces<B: BufWhole>(
     bufs: &VecDeque<B>,
+    from: Place,
     alloc: Global,
     len: usize,
 ) -> Result<VecDeque<Bytes>, Reason>
-    requires { len ≤ length (concat (map B.unread bufs.now.items)) }
-    ensures ok { IfOk result
-        (λ pieces. pieces.items ≡ take_bytes len (map B.unread bufs.now.items)) }
+    requires inside { IsInside from.passed from.offset (map B.unread bufs.now.items) }
+    requires some { len
+        ≤ length (concat (lists_from from.passed from.offset (map B.unread bufs.now.items))) }
+    ensures ok { IfOk result (λ pieces. pieces.items
+        ≡ take_bytes len (lists_from from.passed from.offset (map B.unread bufs.now.items))) }
     ensures reason { IfErr result (λ reason. reason ≡ Reason.OutOfMemory) }
     ensures none { len ≡ 0 → IsOk result }
 {
     let mut pieces = VecDeque::new(alloc);
     let mut left = len;
-    let mut place = 0;
+    let mut place = from;
     while left > 0 {
-        let buf = &bufs[place];
-        let count = buf.remaining().min(left);
-        pieces.push_back(buf.first(alloc, count)?)?;
+        let buf = &bufs[place.passed];
+        let count = (buf.remaining() - place.offset).min(left);
+        let piece = buf.part(alloc, place.offset..place.offset + count)?;
+        pieces.push_back(piece)?;
         left -= count;
-        place += 1;
+        place.passed += 1;
+        place.offset = 0;
     }
     Ok(pieces)
 }

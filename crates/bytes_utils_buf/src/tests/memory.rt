@@ -1,8 +1,10 @@
 //! What a call answers and leaves where its request for memory is refused. Each of these tests
 //! passes whichever single request of its run is refused, and then says whose it was. A test that
 //! can't make its buffers ends well.
+mod buffers;
 mod front;
 mod queue;
+mod range;
 
 use super::fixtures;
 use super::fixtures::{

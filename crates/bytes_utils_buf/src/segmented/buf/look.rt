@@ -5,6 +5,7 @@ ghost use Rattle.std.specs.Option.{option_map};
 
 use super::SegmentedBuf;
 use crate::segmented::pieces::{copy_into, starts_with};
+use crate::segmented::place::FRONT;
 use crate::whole::BufWhole;
 
 impl<B: BufWhole + Drop> SegmentedBuf<B> {
@@ -30,6 +31,13 @@ impl<B: BufWhole + Drop> SegmentedBuf<B> {
         ensures { IsTrue result
             ↔ (take (length prefix.now) (concat self.now.segments) ≡ prefix.now) }
     {
-        prefix.len() <= self.remaining && starts_with(&self.segments, prefix)
+        prefix.len() <= self.remaining && starts_with(&self.segments, FRONT, prefix)
+    }
+
+    /// Whether the bytes are these.
+    pub fn eq_bytes(&self, bytes: &[u8]) -> bool
+        ensures { IsTrue result ↔ (concat self.now.segments ≡ bytes.now) }
+    {
+        self.remaining == bytes.len() && self.starts_with(bytes)
     }
 }

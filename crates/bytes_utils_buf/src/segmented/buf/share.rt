@@ -8,9 +8,11 @@ use super::SegmentedBuf;
 use super::front::front_holds;
 use crate::Reason;
 use crate::segmented::pieces::{copy_pieces, share_pieces};
+use crate::segmented::place::FRONT;
 use crate::whole::BufWhole;
 use bytes::Bytes;
 use std::alloc::Global;
+use std::mem::replace;
 
 impl<B: BufWhole + Drop> SegmentedBuf<B> {
     /// The first `len` bytes as segments of their own, which stay here too. `remaining` tests the
@@ -23,7 +25,7 @@ impl<B: BufWhole + Drop> SegmentedBuf<B> {
         ensures reason { IfErr result (λ reason. reason ≡ Reason.OutOfMemory) }
         ensures none { len ≡ 0 → IsOk result }
     {
-        let pieces = share_pieces(&self.segments, alloc, len)?;
+        let pieces = share_pieces(&self.segments, FRONT, alloc, len)?;
         Ok(SegmentedBuf::newly_held(pieces, len))
     }
 
@@ -65,7 +67,35 @@ impl<B: BufWhole + Drop> SegmentedBuf<B> {
             return self.segments[0].first(alloc, len);
         }
         let mut copy = Vec::with_capacity(alloc, len)?;
-        copy_pieces(&self.segments, &mut copy, len);
+        copy_pieces(&self.segments, FRONT, &mut copy, len);
         Ok(Bytes::from_vec(copy)?)
+    }
+}
+
+impl SegmentedBuf<Bytes> {
+    /// Keeps the first `at` bytes, and returns those after them. A segment that is cut is shared by
+    /// both. `remaining` tests the condition.
+    pub fn split_off(&mut self, alloc: Global, at: usize) -> Result<SegmentedBuf<Bytes>, Reason>
+        requires { at ≤ length (concat self.old.segments) }
+
+        // What is kept has a tally of its own.
+        ensures kept { OnOk result (self.new ≡ newly_held (take_bytes at self.old.segments)) }
+        ensures front { OnOk result (concat self.new.segments ≡ take at (concat self.old.segments)) }
+        ensures skips { IfOk result (λ rest. Skips at self.old.segments rest.segments) }
+        ensures bytes { IfOk result
+            (λ rest. concat rest.segments ≡ drop at (concat self.old.segments)) }
+        ensures err { OnErr result (self.new ≡ self.old) }
+        ensures reason { IfErr result (λ reason. reason ≡ Reason.OutOfMemory) }
+        ensures none { at ≡ 0 → IsOk result }
+
+        // What is returned has the tally from before. Each segment that is passed takes one turn on it.
+        ensures turns { IfOk result (λ rest. lined_up rest.segments rest.tally
+            ≡ lined_up self.old.segments self.old.tally) }
+        ensures given { IfOk result (λ rest. rest.tally.given ≡ self.old.tally.given) }
+        ensures dropped { IfOk result (λ rest. rest.tally.dropped ≡ self.old.tally.dropped) }
+        ensures calls { IfOk result (λ rest. rest.tally.calls ≡ self.old.tally.calls + 1) }
+    {
+        let front = self.split_to(alloc, at)?;
+        Ok(replace(self, front))
     }
 }

@@ -1,11 +1,18 @@
 use Rattle.std.proofs.Common.{◌-◌, ◌≤◌, length, map, take}
+use Rattle.std.specs.List.{concat}
+use Rattle.bytes_utils_buf.specs.Segments.{IsInside, lists_from}
 use Rattle.bytes_utils_buf.proofs.Pieces.{Has}
 use Rattle.bytes_utils_buf.proofs.segmented.pieces.copy_into.Given as goal
 
 abbrev pub invariant-loop-copied : goal.invariant-loop-copied
 invariant-loop-copied g l =
-    (l.copied ≤ length l.fn.dst)
-    × Has (map g.B.Buf.unread l.bufs.items) (length l.fn.dst) (take l.copied l.dst) l.place
+    let lists = map g.B.Buf.unread l.bufs.items in
+    record {
+      within : l.copied ≤ length l.fn.dst;
+      inside : IsInside l.place.passed l.place.offset lists;
+      has : Has (lists_from l.place.passed l.place.offset lists) (length l.fn.dst)
+          (take (length l.fn.dst) (concat (lists_from 0 0 lists))) (take l.copied l.dst);
+    }
 
 abbrev pub decreases-loop-copied : goal.decreases-loop-copied
-decreases-loop-copied g l = length l.bufs.items - l.place
+decreases-loop-copied g l = length l.bufs.items - l.place.passed

@@ -1,10 +1,18 @@
-use Rattle.std.proofs.Common.{◌-◌, ◌≤◌, length, map, vec_capacity}
+use Rattle.std.proofs.Common.{◌-◌, ◌≤◌, length, map, take, vec_capacity}
+use Rattle.std.specs.List.{concat}
+use Rattle.bytes_utils_buf.specs.Segments.{IsInside, lists_from}
 use Rattle.bytes_utils_buf.proofs.Pieces.{Has}
 use Rattle.bytes_utils_buf.proofs.segmented.pieces.copy_pieces.Given as goal
 
-abbrev pub invariant-loop-copy : goal.invariant-loop-copy
-invariant-loop-copy g l =
-    (l.len ≤ vec_capacity l.copy) × Has (map g.B.Buf.unread l.bufs.items) l.len l.copy.items l.place
+abbrev pub invariant-loop-place : goal.invariant-loop-place
+invariant-loop-place g l =
+    let lists = map g.B.Buf.unread l.bufs.items in
+    record {
+      room : l.fn.len ≤ vec_capacity l.copy;
+      inside : IsInside l.place.passed l.place.offset lists;
+      has : Has (lists_from l.place.passed l.place.offset lists) l.fn.len
+          (take l.fn.len (concat (lists_from l.fn.from.passed l.fn.from.offset lists))) l.copy.items;
+    }
 
-abbrev pub decreases-loop-copy : goal.decreases-loop-copy
-decreases-loop-copy g l = length l.bufs.items - l.place
+abbrev pub decreases-loop-place : goal.decreases-loop-place
+decreases-loop-place g l = length l.bufs.items - l.place.passed

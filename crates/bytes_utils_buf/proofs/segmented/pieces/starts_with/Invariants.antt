@@ -1,9 +1,17 @@
-use Rattle.std.proofs.Common.{◌-◌, length, map}
+use Rattle.std.proofs.Common.{◌-◌, length, map, take}
+use Rattle.std.specs.List.{concat}
+use Rattle.bytes_utils_buf.specs.Segments.{IsInside, lists_from}
 use Rattle.bytes_utils_buf.proofs.Pieces.{Matches}
 use Rattle.bytes_utils_buf.proofs.segmented.pieces.starts_with.Given as goal
 
 abbrev pub invariant-loop-rest : goal.invariant-loop-rest
-invariant-loop-rest g l = Matches (map g.B.Buf.unread l.bufs.items) l.fn.prefix l.rest l.place
+invariant-loop-rest g l =
+    let lists = map g.B.Buf.unread l.bufs.items in
+    record {
+      inside : IsInside l.place.passed l.place.offset lists;
+      matches : Matches (lists_from l.place.passed l.place.offset lists) l.fn.prefix
+          (take (length l.fn.prefix) (concat (lists_from l.fn.from.passed l.fn.from.offset lists))) l.rest;
+    }
 
 abbrev pub decreases-loop-rest : goal.decreases-loop-rest
-decreases-loop-rest g l = length l.bufs.items - l.place
+decreases-loop-rest g l = length l.bufs.items - l.place.passed

@@ -1,0 +1,36 @@
+//! Boxes: a boxed buffer is asked itself.
+ghost use Rattle.std.specs.Prelude.{◌≡◌, ◌≤◌, length, take, drop, slice_range, IsOk, IfOk, IfErr};
+ghost use Rattle.bytes_utils_buf.specs.Slices.{taken_by, FillsTable};
+
+use crate::Reason;
+use crate::parts::{BufParts, CopyRefused};
+use crate::whole::BufWhole;
+use bytes::Bytes;
+use std::alloc::{Allocator, Global};
+use std::ops::Range;
+
+impl<T: BufParts, A: Allocator> BufParts for Box<T, A> {
+    ghost loses = { T.loses };
+
+    fn copy_out(&mut self, alloc: Global, len: usize) -> Result<Bytes, CopyRefused> {
+        T::copy_out(&mut **self, alloc, len)
+    }
+
+    fn chunks_into<'s>(&'s self, dst: &mut [&'s [u8]]) -> usize {
+        T::chunks_into(&**self, dst)
+    }
+}
+
+impl<T: BufWhole, A: Allocator> BufWhole for Box<T, A> {
+    fn whole(&self) -> &[u8] {
+        T::whole(&**self)
+    }
+
+    fn first(&self, alloc: Global, len: usize) -> Result<Bytes, Reason> {
+        T::first(&**self, alloc, len)
+    }
+
+    fn part(&self, alloc: Global, range: Range<usize>) -> Result<Bytes, Reason> {
+        T::part(&**self, alloc, range)
+    }
+}

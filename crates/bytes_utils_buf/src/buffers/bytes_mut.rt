@@ -1,0 +1,44 @@
+//! `BytesMut`: what is taken out of it is shared.
+ghost use Rattle.std.specs.Prelude.{◌≡◌, ◌<◌, ◌≤◌, length, take, drop, IfOk, IfErr, OnErr};
+ghost use Rattle.bytes.specs.Adapters.{kept_spare};
+ghost use Rattle.bytes_utils_buf.specs.Slices.{taken_by, joined, FillsTable};
+
+use crate::parts::{BufParts, CopyRefused, slice_into};
+use crate::whole::BufWhole;
+use bytes::{Bytes, BytesMut};
+use std::alloc::Global;
+
+/// `copy_out` shares the bytes. A refusal has taken none.
+impl BufParts for BytesMut {
+    ghost loses = { λ _ taken. taken ≡ 0 };
+
+    fn copy_out(&mut self, _alloc: Global, len: usize) -> Result<Bytes, CopyRefused>
+        requires { len ≤ length self.old.items }
+        ensures value { IfOk result (λ copy. copy ≡ take len self.old.items) }
+        ensures taken { taken_by len result ≤ len }
+        ensures rest { self.new.items ≡ drop (taken_by len result) self.old.items }
+        ensures kept { kept_spare self.new.spare ≡ kept_spare self.old.spare }
+        ensures refused { IfErr result (λ e. e.taken ≡ 0) }
+        ensures same { OnErr result (self.new ≡ self.old) }
+    {
+        match self.freeze_to(len) {
+            Ok(copy) => Ok(copy),
+            Err(_) => Err(CopyRefused { taken: 0 }),
+        }
+    }
+
+    fn chunks_into<'s>(&'s self, dst: &mut [&'s [u8]]) -> usize
+        ensures fills { FillsTable result dst.old dst.new self.now.items }
+        ensures one { result ≤ 1 }
+        ensures all { 0 < length dst.old → joined (take result dst.new) ≡ self.now.items }
+    {
+        slice_into(self.as_slice(), dst)
+    }
+}
+
+/// `first` and `part` copy the bytes: only a call that takes them can share them.
+impl BufWhole for BytesMut {
+    fn whole(&self) -> &[u8] {
+        self.as_slice()
+    }
+}

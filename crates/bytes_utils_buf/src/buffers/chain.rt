@@ -1,0 +1,34 @@
+//! `Chain`: one buffer, and then another.
+ghost use Rattle.std.specs.Prelude.{◌≡◌, ◌+◌, ◌-◌, ◌≤◌, ◌++◌, length, min, take, drop, IfOk, IfErr};
+ghost use Rattle.bytes.specs.Adapters.{chain_first, chain_last, chain_limit};
+ghost use Rattle.bytes_utils_buf.specs.Slices.{taken_by, FillsTable};
+
+use super::pair::{first_of_both, first_slices_into};
+use crate::parts::{BufParts, CopyRefused};
+use crate::whole::BufWhole;
+use bytes::buf::Chain;
+use bytes::{Buf, Bytes};
+use std::alloc::Global;
+
+/// `copy_out` shares the bytes where they lie in one of the two, and it does. A refusal has taken
+/// none.
+impl<T: BufWhole, U: BufWhole> BufParts for Chain<T, U> {
+    ghost loses = { λ _ taken. taken ≡ 0 };
+
+    fn copy_out(&mut self, alloc: Global, len: usize) -> Result<Bytes, CopyRefused> {
+        let Ok(copy) = first_of_both(self.first_ref(), self.last_ref(), alloc, len) else {
+            return Err(CopyRefused { taken: 0 });
+        };
+        self.advance(len);
+        Ok(copy)
+    }
+
+    fn chunks_into<'s>(&'s self, dst: &mut [&'s [u8]]) -> usize {
+        first_slices_into(
+            self.first_ref().whole(),
+            self.last_ref().whole(),
+            self.remaining(),
+            dst,
+        )
+    }
+}

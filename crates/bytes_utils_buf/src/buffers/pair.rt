@@ -1,0 +1,62 @@
+//! Two buffers whose bytes are read one after the other.
+ghost use Rattle.std.specs.Prelude.{◌≡◌, ◌+◌, ◌≤◌, ◌++◌, length, take, IfOk, IfErr};
+ghost use Rattle.bytes_utils_buf.specs.Slices.{FillsTable};
+
+use crate::Reason;
+use crate::parts::slice_into;
+use crate::whole::BufWhole;
+use bytes::Bytes;
+use std::alloc::Global;
+
+/// The first `len` bytes of both, which stay there too. Where they lie in one of the two, that one
+/// is asked alone.
+pub(super) fn first_of_both<T: BufWhole, U: BufWhole>(
+    front: &T,
+    back: &U,
+    alloc: Global,
+    len: usize,
+) -> Result<Bytes, Reason>
+    requires { len ≤ length (T.unread front.now) + length (U.unread back.now) }
+    ensures value { IfOk result
+        (λ first. first ≡ take len (T.unread front.now ++ U.unread back.now)) }
+    ensures reason { IfErr result (λ reason. reason ≡ Reason.OutOfMemory) }
+{
+    let in_front = front.remaining();
+    if len <= in_front {
+        return front.first(alloc, len);
+    }
+    if in_front == 0 {
+        return back.first(alloc, len);
+    }
+    let mut copy = Vec::with_capacity(alloc, len)?;
+    copy.extend_from_slice(front.whole())?;
+    copy.extend_from_slice(&back.whole()[..len - in_front])?;
+    Ok(Bytes::from_vec(copy)?)
+}
+
+/// Shows two slices in the first places of a table, and returns how many places it filled.
+pub(super) fn slices_into<'s>(front: &'s [u8], back: &'s [u8], dst: &mut [&'s [u8]]) -> usize
+    ensures { FillsTable result dst.old dst.new (front.now ++ back.now) }
+{
+    let filled = slice_into(front, dst);
+    if filled == dst.len() {
+        return filled;
+    }
+    filled + slice_into(back, &mut dst[filled..])
+}
+
+/// As `slices_into`, of the first `len` bytes alone.
+pub(super) fn first_slices_into<'s>(
+    front: &'s [u8],
+    back: &'s [u8],
+    len: usize,
+    dst: &mut [&'s [u8]],
+) -> usize
+    requires { len ≤ length front.now + length back.now }
+    ensures { FillsTable result dst.old dst.new (take len (front.now ++ back.now)) }
+{
+    if len <= front.len() {
+        return slice_into(&front[..len], dst);
+    }
+    slices_into(front, &back[..len - front.len()], dst)
+}

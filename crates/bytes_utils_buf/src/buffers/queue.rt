@@ -1,0 +1,24 @@
+//! `BytesQueue`: shared chunks in a row.
+ghost use Rattle.std.specs.Prelude.{◌≡◌, ◌≤◌, length, take, drop, IfOk, IfErr};
+ghost use Rattle.bytes_utils_buf.specs.Slices.{taken_by, FillsTable};
+
+use crate::parts::{BufParts, CopyRefused};
+use bytes::{Bytes, BytesQueue};
+use std::alloc::Global;
+
+/// `copy_out` shares the bytes where they lie in the first chunk. A refusal has taken what the
+/// queue's own has.
+impl BufParts for BytesQueue {
+    fn copy_out(&mut self, alloc: Global, len: usize) -> Result<Bytes, CopyRefused> {
+        match self.split_to(alloc, len) {
+            Ok(copy) => Ok(copy),
+            Err(refused) => Err(CopyRefused {
+                taken: refused.value.len(),
+            }),
+        }
+    }
+
+    fn chunks_into<'s>(&'s self, dst: &mut [&'s [u8]]) -> usize {
+        self.chunks_vectored(dst)
+    }
+}

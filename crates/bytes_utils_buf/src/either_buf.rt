@@ -1,0 +1,100 @@
+//! A buffer of one of two types.
+ghost use Rattle.std.specs.Prelude.{◌≡◌, ◌≤◌, length, take, drop, slice_range, IsOk, IfOk, IfErr, ◌⊎◌};
+ghost use Rattle.bytes.specs.Unread.{IsChunkOf};
+ghost use Rattle.bytes_utils_buf.specs.Either.{unread_of, kept_of};
+ghost use Rattle.bytes_utils_buf.specs.Slices.{taken_by, FillsTable};
+
+use crate::Reason;
+use crate::parts::{BufParts, CopyRefused};
+use crate::whole::BufWhole;
+use bytes::{Buf, Bytes};
+use std::alloc::Global;
+use std::ops::Range;
+
+/// A buffer of one of two types, which reads as the one that it is.
+///
+/// It serves where buffers of two types are read as one, as a borrowed head and a shared body:
+///
+/// ```text
+/// let mut message = SegmentedBuf::new(alloc);
+/// message.push(EitherBuf::Left(b"HELLO ".as_slice()))?; // where `message.fits(6)`
+/// message.push(EitherBuf::Right(body))?;                // a `Bytes`, where it fits
+/// ```
+///
+/// It nests: for three types, `EitherBuf<A, EitherBuf<B, C>>`.
+#[derive(Debug, Drop)]
+pub enum EitherBuf<L, R> {
+    /// A buffer of the first type.
+    Left(L),
+    /// A buffer of the second type.
+    Right(R),
+}
+
+impl<L: Buf, R: Buf> Buf for EitherBuf<L, R> {
+    ghost unread = { unread_of L.unread R.unread };
+
+    ghost kept = { kept_of L.kept R.kept };
+
+    fn remaining(&self) -> usize {
+        match self {
+            EitherBuf::Left(buf) => buf.remaining(),
+            EitherBuf::Right(buf) => buf.remaining(),
+        }
+    }
+
+    fn chunk(&self) -> &[u8] {
+        match self {
+            EitherBuf::Left(buf) => buf.chunk(),
+            EitherBuf::Right(buf) => buf.chunk(),
+        }
+    }
+
+    fn advance(&mut self, cnt: usize) {
+        match self {
+            EitherBuf::Left(buf) => buf.advance(cnt),
+            EitherBuf::Right(buf) => buf.advance(cnt),
+        }
+    }
+}
+
+impl<L: BufParts, R: BufParts> BufParts for EitherBuf<L, R> {
+    // What a refused copy of the one or of the other may have taken.
+    ghost loses = { λ len taken. L.loses len taken ⊎ R.loses len taken };
+
+    fn copy_out(&mut self, alloc: Global, len: usize) -> Result<Bytes, CopyRefused> {
+        match self {
+            EitherBuf::Left(buf) => buf.copy_out(alloc, len),
+            EitherBuf::Right(buf) => buf.copy_out(alloc, len),
+        }
+    }
+
+    fn chunks_into<'s>(&'s self, dst: &mut [&'s [u8]]) -> usize {
+        match self {
+            EitherBuf::Left(buf) => buf.chunks_into(dst),
+            EitherBuf::Right(buf) => buf.chunks_into(dst),
+        }
+    }
+}
+
+impl<L: BufWhole, R: BufWhole> BufWhole for EitherBuf<L, R> {
+    fn whole(&self) -> &[u8] {
+        match self {
+            EitherBuf::Left(buf) => buf.whole(),
+            EitherBuf::Right(buf) => buf.whole(),
+        }
+    }
+
+    fn first(&self, alloc: Global, len: usize) -> Result<Bytes, Reason> {
+        match self {
+            EitherBuf::Left(buf) => buf.first(alloc, len),
+            EitherBuf::Right(buf) => buf.first(alloc, len),
+        }
+    }
+
+    fn part(&self, alloc: Global, range: Range<usize>) -> Result<Bytes, Reason> {
+        match self {
+            EitherBuf::Left(buf) => buf.part(alloc, range),
+            EitherBuf::Right(buf) => buf.part(alloc, range),
+        }
+    }
+}
