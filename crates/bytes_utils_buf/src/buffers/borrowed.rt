@@ -1,4 +1,4 @@
-//! Borrowed buffers: the buffer behind a `&mut` is asked itself.
+//! Borrowed buffers: each call goes to the buffer that the `&mut` borrows.
 ghost use Rattle.std.specs.Prelude.{◌≡◌, ◌≤◌, length, take, drop, slice_range, IsOk, IfOk, IfErr};
 ghost use Rattle.bytes_utils_buf.specs.Slices.{taken_by, FillsTable};
 

@@ -13,7 +13,7 @@ impl From<String> for StrInner<BytesMut> {
     ghost from_gives = { λ text same. same ≡ string_bytes text };
 
     fn from(text: String) -> StrMut {
-        // Tells the proof that the bytes are UTF-8.
+        // The proof takes from this that the bytes are UTF-8.
         let _ = text.as_str();
         StrMut::from_inner_unchecked(BytesMut::from_vec(text.into_bytes()))
     }
