@@ -17,7 +17,7 @@ use bytes_utils_buf::{Reason, Refused};
 pub use limited::{LimitedFrames, limited_frames_law};
 pub use line::{LineError, Lines, lines_laws};
 use memchr::memmem::Finder;
-pub use needle::{find, find_from};
+pub use needle::{find, find_from, find_short};
 use search::Progress;
 use std::alloc::Global;
 use std::marker::Model;

@@ -10,7 +10,7 @@ use bytes_utils_buf::whole::BufWhole;
 use memchr::memmem::Finder;
 use std::alloc::Global;
 
-/// A needle of at most so many bytes needs no memory.
+/// A needle of at most this many bytes needs no memory.
 const SHORT: usize = 16;
 
 /// The first place of the needle in the bytes, as `memmem::find` of the segments joined: across
@@ -48,10 +48,23 @@ pub fn find_from<B: BufWhole + Drop>(
     ensures short { length needle.now ≤ 16 → IsOk result }
 {
     if needle.len() <= SHORT {
-        return Ok(find_by(buf, start, needle, &mut [0; 2 * SHORT]));
+        return Ok(find_short(buf, start, needle));
     }
     let mut window = vec![in alloc; 0; 2 * needle.len()]?;
     Ok(find_by(buf, start, needle, &mut window))
+}
+
+/// As `find_from`, of a needle of at most 16 bytes, which asks for no memory. `needle.len()` tests
+/// the condition.
+pub fn find_short<B: BufWhole + Drop>(
+    buf: &SegmentedBuf<B>,
+    start: usize,
+    needle: &[u8],
+) -> Option<usize>
+    requires { length needle.now ≤ 16 }
+    ensures { FindsNeedle (concat buf.now.segments) needle.now start result }
+{
+    find_by(buf, start, needle, &mut [0; 2 * SHORT])
 }
 
 /// As `find_from`, by a window for the bytes on both sides of a border.

@@ -60,5 +60,6 @@ fn no_memory_needed_by_short_needles(rt: HostRuntime) -> Result<(), Fail> {
         frame::find_from(&buf, rt.alloc(), 3, b"1234567890123456")?,
         Some(3)
     );
+    assert_eq!(&rt; frame::find_short(&buf, 3, b"1234567890123456"), Some(3));
     Ok(())
 }
