@@ -48,6 +48,26 @@ fn is_whole(
     is_whole
 }
 
+/// The number of splits that it takes to cut the text into these parts. Each one that is less gives a
+/// beginning of them.
+fn needed(
+    rt: &impl Abort,
+    alloc: Global,
+    text: &str,
+    how: How<'_>,
+    ample: &Parts<RefuseAfter>,
+) -> Result<usize, Fail>
+    requires { IsAllowed how }
+{
+    for granted in 0..MANY {
+        let splitter = AnySplitter::new(granting(alloc, text, granted)?, how);
+        if is_whole(rt, splitter, ample) {
+            return Ok(granted);
+        }
+    }
+    panic!(rt; "{text:?}, {how:?}")
+}
+
 /// Asserts that each number of splits that is too few gives a beginning of what ample splits give.
 /// Only a text that stays uncut needs no split.
 fn sweep(rt: &impl Abort, alloc: Global, text: &str, how: How<'_>) -> Result<(), Fail>
@@ -55,19 +75,9 @@ fn sweep(rt: &impl Abort, alloc: Global, text: &str, how: How<'_>) -> Result<(),
 {
     let ample = cut_all(alloc, granting(alloc, text, usize::MAX)?, how);
     assert!(rt; ample.refused.is_none());
-    let mut needed = 0;
-    while needed < MANY {
-        let splitter = AnySplitter::new(granting(alloc, text, needed)?, how);
-        if is_whole(rt, splitter, &ample) {
-            break;
-        }
-        needed += 1;
-    }
     let is_uncut = ample.given.len() == 1 && ample.given[0].as_str() == text;
-    assert!(rt;
-        needed < MANY && (needed == 0) == is_uncut,
-        "{text:?}, {how:?}"
-    );
+    let splits = needed(rt, alloc, text, how, &ample)?;
+    assert!(rt; (splits == 0) == is_uncut, "{text:?}, {how:?}");
     Ok(())
 }
 
