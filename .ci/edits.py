@@ -1,8 +1,8 @@
 """Wrong bodies: how an edit is read and applied, and what the check of a copy says of it.
 
 An edit is a file of lines: 'file: PATH'; '# fn: NAME' for each function that it changes, as the prover names it without
-the crate's name in front, or '# test: NAME' for the test that has to catch it; and pairs of 'old: TEXT', which is in the
-file once, and 'new: TEXT'. `rt ci` reads the lines without '#'."""
+the crate's name, or '# test: NAME' for the test that has to catch it; and pairs of 'old: TEXT', which is in the file
+once, and 'new: TEXT'. `rt ci` reads the lines without '#'."""
 import re
 from collections import namedtuple
 from pathlib import Path
