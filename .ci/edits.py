@@ -27,7 +27,7 @@ def program_of(name):
 
 
 def edits_of(program, kind):
-    paths = sorted(Path(ROOT, program.folder, kind).glob("*.edit"))
+    paths = sorted(Path(ROOT, program.folder, kind).rglob("*.edit"))
     return [edit_of(program, it.stem, it.read_text("utf-8")) for it in paths]
 
 

@@ -1,4 +1,4 @@
--- Where a separator doesn't overlap itself, the parts from the front and those from the back are the same.
+-- If no two occurrences of a separator overlap, the parts from the front and the parts from the back are the same.
 use Rattle.std.proofs.Common.{◌≡◌, ◌↔◌, refl, sym, ap, subst, ◌∙◌, ℕ, ◌+◌, ◌-◌, ◌<◌, ◌≤◌, List, [], ◌∷◌, ◌++◌, None, length, map, take, drop, reverse, arith, append_assoc, length-append, ◌⊎◌, inl, inr}
 use Rattle.std.specs.List.{All}
 use Rattle.std.proofs.lemmas.List.{reverse-reverse, length-reverse, length-map, drop-drop, drop_at, take_all, reverse-append}
@@ -7,7 +7,7 @@ use Rattle.std.proofs.lemmas.Bool.{cases_lt}
 use Rattle.bytes_utils.specs.Occurrence.{OccursAt, Occurs, OccursFirstAt, NoneOverlap}
 use Rattle.bytes_utils.specs.Parts.{join, EachButLast, OfLast, AreForwardParts, AreBackwardParts}
 use Rattle.bytes_utils.proofs.Boundaries.{OccursAt-fits}
-use Rattle.bytes_utils.proofs.Occurrences.{OccursAt-between, OccursAt-append, OccursAt-front}
+use Rattle.bytes_utils.proofs.OccurrenceLemmas.{OccursAt-between, OccursAt-append, OccursAt-front}
 use Rattle.bytes_utils.proofs.Mirror.{replaced, length-some_reverse, reversed_twice, map-reverse, join-reversed, lacks-reverse, OccursAt-from_reverse, AreForwardParts-from_mirror, AreBackwardParts-from_mirror}
 
 -- the parts of t between separators p, none of which holds p
@@ -16,7 +16,7 @@ record ArePlainParts {X : Type 0} (t p : List X) (parts : List (List X)) : Type 
   pub joined : join p parts ≡ t
   pub none_hold : All (λ part. ¬ Occurs p part) parts
 
--- a part with its first p right behind it doesn't hold p
+-- a part whose first p is the one right after it doesn't hold p
 lacks-from_first : {X : Type 0} (p part : List X) → 0 < length p → OccursFirstAt p (part ++ p) (length part) → ¬ Occurs p part
 lacks-from_first p part some first = λ occurs.
     omega (arith, first.none_before occurs.0 (OccursAt-append p part p occurs.0 some occurs.1), OccursAt-fits p part occurs.0 some occurs.1, some)
@@ -35,22 +35,22 @@ plain-from_forward t p parts some are = record {
   none_hold = none_hold_p p some parts are.cut_at_first (are.last tt);
 }
 
--- Of a part, p, and what follows, in which p doesn't overlap itself.
+-- For a part, p, and a rest, joined, in which no two occurrences of p overlap.
 module _ {X : Type 0} (p part rest : List X) (some : 0 < length p) (apart : NoneOverlap p (part ++ (p ++ rest))) where
   -- what occurs in the rest occurs in the whole
-  OccursAt-behind : (i : ℕ) → OccursAt p rest i → OccursAt p (part ++ (p ++ rest)) (length part + length p + i)
-  OccursAt-behind i here =
+  OccursAt-following : (i : ℕ) → OccursAt p rest i → OccursAt p (part ++ (p ++ rest)) (length part + length p + i)
+  OccursAt-following i here =
       let place : drop (length part + length p + i) (part ++ (p ++ rest)) ≡ drop i rest =
       sym (drop-drop i (length part + length p) (part ++ (p ++ rest)))
       ∙ ap (λ z. drop i (drop (length part + length p) z)) (sym (append_assoc part p rest))
       ∙ ap (drop i) (drop_at (part ++ p) rest (length part + length p) (length-append part p)) in
       ap (take (length p)) place ∙ here
 
-  apart_behind : NoneOverlap p rest
-  apart_behind i j here there less =
-      omega (arith, apart (length part + length p + i) (length part + length p + j) (OccursAt-behind i here) (OccursAt-behind j there) (omega arith))
+  apart_after : NoneOverlap p rest
+  apart_after i j here there less =
+      omega (arith, apart (length part + length p + i) (length part + length p + j) (OccursAt-following i here) (OccursAt-following j there) (omega arith))
 
-  -- so where the part doesn't hold p, its first p is right behind it
+  -- so if the part doesn't hold p, its first p is the one right after it
   first-from_lacks : (¬ Occurs p part) → OccursFirstAt p (part ++ p) (length part)
   first-from_lacks lacks = record {
     here = ap (take (length p)) (drop_at part p (length part) refl) ∙ take_all (length p) p (omega arith);
@@ -71,7 +71,7 @@ cut_at_first-from_plain p some (part ∷ []) apart lack = (tt, All-head (λ q. �
 cut_at_first-from_plain p some (part ∷ next ∷ parts) apart lack =
     let rest = join p (next ∷ parts) in
     let first = first-from_lacks p part rest some apart (All-head (λ q. ¬ Occurs p q) part (next ∷ parts) lack) in
-    let more = cut_at_first-from_plain p some (next ∷ parts) (apart_behind p part rest some apart) (All-tail (λ q. ¬ Occurs p q) part (next ∷ parts) lack) in
+    let more = cut_at_first-from_plain p some (next ∷ parts) (apart_after p part rest some apart) (All-tail (λ q. ¬ Occurs p q) part (next ∷ parts) lack) in
     ((first, more.0), more.1)
 
 forward-from_plain : {X : Type 0} (t p : List X) (parts : List (List X)) → 0 < length p → NoneOverlap p t → ArePlainParts t p parts → AreForwardParts t p None parts
@@ -85,7 +85,7 @@ forward-from_plain t p parts some apart plain =
       last = λ _. cut.1;
     }
 
--- The mirror.
+-- The mirror image.
 
 All-reverse : {X : Type 0} (P : X → Type 0) (xs : List X) → All P xs → All P (reverse xs)
 All-reverse P [] all = all

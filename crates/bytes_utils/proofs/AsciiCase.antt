@@ -1,4 +1,4 @@
--- Text stays text where ASCII bytes are replaced by ASCII bytes, as ASCII's changes of case do.
+-- A text stays a text if ASCII bytes are replaced by ASCII bytes, as changes of ASCII case do.
 use Rattle.std.proofs.Common.{◌≡◌, sym, ap, subst, ℕ, suc, ◌<◌, ◌≤◌, true, ◌&&◌, List, [], ◌∷◌, ◌++◌, map, length, take, drop, get_or, arith, refl, encode_utf8 as encode, encode_utf8_all as encodes, IsUtf8, inl, inr, ◌⊎◌}
 use Rattle.std.specs.Str.{all_scalars as scalars}
 use Rattle.std.specs.Char.{to_ascii_uppercase, to_ascii_lowercase}
@@ -9,12 +9,12 @@ use Rattle.std.proofs.lemmas.Str.{IsUtf8-nil, IsUtf8-append, IsUtf8-from_ascii, 
 use Rattle.std.proofs.lemmas.Str.Ascii.{IsAscii-cons, uppercase_ascii, lowercase_ascii}
 
 module _ (f : ℕ → ℕ) (low : (b : ℕ) → b < 128 → f b < 128) (high : (b : ℕ) → 128 ≤ b → f b ≡ b) where
-  -- bytes that aren't ASCII stay
+  -- bytes that are not ASCII stay
   stays : (bs : List ℕ) → ((k : ℕ) → k < length bs → 128 ≤ get_or bs k 0) → map f bs ≡ bs
   stays [] all = refl
   stays (b ∷ bs) all = (λ i. high b (all 0 (omega arith)) i ∷ stays bs (λ k h. all (suc k) (omega arith)) i)
 
-  -- so do the bytes of a character that isn't ASCII
+  -- the bytes of a character that is not ASCII stay too
   wide : (c : ℕ) → 128 ≤ c → map f (encode c) ≡ encode c
   wide c le = stays (encode c) (λ k h. by k h (cases_lt (get_or (encode c) k 0) 128))
     where
@@ -41,6 +41,6 @@ IsUtf8-uppercase = IsUtf8-map to_ascii_uppercase uppercase_ascii (λ b h. grind 
 pub IsUtf8-lowercase : (bs : List ℕ) → IsUtf8 bs → IsUtf8 (map to_ascii_lowercase bs)
 IsUtf8-lowercase = IsUtf8-map to_ascii_lowercase lowercase_ascii (λ b h. grind (arith, nat_tests))
 
--- bytes written over as many bytes
+-- bytes written over the same number of bytes
 pub written_over : (bs ds : List ℕ) → length ds ≡ length bs → take (length bs) (ds ++ drop (length ds) bs) ≡ ds
 written_over bs ds same = take_at ds _ (length bs) same

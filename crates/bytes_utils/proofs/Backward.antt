@@ -1,4 +1,5 @@
--- How a list of backward parts grows at the end of the text, and that every text has one: the mirror of the forward parts.
+-- How a list of backward parts grows at the end of the text, and that every text has such a list: the mirror of the
+-- forward parts.
 use Rattle.std.proofs.Common.{◌≡◌, refl, sym, ap, subst, ◌∙◌, ℕ, ◌+◌, ◌-◌, ◌<◌, List, [], ◌∷◌, ◌++◌, Option, Some, length, map, take, drop, reverse, arith, append_assoc, length-append, ◌⊎◌}
 use Rattle.std.specs.Option.{IfSome}
 use Rattle.std.proofs.lemmas.List.{take_at, drop_at}
@@ -9,13 +10,13 @@ use Rattle.bytes_utils.proofs.Forward.{less_one, AreForwardParts-more, AreForwar
 use Rattle.bytes_utils.proofs.Mirror.{length-some_reverse, reversed_twice, reverse_cut, reverse_place, OccursFirstAt-reverse, AreForwardParts-from_mirror, AreBackwardParts-from_mirror}
 
 module _ {X : Type 0} (p t : List X) (i : ℕ) (some : 0 < length p) (last : OccursLastAt p t i) where
-  -- in the reverse, what was behind p is in front of it
+  -- in the reverse, what was after p is before it
   first_part : take (length t - (i + length p)) (reverse t) ≡ reverse (drop (i + length p) t)
   first_part =
       ap (take (length t - (i + length p))) (reverse_cut p t i last.here)
       ∙ take_at (reverse (drop (i + length p) t)) (reverse p ++ reverse (take i t)) (length t - (i + length p)) (reverse_place p t i last.here)
 
-  -- and what was in front of it is behind it
+  -- and what was before p is after it
   others : drop (length t - (i + length p) + length (reverse p)) (reverse t) ≡ reverse (take i t)
   others =
       let back = reverse (drop (i + length p) t) in
@@ -23,7 +24,7 @@ module _ {X : Type 0} (p t : List X) (i : ℕ) (some : 0 < length p) (last : Occ
       let size : length (back ++ reverse p) ≡ length t - (i + length p) + length (reverse p) = omega (arith, length-append back (reverse p), reverse_place p t i last.here) in
       ap (drop (length t - (i + length p) + length (reverse p))) whole ∙ drop_at (back ++ reverse p) (reverse (take i t)) _ size
 
-  -- a part cut off at the last occurrence comes before those of what is in front of it
+  -- a part split off at the last occurrence comes before the parts of what is before that occurrence
   pub AreBackwardParts-more : (limit : Option ℕ) → IfSome limit (λ most. 1 < most) → (parts : List (List X))
       → AreBackwardParts (take i t) p (less_one limit) parts → AreBackwardParts t p limit (drop (i + length p) t ∷ parts)
   AreBackwardParts-more limit room parts are =
@@ -43,7 +44,7 @@ AreBackwardParts-last p t limit positive lacks =
       last = λ _. lacks;
     }
 
--- where one part is the limit, it is the uncut text
+-- if one part is the limit, it is the whole text
 pub AreBackwardParts-rest : {X : Type 0} (p t : List X) → AreBackwardParts t p (Some 1) (t ∷ [])
 AreBackwardParts-rest p t = record {
   some = omega arith;
@@ -56,7 +57,7 @@ AreBackwardParts-rest p t = record {
 abbrev pub HasBackwardParts : {X : Type 0} → List X → List X → Option ℕ → Type 0
 HasBackwardParts {X} p t limit = (parts : List (List X)) × AreBackwardParts t p limit parts
 
--- every list of elements of which any two are the same or aren't has a list of backward parts
+-- every list of elements with decidable equality has a list of backward parts
 pub backward_parts : {X : Type 0} → ((x y : X) → (x ≡ y) ⊎ (¬ (x ≡ y))) → (p : List X) → 0 < length p → (t : List X) (limit : Option ℕ) → IfSome limit (λ most. 0 < most) → HasBackwardParts p t limit
 backward_parts same p some t limit positive =
     let mirrored = forward_parts same (reverse p) (length-some_reverse p some) (reverse t) limit positive in

@@ -1,4 +1,4 @@
--- The bytes of a separator occur in those of a text exactly where its characters do.
+-- The bytes of a separator occur in the bytes of a text exactly where its characters occur in the text.
 use Rattle.std.proofs.Common.{◌≡◌, refl, sym, ap, ◌∙◌, ℕ, ◌+◌, ◌<◌, ◌≤◌, List, [], ◌∷◌, ◌++◌, length, take, drop, arith, true, append_assoc, length-drop, length-take, get_or, take-append-drop, IsUtf8, IsCharBoundary}
 use Rattle.std.proofs.lemmas.List.{take_at, drop_at, length-take-le}
 use Rattle.std.proofs.lemmas.List.Elements.{All-head, All-tail}
@@ -12,7 +12,7 @@ use Rattle.memchr.proofs.lemmas.MatchLemmas.{OccursAt-from_part, OccursAt-split}
 use Rattle.bytes_utils.specs.Text.{AreCharacters, byte_place}
 use Rattle.bytes_utils.specs.Occurrence.{OccursAt, BoundariesLaw}
 
--- an occurrence of what isn't empty ends within the list
+-- an occurrence of a list that isn't empty ends within the list that was searched
 pub OccursAt-fits : {X : Type 0} (p t : List X) (i : ℕ) → 0 < length p → OccursAt p t i → i + length p ≤ length t
 OccursAt-fits p t i some here =
     omega (arith, ap length here, length-take (length p) (drop i t), length-drop i t, some)
@@ -29,7 +29,7 @@ scalars-from_characters [] all = refl
 scalars-from_characters (c ∷ cs) all =
     and_from _ _ (IsScalar-from_range c (All-head InScalarRange c cs all)) (scalars-from_characters cs (All-tail InScalarRange c cs all))
 
--- bytes that begin with those of p are of characters that begin with p
+-- if the bytes of cs begin with the bytes of p, the characters cs begin with p
 chars_begin : (p cs : List ℕ) (rest : List ℕ) → encodes cs ≡ encodes p ++ rest → (others : List ℕ) × (cs ≡ p ++ others) × (encodes others ≡ rest)
 chars_begin [] cs rest e = (cs, refl, e)
 chars_begin (c ∷ p) cs rest e =
@@ -37,7 +37,7 @@ chars_begin (c ∷ p) cs rest e =
     let more = chars_begin p one.0 rest one.2 in
     (more.0, one.1 ∙ ap (λ z. c ∷ z) more.1, more.2)
 
--- what a separator begins with is no byte inside a character
+-- a separator occurs in a text's bytes only where a character begins
 pub boundary_at : (text sep : List ℕ) → IsUtf8 sep → 0 < length sep → (k : ℕ) → HasNeedleAt text sep k → IsCharBoundary text k
 boundary_at text sep sep_is some k occurs =
     let start = IsCharBoundary-start sep sep_is in

@@ -1,4 +1,4 @@
--- The definitions beside worked cases, on lists of characters: each row is settled by tests that compute.
+-- The definitions compared with worked cases, on lists of characters: tests that compute settle each row.
 use Rattle.std.proofs.Common.{◌≡◌, refl, subst, ℕ, zero, suc, ◌<◌, ◌≤◌, Bool, true, false, not, ◌&&◌, List, [], ◌∷◌, ◌++◌, length, take, Option, None, Some, Result, Ok, Err, codes, encode_utf8, encode_utf8_all, arith, lit<, lt_irrefl, suc-le-suc, zero-le, not-suc-le-zero, bytes_eq}
 use Rattle.std.specs.Str.{chars}
 use Rattle.std.proofs.lemmas.Slice.Eq.{bytes_eq-Decides}
@@ -26,7 +26,7 @@ abbrev lacks : List ℕ → List ℕ → Bool
 lacks p [] = lacks_at_start p []
 lacks p (c ∷ t) = lacks_at_start p (c ∷ t) && lacks p t
 
--- whether p occurs first behind each part but the last
+-- whether p occurs first right after each part but the last
 abbrev are_cut_at_first : List ℕ → List (List ℕ) → Bool
 are_cut_at_first p [] = true
 are_cut_at_first p (part ∷ []) = true
@@ -38,7 +38,7 @@ last_lacks p [] = true
 last_lacks p (part ∷ []) = lacks p part
 last_lacks p (part ∷ next ∷ parts) = last_lacks p (next ∷ parts)
 
--- Each test that answers true has its fact.
+-- Each test that returns true proves its fact.
 
 both : (a b : Bool) → (a && b) ≡ true → (a ≡ true) × (b ≡ true)
 both true b h = (refl, h)
@@ -171,9 +171,9 @@ lines-empty = refl
 pub lines-inner_return : lines (97 ∷ carriage_return ∷ 98 ∷ carriage_return ∷ line_feed ∷ []) ≡ (97 ∷ carriage_return ∷ 98 ∷ []) ∷ []
 lines-inner_return = refl
 
--- Steps: `a,b,c` by `,`, where the second cut is refused.
+-- Steps: `a,b,c` by `,`, with the second split refused.
 
--- a splitter by a comma that has this text still to cut
+-- a splitter by a comma that still has to split this text
 abbrev by_comma : Option (List ℕ) → Splitting
 by_comma rest = record { rest = rest; separator = codes ","; limit = None; begun = false }
 
@@ -210,7 +210,7 @@ step-end = (refl, refl)
 
 -- Wrong steps are refused.
 
--- an error where nothing has to be cut
+-- an error although nothing has to be split
 pub last_part_fails : ¬ IsStepByComma (Some (codes "c")) (Some (Err 1)) None
 unfolding chars
 last_part_fails step = lacks-Occurs _ _ refl step.gives.0.1.0.0 step.gives.0.1.0.1
@@ -221,10 +221,10 @@ unfolding chars
 goes_on_after_error step = not-suc-le-zero step.gives.2.some
 
 -- a reason that the storage doesn't refuse for
-pub tells_another_reason : ¬ IsStepByComma (Some (codes "b,c")) (Some (Err 2)) None
-tells_another_reason step = lt_irrefl 1 (subst (λ (n : ℕ). 1 < n) step.gives.1 (lit< tt))
+pub reports_another_reason : ¬ IsStepByComma (Some (codes "b,c")) (Some (Err 2)) None
+reports_another_reason step = lt_irrefl 1 (subst (λ (n : ℕ). 1 < n) step.gives.1 (lit< tt))
 
--- the end, where a part is to come
+-- the end, although a part is to come
 pub ends_early : ¬ IsStepByComma (Some (codes "c")) None None
 unfolding chars
 ends_early step = not-suc-le-zero step.0.some
@@ -235,14 +235,14 @@ part_after_end step = step.some refl
 
 -- Wrong lists are refused.
 
--- the whole text, though the separator occurs in it
+-- the whole text, although the separator occurs in it
 pub split_gives_whole_text : ¬ AreForwardParts (codes "a,b") (codes ",") None (codes "a,b" ∷ [])
 split_gives_whole_text parts = parts.last tt (1, refl)
 
--- cut behind the first of two overlapping occurrences
+-- split after the first of two overlapping occurrences
 pub split_cuts_late : ¬ AreForwardParts (codes "aaa") (codes "aa") None (codes "a" ∷ [] ∷ [])
 split_cuts_late parts = not-suc-le-zero (parts.cut_at_first.0.none_before 0 refl)
 
--- the rest after the last part that the limit allows is left out
+-- the rest after the last part that the limit allows is missing
 pub splitn_drops_rest : ¬ AreForwardParts (codes "a,b,c") (codes ",") (Some 2) (codes "a" ∷ codes "b" ∷ [])
 splitn_drops_rest parts = let same : codes "a,b" ≡ codes "a,b,c" = parts.joined in cc

@@ -1,4 +1,4 @@
--- A text cut by the empty separator: behind its first character, or before its last one.
+-- A text split by the empty separator: after its first character, or before its last one.
 use Rattle.std.proofs.Common.{◌≡◌, sym, ap, subst, ◌∙◌, ℕ, zero, suc, ◌-◌, ◌<◌, List, [], ◌∷◌, Option, None, Some, length, map, take, drop, reverse, true, false, arith, length-drop, length-take, IsUtf8, IsCharBoundary}
 use Rattle.std.proofs.lemmas.Str.{chars-nil}
 use Rattle.std.specs.Option.{option_map}
@@ -10,17 +10,17 @@ use Rattle.bytes_utils.specs.Splitting.{Splitting, AreForwardPartsToCome, AreBac
 use Rattle.bytes_utils.specs.declared.split.direction.Direction.{Direction}
 use Rattle.bytes_utils.specs.declared.split.direction.Direction.TheVariants.{Forward, Backward}
 use Rattle.bytes_utils.specs.Step.{GivesFirst}
-use Rattle.bytes_utils.proofs.EachCharacter.{behind_first, by_element-first, suc-less, first_element, last_element}
+use Rattle.bytes_utils.proofs.EachCharacter.{after_first, by_element-first, suc-less, first_element, last_element}
 use Rattle.bytes_utils.proofs.Places.{boundary_at_place, chars-take_place, chars-drop_place, byte_place-less}
 
--- behind the first empty part, and before it
-abbrev behind : Option (List ℕ) → Option ℕ → Splitting
-behind rest limit = record { rest = rest; separator = []; limit = limit; begun = true }
+-- the state after the first empty part, and the state before it
+abbrev following : Option (List ℕ) → Option ℕ → Splitting
+following rest limit = record { rest = rest; separator = []; limit = limit; begun = true }
 
 abbrev before : Option (List ℕ) → Option ℕ → Splitting
 before rest limit = record { rest = rest; separator = []; limit = limit; begun = false }
 
--- the empty separator's parts, with one more than the limit
+-- the parts by the empty separator, with one more than the limit
 front_to : (t : List ℕ) (limit : Option ℕ) (parts : List (List ℕ)) → ArePartsFromFront t [] (option_map suc limit) parts → parts ≡ by_element t (option_map suc limit)
 front_to t None parts are = are
 front_to t (Some n) parts are = are
@@ -44,34 +44,34 @@ module _ (text : List ℕ) (text_is : IsUtf8 text) (i at : ℕ) (at_is : at ≡ 
   chars_before : (part : List ℕ) → part ≡ take at text → chars part ≡ take i (chars text)
   chars_before part is = ap chars (is ∙ ap (λ k. take k text) at_is) ∙ chars-take_place text text_is i
 
-  chars_behind : (part : List ℕ) → part ≡ drop at text → chars part ≡ drop i (chars text)
-  chars_behind part is = ap chars (is ∙ ap (λ k. drop k text) at_is) ∙ chars-drop_place text text_is i
+  chars_after : (part : List ℕ) → part ≡ drop at text → chars part ≡ drop i (chars text)
+  chars_after part is = ap chars (is ∙ ap (λ k. drop k text) at_is) ∙ chars-drop_place text text_is i
 
--- the first character, and then what is behind it
+-- the first character, and then what is after it
 module _ (text : List ℕ) (text_is : IsUtf8 text) (at : ℕ) (some : 0 < length (chars text)) where
   pub gives_first_character : at ≡ byte_place (chars text) 1 → (part rest : List ℕ) → part ≡ take at text → rest ≡ drop at text → (limit : Option ℕ) → LeavesMore limit
-      → GivesFirst AreForwardPartsToCome (behind (Some text) limit) (chars part) (behind (Some rest) (one_less limit))
+      → GivesFirst AreForwardPartsToCome (following (Some text) limit) (chars part) (following (Some rest) (one_less limit))
   gives_first_character at_is part rest part_is rest_is limit more = record {
     some = (
-      behind_first (chars rest) limit,
+      after_first (chars rest) limit,
       front_from (chars rest) (one_less limit) _
           (sym (by_element-first (chars rest) limit more) ∙ ap (by_element (chars rest)) (sym (suc-less limit more))),
     );
     each = λ others are.
         let left : [] ∷ others ≡ by_element (chars rest) limit = front_to (chars rest) (one_less limit) ([] ∷ others) are ∙ ap (by_element (chars rest)) (suc-less limit more) in
-        let left_chars : [] ∷ others ≡ by_element (drop 1 (chars text)) limit = left ∙ ap (λ z. by_element z limit) (chars_behind text text_is 1 at at_is rest rest_is) in
+        let left_chars : [] ∷ others ≡ by_element (drop 1 (chars text)) limit = left ∙ ap (λ z. by_element z limit) (chars_after text text_is 1 at at_is rest rest_is) in
         front_from (chars text) limit ([] ∷ chars part ∷ others)
         (ap (λ z. [] ∷ z ∷ others) (chars_before text text_is 1 at at_is part part_is) ∙ first_element (chars text) limit others some more left_chars);
   }
 
   -- the last character, and then what is before it
   pub gives_last_character : at ≡ byte_place (chars text) (length (chars text) - 1) → (part rest : List ℕ) → part ≡ drop at text → rest ≡ take at text → (limit : Option ℕ) → LeavesMore limit
-      → GivesFirst AreBackwardPartsToCome (behind (Some text) limit) (chars part) (behind (Some rest) (one_less limit))
+      → GivesFirst AreBackwardPartsToCome (following (Some text) limit) (chars part) (following (Some rest) (one_less limit))
   gives_last_character at_is part rest part_is rest_is limit more =
       let i = length (chars text) - 1 in
       record {
         some = (
-          map reverse (behind_first (reverse (chars rest)) limit),
+          map reverse (after_first (reverse (chars rest)) limit),
           back_from (chars rest) (one_less limit) _
               (ap (map reverse) (sym (by_element-first (reverse (chars rest)) limit more)) ∙ ap (by_element_backward (chars rest)) (sym (suc-less limit more))),
         );
@@ -79,7 +79,7 @@ module _ (text : List ℕ) (text_is : IsUtf8 text) (at : ℕ) (some : 0 < length
             let left : [] ∷ others ≡ by_element_backward (chars rest) limit = back_to (chars rest) (one_less limit) ([] ∷ others) are ∙ ap (by_element_backward (chars rest)) (suc-less limit more) in
             let left_chars : [] ∷ others ≡ by_element_backward (take i (chars text)) limit = left ∙ ap (λ z. by_element_backward z limit) (chars_before text text_is i at at_is rest rest_is) in
             back_from (chars text) limit ([] ∷ chars part ∷ others)
-            (ap (λ z. [] ∷ z ∷ others) (chars_behind text text_is i at at_is part part_is) ∙ last_element (chars text) limit others some more left_chars);
+            (ap (λ z. [] ∷ z ∷ others) (chars_after text text_is i at at_is part part_is) ∙ last_element (chars text) limit others some more left_chars);
       }
 
   at_byte : (i : ℕ) → i < length (chars text) → at ≡ byte_place (chars text) i → at < length text
@@ -88,8 +88,8 @@ module _ (text : List ℕ) (text_is : IsUtf8 text) (at : ℕ) (some : 0 < length
       let b = (boundary_at_place text text_is (length (chars text))).0 in
       omega (arith, at_is, less, b)
 
-  pub behind_shorter : at ≡ byte_place (chars text) 1 → (rest : List ℕ) → rest ≡ drop at text → length rest < length text
-  behind_shorter at_is rest is =
+  pub after_shorter : at ≡ byte_place (chars text) 1 → (rest : List ℕ) → rest ≡ drop at text → length rest < length text
+  after_shorter at_is rest is =
       let place = byte_place-less (chars text) 0 1 (omega arith) (omega (arith, some)) in
       let within = (boundary text text_is 1 at at_is).0 in
       omega (arith, ap length is, length-drop at text, at_is, place, within)
@@ -104,7 +104,7 @@ module _ (text : List ℕ) (text_is : IsUtf8 text) (at : ℕ) (some : 0 < length
       let b = (boundary_at_place text text_is (length (chars text))).0 in
       omega (arith, place, b)
 
--- parts by the empty separator, where there may be some
+-- parts by the empty separator, if the limit allows more than one
 front_any : (t : List ℕ) (limit : Option ℕ) (parts : List (List ℕ)) → LeavesMore limit → parts ≡ by_element t limit → ArePartsFromFront t [] limit parts
 front_any t None parts more are = are
 front_any t (Some zero) parts more are = absurd (omega (arith, more))
@@ -117,10 +117,10 @@ back_any t (Some (suc n)) parts more are = are
 
 -- the first part is empty
 pub gives_empty : (from : Direction) (text part : List ℕ) → part ≡ [] → (limit : Option ℕ) → LeavesMore limit
-    → GivesFirst (ArePartsToCome from) (before (Some text) limit) (chars part) (behind (Some text) (one_less limit))
+    → GivesFirst (ArePartsToCome from) (before (Some text) limit) (chars part) (following (Some text) (one_less limit))
 gives_empty Forward text part none limit more = rw (none, chars-nil) record {
   some = (
-    behind_first (chars text) limit,
+    after_first (chars text) limit,
     front_from (chars text) (one_less limit) _
         (sym (by_element-first (chars text) limit more) ∙ ap (by_element (chars text)) (sym (suc-less limit more))),
   );
@@ -129,7 +129,7 @@ gives_empty Forward text part none limit more = rw (none, chars-nil) record {
 }
 gives_empty Backward text part none limit more = rw (none, chars-nil) record {
   some = (
-    map reverse (behind_first (reverse (chars text)) limit),
+    map reverse (after_first (reverse (chars text)) limit),
     back_from (chars text) (one_less limit) _
         (ap (map reverse) (sym (by_element-first (reverse (chars text)) limit more)) ∙ ap (by_element_backward (chars text)) (sym (suc-less limit more))),
   );

@@ -6,9 +6,9 @@ use Rattle.std.proofs.lemmas.Bool.{lt-ltb, le-ltb, cond-true, cond-false}
 use Rattle.bytes_utils.specs.EmptySeparator.{single, by_element, by_element_backward}
 use Rattle.bytes_utils.specs.Splitting.{LeavesMore, one_less}
 
--- the parts behind the first of those that the empty separator makes
-abbrev pub behind_first : {X : Type 0} → List X → Option ℕ → List (List X)
-behind_first t limit = drop 1 (by_element t limit)
+-- the parts after the first one by the empty separator
+abbrev pub after_first : {X : Type 0} → List X → Option ℕ → List (List X)
+after_first t limit = drop 1 (by_element t limit)
 
 length-single : {X : Type 0} (t : List X) → length (single t) ≡ length t + 2
 length-single {X} t = omega (arith, length-append (map (λ x. x ∷ []) t) ([] ∷ []), length-map t (λ (x : X). x ∷ []))
@@ -38,30 +38,30 @@ below_or_enough (suc n) (suc m) = step (below_or_enough n m)
 begins_with : {Y : Type 0} (xs ys : List Y) (x : Y) → xs ≡ x ∷ ys → xs ≡ x ∷ drop 1 xs
 begins_with xs ys x e = e ∙ ap (λ z. x ∷ drop 1 z) (sym e)
 
--- the first part is empty, where there may be more than one
-pub by_element-first : {X : Type 0} (t : List X) (limit : Option ℕ) → LeavesMore limit → by_element t limit ≡ [] ∷ behind_first t limit
+-- the first part is empty, if there may be more than one
+pub by_element-first : {X : Type 0} (t : List X) (limit : Option ℕ) → LeavesMore limit → by_element t limit ≡ [] ∷ after_first t limit
 by_element-first t None more = refl
 by_element-first t (Some zero) more = absurd (omega (arith, more))
 by_element-first t (Some (suc zero)) more = absurd (omega (arith, more))
 by_element-first t (Some (suc (suc n))) more = from (below_or_enough (suc (suc n)) (length t + 2))
   where
-    from : (suc (suc n) < length t + 2) ⊎ (length t + 2 ≤ suc (suc n)) → by_element t (Some (suc (suc n))) ≡ [] ∷ behind_first t (Some (suc (suc n)))
+    from : (suc (suc n) < length t + 2) ⊎ (length t + 2 ≤ suc (suc n)) → by_element t (Some (suc (suc n))) ≡ [] ∷ after_first t (Some (suc (suc n)))
     from (inl below) = begins_with _ _ _ (limited_more t n below)
     from (inr enough) = begins_with _ _ _ (unlimited t (suc (suc n)) enough)
 
--- behind it comes the first character, and then what comes behind it in the rest
+-- after it come the first character, and then what comes after the empty part in the rest
 pub by_element-more : {X : Type 0} (x : X) (t : List X) (limit : Option ℕ) → LeavesMore limit
-    → by_element (x ∷ t) (option_map suc limit) ≡ [] ∷ (x ∷ []) ∷ behind_first t limit
+    → by_element (x ∷ t) (option_map suc limit) ≡ [] ∷ (x ∷ []) ∷ after_first t limit
 by_element-more x t None more = refl
 by_element-more x t (Some zero) more = absurd (omega (arith, more))
 by_element-more x t (Some (suc zero)) more = absurd (omega (arith, more))
 by_element-more x t (Some (suc (suc n))) more = from (below_or_enough (suc (suc n)) (length t + 2))
   where
-    from : (suc (suc n) < length t + 2) ⊎ (length t + 2 ≤ suc (suc n)) → by_element (x ∷ t) (Some (suc (suc (suc n)))) ≡ [] ∷ (x ∷ []) ∷ behind_first t (Some (suc (suc n)))
+    from : (suc (suc n) < length t + 2) ⊎ (length t + 2 ≤ suc (suc n)) → by_element (x ∷ t) (Some (suc (suc (suc n)))) ≡ [] ∷ (x ∷ []) ∷ after_first t (Some (suc (suc n)))
     from (inl below) = limited_more (x ∷ t) (suc n) (omega (arith, below)) ∙ ap (λ z. [] ∷ (x ∷ []) ∷ drop 1 z) (sym (limited_more t n below))
     from (inr enough) = unlimited (x ∷ t) (suc (suc (suc n))) (omega (arith, enough)) ∙ ap (λ z. [] ∷ (x ∷ []) ∷ drop 1 z) (sym (unlimited t (suc (suc n)) enough))
 
--- behind all characters the last part is empty
+-- after all characters the last part is empty
 pub by_element-nothing_left : {X : Type 0} (limit : Option ℕ) → LeavesMore limit → by_element {X = X} [] (option_map suc limit) ≡ [] ∷ [] ∷ []
 by_element-nothing_left None more = refl
 by_element-nothing_left (Some n) more = unlimited [] (suc n) (omega (arith, more))
@@ -70,12 +70,12 @@ by_element-nothing_left (Some n) more = unlimited [] (suc n) (omega (arith, more
 pub by_element-one : {X : Type 0} (t : List X) → by_element t (Some 1) ≡ t ∷ []
 by_element-one t = limited t 1 (omega arith)
 
--- and one of two leaves it behind the empty part
+-- a limit of two leaves the text after the empty part
 pub by_element-two : {X : Type 0} (t : List X) → by_element t (Some 2) ≡ [] ∷ t ∷ []
 by_element-two [] = refl
 by_element-two (x ∷ t) = limited (x ∷ t) 2 (omega arith)
 
--- a limit of at least 1 allows one part, or leaves more
+-- a limit of at least 1 allows one part, or more
 pub one_or_more : (limit : Option ℕ) → IfSome limit (λ most. 0 < most) → (limit ≡ Some 1) ⊎ LeavesMore limit
 one_or_more None some = inr tt
 one_or_more (Some zero) some = absurd (omega (arith, some))
@@ -90,21 +90,21 @@ by_element-some t limit some = from (one_or_more limit some)
     from (inl one) = omega (arith, ap length (ap (by_element t) one ∙ by_element-one t))
     from (inr more) = omega (arith, ap length (by_element-first t limit more))
 
--- and one behind the first
-pub by_element-behind : {X : Type 0} (t : List X) (limit : Option ℕ) → IfSome limit (λ most. 0 < most) → 1 < length (by_element t (option_map suc limit))
-by_element-behind {X = X} t limit some = from t (one_or_more limit some)
+-- and one after the first
+pub by_element-following : {X : Type 0} (t : List X) (limit : Option ℕ) → IfSome limit (λ most. 0 < most) → 1 < length (by_element t (option_map suc limit))
+by_element-following {X = X} t limit some = from t (one_or_more limit some)
   where
     from : (u : List X) → (limit ≡ Some 1) ⊎ LeavesMore limit → 1 < length (by_element u (option_map suc limit))
     from u (inl one) = omega (arith, ap length (ap (λ l. by_element u (option_map suc l)) one ∙ by_element-two u))
     from [] (inr more) = omega (arith, ap length (by_element-nothing_left {X = X} limit more))
     from (x ∷ u) (inr more) = omega (arith, ap length (by_element-more x u limit more))
 
--- what is left of a limit of more than one part, and one more
+-- one more than what is left of a limit of more than one part is the limit
 pub suc-less : (limit : Option ℕ) → LeavesMore limit → option_map suc (one_less limit) ≡ limit
 suc-less None more = refl
 suc-less (Some n) more = ap Some (omega (arith, more))
 
--- The first character of a list that isn't empty, and what is behind it.
+-- The first character of a list that isn't empty, and what is after it.
 pub first_element : {X : Type 0} (t : List X) (limit : Option ℕ) (others : List (List X)) → 0 < length t → LeavesMore limit
     → [] ∷ others ≡ by_element (drop 1 t) limit → [] ∷ take 1 t ∷ others ≡ by_element t (option_map suc limit)
 first_element [] limit others some more are = absurd (omega (arith, some))
@@ -116,7 +116,7 @@ module _ {X : Type 0} where
   map-reverse_twice [] = refl
   map-reverse_twice (xs ∷ lists) = λ k. reverse-reverse xs k ∷ map-reverse_twice lists k
 
-  -- what is given from the back, each part reversed, is what the reverse gives from the front
+  -- the parts given from the back, each reversed, are those that the reverse gives from the front
   pub mirrored : (t : List X) (limit : Option ℕ) (parts : List (List X)) → parts ≡ by_element_backward t limit → map reverse parts ≡ by_element (reverse t) limit
   mirrored t limit parts are = ap (map reverse) are ∙ map-reverse_twice (by_element (reverse t) limit)
 
@@ -134,9 +134,9 @@ module _ {X : Type 0} where
       let whole : reverse t ≡ last ++ reverse front =
       ap reverse (sym (take-append-drop (length t - 1) t)) ∙ reverse-append front last ∙ ap (λ z. z ++ reverse front) (single_end last size) in
       let first : take 1 (reverse t) ≡ last = ap (take 1) whole ∙ take_at last (reverse front) 1 size in
-      let behind : drop 1 (reverse t) ≡ reverse front = ap (drop 1) whole ∙ drop_at last (reverse front) 1 size in
+      let following : drop 1 (reverse t) ≡ reverse front = ap (drop 1) whole ∙ drop_at last (reverse front) 1 size in
       let left : [] ∷ map reverse others ≡ by_element (drop 1 (reverse t)) limit =
-      mirrored front limit ([] ∷ others) are ∙ ap (λ z. by_element z limit) (sym behind) in
+      mirrored front limit ([] ∷ others) are ∙ ap (λ z. by_element z limit) (sym following) in
       let all = first_element (reverse t) limit (map reverse others) (omega (arith, some, length-reverse t)) more left in
       let parts : [] ∷ last ∷ others ≡ map reverse ([] ∷ take 1 (reverse t) ∷ map reverse others) =
       (λ k. [] ∷ sym (single_end last size) k ∷ sym (map-reverse_twice others) k) ∙ ap (λ z. [] ∷ reverse z ∷ map reverse (map reverse others)) (sym first) in

@@ -1,4 +1,4 @@
--- How a list of forward parts grows at its front, and that every text has one.
+-- How a list of forward parts grows at its front, and that every text has such a list.
 use Rattle.std.proofs.Common.{◌≡◌, refl, sym, ap, subst, ◌∙◌, ℕ, zero, suc, ◌+◌, ◌-◌, ◌<◌, ◌≤◌, List, [], ◌∷◌, ◌++◌, Option, None, Some, length, take, drop, arith, append_assoc, length-append, length-drop, ◌⊎◌, inl, inr}
 use Rattle.std.specs.Option.{IfSome, option_map}
 use Rattle.std.proofs.lemmas.List.{length-take-le}
@@ -6,9 +6,9 @@ use Rattle.std.proofs.lemmas.Bool.{cases_eq}
 use Rattle.bytes_utils.specs.Occurrence.{Occurs, OccursFirstAt}
 use Rattle.bytes_utils.specs.Parts.{AreForwardParts}
 use Rattle.bytes_utils.proofs.Boundaries.{OccursAt-fits}
-use Rattle.bytes_utils.proofs.Occurrences.{cut_whole, OccursFirstAt-front, FirstOrNowhere, first_or_nowhere}
+use Rattle.bytes_utils.proofs.OccurrenceLemmas.{cut_whole, OccursFirstAt-front, FirstOrNowhere, first_or_nowhere}
 
--- the limit that is left behind one part
+-- the limit that is left after one part
 abbrev pub less_one : Option ℕ → Option ℕ
 less_one limit = option_map (λ most. most - 1) limit
 
@@ -24,7 +24,7 @@ some_less_one : (limit : Option ℕ) → IfSome limit (λ most. 1 < most) → If
 some_less_one None room = tt
 some_less_one (Some most) room = omega arith
 
--- a part with its first p right behind it comes before the parts of what follows that p
+-- a part whose first p is right after it comes before the parts of what follows that p
 pub AreForwardParts-led : {X : Type 0} (p part rest : List X) (limit : Option ℕ) → IfSome limit (λ most. 1 < most) → OccursFirstAt p (part ++ p) (length part)
     → (parts : List (List X)) → AreForwardParts rest p (less_one limit) parts → AreForwardParts (part ++ (p ++ rest)) p limit (part ∷ parts)
 AreForwardParts-led p part rest limit room first [] are = absurd (omega (arith, are.some))
@@ -37,7 +37,7 @@ AreForwardParts-led p part rest limit room first (next ∷ parts) are = record {
 }
 
 module _ {X : Type 0} (p t : List X) (i : ℕ) (some : 0 < length p) (first : OccursFirstAt p t i) where
-  -- the part before the first occurrence ends where p occurs first in it and p
+  -- p occurs first right after the part before its first occurrence in the text
   first_in_part : OccursFirstAt p (take i t ++ p) (length (take i t))
   first_in_part =
       let fits = OccursAt-fits p t i some first.here in
@@ -48,7 +48,7 @@ module _ {X : Type 0} (p t : List X) (i : ℕ) (some : 0 < length p) (first : Oc
       (omega (arith, length-append (take i t) p)) in
       subst (OccursFirstAt p (take i t ++ p)) (sym size) front
 
-  -- a part cut off at the first occurrence comes before those of what is behind it
+  -- a part split off at the first occurrence comes before the parts of what is after it
   pub AreForwardParts-more : (limit : Option ℕ) → IfSome limit (λ most. 1 < most) → (parts : List (List X))
       → AreForwardParts (drop (i + length p) t) p (less_one limit) parts → AreForwardParts t p limit (take i t ∷ parts)
   AreForwardParts-more limit room parts are =
@@ -65,7 +65,7 @@ AreForwardParts-last p t limit positive lacks = record {
   last = λ _. lacks;
 }
 
--- where one part is the limit, it is the uncut text
+-- if one part is the limit, it is the whole text
 pub AreForwardParts-rest : {X : Type 0} (p t : List X) → AreForwardParts t p (Some 1) (t ∷ [])
 AreForwardParts-rest p t = record {
   some = omega arith;
@@ -78,14 +78,14 @@ AreForwardParts-rest p t = record {
 abbrev pub HasForwardParts : {X : Type 0} → List X → List X → Option ℕ → Type 0
 HasForwardParts {X} p t limit = (parts : List (List X)) × AreForwardParts t p limit parts
 
--- a limit of at least 1 allows one part, or room for more
+-- a limit of at least 1 allows one part, or more
 one_or_more : (limit : Option ℕ) → IfSome limit (λ most. 0 < most) → (limit ≡ Some 1) ⊎ IfSome limit (λ most. 1 < most)
 one_or_more None positive = inr tt
 one_or_more (Some zero) positive = absurd (omega arith)
 one_or_more (Some (suc zero)) positive = inl refl
 one_or_more (Some (suc (suc n))) positive = inr (omega arith)
 
--- Elements of which any two are the same or aren't.
+-- Elements with decidable equality.
 module _ {X : Type 0} (same : (x y : X) → (x ≡ y) ⊎ (¬ (x ≡ y))) (p : List X) (some : 0 < length p) where
   -- shorter texts have parts under every limit
   abbrev ShorterHave : List X → Type 0
@@ -116,6 +116,6 @@ module _ {X : Type 0} (same : (x y : X) → (x ≡ y) ⊎ (¬ (x ≡ y))) (p : L
   pub forward_parts : (t : List X) (limit : Option ℕ) → IfSome limit (λ most. 0 < most) → HasForwardParts p t limit
   forward_parts t limit positive = parts_within (length t) t limit positive (omega arith)
 
--- and every text
+-- and so has every text
 pub has_forward_parts : (p t : List ℕ) (limit : Option ℕ) → 0 < length p → IfSome limit (λ most. 0 < most) → HasForwardParts p t limit
 has_forward_parts p t limit some positive = forward_parts cases_eq p some t limit positive

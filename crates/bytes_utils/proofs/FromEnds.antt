@@ -44,7 +44,7 @@ module _ {X : Type 0} (t : List X) where
   back-to (x ∷ p) (Some zero) parts some more are = absurd (omega (arith, more))
   back-to (x ∷ p) (Some (suc most)) parts some more are = are
 
--- every text has parts from the front, by every separator and with every limit
+-- every text has parts from the front, for every separator and every limit
 pub has_front : (t p : List ℕ) (limit : Option ℕ) → (parts : List (List ℕ)) × ArePartsFromFront t p limit parts
 has_front t p (Some zero) = ([], refl)
 has_front t [] None = (by_element t None, refl)

@@ -1,4 +1,4 @@
--- Graphic ASCII characters in front of bytes: a block is tested at once, and blocks are passed one after another.
+-- Graphic ASCII characters at the front of bytes: a block is tested at once, and blocks are passed one after another.
 use Rattle.std.proofs.Common.{◌≡◌, ◌≢◌, ℕ, ◌+◌, ◌-◌, ◌%◌, ◌^◌, ◌<◌, ◌≤◌, Bool, not, List, [], ◌∷◌, cond, eqb, length, drop, map, replicate, refl, sym, ap, ap₂, ◌∙◌, arith, w8, Fits}
 use lib.Count.{count_trailing_zeros}
 use Rattle.std.proofs.Math.Dec.{ltb}
@@ -12,11 +12,11 @@ use Rattle.std.proofs.lemmas.List.Sums.{prefix_len-le-length}
 use Rattle.std.specs.Char.{is_ascii_graphic}
 use Rattle.std.specs.List.{prefix_len}
 
--- a byte less the first graphic one, as a lane has it
+-- a byte minus the first graphic one, as a lane computes it
 abbrev less : ℕ → ℕ
 less x = (x + (2 ^ 8 - 33)) % 2 ^ 8
 
--- what a lane is tested for
+-- the test of a lane
 abbrev is_other : ℕ → Bool
 is_other x = ltb 93 (less x)
 
@@ -47,7 +47,7 @@ module _ (v : List ℕ) (long : length v ≡ 16) (fits : Each1 (Fits w8) v) wher
   block_some some =
       ap (count_trailing_zeros 64) others_are ∙ trailing_mask_l is_other 64 v (omega (arith, long)) (omega (arith, others_are, some)) ∙ same_run v fits
 
--- the bytes from `at` on, of which sixteen were looked at
+-- the bytes from `at` on, of which sixteen were tested
 module _ (bytes : List ℕ) (at : ℕ) (room : at + 16 ≤ length bytes) where
   abbrev front : List ℕ → ℕ
   front = prefix_len is_ascii_graphic

@@ -1,4 +1,4 @@
--- How a list of inclusive parts grows at its front, and that every text has one.
+-- How a list of inclusive parts grows at its front, and that every text has such a list.
 use Rattle.std.proofs.Common.{◌≡◌, refl, sym, ap, subst, ℕ, zero, suc, ◌+◌, ◌-◌, ◌<◌, ◌≤◌, List, [], ◌∷◌, ◌++◌, length, take, drop, arith, length-drop, take-append-drop, ◌⊎◌, inl, inr}
 use Rattle.std.proofs.lemmas.List.{length-take-le}
 use Rattle.std.proofs.lemmas.List.Elements.{All-nil, All-cons}
@@ -6,23 +6,23 @@ use Rattle.std.proofs.lemmas.Bool.{cases_eq, cases_lt}
 use Rattle.bytes_utils.specs.Occurrence.{Occurs, OccursFirstAt}
 use Rattle.bytes_utils.specs.Parts.{EndsAtFirst, AreInclusiveParts}
 use Rattle.bytes_utils.proofs.Boundaries.{OccursAt-fits}
-use Rattle.bytes_utils.proofs.Occurrences.{OccursFirstAt-front, FirstOrNowhere, first_or_nowhere}
+use Rattle.bytes_utils.proofs.OccurrenceLemmas.{OccursFirstAt-front, FirstOrNowhere, first_or_nowhere}
 
 -- the list without an element has no parts
 pub AreInclusiveParts-none : {X : Type 0} (p : List X) → AreInclusiveParts [] p []
 AreInclusiveParts-none p = record {
   joined = refl;
   none_empty = All-nil (λ part. 0 < length part);
-  cut_behind_first = tt;
+  cut_after_first = tt;
   last = tt;
 }
 
--- a text that isn't empty is its only part where p doesn't occur in it, or first at its end
+-- a text that isn't empty is its only part if p doesn't occur in it, or first at its end
 pub AreInclusiveParts-last : {X : Type 0} (p t : List X) → 0 < length t → EndsAtFirst p t ⊎ (¬ Occurs p t) → AreInclusiveParts t p (t ∷ [])
 AreInclusiveParts-last p t long ends = record {
   joined = refl;
   none_empty = All-cons (λ part. 0 < length part) t [] long (All-nil (λ part. 0 < length part));
-  cut_behind_first = tt;
+  cut_after_first = tt;
   last = ends;
 }
 
@@ -33,12 +33,12 @@ AreInclusiveParts-led p part rest some ends left [] are = absurd (omega (arith, 
 AreInclusiveParts-led p part rest some ends left (next ∷ parts) are = record {
   joined = ap (λ z. part ++ z) are.joined;
   none_empty = All-cons (λ q. 0 < length q) part (next ∷ parts) some are.none_empty;
-  cut_behind_first = (ends, are.cut_behind_first);
+  cut_after_first = (ends, are.cut_after_first);
   last = are.last;
 }
 
 module _ {X : Type 0} (p t : List X) (i : ℕ) (some : 0 < length p) (first : OccursFirstAt p t i) where
-  -- the text up to the end of the first occurrence ends there for the first time
+  -- the text up to the end of the first occurrence has its first p at its end
   pub front_ends : EndsAtFirst p (take (i + length p) t)
   front_ends =
       let fits = OccursAt-fits p t i some first.here in
@@ -47,7 +47,7 @@ module _ {X : Type 0} (p t : List X) (i : ℕ) (some : 0 < length p) (first : Oc
       let front = OccursFirstAt-front p (take (i + length p) t) (drop (i + length p) t) i some whole (omega arith) in
       subst (OccursFirstAt p (take (i + length p) t)) (omega (arith, size)) front
 
-  -- a part cut off behind the first occurrence comes before those of what is behind it
+  -- a part split off after the first occurrence comes before the parts of what is after it
   pub AreInclusiveParts-more : i + length p < length t → (parts : List (List X))
       → AreInclusiveParts (drop (i + length p) t) p parts → AreInclusiveParts t p (take (i + length p) t ∷ parts)
   AreInclusiveParts-more left parts are =
@@ -62,7 +62,7 @@ ends_whole p t i first whole = let place : i ≡ length t - length p = omega ari
 abbrev pub HasInclusiveParts : {X : Type 0} → List X → List X → Type 0
 HasInclusiveParts {X} p t = (parts : List (List X)) × AreInclusiveParts t p parts
 
--- Elements of which any two are the same or aren't.
+-- Elements with decidable equality.
 module _ {X : Type 0} (same : (x y : X) → (x ≡ y) ⊎ (¬ (x ≡ y))) (p : List X) (some : 0 < length p) where
   abbrev ShorterHave : List X → Type 0
   ShorterHave t = (rest : List X) → length rest < length t → HasInclusiveParts p rest
@@ -89,6 +89,6 @@ module _ {X : Type 0} (same : (x y : X) → (x ≡ y) ⊎ (¬ (x ≡ y))) (p : L
   pub inclusive_parts : (t : List X) → HasInclusiveParts p t
   inclusive_parts t = parts_within (length t) t (omega arith)
 
--- and every text
+-- and so has every text
 pub has_inclusive_parts : (p t : List ℕ) → 0 < length p → HasInclusiveParts p t
 has_inclusive_parts p t some = inclusive_parts cases_eq p some t

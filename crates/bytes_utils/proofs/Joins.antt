@@ -1,4 +1,4 @@
--- Lists of parts that are joined.
+-- Joined lists of parts.
 use Rattle.std.proofs.Common.{◌≡◌, refl, sym, ap, ◌∙◌, ◌<◌, List, [], ◌∷◌, ◌++◌, length, map, take, drop, arith, append_assoc}
 use Rattle.std.proofs.lemmas.List.{map_push, take_at, drop_at}
 use Rattle.bytes_utils.specs.Parts.{join}
@@ -12,7 +12,7 @@ join-append p (x ∷ z ∷ xs) (y ∷ ys) some others =
     ap (λ w. x ++ (p ++ w)) more ∙ ap (λ w. x ++ w) (sym (append_assoc p (join p (z ∷ xs)) (p ++ join p (y ∷ ys))))
     ∙ sym (append_assoc x (p ++ join p (z ∷ xs)) (p ++ join p (y ∷ ys)))
 
--- what stands in front of the next part
+-- the separator before the next part
 abbrev pub gap : {X : Type 0} → List X → List (List X) → List X
 gap p [] = []
 gap p (part ∷ parts) = p
@@ -23,7 +23,7 @@ join-push p [] part = refl
 join-push p (first ∷ parts) part =
     join-append p (first ∷ parts) (part ∷ []) (omega arith) (omega arith) ∙ sym (append_assoc (join p (first ∷ parts)) p part)
 
--- the same of what f makes of the items so far, and of one more
+-- the same for the images under f of the items so far and one more
 pub join-more : {X Y : Type 0} (p : List X) (f : Y → List X) (ys : List Y) (y : Y) → (join p (map f ys) ++ gap p (map f ys)) ++ f y ≡ join p (map f (ys ++ y ∷ []))
 join-more p f ys y = sym (join-push p (map f ys) (f y)) ∙ ap (join p) (sym (map_push f ys y))
 
@@ -31,7 +31,7 @@ pub gap-more : {X Y : Type 0} (p : List X) (f : Y → List X) (ys : List Y) (y :
 gap-more p f [] y = refl
 gap-more p f (first ∷ ys) y = refl
 
--- lists that are joined from two, where the first of both are as long
+-- if two joined lists are the same and their first parts have the same length, both parts are the same
 pub append_same : {X : Type 0} (a b c d : List X) → length a ≡ length b → a ++ c ≡ b ++ d → (a ≡ b) × (c ≡ d)
 append_same a b c d size whole = (
   sym (take_at a c (length a) refl) ∙ ap (take (length a)) whole ∙ take_at b d (length a) (sym size),

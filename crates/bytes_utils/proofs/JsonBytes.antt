@@ -1,4 +1,4 @@
--- The members of a JSON list beside the bytes that they are.
+-- The members of a JSON list, and the bytes that they are.
 use Rattle.std.proofs.Common.{◌≡◌, ◌≢◌, ℕ, ◌+◌, ◌<◌, List, [], ◌∷◌, ◌++◌, length, get_or, take, map, sym, ap, ◌∙◌, arith}
 use Rattle.std.specs.Prelude.{All}
 use Rattle.std.proofs.lemmas.List.{take_more, get_or-map, length-map, map_push}
@@ -7,7 +7,7 @@ use Rattle.serde_json.specs.View.{view}
 use Rattle.serde_json.specs.declared.value.Value.{Value}
 use Rattle.bytes_utils.specs.Json.{whole_number}
 
--- one more member that is a whole number
+-- one more member, which is a whole number
 pub members_push : (members : List Value) (i : ℕ) (bytes : List ℕ) (member : Value) (byte : ℕ) → i < length members → member ≡ get_or members i member
     → view member ≡ whole_number byte → map view (take i members) ≡ map whole_number bytes → map view (take (i + 1) members) ≡ map whole_number (bytes ++ byte ∷ [])
 members_push members i bytes member byte within here is so_far =
@@ -17,7 +17,7 @@ members_push members i bytes member byte within here is so_far =
     ∙ ap (λ (values : List Data). values ++ whole_number byte ∷ []) so_far
     ∙ sym (map_push whole_number bytes byte)
 
--- a list with a member that is no whole number from 0 to 255 isn't one of bytes
+-- a list with a member that is no whole number from 0 to 255 is not a list of bytes
 pub other_member : (members : List Value) (i : ℕ) (member : Value) → i < length members → member ≡ get_or members i member
     → ((n : ℕ) → n < 256 → view member ≢ whole_number n)
     → (ns : List ℕ) → All (λ n. n < 256) ns → map view members ≢ map whole_number ns

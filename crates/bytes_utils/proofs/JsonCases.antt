@@ -1,4 +1,4 @@
--- The definitions of JSON beside worked cases, by computation.
+-- Worked cases of the JSON definitions, checked by computation.
 use Rattle.std.proofs.Common.{◌≡◌, refl, ◌<◌, [], ◌∷◌, inl, inr, codes, lit<}
 use Rattle.std.proofs.lemmas.List.Elements.{All-nil, All-cons}
 use Rattle.serde_json.specs.Data.{string}

@@ -1,4 +1,4 @@
--- The text that `serde_json` writes for a string is the one of the table, and reads as that string.
+-- `serde_json` writes a string by the table, and reads the written JSON as that string.
 use Rattle.std.proofs.Common.{◌≡◌, ℕ, zero, suc, ◌<◌, ◌≤◌, ◌/◌, ◌%◌, Bool, true, cond, ◌&&◌, ◌||◌, ◌==◌, nat_lt, List, [], ◌∷◌, ◌++◌, length, get_or, IsUtf8, encode_utf8_all, bytes_eq, inl, inr, refl, sym, ap, ap₂, ◌∙◌, arith, append-nil}
 use Rattle.std.specs.Prelude.{flat_map}
 use Rattle.std.specs.Char.{digit_char}
@@ -14,9 +14,9 @@ use Rattle.serde_json.specs.Written.{compact_text}
 use Rattle.serde_json.proofs.OnLiterals.{serde_json_on_literals}
 use Rattle.bytes_utils.specs.Json.{json_character, json_string}
 
--- The table on bytes, as `serde_json` writes by it.
+-- The table on bytes, by which `serde_json` writes.
 
--- the letter of a byte's short escape, or 0 where it has none
+-- the letter of a byte's short escape, or 0 if it has none
 abbrev escape_letter : ℕ → ℕ
 escape_letter b = cond ((b == 34) || (b == 92)) b (cond (b == 8) 98 (cond (b == 12) 102 (cond (b == 10) 110 (cond (b == 13) 114 (cond (b == 9) 116 0)))))
 
@@ -55,13 +55,13 @@ json_byte-high b high = grind (arith, nat_tests)
 json_character-high : (c : ℕ) → 128 ≤ c → json_character c ≡ c ∷ []
 json_character-high c high = grind (arith, nat_tests)
 
--- bytes past ASCII stay
+-- bytes that are not ASCII stay
 json_bytes-high : (bytes : List ℕ) → ((k : ℕ) → k < length bytes → 128 ≤ get_or bytes k 0) → flat_map json_byte bytes ≡ bytes
 json_bytes-high [] high = refl
 json_bytes-high (b ∷ bytes) high =
     ap₂ (λ (x y : List ℕ). x ++ y) (json_byte-high b (high 0 (omega arith))) (json_bytes-high bytes (λ k below. high (suc k) (omega arith)))
 
--- a character's bytes are written as the character is
+-- the bytes of a character are written as the character is
 json_bytes-encode : (c : ℕ) → flat_map json_byte (encode c) ≡ encode_utf8_all (json_character c)
 json_bytes-encode c = elim (cases_lt c 128) [
   | inl small ↦ rw (encode_ascii c small, append-nil) (json_byte-below 128 ascii_agrees c small)
@@ -80,7 +80,7 @@ json_bytes-encodes (c ∷ cs) =
     ∙ ap₂ (λ (x y : List ℕ). x ++ y) (json_bytes-encode c) (json_bytes-encodes cs)
     ∙ sym (encodes-append (json_character c) (flat_map json_character cs))
 
--- what is written for the string of a text is the text's characters by the table
+-- the bytes of a text are written as its characters are by the table
 pub compact_text-json_string : (t : List ℕ) → IsUtf8 t → compact_text (string t) ≡ encode_utf8_all (json_string (chars t))
 compact_text-json_string t is_text =
     let inside = ap (flat_map json_byte) (sym (encodes-chars t is_text)) ∙ json_bytes-encodes (chars t) in

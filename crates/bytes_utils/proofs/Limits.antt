@@ -1,4 +1,4 @@
--- The parts under a limit, told by those without one.
+-- The parts under a limit, computed from those without one.
 use Rattle.std.proofs.Common.{◌≡◌, sym, ap, subst, ◌∙◌, ℕ, zero, suc, ◌<◌, ◌≤◌, List, [], ◌∷◌, ◌++◌, None, Some, length, map, take, drop, reverse, arith}
 use Rattle.std.proofs.lemmas.List.{length-map, map-append, take-map, drop-map}
 use Rattle.bytes_utils.specs.Parts.{join, AreForwardParts, AreBackwardParts}
@@ -6,7 +6,7 @@ use Rattle.bytes_utils.proofs.Forward.{AreForwardParts-led, AreForwardParts-rest
 use Rattle.bytes_utils.proofs.Mirror.{length-some_reverse, join-reversed, AreForwardParts-from_mirror, AreBackwardParts-from_mirror}
 use Rattle.bytes_utils.proofs.Unique.{AreForwardParts-others}
 
--- all of them, where they are few enough
+-- all of them, if they are few enough
 pub forward_within : {X : Type 0} (t p : List X) (most : ℕ) (parts : List (List X)) → AreForwardParts t p None parts → length parts ≤ most → AreForwardParts t p (Some most) parts
 forward_within t p most parts are few = record {
   some = are.some;
@@ -25,7 +25,7 @@ backward_within t p most parts are few = record {
   last = λ _. are.last tt;
 }
 
--- else the first ones, and the rest uncut
+-- else the first ones, and the rest as one part
 pub forward_beyond : {X : Type 0} (p : List X) → 0 < length p → (n : ℕ) (t : List X) (parts : List (List X)) → AreForwardParts t p None parts → n < length parts
     → AreForwardParts t p (Some (suc n)) (take n parts ++ (join p (drop n parts) ∷ []))
 forward_beyond p some zero t parts are less = subst (λ z. AreForwardParts t p (Some 1) (z ∷ [])) (sym are.joined) (AreForwardParts-rest p t)

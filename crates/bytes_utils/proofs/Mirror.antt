@@ -1,18 +1,18 @@
--- A list read from its other end: what occurs last in it occurs first in its reverse, and its backward parts are the forward parts of its
--- reverse.
+-- A list read from its other end: what occurs last in it occurs first in its reverse, and its backward parts are the
+-- forward parts of its reverse.
 use Rattle.std.proofs.Common.{◌≡◌, ◌↔◌, refl, sym, ap, subst, ◌∙◌, ℕ, ◌+◌, ◌-◌, ◌<◌, ◌≤◌, List, [], ◌∷◌, ◌++◌, Option, length, map, take, drop, reverse, arith, append_assoc, length-append, length-drop}
 use Rattle.std.specs.Option.{IfSome}
 use Rattle.std.proofs.lemmas.List.{reverse-append, reverse-reverse, length-reverse, length-map, map-append}
 use Rattle.bytes_utils.specs.Occurrence.{OccursAt, Occurs, OccursFirstAt, OccursLastAt}
 use Rattle.bytes_utils.specs.Parts.{join, EachButLast, OfLast, AreForwardParts, AreBackwardParts}
 use Rattle.bytes_utils.proofs.Boundaries.{OccursAt-fits}
-use Rattle.bytes_utils.proofs.Occurrences.{cut_whole, OccursAt-between}
+use Rattle.bytes_utils.proofs.OccurrenceLemmas.{cut_whole, OccursAt-between}
 use Rattle.bytes_utils.proofs.Joins.{join-append}
 
 pub length-some_reverse : {X : Type 0} (p : List X) → 0 < length p → 0 < length (reverse p)
 length-some_reverse p some = omega (arith, length-reverse p, some)
 
--- a relation of three things, each replaced by one that is the same
+-- a relation of three things, with each replaced by an equal one
 pub replaced : {A B C : Type 0} (R : A → B → C → Type 0) {a b : A} {c d : B} {u v : C} → a ≡ b → c ≡ d → u ≡ v → R a c u → R b d v
 replaced R {b} {c} {d} {u} e f g h = subst (λ z. R b d z) g (subst (λ z. R b z u) f (subst (λ z. R z c u) e h))
 
@@ -20,7 +20,7 @@ reverse-between : {X : Type 0} (front p back : List X) → reverse (front ++ (p 
 reverse-between front p back =
     reverse-append front (p ++ back) ∙ ap (λ z. z ++ reverse front) (reverse-append p back) ∙ append_assoc (reverse back) (reverse p) (reverse front)
 
--- lists that are each reversed twice
+-- reversing each list twice changes nothing
 pub reversed_twice : {X : Type 0} (lists : List (List X)) → map reverse (map reverse lists) ≡ lists
 reversed_twice [] = refl
 reversed_twice (list ∷ lists) = λ k. reverse-reverse list k ∷ reversed_twice lists k
@@ -51,26 +51,26 @@ OccursFirstAt-reverse p t i some last = record {
   here = OccursAt-reverse p t i last.here;
   none_before = λ j there.
       let fits = OccursAt-fits (reverse p) (reverse t) j (length-some_reverse p some) there in
-      omega (arith, last.none_behind _ (OccursAt-from_reverse p t j there), fits, length-reverse p, length-reverse t);
+      omega (arith, last.none_after _ (OccursAt-from_reverse p t j there), fits, length-reverse p, length-reverse t);
 }
 
 -- what occurs first in a list occurs last in its reverse
 pub OccursLastAt-reverse : {X : Type 0} (p t : List X) (i : ℕ) → 0 < length p → OccursFirstAt p t i → OccursLastAt (reverse p) (reverse t) (length t - (i + length p))
 OccursLastAt-reverse p t i some first = record {
   here = OccursAt-reverse p t i first.here;
-  none_behind = λ j there.
+  none_after = λ j there.
       let fits = OccursAt-fits (reverse p) (reverse t) j (length-some_reverse p some) there in
       omega (arith, first.none_before _ (OccursAt-from_reverse p t j there), fits, length-reverse p, length-reverse t);
 }
 
--- what doesn't occur in a list doesn't occur in its reverse, and the other way round
+-- what doesn't occur in a list doesn't occur in its reverse, and conversely
 pub lacks-reverse : {X : Type 0} (p t : List X) → (¬ Occurs p t) → ¬ Occurs (reverse p) (reverse t)
 lacks-reverse p t lacks = λ occurs. lacks (_, OccursAt-from_reverse p t occurs.0 occurs.1)
 
 lacks-from_reverse : {X : Type 0} (p t : List X) → (¬ Occurs (reverse p) (reverse t)) → ¬ Occurs p t
 lacks-from_reverse p t lacks = λ occurs. lacks (_, OccursAt-reverse p t occurs.0 occurs.1)
 
--- Of a part.
+-- For one part.
 
 module _ {X : Type 0} (p part : List X) (some : 0 < length p) where
   first-from_last : OccursLastAt p (p ++ part) 0 → OccursFirstAt (reverse p) (reverse part ++ reverse p) (length (reverse part))
@@ -85,7 +85,7 @@ module _ {X : Type 0} (p part : List X) (some : 0 < length p) where
       let place : length back - (length (reverse part) + length (reverse p)) ≡ 0 = omega (arith, length-append (reverse part) (reverse p)) in
       replaced OccursLastAt (reverse-reverse p) whole place (OccursLastAt-reverse (reverse p) back _ (length-some_reverse p some) first)
 
--- Of lists of parts.
+-- For lists of parts.
 
 module _ {X Y : Type 0} (f : X → Y) (P : X → Type 0) (Q : Y → Type 0) where
   EachButLast-map : ((x : X) → P x → Q (f x)) → (xs : List X) → EachButLast P xs → EachButLast Q (map f xs)
@@ -123,7 +123,7 @@ reverse-join p (part ∷ next ∷ parts) =
     reverse-between part p (join p (next ∷ parts)) ∙ ap (λ z. z ++ (reverse p ++ reverse part)) (reverse-join p (next ∷ parts))
     ∙ sym (join-append (reverse p) (reverse others) (reverse part ∷ []) some (omega arith)) ∙ ap (join (reverse p)) (sym (reverse-append (reverse part ∷ []) others))
 
--- parts, each reversed, join to the reverse of what they join to in the other order
+-- the parts, each reversed, join to the reverse of the parts joined in the other order
 pub join-reversed : {X : Type 0} (p : List X) (parts : List (List X)) → reverse (join p (reverse parts)) ≡ join (reverse p) (map reverse parts)
 join-reversed p parts =
     reverse-join p (reverse parts) ∙ ap (λ z. join (reverse p) (reverse z)) (map-reverse reverse parts)

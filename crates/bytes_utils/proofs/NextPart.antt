@@ -1,4 +1,4 @@
--- The next part where one part is the limit, and that there is one.
+-- The next part if one part is the limit, and that there is one.
 use Rattle.std.proofs.Common.{◌≡◌, ◌≢◌, refl, ap, ℕ, zero, suc, ◌<◌, List, [], ◌∷◌, Bool, true, false, Option, None, Some, Result, Ok, Err, IfOk, length, reverse, arith}
 use Rattle.std.proofs.lemmas.List.{length-map}
 use Rattle.std.proofs.lemmas.Str.{chars-nil}
@@ -10,7 +10,7 @@ use Rattle.bytes_utils.specs.Parts.{ArePartsFromFront, ArePartsFromBack}
 use Rattle.bytes_utils.specs.Splitting.{ArePartsToCome, LeavesMore}
 use Rattle.bytes_utils.specs.declared.split.direction.Direction.{Direction}
 use Rattle.bytes_utils.specs.declared.split.direction.Direction.TheVariants.{Forward, Backward}
-use Rattle.bytes_utils.proofs.EachCharacter.{by_element-some, by_element-behind}
+use Rattle.bytes_utils.proofs.EachCharacter.{by_element-some, by_element-following}
 
 -- an empty separator has no characters, so it occurs in every text
 pub no_chars : (sep : List ℕ) → length sep ≡ 0 → chars sep ≡ []
@@ -25,7 +25,7 @@ some-limit None not = tt
 some-limit (Some zero) not = absurd (not refl)
 some-limit (Some (suc most)) not = omega arith
 
--- where the limit allows a part, one is to come of what is left
+-- if the limit allows a part, a part of what is left is to come
 some_from_front : (t p : List ℕ) (limit : Option ℕ) → IfSome limit (λ most. 0 < most) → ArePartsFromFront t p limit [] → ⊥
 some_from_front t [] None some are = omega (arith, ap length are, by_element-some t None tt)
 some_from_front t [] (Some zero) some are = omega (arith, some)
@@ -43,23 +43,23 @@ some_from_back t (x ∷ p) None some are = omega (arith, are.some)
 some_from_back t (x ∷ p) (Some zero) some are = omega (arith, some)
 some_from_back t (x ∷ p) (Some (suc most)) some are = omega (arith, are.some)
 
-behind_front : (t : List ℕ) (limit : Option ℕ) → IfSome limit (λ most. 0 < most) → ArePartsFromFront t [] (option_map suc limit) ([] ∷ []) → ⊥
-behind_front t None some are = omega (arith, ap length are, by_element-behind t None tt)
-behind_front t (Some most) some are = omega (arith, ap length are, by_element-behind t (Some most) some)
+after_front : (t : List ℕ) (limit : Option ℕ) → IfSome limit (λ most. 0 < most) → ArePartsFromFront t [] (option_map suc limit) ([] ∷ []) → ⊥
+after_front t None some are = omega (arith, ap length are, by_element-following t None tt)
+after_front t (Some most) some are = omega (arith, ap length are, by_element-following t (Some most) some)
 
-behind_back : (t : List ℕ) (limit : Option ℕ) → IfSome limit (λ most. 0 < most) → ArePartsFromBack t [] (option_map suc limit) ([] ∷ []) → ⊥
-behind_back t None some are = omega (arith, ap length are, by_element-behind (reverse t) None tt, length-map (by_element (reverse t) None) reverse)
-behind_back t (Some most) some are =
-    omega (arith, ap length are, by_element-behind (reverse t) (Some most) some, length-map (by_element (reverse t) (Some (suc most))) reverse)
+after_back : (t : List ℕ) (limit : Option ℕ) → IfSome limit (λ most. 0 < most) → ArePartsFromBack t [] (option_map suc limit) ([] ∷ []) → ⊥
+after_back t None some are = omega (arith, ap length are, by_element-following (reverse t) None tt, length-map (by_element (reverse t) None) reverse)
+after_back t (Some most) some are =
+    omega (arith, ap length are, by_element-following (reverse t) (Some most) some, length-map (by_element (reverse t) (Some (suc most))) reverse)
 
 pub some_to_come : (from : Direction) (text sep : List ℕ) (limit : Option ℕ) (begun : Bool) → limit ≢ Some 0
     → ¬ ArePartsToCome from (record { rest = Some text; separator = sep; limit = limit; begun = begun }) []
 some_to_come Forward text sep limit false not = some_from_front (chars text) (chars sep) limit (some-limit limit not)
-some_to_come Forward text sep limit true not = behind_front (chars text) limit (some-limit limit not)
+some_to_come Forward text sep limit true not = after_front (chars text) limit (some-limit limit not)
 some_to_come Backward text sep limit false not = some_from_back (chars text) (chars sep) limit (some-limit limit not)
-some_to_come Backward text sep limit true not = behind_back (chars text) limit (some-limit limit not)
+some_to_come Backward text sep limit true not = after_back (chars text) limit (some-limit limit not)
 
--- a limit that allows a part, and not just one, leaves more
+-- a limit that allows a part, and not exactly one, leaves more
 pub leaves-more : (limit : Option ℕ) → limit ≢ Some 0 → limit ≢ Some 1 → LeavesMore limit
 leaves-more None not_none not_one = tt
 leaves-more (Some zero) not_none not_one = absurd (not_none refl)

@@ -4,14 +4,14 @@ use Rattle.std.proofs.lemmas.Bool.{cases_lt}
 use Rattle.bytes_utils.specs.Occurrence.{OccursAt, Occurs, OccursFirstAt}
 use Rattle.bytes_utils.specs.Parts.{join, IsCutAtFirst, OfLast, AreForwardParts, ArePartsFromFront}
 use Rattle.bytes_utils.specs.Splitting.{LeavesMore, one_less}
-use Rattle.bytes_utils.proofs.Occurrences.{OccursAt-between, OccursAt-front, OccursFirstAt-append, OccursFirstAt-front}
+use Rattle.bytes_utils.proofs.OccurrenceLemmas.{OccursAt-between, OccursAt-front, OccursFirstAt-append, OccursFirstAt-front}
 use Rattle.bytes_utils.proofs.Forward.{AreForwardParts-led, AreForwardParts-last}
 use Rattle.bytes_utils.proofs.FromEnds.{positive, positive-less, front-from, front-to}
 use Rattle.bytes_utils.proofs.Unique.{first_place, AreForwardParts-others}
 
 -- ---- where a part ends
 
--- what begins with p has its first p at the front
+-- a list that begins with p has its first p at the front
 pub first_at_front : {X : Type 0} (p rest : List X) → OccursFirstAt p (p ++ rest) 0
 first_at_front p rest = record { here = OccursAt-between [] p rest; none_before = λ j there. omega arith }
 
@@ -19,7 +19,7 @@ first_at_front p rest = record { here = OccursAt-between [] p rest; none_before 
 pub cut-empty : {X : Type 0} (p : List X) → IsCutAtFirst p []
 cut-empty p = subst (λ t. OccursFirstAt p t 0) (append-nil p) (first_at_front p [])
 
--- a part without p is, where p is one element
+-- a part without p is too, if p is one element
 pub cut-lacks : {X : Type 0} (p part : List X) → length p ≡ 1 → (¬ Occurs p part) → IsCutAtFirst p part
 cut-lacks p part one lacks = record {
   here = subst (λ z. OccursAt p (part ++ z) (length part)) (append-nil p) (OccursAt-between part p []);
@@ -27,12 +27,12 @@ cut-lacks p part one lacks = record {
       ⊎_elim (λ below. absurd (lacks (j, OccursAt-front p part p j there (omega (arith, one, below))))) (λ from. from) (cases_lt j (length part));
 }
 
--- a part that is cut at its first p ends at the first p of whatever goes on behind that p
+-- if a part is cut at its first p, then in the part, p and any rest, joined, the first p is the one after the part
 pub first-from_cut : {X : Type 0} (p part rest : List X) → 0 < length p → IsCutAtFirst p part → OccursFirstAt p (part ++ (p ++ rest)) (length part)
 first-from_cut p part rest some cut =
     subst (λ t. OccursFirstAt p t (length part)) (append_assoc part p rest) (OccursFirstAt-append p (part ++ p) rest (length part) some cut)
 
--- and the other way round
+-- and conversely
 pub cut-from_first : {X : Type 0} (p part rest : List X) → 0 < length p → OccursFirstAt p (part ++ (p ++ rest)) (length part) → IsCutAtFirst p part
 cut-from_first p part rest some first =
     OccursFirstAt-front p (part ++ p) rest (length part) some (subst (λ t. OccursFirstAt p t (length part)) (sym (append_assoc part p rest)) first)
@@ -44,7 +44,7 @@ cut-from_first p part rest some first =
 pub alone : {X : Type 0} (p t : List X) → 0 < length p → (¬ Occurs p t) → ArePartsFromFront t p None (t ∷ [])
 alone p t some lacks = front-from t p None (t ∷ []) some tt (AreForwardParts-last p t None tt lacks)
 
--- a part, and behind its first p a text with these parts
+-- a part, its first p, and after that a text with these parts
 pub led : {X : Type 0} (p part rest : List X) (limit : Option ℕ) (parts : List (List X)) → 0 < length p → LeavesMore limit → IsCutAtFirst p part
     → ArePartsFromFront rest p (one_less limit) parts → ArePartsFromFront (part ++ (p ++ rest)) p limit (part ∷ parts)
 led p part rest limit parts some more cut are =
@@ -65,13 +65,14 @@ module _ {X : Type 0} (p : List X) (some : 0 < length p) where
       subst (λ z. AreForwardParts z p None (part ∷ next ∷ (xs ++ ys))) whole
       (AreForwardParts-led p part (rest ++ (p ++ u)) None tt are.cut_at_first.0 (next ∷ (xs ++ ys)) more)
 
-  -- two texts with p between: the parts of the first, of which the last is cut at its first p too, and then those of the second
+  -- two texts with p between, if the last part of the first is cut at its first p too: the parts of the first, and then
+  -- those of the second
   pub both : (t u : List X) (xs ys : List (List X)) → ArePartsFromFront t p None xs → OfLast (IsCutAtFirst p) xs → ArePartsFromFront u p None ys
       → ArePartsFromFront (t ++ (p ++ u)) p None (xs ++ ys)
   both t u xs ys are cut also =
       front-from (t ++ (p ++ u)) p None (xs ++ ys) some tt (forward_both t u xs ys (front-to t p None xs some tt are) cut (front-to u p None ys some tt also))
 
-  -- the parts of a text, and behind a p one more, the last
+  -- the parts of a text, and after one more p a last part
   pub last : (t part : List X) (parts : List (List X)) → ArePartsFromFront t p None parts → OfLast (IsCutAtFirst p) parts → (¬ Occurs p part)
       → ArePartsFromFront (t ++ (p ++ part)) p None (parts ++ (part ∷ []))
   last t part parts are cut lacks = both t part parts (part ∷ []) are cut (alone p part some lacks)
@@ -81,17 +82,17 @@ module _ {X : Type 0} (p : List X) (some : 0 < length p) where
   OfLast-cut one (part ∷ []) lacks = cut-lacks p part one lacks
   OfLast-cut one (part ∷ next ∷ parts) lacks = OfLast-cut one (next ∷ parts) lacks
 
-  -- where p is one element, the last part is always cut at its first p
+  -- if p is one element, the last part is always cut at its first p
   pub last_cut : (t : List X) (parts : List (List X)) → length p ≡ 1 → ArePartsFromFront t p None parts → OfLast (IsCutAtFirst p) parts
   last_cut t parts one are = let all = front-to t p None parts some tt are in OfLast-cut one parts (all.last tt)
 
   -- ---- a limit of two
 
-  -- two parts of at most two: the first, and all that is behind the first p
-  pub halves : (t first behind : List X) → ArePartsFromFront t p (Some 2) (first ∷ behind ∷ []) → (t ≡ first ++ (p ++ behind)) × OccursFirstAt p t (length first)
-  halves t first behind are =
-      let all = front-to t p (Some 2) (first ∷ behind ∷ []) some (lit< tt) are in
-      (sym all.joined, first_place p t some (Some 2) first behind [] all)
+  -- two parts of at most two: the first, and all that is after the first p
+  pub halves : (t first following : List X) → ArePartsFromFront t p (Some 2) (first ∷ following ∷ []) → (t ≡ first ++ (p ++ following)) × OccursFirstAt p t (length first)
+  halves t first following are =
+      let all = front-to t p (Some 2) (first ∷ following ∷ []) some (lit< tt) are in
+      (sym all.joined, first_place p t some (Some 2) first following [] all)
 
   -- one part of at most two: all of a text that holds no p
   pub undivided : (t part : List X) → ArePartsFromFront t p (Some 2) (part ∷ []) → (t ≡ part) × (¬ Occurs p t)

@@ -1,5 +1,5 @@
--- Lists of parts from the back, as a caller builds them and takes them apart: the mirror of `PartLists`. The last part of a text is given
--- first. The separator p isn't empty.
+-- Lists of parts from the back, as a caller builds them and takes them apart: the mirror of `PartLists`. The last part
+-- of a text is given first. The separator p isn't empty.
 use Rattle.std.proofs.Common.{◌≡◌, refl, sym, ap, subst, ◌∙◌, ℕ, ◌+◌, ◌-◌, ◌<◌, List, [], ◌∷◌, ◌++◌, Option, None, Some, length, map, take, drop, reverse, arith, lit<, length-append, append_assoc, append-nil}
 use Rattle.std.proofs.lemmas.List.{reverse-append, reverse-reverse, length-reverse, map-append, drop_at, drop-drop}
 use Rattle.bytes_utils.specs.Halves.{AreHalvesAtLast}
@@ -14,7 +14,7 @@ use Rattle.bytes_utils.proofs.PartLists.{cut-empty, cut-lacks, first-from_cut, c
 
 -- ---- where a part begins
 
--- the part, with p in front of it, has its last p right there: cut at the last p, it comes out whole
+-- in p followed by the part, the last p is the one at the front: a split at the last p gives the part whole
 abbrev pub IsCutAtLast : {X : Type 0} → List X → List X → Type 0
 IsCutAtLast p part = OccursLastAt p (p ++ part) 0
 
@@ -49,16 +49,16 @@ module _ {X : Type 0} (p part : List X) (some : 0 < length p) where
       last-from_mirror p [] part some
       (subst (λ z. OccursFirstAt (reverse p) (reverse part ++ z) (length (reverse part))) (sym (append-nil (reverse p))) cut)
 
-  -- a part without p is cut at its last p, where p is one element
+  -- a part without p is cut at its last p, if p is one element
   pub back_cut-lacks : length p ≡ 1 → (¬ Occurs p part) → IsCutAtLast p part
   back_cut-lacks one lacks = cut-from_mirror (cut-lacks (reverse p) (reverse part) (length-reverse p ∙ one) (lacks-reverse p part lacks))
 
-  -- a part that is cut at its last p begins behind the last p of whatever stands in front of that p
+  -- if the part is cut at its last p, then in any front, p and the part, joined, the last p is the one before the part
   pub last-from_cut : (front : List X) → IsCutAtLast p part → OccursLastAt p (front ++ (p ++ part)) (length front)
   last-from_cut front cut =
       last-from_mirror p front part some (first-from_cut (reverse p) (reverse part) (reverse front) (length-some_reverse p some) (cut-mirror cut))
 
-  -- and the other way round
+  -- and conversely
   pub cut-from_last : (front : List X) → OccursLastAt p (front ++ (p ++ part)) (length front) → IsCutAtLast p part
   cut-from_last front last =
       cut-from_mirror (cut-from_first (reverse p) (reverse part) (reverse front) (length-some_reverse p some) (last-mirror p front part some last))
@@ -66,16 +66,16 @@ module _ {X : Type 0} (p part : List X) (some : 0 < length p) where
   -- such a part holds no p
   pub lacks-from_cut : IsCutAtLast p part → ¬ Occurs p part
   lacks-from_cut cut = λ occurs.
-      let behind : drop (length p + occurs.0) (p ++ part) ≡ drop occurs.0 part =
+      let following : drop (length p + occurs.0) (p ++ part) ≡ drop occurs.0 part =
       sym (drop-drop occurs.0 (length p) (p ++ part)) ∙ ap (drop occurs.0) (drop_at p part (length p) refl) in
-      omega (arith, some, cut.none_behind (length p + occurs.0) (ap (take (length p)) behind ∙ occurs.1))
+      omega (arith, some, cut.none_after (length p + occurs.0) (ap (take (length p)) following ∙ occurs.1))
 
 module _ {X : Type 0} (p : List X) (some : 0 < length p) where
   -- an empty part is cut at its last p
   pub back_cut-empty : IsCutAtLast p []
   back_cut-empty = cut-from_mirror p [] some (cut-empty (reverse p))
 
-  -- so what ends with p has its last p at the end
+  -- so a list that ends with p has its last p at the end
   pub last_at_end : (front : List X) → OccursLastAt p (front ++ p) (length front)
   last_at_end front = subst (λ z. OccursLastAt p (front ++ z) (length front)) (append-nil p) (last-from_cut p [] some front back_cut-empty)
 
@@ -86,11 +86,11 @@ module _ {X : Type 0} (p : List X) (some : 0 < length p) where
   back_alone t limit more lacks =
       back-from t p limit (t ∷ []) some (positive limit more) (AreBackwardParts-last p t limit (positive limit more) lacks)
 
-  -- where one part is the limit, it is the uncut text
+  -- if one part is the limit, it is the whole text
   pub back_whole : (t : List X) → ArePartsFromBack t p (Some 1) (t ∷ [])
   back_whole t = back-from t p (Some 1) (t ∷ []) some (lit< tt) (AreBackwardParts-rest p t)
 
-  -- a part, and in front of its last p a text with these parts
+  -- a part, its last p, and before that a text with these parts
   pub back_led : (front part : List X) (limit : Option ℕ) (parts : List (List X)) → LeavesMore limit → IsCutAtLast p part
       → ArePartsFromBack front p (one_less limit) parts → ArePartsFromBack (front ++ (p ++ part)) p limit (part ∷ parts)
   back_led front part limit parts more cut are =
@@ -110,7 +110,8 @@ module _ {X : Type 0} (p : List X) (some : 0 < length p) where
       front-from (reverse t) (reverse p) None (map reverse parts) (length-some_reverse p some) tt
       (AreForwardParts-from_mirror t p None parts some (back-to t p None parts some tt are))
 
-  -- two texts with p between: the parts of the second, of which the last that is given is cut at its last p too, and then those of the first
+  -- two texts with p between, if the part of the second that is given last is cut at its last p too: the parts of the
+  -- second, and then those of the first
   pub back_both : (t u : List X) (xs ys : List (List X)) → ArePartsFromBack u p None xs → OfLast (IsCutAtLast p) xs → ArePartsFromBack t p None ys
       → ArePartsFromBack (t ++ (p ++ u)) p None (xs ++ ys)
   back_both t u xs ys are cut also =
@@ -127,28 +128,28 @@ module _ {X : Type 0} (p : List X) (some : 0 < length p) where
   OfLast-back_cut one (part ∷ []) lacks = back_cut-lacks p part some one lacks
   OfLast-back_cut one (part ∷ next ∷ parts) lacks = OfLast-back_cut one (next ∷ parts) lacks
 
-  -- where p is one element, the part that is given last is always cut at its last p
+  -- if p is one element, the part that is given last is always cut at its last p
   pub back_last_cut : (t : List X) (parts : List (List X)) → length p ≡ 1 → ArePartsFromBack t p None parts → OfLast (IsCutAtLast p) parts
   back_last_cut t parts one are = let all = back-to t p None parts some tt are in OfLast-back_cut one parts (all.last tt)
 
   -- ---- a limit of two
 
   -- two parts of at most two: the last, and all that is before the last p
-  pub back_halves : (t before behind : List X) → ArePartsFromBack t p (Some 2) (behind ∷ before ∷ []) → AreHalvesAtLast t p before behind
-  back_halves t before behind are =
-      let all = back-to t p (Some 2) (behind ∷ before ∷ []) some (lit< tt) are in
+  pub back_halves : (t before following : List X) → ArePartsFromBack t p (Some 2) (following ∷ before ∷ []) → AreHalvesAtLast t p before following
+  back_halves t before following are =
+      let all = back-to t p (Some 2) (following ∷ before ∷ []) some (lit< tt) are in
       record {
         joined = all.joined;
-        last = λ _. subst (λ z. OccursLastAt p z (length before)) all.joined (last-from_cut p behind some before all.cut_at_last.0);
+        last = λ _. subst (λ z. OccursLastAt p z (length before)) all.joined (last-from_cut p following some before all.cut_at_last.0);
         at_end = λ none. absurd (omega (arith, none, some));
       }
 
-  -- and the other way round
-  pub back_from_halves : (t before behind : List X) → AreHalvesAtLast t p before behind → ArePartsFromBack t p (Some 2) (behind ∷ before ∷ [])
-  back_from_halves t before behind halves =
-      let cut = cut-from_last p behind some before (subst (λ z. OccursLastAt p z (length before)) (sym halves.joined) (halves.last some)) in
-      subst (λ z. ArePartsFromBack z p (Some 2) (behind ∷ before ∷ [])) halves.joined
-      (back_led before behind (Some 2) (before ∷ []) (lit< tt) cut (back_whole before))
+  -- and conversely
+  pub back_from_halves : (t before following : List X) → AreHalvesAtLast t p before following → ArePartsFromBack t p (Some 2) (following ∷ before ∷ [])
+  back_from_halves t before following halves =
+      let cut = cut-from_last p following some before (subst (λ z. OccursLastAt p z (length before)) (sym halves.joined) (halves.last some)) in
+      subst (λ z. ArePartsFromBack z p (Some 2) (following ∷ before ∷ [])) halves.joined
+      (back_led before following (Some 2) (before ∷ []) (lit< tt) cut (back_whole before))
 
   -- one part of at most two: all of a text that holds no p
   pub back_undivided : (t part : List X) → ArePartsFromBack t p (Some 2) (part ∷ []) → (t ≡ part) × (¬ Occurs p t)

@@ -6,7 +6,7 @@ use Rattle.std.specs.List.{concat, slice_get}
 use Rattle.bytes.proofs.Chunks.{concat_push}
 use Rattle.bytes_utils_buf.proofs.Lists.{concat_split}
 
--- all from a place on, as a range
+-- all bytes from a place on, as a range
 pub range_rest : (bytes : List ℕ) (from : ℕ) → take (length bytes - from) (drop from bytes) ≡ drop from bytes
 range_rest bytes from = take_all (length bytes - from) (drop from bytes) (omega (arith, length-drop from bytes))
 

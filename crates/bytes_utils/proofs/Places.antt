@@ -1,4 +1,4 @@
--- A place in a text's bytes at which a character begins, and the text cut there.
+-- A place in a text's bytes at which a character begins, and the text split there.
 use Rattle.std.proofs.Common.{◌≡◌, refl, sym, ap, subst, ◌∙◌, ℕ, ◌+◌, ◌-◌, ◌<◌, ◌≤◌, List, [], ◌∷◌, ◌++◌, length, take, drop, arith, true, length-append, length-drop, length-take, take-add, take-append-drop, IsUtf8, IsCharBoundary}
 use Rattle.std.proofs.lemmas.List.{take_at, drop_at, take_all, length-take-le}
 use Rattle.std.proofs.lemmas.List.Elements.{All-nil, All-cons}
@@ -45,8 +45,8 @@ module _ (text : List ℕ) (text_is : IsUtf8 text) (i : ℕ) where
   front_is : IsUtf8 (encodes (take i (chars text)))
   front_is = (take i (chars text), (both_scalars.0, refl))
 
-  behind_is : IsUtf8 (encodes (drop i (chars text)))
-  behind_is = (drop i (chars text), (both_scalars.1, refl))
+  after_is : IsUtf8 (encodes (drop i (chars text)))
+  after_is = (drop i (chars text), (both_scalars.1, refl))
 
   -- the text is the bytes of the characters before the place and of those from it on
   pub split_at_place : text ≡ encodes (take i (chars text)) ++ encodes (drop i (chars text))
@@ -54,7 +54,7 @@ module _ (text : List ℕ) (text_is : IsUtf8 text) (i : ℕ) where
       sym (encodes-chars text text_is) ∙ ap encodes (sym (take-append-drop i (chars text))) ∙ encodes-append (take i (chars text)) (drop i (chars text))
 
   pub boundary_at_place : IsCharBoundary text (byte_place (chars text) i)
-  boundary_at_place = IsCharBoundary-at_seam text _ _ split_at_place behind_is
+  boundary_at_place = IsCharBoundary-at_seam text _ _ split_at_place after_is
 
   pub chars-take_place : chars (take (byte_place (chars text) i) text) ≡ take i (chars text)
   chars-take_place =
@@ -66,9 +66,9 @@ module _ (text : List ℕ) (text_is : IsUtf8 text) (i : ℕ) where
   chars-drop_place =
       let bytes : drop (byte_place (chars text) i) text ≡ encodes (drop i (chars text)) =
       ap (drop (byte_place (chars text) i)) split_at_place ∙ drop_at (encodes (take i (chars text))) (encodes (drop i (chars text))) _ refl in
-      sym (chars_from_encodes _ _ (subst IsUtf8 (sym bytes) behind_is) (sym bytes))
+      sym (chars_from_encodes _ _ (subst IsUtf8 (sym bytes) after_is) (sym bytes))
 
--- a boundary is where some character begins, or the end
+-- a boundary is a place at which some character begins, or the end
 pub place_of_boundary : (text : List ℕ) → IsUtf8 text → (at : ℕ) → IsCharBoundary text at
     → at ≡ byte_place (chars text) (length (chars (take at text)))
 place_of_boundary text text_is at boundary =
@@ -78,7 +78,7 @@ place_of_boundary text text_is at boundary =
     let first : take (length front) (chars text) ≡ front = ap (take (length front)) whole ∙ take_at front (chars (drop at text)) (length front) refl in
     sym (ap (λ z. length (encodes z)) first ∙ ap length (encodes-chars (take at text) front_is) ∙ length-take-le at text boundary.0)
 
--- the last boundary before the end is where the last character begins
+-- the last boundary before the end is the place at which the last character begins
 pub last_place : (text : List ℕ) → IsUtf8 text → (at : ℕ) → at < length text → IsCharBoundary text at
     → ((i : ℕ) → at < i → i < length text → ¬ IsCharBoundary text i)
     → (0 < length (chars text)) × (at ≡ byte_place (chars text) (length (chars text) - 1))

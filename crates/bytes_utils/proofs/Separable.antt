@@ -1,4 +1,4 @@
--- Parts that are put together with a separator between, and cut apart again.
+-- Parts that are joined with a separator between, and split again.
 use Rattle.std.proofs.Common.{◌≡◌, ◌↔◌, refl, ap, subst, ◌∙◌, ℕ, ◌<◌, List, [], ◌∷◌, ◌++◌, None, length, map, All, IsUtf8}
 use Rattle.std.proofs.lemmas.List.Elements.{All-head, All-tail}
 use Rattle.std.proofs.lemmas.Str.{chars-append, chars-nil}
@@ -7,11 +7,11 @@ use Rattle.bytes_utils.specs.Occurrence.{Occurs}
 use Rattle.bytes_utils.specs.Parts.{join, EachButLast, IsCutAtFirst, OfLast, AreSeparable, ArePartsFromFront}
 use Rattle.bytes_utils.proofs.FromEnds.{front-from, front-to}
 use Rattle.bytes_utils.proofs.PartLists.{cut-lacks}
-use Rattle.bytes_utils.proofs.Search.{chars-some}
+use Rattle.bytes_utils.proofs.SearchLemmas.{chars-some}
 use Rattle.bytes_utils.proofs.ToCome.{front_same}
 
 module _ {X : Type 0} (p : List X) (some : 0 < length p) where
-  -- separable parts are those of what they are joined to
+  -- separable parts are the parts of the text that they join to
   pub separable-parts : (parts : List (List X)) → AreSeparable p parts → ArePartsFromFront (join p parts) p None parts
   separable-parts parts are =
       front-from (join p parts) p None parts some tt
@@ -23,7 +23,7 @@ module _ {X : Type 0} (p : List X) (some : 0 < length p) where
       let all = front-to t p None parts some tt are in
       record { some = all.some; cut_at_first = all.cut_at_first; last = all.last tt }
 
-  -- what is cut from joined parts are these parts, exactly where they are separable
+  -- the parts of a joined text are the parts that were joined exactly if these are separable
   pub come_back : (parts others : List (List X)) → ArePartsFromFront (join p parts) p None others → (others ≡ parts) ↔ AreSeparable p parts
   come_back parts others are = (
     λ same. parts-separable (join p parts) parts (subst (ArePartsFromFront (join p parts) p None) same are),
@@ -42,11 +42,11 @@ module _ {X : Type 0} (p : List X) (some : 0 < length p) where
     last_lacks (part ∷ []) lack = All-head (λ q. ¬ Occurs p q) part [] lack
     last_lacks (part ∷ next ∷ parts) lack = last_lacks (next ∷ parts) (All-tail (λ q. ¬ Occurs p q) part (next ∷ parts) lack)
 
-    -- by a p of one element, parts that hold none are separable
+    -- if p is one element, parts that hold no p are separable
     pub separable-lack : (parts : List (List X)) → 0 < length parts → All (λ part. ¬ Occurs p part) parts → AreSeparable p parts
     separable-lack parts any lack = record { some = any; cut_at_first = each_cut parts lack; last = last_lacks parts lack }
 
--- the characters of joined texts are theirs, joined
+-- the characters of joined texts are the characters of the texts, joined
 pub chars-join : (separator : List ℕ) (parts : List (List ℕ)) → IsUtf8 separator → All IsUtf8 parts → chars (join separator parts) ≡ join (chars separator) (map chars parts)
 chars-join separator [] is each = chars-nil
 chars-join separator (part ∷ []) is each = refl
@@ -55,7 +55,7 @@ chars-join separator (part ∷ next ∷ parts) is each =
     ∙ ap (λ l. chars part ++ l) (chars-append separator (join separator (next ∷ parts)) is)
     ∙ ap (λ l. chars part ++ (chars separator ++ l)) (chars-join separator (next ∷ parts) is (All-tail IsUtf8 part (next ∷ parts) each))
 
--- so texts come back by characters
+-- so a split gives the joined texts back, by characters
 pub texts_come_back : (separator : List ℕ) (texts parts : List (List ℕ)) → 0 < length separator → IsUtf8 separator → All IsUtf8 texts
     → ArePartsFromFront (chars (join separator texts)) (chars separator) None parts → (parts ≡ map chars texts) ↔ AreSeparable (chars separator) (map chars texts)
 texts_come_back separator texts parts some is each are =

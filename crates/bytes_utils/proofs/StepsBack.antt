@@ -1,4 +1,4 @@
--- What a caller concludes from the steps of a splitter that cuts from the back.
+-- What a caller concludes from the steps of a splitter that splits from the back.
 use Rattle.std.proofs.Common.{◌≡◌, refl, ap, subst, ◌∙◌, ℕ, ◌<◌, List, [], ◌∷◌, false, Option, None, Some, Result, Ok, Err, IfOk, MatchOption, length, map, reverse, arith}
 use Rattle.std.specs.Option.{option_transpose, option_zip}
 use Rattle.std.specs.Str.{chars}
@@ -11,10 +11,10 @@ use Rattle.bytes_utils.proofs.EachCharacter.{by_element-two}
 use Rattle.bytes_utils.proofs.NextPart.{some_to_come}
 use Rattle.bytes_utils.proofs.PartListsBack.{back_undivided}
 
-none_behind_two : (t p a b : List ℕ) (others : List (List ℕ)) → ArePartsFromBack t p (Some 2) (a ∷ b ∷ others) → others ≡ []
-none_behind_two t p a b [] are = refl
-none_behind_two t [] a b (c ∷ others) are = let two = are ∙ ap (map reverse) (by_element-two (reverse t)) in cc
-none_behind_two t (x ∷ p) a b (c ∷ others) are = absurd (omega (arith, are.few))
+none_after_two : (t p a b : List ℕ) (others : List (List ℕ)) → ArePartsFromBack t p (Some 2) (a ∷ b ∷ others) → others ≡ []
+none_after_two t p a b [] are = refl
+none_after_two t [] a b (c ∷ others) are = let two = are ∙ ap (map reverse) (by_element-two (reverse t)) in cc
+none_after_two t (x ∷ p) a b (c ∷ others) are = absurd (omega (arith, are.few))
 
 -- A step of `rsplitn_bytes` by a limit of 2, and another.
 module _ {text separator : List ℕ} {s t : Splitting} (is : s ≡ all_of text separator (Some 2)) {last : List ℕ} (gives : GivesFirst AreBackwardPartsToCome s last t) where
@@ -28,14 +28,14 @@ module _ {text separator : List ℕ} {s t : Splitting} (is : s ≡ all_of text s
       let others = also.some.0 in
       let are : ArePartsFromBack (chars text) (chars separator) (Some 2) (last ∷ before ∷ others) =
       subst (λ w. AreBackwardPartsToCome w (last ∷ before ∷ others)) is (gives.each (before ∷ others) (also.each others also.some.1)) in
-      subst (λ l. ArePartsFromBack (chars text) (chars separator) (Some 2) (last ∷ before ∷ l)) (none_behind_two (chars text) (chars separator) last before others are) are
+      subst (λ l. ArePartsFromBack (chars text) (chars separator) (Some 2) (last ∷ before ∷ l)) (none_after_two (chars text) (chars separator) last before others are) are
 
-  -- where no second one comes, the first that is given is the only part
+  -- if no second one comes, the first that is given is the only part
   pub back_one_given : AreBackwardPartsToCome t [] → ArePartsFromBack (chars text) (chars separator) (Some 2) (last ∷ [])
   back_one_given none = subst (λ w. AreBackwardPartsToCome w (last ∷ [])) is (gives.each [] none)
 
--- Both steps, as they are taken by `transpose` of each and by `zip`: two parts that are all, the last and all that is before its separator,
--- or one, which is a text without the separator.
+-- Both steps, as `transpose` of each and `zip` give them: two parts that are all, the last and all that is before its
+-- separator, or one part, which is a text without the separator.
 pub back_two_steps : {E : Type 0} (cuts : Splitting → Type 0) (refuses : E → Type 0) (text separator : List ℕ) (a b : Option (Result (List ℕ) E)) {s : Splitting} (t u : Splitting)
     → 0 < length (chars separator) → s ≡ all_of text separator (Some 2) → IsStep AreBackwardPartsToCome cuts refuses s a t → IsStep AreBackwardPartsToCome cuts refuses t b u
     → IfOk (option_transpose a) (λ last. IfOk (option_transpose b) (λ before. MatchOption (option_zip last before) (¬ Occurs (chars separator) (chars text))

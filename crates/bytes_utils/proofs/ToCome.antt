@@ -10,7 +10,7 @@ use Rattle.bytes_utils.specs.Splitting.{Splitting, AreForwardPartsToCome, AreBac
 use Rattle.bytes_utils.specs.Words.{AreWordsToCome}
 use Rattle.bytes_utils.proofs.Unique.{forward_same, backward_same, inclusive_same_any}
 
--- at most one list of parts is cut from the front
+-- at most one list is the parts from the front
 pub front_same : {X : Type 0} (t p : List X) (limit : Option ℕ) (parts others : List (List X)) → ArePartsFromFront t p limit parts → ArePartsFromFront t p limit others → parts ≡ others
 front_same t p (Some zero) parts others are also = are ∙ sym also
 front_same t [] None parts others are also = are ∙ sym also

@@ -1,4 +1,4 @@
--- A list has no two lists of forward parts, of backward parts, or of inclusive parts.
+-- A list has at most one list of forward parts, one of backward parts, and one of inclusive parts.
 use Rattle.std.proofs.Common.{◌≡◌, refl, sym, ap, subst, ◌∙◌, ℕ, suc, ◌-◌, ◌<◌, ◌≤◌, List, [], ◌∷◌, ◌++◌, Option, None, Some, length, map, reverse, arith, append_assoc, length-append, ◌⊎◌, inl, inr}
 use Rattle.std.specs.Option.{IfSome}
 use Rattle.std.proofs.lemmas.List.{append_cancel_left}
@@ -6,12 +6,12 @@ use Rattle.std.proofs.lemmas.List.Elements.{All-head, All-tail}
 use Rattle.bytes_utils.specs.Occurrence.{Occurs, OccursFirstAt}
 use Rattle.bytes_utils.specs.Parts.{join, EndsAtFirst, AreForwardParts, AreBackwardParts, AreInclusiveParts}
 use Rattle.bytes_utils.proofs.Boundaries.{OccursAt-fits}
-use Rattle.bytes_utils.proofs.Occurrences.{OccursFirstAt-append, first_places_same}
+use Rattle.bytes_utils.proofs.OccurrenceLemmas.{OccursFirstAt-append, first_places_same}
 use Rattle.bytes_utils.proofs.Joins.{append_same}
 use Rattle.bytes_utils.proofs.Forward.{less_one}
 use Rattle.bytes_utils.proofs.Mirror.{length-some_reverse, reversed_twice, AreForwardParts-from_mirror}
 
--- Of a limit that allows another part.
+-- For a limit that allows another part.
 
 room_for_two : (limit : Option ℕ) (n : ℕ) → IfSome limit (λ most. suc (suc n) ≤ most) → IfSome limit (λ most. 1 < most)
 room_for_two None n few = tt
@@ -25,7 +25,7 @@ below_more : (limit : Option ℕ) (n : ℕ) → IfSome (less_one limit) (λ most
 below_more None n below = tt
 below_more (Some most) n below = omega arith
 
--- The first of two forward parts or more.
+-- The first of at least two forward parts.
 module _ {X : Type 0} (p t : List X) (some : 0 < length p) (limit : Option ℕ) (part next : List X) (parts : List (List X)) (are : AreForwardParts t p limit (part ∷ next ∷ parts)) where
   -- it ends at the first place at which p occurs in t
   pub first_place : OccursFirstAt p t (length part)
@@ -33,7 +33,7 @@ module _ {X : Type 0} (p t : List X) (some : 0 < length p) (limit : Option ℕ) 
       let longer = OccursFirstAt-append p (part ++ p) (join p (next ∷ parts)) (length part) some are.cut_at_first.0 in
       subst (λ z. OccursFirstAt p z (length part)) (append_assoc part p (join p (next ∷ parts)) ∙ are.joined) longer
 
-  -- and the others are the parts of what is behind that p
+  -- and the others are the parts of what is after that p
   pub AreForwardParts-others : AreForwardParts (join p (next ∷ parts)) p (less_one limit) (next ∷ parts)
   AreForwardParts-others = record {
     some = omega arith;
@@ -59,9 +59,9 @@ module _ {X : Type 0} (p : List X) (some : 0 < length p) where
       let size = first_places_same p t (length part) (length other) (first_place p t some limit part next parts are) (first_place p t some limit other later others also) in
       let cut = append_same part other (p ++ join p (next ∷ parts)) (p ++ join p (later ∷ others)) size (are.joined ∙ sym also.joined) in
       let rest = append_cancel_left p (join p (next ∷ parts)) (join p (later ∷ others)) cut.1 in
-      let behind = AreForwardParts-others p t some limit other later others also in
+      let following = AreForwardParts-others p t some limit other later others also in
       let more = forward_same (join p (next ∷ parts)) (less_one limit) (next ∷ parts) (later ∷ others) (AreForwardParts-others p t some limit part next parts are)
-      (subst (λ z. AreForwardParts z p (less_one limit) (later ∷ others)) (sym rest) behind) in
+      (subst (λ z. AreForwardParts z p (less_one limit) (later ∷ others)) (sym rest) following) in
       λ k. cut.0 k ∷ more k
 
 -- the same from the back, by the mirror
@@ -76,21 +76,21 @@ length-join : {X : Type 0} (part : List X) (parts : List (List X)) → length pa
 length-join part [] = omega arith
 length-join part (next ∷ parts) = omega (arith, length-append part (join [] (next ∷ parts)))
 
--- The first of two inclusive parts or more.
+-- The first of at least two inclusive parts.
 module _ {X : Type 0} (p t : List X) (some : 0 < length p) (part next : List X) (parts : List (List X)) (are : AreInclusiveParts t p (part ∷ next ∷ parts)) where
   first_end : OccursFirstAt p t (length part - length p)
   first_end =
       subst (λ z. OccursFirstAt p z (length part - length p)) are.joined
-      (OccursFirstAt-append p part (join [] (next ∷ parts)) (length part - length p) some are.cut_behind_first.0)
+      (OccursFirstAt-append p part (join [] (next ∷ parts)) (length part - length p) some are.cut_after_first.0)
 
   part_long : length p ≤ length part
-  part_long = omega (arith, OccursAt-fits p part (length part - length p) some are.cut_behind_first.0.here)
+  part_long = omega (arith, OccursAt-fits p part (length part - length p) some are.cut_after_first.0.here)
 
   AreInclusiveParts-others : AreInclusiveParts (join [] (next ∷ parts)) p (next ∷ parts)
   AreInclusiveParts-others = record {
     joined = refl;
     none_empty = All-tail (λ q. 0 < length q) part (next ∷ parts) are.none_empty;
-    cut_behind_first = are.cut_behind_first.1;
+    cut_after_first = are.cut_after_first.1;
     last = are.last;
   }
 
@@ -127,15 +127,15 @@ module _ {X : Type 0} (p : List X) (some : 0 < length p) where
       let place = first_places_same p t (length part - length p) (length other - length p) (first_end p t some part next parts are) (first_end p t some other later others also) in
       let size : length part ≡ length other = omega (arith, place, part_long p t some part next parts are, part_long p t some other later others also) in
       let cut = append_same part other (join [] (next ∷ parts)) (join [] (later ∷ others)) size (are.joined ∙ sym also.joined) in
-      let behind = AreInclusiveParts-others p t some other later others also in
+      let following = AreInclusiveParts-others p t some other later others also in
       let more = inclusive_same (join [] (next ∷ parts)) (next ∷ parts) (later ∷ others) (AreInclusiveParts-others p t some part next parts are)
-      (subst (λ z. AreInclusiveParts z p (later ∷ others)) (sym cut.1) behind) in
+      (subst (λ z. AreInclusiveParts z p (later ∷ others)) (sym cut.1) following) in
       λ k. cut.0 k ∷ more k
 
--- For p empty there is one inclusive part, or none.
+-- If p is empty, there is one inclusive part, or none.
 one_alone : {X : Type 0} (t part next : List X) (parts : List (List X)) → AreInclusiveParts t [] (part ∷ next ∷ parts) → ⊥
 one_alone t part next parts are =
-    omega (arith, are.cut_behind_first.0.none_before 0 refl, All-head (λ q. 0 < length q) part (next ∷ parts) are.none_empty)
+    omega (arith, are.cut_after_first.0.none_before 0 refl, All-head (λ q. 0 < length q) part (next ∷ parts) are.none_empty)
 
 none_with_one : {X : Type 0} (t part : List X) → AreInclusiveParts t [] [] → AreInclusiveParts t [] (part ∷ []) → ⊥
 none_with_one t part none are = omega (arith, ap length none.joined, ap length are.joined, All-head (λ q. 0 < length q) part [] are.none_empty)

@@ -2,29 +2,28 @@
 use Rattle.std.specs.Prelude.{◌≡◌, ◌≢◌, ℕ, ◌+◌, ◌<◌, ◌≤◌, List, ◌++◌, length, take, drop, slice_index}
 use Rattle.std.specs.List.{concat}
 use Rattle.memchr.specs.Find.{Nowhere, OccursAt}
-use Rattle.bytes_utils.specs.declared.frame.search.Progress.{Progress}
+use Rattle.bytes_utils.specs.declared.frame.search.SearchState.{SearchState}
 
--- Behind place `cut` of the bytes there is no room for the needle, and where it would begin before that place and end behind the bytes
--- its first byte doesn't stand.
+-- From place `cut` on there are too few bytes for the needle. At each earlier place from which the needle would end past the bytes, the byte is not
+-- the needle's first.
 pub record HoldsBack (needle bytes : List ℕ) (cut : ℕ) : Type 0 where
   pub within : cut ≤ length bytes
   pub short : length bytes < cut + length needle
   pub none : (k : ℕ) → k < cut → length bytes < k + length needle → slice_index bytes k ≢ slice_index needle 0
 
--- Of the bytes that were searched those from place `base` on are held back, and whatever comes behind them, the needle begins nowhere
--- before that place.
+-- The kept tail of the searched bytes is those from place `base` on. Whatever comes after the bytes, the needle begins nowhere before that place.
 pub record Searched (needle bytes : List ℕ) (base : ℕ) (held : List ℕ) : Type 0 where
   pub within : base ≤ length bytes
   pub tail : drop base bytes ≡ held
   pub short : length held < length needle
   pub none : (more : List ℕ) → Nowhere (OccursAt (bytes ++ more) needle) 0 base
 
--- so many of the pieces were searched
-pub record SearchedPieces (needle : List ℕ) (pieces : List (List ℕ)) (progress : Progress) : Type 0 where
+-- the first `progress.pieces` pieces were searched
+pub record SearchedPieces (needle : List ℕ) (pieces : List (List ℕ)) (progress : SearchState) : Type 0 where
   pub within : progress.pieces ≤ length pieces
   pub searched : Searched needle (concat (take progress.pieces pieces)) progress.base progress.held.items
 
--- the search came no further
-pub record StaysAt (old new : Progress) : Type 0 where
+-- the search has not come further
+pub record StaysAt (old new : SearchState) : Type 0 where
   pub base : new.base ≡ old.base
   pub held : new.held.items ≡ old.held.items

@@ -1,15 +1,15 @@
--- The parts of a text between separators, each with the place at which it stands in the text.
+-- The parts of a text between separators, each with the byte place at which it begins.
 use Rattle.std.specs.Prelude.{◌≡◌, ℕ, ◌+◌, List, [], ◌∷◌, length}
 use Rattle.std.specs.Str.{chars, encode_utf8_all}
 use Rattle.bytes_utils.specs.Splitting.{Splitting, AreForwardPartsToCome, CutsNext}
 
--- The parts, given as characters, each with the byte place at which it begins: the first begins at this place, and each other one behind
--- the part before it and the separator, which is given as bytes.
+-- Pairs each part, given as characters, with the byte place at which it begins: the first begins at this place, each
+-- other one after the part before it and the separator, which is given as bytes.
 abbrev pub indexed : List ℕ → ℕ → List (List ℕ) → List (ℕ × List ℕ)
 indexed separator at [] = []
 indexed separator at (part ∷ parts) = (at, part) ∷ indexed separator (at + length (encode_utf8_all part) + length separator) parts
 
--- what is still to be cut, and the byte place at which it begins
+-- what is still to be split, and the byte place at which it begins
 pub record Indexing : Type 0 where
   pub parts : Splitting
   pub at : ℕ
@@ -18,10 +18,10 @@ pub record Indexing : Type 0 where
 abbrev pub AreIndexedPartsToCome : Indexing → List (ℕ × List ℕ) → Type 0
 AreIndexedPartsToCome s items = (parts : List (List ℕ)) × AreForwardPartsToCome s.parts parts × (items ≡ indexed s.parts.separator s.at parts)
 
--- the next step splits the storage, as that without places does
+-- the next step splits the storage, as the step without places does
 abbrev pub CutsIndexedNext : Indexing → Type 0
 CutsIndexedNext s = CutsNext s.parts
 
--- an item by its place and the characters of its part
+-- an item as its place and the characters of its part
 abbrev pub index_and_chars : ℕ × List ℕ → ℕ × List ℕ
 index_and_chars item = (item.0, chars item.1)

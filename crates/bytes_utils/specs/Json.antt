@@ -1,5 +1,5 @@
--- Texts as JSON (RFC 8259). A text is written as a JSON string, by a table on its characters. Which value a JSON text has is what
--- `serde_json` reads, and the bytes that a value stands for are said here.
+-- Texts as JSON (RFC 8259). A text is written as a JSON string, character by character. Which value a JSON text has is what `serde_json` reads; which
+-- bytes a value represents is defined here.
 use Rattle.std.specs.Prelude.{◌≡◌, ◌⊎◌, ℕ, ◌<◌, ◌/◌, ◌%◌, List, [], ◌∷◌, ◌++◌, ◌==◌, All, map, nat_lt, if◌then◌else◌, codes, flat_map, None, Some, IsUtf8, ⊤}
 use Rattle.std.specs.Char.{digit_char}
 use Rattle.serde_json.specs.Data.{Data, number, string, array, unsigned}
@@ -8,8 +8,8 @@ use Rattle.serde_json.specs.View.{items_of}
 use Rattle.bytes_utils.specs.declared.json.JsonRefused.{JsonRefused}
 use Rattle.bytes_utils.specs.declared.json.JsonRefused.TheVariants.{OutOfMemory, NotJson, NotText, NotUtf8}
 
--- what stands for the character c in a JSON string (RFC 8259, section 7): a quotation mark, a backslash and what is below U+0020 are
--- escaped, by two characters where there is such an escape
+-- how the character c is written in a JSON string (RFC 8259, section 7): a quotation mark, a backslash and the characters below U+0020 are escaped,
+-- in two characters if there is such an escape
 abbrev pub json_character : ℕ → List ℕ
 json_character c =
     if c == 0x22 then codes "\\\"" else if c == 0x5C then codes "\\\\"
@@ -18,43 +18,43 @@ json_character c =
     else if nat_lt c 0x20 then codes "\\u00" ++ digit_char (c / 16) ∷ digit_char (c % 16) ∷ []
     else c ∷ []
 
--- the text as a JSON string: its characters between quotation marks
+-- the text as a JSON string: its written characters between quotation marks
 abbrev pub json_string : List ℕ → List ℕ
 json_string t = codes "\"" ++ (flat_map json_character t ++ codes "\"")
 
--- a number of JSON that is held as the unsigned whole number n
+-- a JSON number that is held as the unsigned whole number n
 abbrev pub whole_number : ℕ → Data
 whole_number n = number (unsigned n)
 
--- the value stands for these bytes: it is the string of them, or the list of them, each a whole number from 0 to 255
-abbrev pub StandsFor : Data → List ℕ → Type 0
-StandsFor value bytes =
+-- the value represents these bytes: it is a string of them, or a list of them as whole numbers from 0 to 255
+abbrev pub Represents : Data → List ℕ → Type 0
+Represents value bytes =
     (value ≡ string bytes)
     ⊎ ((value ≡ array (items_of (map whole_number bytes))) × All (λ b. b < 256) bytes)
 
--- why a value is no text, where it is refused for that; for private clauses
+-- the error for a value that is no text; for private clauses
 abbrev pub IsRefusedFor : Data → JsonRefused → Type 0
 IsRefusedFor value OutOfMemory = ⊤
 IsRefusedFor value NotJson = ⊥
-IsRefusedFor value NotText = (bytes : List ℕ) → ¬ StandsFor value bytes
-IsRefusedFor value NotUtf8 = (bytes : List ℕ) × StandsFor value bytes × ¬ IsUtf8 bytes
+IsRefusedFor value NotText = (bytes : List ℕ) → ¬ Represents value bytes
+IsRefusedFor value NotUtf8 = (bytes : List ℕ) × Represents value bytes × ¬ IsUtf8 bytes
 
--- the JSON text has a value, which stands for these bytes
+-- the JSON text has a value that represents these bytes
 abbrev pub HoldsBytes : List ℕ → List ℕ → Type 0
-HoldsBytes json bytes = (value : Data) × (read json ≡ Some value) × StandsFor value bytes
+HoldsBytes json bytes = (value : Data) × (read json ≡ Some value) × Represents value bytes
 
--- the JSON text holds the bytes of a text
+-- the JSON text holds the bytes of this text
 abbrev pub HoldsText : List ℕ → List ℕ → Type 0
 HoldsText json text = HoldsBytes json text × IsUtf8 text
 
--- the text has no value: it is no JSON
+-- the text has no value: it is not JSON
 abbrev pub IsNotJson : List ℕ → Type 0
 IsNotJson json = read json ≡ None
 
--- the JSON text has a value, which stands for no bytes
+-- the JSON text has a value that represents no bytes
 abbrev pub HoldsNoBytes : List ℕ → Type 0
-HoldsNoBytes json = (value : Data) × (read json ≡ Some value) × ((bytes : List ℕ) → ¬ StandsFor value bytes)
+HoldsNoBytes json = (value : Data) × (read json ≡ Some value) × ((bytes : List ℕ) → ¬ Represents value bytes)
 
--- the JSON text holds bytes that aren't UTF-8
+-- the JSON text holds bytes that are not UTF-8
 abbrev pub HoldsOtherBytes : List ℕ → Type 0
 HoldsOtherBytes json = (bytes : List ℕ) × HoldsBytes json bytes × ¬ IsUtf8 bytes

@@ -1,11 +1,11 @@
--- The state of a splitter that keeps the separator at the ends of its parts, and what is still to come in it.
+-- The state of a splitter whose parts keep their separators, and the parts still to come.
 use Rattle.std.specs.Prelude.{◌≡◌, ℕ, List, [], length, Option, MatchOption, IsSomeAnd}
 use Rattle.std.specs.Option.{option_map_or}
 use Rattle.std.specs.Str.{chars}
 use Rattle.bytes_utils.specs.Occurrence.{Occurs}
 use Rattle.bytes_utils.specs.Parts.{AreInclusiveParts, EndsAtFirst}
 
--- what is still to be cut, if anything, and the separator, both as bytes
+-- what is still to be split, if anything, and the separator, both as bytes
 pub record Keeping : Type 0 where
   pub rest : Option (List ℕ)
   pub separator : List ℕ
@@ -14,11 +14,11 @@ pub record Keeping : Type 0 where
 abbrev pub AreInclusivePartsToCome : Keeping → List (List ℕ) → Type 0
 AreInclusivePartsToCome s parts = MatchOption s.rest (parts ≡ []) (λ text. AreInclusiveParts (chars text) (chars s.separator) parts)
 
--- the next step splits the storage: what is left holds a separator, and not at its end for the first time
-abbrev pub CutsBehindNext : Keeping → Type 0
-CutsBehindNext s = IsSomeAnd s.rest
+-- the next step splits the storage: what is left holds a separator, and the first one isn't at its end
+abbrev pub CutsAfterNext : Keeping → Type 0
+CutsAfterNext s = IsSomeAnd s.rest
     (λ text. Occurs (chars s.separator) (chars text) × (¬ EndsAtFirst (chars s.separator) (chars text)))
 
--- a bound on the parts to come, of which none is empty: the bytes left
+-- a bound on the number of parts to come: the bytes left, since no part is empty
 abbrev pub most_inclusive_parts : Keeping → ℕ
 most_inclusive_parts s = option_map_or length s.rest 0

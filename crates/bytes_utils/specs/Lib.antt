@@ -18,7 +18,9 @@ pub mod Frames
 pub mod FrameSearch
 pub mod LimitedFrames
 pub mod StreamLines
--- the definitions on buffers, for callers that name them
+pub mod ReadError
+pub mod ReadFrame
+-- the definitions about buffers, for callers that use their names
 pub use Rattle.bytes_utils_buf.specs.Segments
 pub use Rattle.bytes_utils_buf.specs.Tally
 pub use Rattle.bytes_utils_buf.specs.Lent
@@ -28,4 +30,5 @@ pub use Rattle.bytes_utils_buf.specs.Refusals
 pub use Rattle.bytes_utils_buf.specs.Slices
 pub use Rattle.bytes_utils_buf.specs.Chunks
 pub use Rattle.bytes_utils_buf.specs.Either
+pub use Rattle.bytes_utils_buf.specs.Write
 pub use Rattle.bytes_utils_buf.specs.declared.refused.Reason as Reason

@@ -21,13 +21,13 @@ OfLast P [] = ⊤
 OfLast P (x ∷ []) = P x
 OfLast P (x ∷ y ∷ xs) = OfLast P (y ∷ xs)
 
--- The part, with p behind it, has its first p right there: cut at the first p, it comes out whole.
+-- The first p in the part followed by p is the one after the part: a split at the first p gives the part whole.
 abbrev pub IsCutAtFirst : {X : Type 0} → List X → List X → Type 0
 IsCutAtFirst p part = OccursFirstAt p (part ++ p) (length part)
 
--- The parts of t between separators p, cut from the front, at most as many as the limit says, if there is one: what Rust's
--- `str::split` gives, and `str::splitn` with a limit. For p not empty and a limit of at least 1; the empty separator has a
--- definition of its own.
+-- The parts of t between separators p, split from the front, at most as many as the limit, if there is one: Rust's
+-- `str::split`, and `str::splitn` with a limit. For p not empty and a limit of at least 1; the empty separator has its
+-- own definition.
 pub record AreForwardParts {X : Type 0} (t p : List X) (limit : Option ℕ) (parts : List (List X)) : Type 0 where
   pub some : 0 < length parts
   pub few : IfSome limit (λ most. length parts ≤ most)
@@ -36,43 +36,44 @@ pub record AreForwardParts {X : Type 0} (t p : List X) (limit : Option ℕ) (par
   -- unless the limit was reached, the last part holds no p
   pub last : IfSome limit (λ most. length parts < most) → OfLast (λ part. ¬ Occurs p part) parts
 
--- What can be put together with p between, and cut apart again: there is a part at least, each but the last is cut at its first p, and
--- the last holds none. That no part holds p isn't enough: `a-` and `b`, with `--` between, are cut into `a` and `-b`.
+-- Parts that can be joined with p between and split again into the same parts: there is at least one part, each but the
+-- last is split at its first p, and the last holds no p. That no part holds p isn't enough: `a-` and `b`, joined with
+-- `--`, are split into `a` and `-b`.
 pub record AreSeparable {X : Type 0} (p : List X) (parts : List (List X)) : Type 0 where
   pub some : 0 < length parts
   pub cut_at_first : EachButLast (IsCutAtFirst p) parts
   pub last : OfLast (λ part. ¬ Occurs p part) parts
 
--- The parts of t between separators p, cut from the back and given from the back, at most as many as the limit says, if there is one:
--- what Rust's `str::rsplit` gives, and `str::rsplitn` with a limit. For p not empty and a limit of at least 1.
+-- The parts of t between separators p, split from the back and listed from the back, at most as many as the limit, if
+-- there is one: Rust's `str::rsplit`, and `str::rsplitn` with a limit. For p not empty and a limit of at least 1.
 pub record AreBackwardParts {X : Type 0} (t p : List X) (limit : Option ℕ) (parts : List (List X)) : Type 0 where
   pub some : 0 < length parts
   pub few : IfSome limit (λ most. length parts ≤ most)
   pub joined : join p (reverse parts) ≡ t
-  -- each part but the last that is given, behind p, has its last p right before it
+  -- of each part but the last in the list, with p before it, the last p is the one before the part
   pub cut_at_last : EachButLast (λ part. OccursLastAt p (p ++ part) 0) parts
-  -- unless the limit was reached, the last part that is given holds no p
+  -- unless the limit was reached, the last part in the list holds no p
   pub last : IfSome limit (λ most. length parts < most) → OfLast (λ part. ¬ Occurs p part) parts
 
 -- p occurs at the end of the part and nowhere before
 abbrev pub EndsAtFirst : {X : Type 0} → List X → List X → Type 0
 EndsAtFirst p part = OccursFirstAt p part (length part - length p)
 
--- The parts of t that keep the separator p at their ends: what Rust's `str::split_inclusive` gives. For p not empty. The empty list has
--- none.
+-- The parts of t that keep the separator p at their ends: Rust's `str::split_inclusive`. For p not empty. The empty t
+-- has no parts.
 pub record AreInclusiveParts {X : Type 0} (t p : List X) (parts : List (List X)) : Type 0 where
   pub joined : join [] parts ≡ t
   pub none_empty : All (λ part. 0 < length part) parts
-  pub cut_behind_first : EachButLast (EndsAtFirst p) parts
+  pub cut_after_first : EachButLast (EndsAtFirst p) parts
   pub last : OfLast (λ part. EndsAtFirst p part ⊎ (¬ Occurs p part)) parts
 
--- the parts from the front for a limit that isn't 0: the empty separator has its own
+-- the parts from the front for a limit that isn't 0: the empty separator has its own definition
 abbrev AreSomeFromFront : {X : Type 0} → List X → List X → Option ℕ → List (List X) → Type 0
 AreSomeFromFront t [] limit parts = parts ≡ by_element t limit
 AreSomeFromFront t (x ∷ p) limit parts = AreForwardParts t (x ∷ p) limit parts
 
--- The parts of t from the front, for every separator and every limit: what Rust's `str::split` and `str::splitn` give. With a limit of 0
--- there is none.
+-- The parts of t from the front, for every separator and every limit: Rust's `str::split` and `str::splitn`. A limit of
+-- 0 gives no parts.
 abbrev pub ArePartsFromFront : {X : Type 0} → List X → List X → Option ℕ → List (List X) → Type 0
 ArePartsFromFront t p None parts = AreSomeFromFront t p None parts
 ArePartsFromFront t p (Some zero) parts = parts ≡ []
@@ -83,7 +84,7 @@ abbrev AreSomeFromBack : {X : Type 0} → List X → List X → Option ℕ → L
 AreSomeFromBack t [] limit parts = parts ≡ by_element_backward t limit
 AreSomeFromBack t (x ∷ p) limit parts = AreBackwardParts t (x ∷ p) limit parts
 
--- The parts of t from the back, for every separator and every limit: what Rust's `str::rsplit` and `str::rsplitn` give.
+-- The parts of t from the back, for every separator and every limit: Rust's `str::rsplit` and `str::rsplitn`.
 abbrev pub ArePartsFromBack : {X : Type 0} → List X → List X → Option ℕ → List (List X) → Type 0
 ArePartsFromBack t p None parts = AreSomeFromBack t p None parts
 ArePartsFromBack t p (Some zero) parts = parts ≡ []

@@ -1,4 +1,4 @@
--- The search for a separator that a splitter keeps: what it looks for, and from which end.
+-- The search for a separator that a splitter keeps: what it searches for, and from which end.
 use Rattle.std.specs.Prelude.{ℕ, List}
 use Rattle.bytes_utils.specs.Splitting.{Splitting}
 use Rattle.bytes_utils.specs.declared.split.direction.Direction.{Direction}
@@ -6,17 +6,17 @@ use Rattle.bytes_utils.specs.declared.split.direction.Direction.TheVariants.{For
 use Rattle.bytes_utils.specs.declared.split.search.Search.{Search}
 use Rattle.bytes_utils.specs.declared.split.search.Search.TheVariants.{First, Last}
 
--- the bytes that it looks for
+-- the bytes that the search looks for
 abbrev pub needle_of : Search → List ℕ
 needle_of (First finder) = finder
 needle_of (Last finder) = finder
 
--- the end at which it begins
+-- the end at which the search begins
 abbrev pub end_of : Search → Direction
 end_of (First _) = Forward
 end_of (Last _) = Backward
 
--- the state of a splitter by a separator, and the end that it cuts from
+-- the state of a splitter by a separator, and the end from which it splits
 pub record SplittingFrom : Type 0 where
   pub state : Splitting
   pub end : Direction

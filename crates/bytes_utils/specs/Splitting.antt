@@ -1,4 +1,4 @@
--- The state of a splitter by a separator, and what is still to come in it.
+-- The state of a splitter by a separator, and the parts still to come.
 use Rattle.std.specs.Prelude.{◌≡◌, ℕ, suc, ◌+◌, ◌-◌, ◌<◌, List, [], ◌∷◌, length, Bool, false, Option, Some, MatchOption, IfSome, IsSomeAnd, if◌then◌else◌}
 use Rattle.std.specs.Bool.{MatchBool, OnTrue}
 use Rattle.std.specs.Option.{option_map, option_map_or}
@@ -8,8 +8,8 @@ use Rattle.bytes_utils.specs.Parts.{ArePartsFromFront, ArePartsFromBack}
 use Rattle.bytes_utils.specs.declared.split.direction.Direction.{Direction}
 use Rattle.bytes_utils.specs.declared.split.direction.Direction.TheVariants.{Forward, Backward}
 
--- A splitter by a separator: what is still to be cut, if anything, and the separator, both as bytes; how many parts may still be given,
--- where that is limited; whether the first empty part that an empty separator makes has been given.
+-- A splitter by a separator: what is still to be split, if anything, and the separator, both as bytes; the number of
+-- parts that may still be given, if there is a limit; whether the first empty part by an empty separator was given.
 pub record Splitting : Type 0 where
   pub rest : Option (List ℕ)
   pub separator : List ℕ
@@ -20,12 +20,12 @@ pub record Splitting : Type 0 where
 abbrev pub splitting : Option (List ℕ) → List ℕ → Option ℕ → Bool → Splitting
 splitting rest separator limit begun = record { rest = rest; separator = separator; limit = limit; begun = begun }
 
--- all of a text is to be cut by a separator, into at most so many parts
+-- all of a text is to be split by a separator, into at most `limit` parts
 abbrev pub all_of : List ℕ → List ℕ → Option ℕ → Splitting
 all_of text separator limit = splitting (Some text) separator limit false
 
--- Are says which lists are the parts of a text by a separator with a limit. These parts of what is left are to come; none where nothing
--- is left. Once the first empty part by an empty separator was given, those behind it are.
+-- `Are` says which lists are the parts of a text by a separator with a limit. These parts of what is left are to come,
+-- none if nothing is left. After the first empty part by an empty separator, they are the parts that follow it.
 abbrev AreLeft : (List ℕ → List ℕ → Option ℕ → List (List ℕ) → Type 0) → Splitting → List (List ℕ) → Type 0
 AreLeft Are s parts = MatchOption s.rest (parts ≡ [])
     (λ text. MatchBool s.begun (Are (chars text) [] (option_map suc s.limit) ([] ∷ parts)) (Are (chars text) (chars s.separator) s.limit parts))
@@ -38,7 +38,7 @@ AreForwardPartsToCome = AreLeft ArePartsFromFront
 abbrev pub AreBackwardPartsToCome : Splitting → List (List ℕ) → Type 0
 AreBackwardPartsToCome = AreLeft ArePartsFromBack
 
--- these parts are to come, from the end that is named
+-- these parts are to come, from the given end
 abbrev pub ArePartsToCome : Direction → Splitting → List (List ℕ) → Type 0
 ArePartsToCome Forward = AreForwardPartsToCome
 ArePartsToCome Backward = AreBackwardPartsToCome
@@ -47,16 +47,16 @@ ArePartsToCome Backward = AreBackwardPartsToCome
 abbrev pub LeavesMore : Option ℕ → Type 0
 LeavesMore limit = IfSome limit (λ most. 1 < most)
 
--- what is left of a limit when a part was given
+-- what is left of a limit after a part was given
 abbrev pub one_less : Option ℕ → Option ℕ
 one_less = option_map (λ most. most - 1)
 
--- The next step splits the storage: the limit leaves more than one part, and what is left holds a separator. Every text holds the empty
--- one; but what is left when all characters were given is the last part, and needs no split.
+-- The next step splits the storage: the limit leaves more than one part, and what is left holds a separator. Every text
+-- holds the empty separator; but after all characters were given, what is left is the last part and needs no split.
 abbrev pub CutsNext : Splitting → Type 0
 CutsNext s = LeavesMore s.limit
     × IsSomeAnd s.rest (λ text. Occurs (chars s.separator) (chars text) × OnTrue s.begun (0 < length text))
 
--- a bound on the parts to come
+-- a bound on the number of parts to come
 abbrev pub most_parts : Splitting → ℕ
 most_parts s = option_map_or (λ text. length text + (if s.begun then 1 else 2)) s.rest 0

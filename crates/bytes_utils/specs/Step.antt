@@ -2,22 +2,23 @@
 use Rattle.std.specs.Prelude.{ℕ, List, [], ◌∷◌, Option, Result, MatchOption, MatchResult}
 use Rattle.std.specs.Str.{chars}
 
--- Below, `coming s parts` says that in the state s of a splitter these parts are to come; at most one list is. `seen` makes of an item
--- that is given what stands in such a list: of a text its characters. `cuts s` says that a step from s splits the storage, and
--- `refuses reason` that the storage refuses for this reason.
+-- Below, `coming s parts` says that in the state s of a splitter these parts are to come; at most one list is. `seen`
+-- maps an item to the member of such a list, a text to its characters. `cuts s` says that a step from s splits the
+-- storage, and `refuses reason` that the storage may refuse for this reason.
 
--- the part is the first of those to come in s: some list is to come in t, and behind the part each such list is to come in s
+-- the part is the first to come in s: some list is to come in t, and the part followed by each such list is to come in
+-- s
 pub record GivesFirst {S X : Type 0} (coming : S → List X → Type 0) (s : S) (part : X) (t : S) : Type 0 where
   pub some : (others : List X) × coming t others
   pub each : (others : List X) → coming t others → coming s (part ∷ others)
 
--- a step from s to t that gives an item: the first part that is to come, or one refusal of a cut, for a reason that the storage refuses
--- for, after which nothing comes
+-- A step from s to t that gives an item: the first part that is to come, or an error for a refused split, with a reason
+-- for which the storage may refuse, after which nothing comes.
 pub record GivesItem {S X Y E : Type 0} (seen : Y → X) (coming : S → List X → Type 0) (cuts : S → Type 0) (refuses : E → Type 0) (s : S) (item : Result Y E) (t : S) : Type 0 where
   pub some : ¬ coming s []
   pub gives : MatchResult item (λ part. GivesFirst coming s (seen part) t) (λ reason. cuts s × refuses reason × coming t [])
 
--- A step from s to t that answers r: `None` exactly where no part is to come, else an item.
+-- A step from s to t that returns r: `None` exactly if no part is to come, else an item.
 abbrev pub IsStepOf : {S X Y E : Type 0} → (Y → X) → (S → List X → Type 0) → (S → Type 0) → (E → Type 0) → S → Option (Result Y E) → S → Type 0
 IsStepOf seen coming cuts refuses s r t = MatchOption r (coming s [] × coming t []) (λ item. GivesItem seen coming cuts refuses s item t)
 

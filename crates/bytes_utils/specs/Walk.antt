@@ -1,4 +1,4 @@
--- A text cut at the places that a closure of the caller's answers.
+-- A text split at the places that a closure of the caller returns.
 use Rattle.std.specs.Prelude.{◌≡◌, ℕ, ◌+◌, ◌<◌, ◌≤◌, List, [], ◌∷◌, ◌++◌, length, map, take, drop, Option, None, Some, Result, Ok, MatchOption, MatchResult, IsSomeAnd, IsCharBoundary, IsUtf8, ⊤}
 use Rattle.std.specs.Option.{option_map_or}
 use Rattle.std.specs.Fn.{Mut, TakesAt, CalledAt}
@@ -7,13 +7,14 @@ use denote.Ref.{Bor}
 use Rattle.bytes_utils.specs.declared.split.direction.Direction.{Direction}
 use Rattle.bytes_utils.specs.declared.split.direction.Direction.TheVariants.{Forward, Backward}
 
--- Two places in a text at which characters begin or the text ends. Forward a is the end of a chunk and b that of the separator behind it,
--- and something is taken off. Backward a is the start of a chunk and b that of the separator in front of it, and something is taken off.
+-- Two places in a text at which characters begin or the text ends, which take something off. Forward, a is the end of a
+-- chunk and b the end of the separator after it. Backward, a is the start of a chunk and b the start of the separator
+-- before it.
 abbrev pub IsLawfulCut : Direction → List ℕ → ℕ → ℕ → Type 0
 IsLawfulCut Forward text a b = IsCharBoundary text a × IsCharBoundary text b × (a ≤ b) × (0 < b)
 IsLawfulCut Backward text a b = IsCharBoundary text a × IsCharBoundary text b × (b ≤ a) × (b < length text)
 
--- In whatever state, a closure may be called on each text, and answers `None` or a lawful cut of it.
+-- A closure that, in any state, may be called on each text, and returns `None` or a lawful cut of it.
 pub record IsLawfulClosure {F : Type 0} (f : Mut F (Bor (List ℕ) × Unit {0}) (Option (ℕ × ℕ))) (direction : Direction) : Type 0 where
   pub called : (state : F) (text : List ℕ) → IsUtf8 text → TakesAt f state text
   pub lawful : (state : F) (text : List ℕ) (a b : ℕ) (after : F) → IsUtf8 text → CalledAt f state text (Some (a, b)) after → IsLawfulCut direction text a b
@@ -33,27 +34,30 @@ abbrev pub gap_at : Direction → List ℕ → ℕ → ℕ → List ℕ
 gap_at Forward text a b = drop a (take b text)
 gap_at Backward text a b = drop b (take a text)
 
--- What an answer of the closure on a text leads to: on `None` the whole text is given and nothing is left; on a cut its chunk is given and
--- its rest is left, or a refusal is given, for a reason that the storage refuses for, and nothing is left.
+-- The effect of a closure's result on a text. After `None` the whole text is the item, and nothing is left. After a cut
+-- its chunk is the item and its rest is left; or the item is an error, with a reason for which the storage may refuse,
+-- and nothing is left.
 abbrev pub FollowsAnswer : {E : Type 0} → (E → Type 0) → Direction → List ℕ → Option (ℕ × ℕ) → Result (List ℕ) E → Option (List ℕ) → Type 0
 FollowsAnswer refuses direction text None item rest = (item ≡ Ok text) × (rest ≡ None)
 FollowsAnswer refuses direction text (Some (a, b)) item rest =
     MatchResult item (λ chunk. (chunk ≡ chunk_at direction text a b) × (rest ≡ Some (rest_at direction text a b)))
     (λ reason. refuses reason × (rest ≡ None))
 
--- The state of such a splitter: what is still to be cut, if anything, from which end, and the closure's state.
+-- The state of such a splitter: what is still to be split, if anything, the end from which it splits, and the closure's
+-- state.
 pub record Walk (F : Type 0) : Type 0 where
   pub rest : Option (List ℕ)
   pub direction : Direction
   pub closure : F
 
--- A step from s to t that answers r: `None` where nothing is left, else the closure is called once, on what is left, and the rest follows.
+-- A step from s to t that returns r: `None` if nothing is left, else the closure is called once, on what is left, and
+-- its result has its effect.
 pub record IsWalkStep {F E : Type 0} (f : Mut F (Bor (List ℕ) × Unit {0}) (Option (ℕ × ℕ))) (refuses : E → Type 0) (s : Walk F) (r : Option (Result (List ℕ) E)) (t : Walk F) : Type 0 where
   pub direction : t.direction ≡ s.direction
   pub follows : MatchOption s.rest ((r ≡ None) × (t.rest ≡ None) × (t.closure ≡ s.closure))
       (λ text. (answer : Option (ℕ × ℕ)) × CalledAt f s.closure text answer t.closure × IsSomeAnd r (λ item. FollowsAnswer refuses s.direction text answer item t.rest))
 
--- a bound on the items to come: one more than the characters left
+-- a bound on the number of items to come: one more than the characters left
 abbrev pub most_chunks : {F : Type 0} → Walk F → ℕ
 most_chunks s = option_map_or (λ text. length (chars text) + 1) s.rest 0
 
@@ -62,13 +66,14 @@ pub record Taken : Type 0 where
   pub chunk : List ℕ
   pub gap : List ℕ
 
--- what cuts took off, in the order in which they were made, and the text that they left, joined as they stand in the text
+-- what cuts took off, in the order in which they were made, and the text that they left, joined in the order of the
+-- text
 abbrev pub laid_out : Direction → List Taken → List ℕ → List ℕ
 laid_out direction [] last = last
 laid_out Forward (cut ∷ cuts) last = cut.chunk ++ (cut.gap ++ laid_out Forward cuts last)
 laid_out Backward (cut ∷ cuts) last = laid_out Backward cuts last ++ (cut.gap ++ cut.chunk)
 
--- called on this text, the closure answered the cut that takes these off
+-- called on this text, the closure returned the cut that takes these off
 pub record IsAnswered {F : Type 0} (f : Mut F (Bor (List ℕ) × Unit {0}) (Option (ℕ × ℕ))) (direction : Direction) (text : List ℕ) (cut : Taken) : Type 0 where
   pub state : F
   pub after : F
@@ -78,14 +83,14 @@ pub record IsAnswered {F : Type 0} (f : Mut F (Bor (List ℕ) × Unit {0}) (Opti
   pub chunk : cut.chunk ≡ chunk_at direction text chunk_edge separator_edge
   pub gap : cut.gap ≡ gap_at direction text chunk_edge separator_edge
 
--- the closure answered each cut, called on what the cuts before it had left
+-- the closure returned each cut, called on what the cuts before it left
 abbrev pub AreAnswered : {F : Type 0} → Mut F (Bor (List ℕ) × Unit {0}) (Option (ℕ × ℕ)) → Direction → List Taken → List ℕ → Type 0
 AreAnswered f direction [] last = ⊤
 AreAnswered f direction (cut ∷ cuts) last = IsAnswered f direction (laid_out direction (cut ∷ cuts) last) cut × AreAnswered f direction cuts last
 
--- These items are a run to its end over a text: the chunks of cuts that the closure answered, and at last an item that ends it. All that the
--- cuts took off, and what they left, joined in order, are the text. What they left is the last chunk, on which the closure answered `None`;
--- or its cut was refused, and it is what is missing.
+-- These items are a whole run over a text: the chunks of cuts that the closure returned, and at last an item that ends
+-- the run. What the cuts took off and what they left, joined in order, are the text. What they left is the last chunk,
+-- for which the closure returned `None`; or its cut was refused, and it is missing from the items.
 pub record IsWholeWalk {F E : Type 0} (f : Mut F (Bor (List ℕ) × Unit {0}) (Option (ℕ × ℕ))) (refuses : E → Type 0) (direction : Direction) (text : List ℕ) (items : List (Result (List ℕ) E)) : Type 0 where
   pub cuts : List Taken
   pub last : List ℕ

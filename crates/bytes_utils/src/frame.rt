@@ -7,22 +7,24 @@ ghost use Rattle.bytes_utils.specs.Frames.{AllFramesLaw, FramePartsLaw, FramesLa
 ghost use Rattle.bytes_utils.specs.LimitedFrames.{LosesFront};
 
 mod limited;
-mod line;
-mod needle;
+mod lines;
+mod read;
 pub(crate) mod search;
+#[cfg(test)]
+mod tests;
 
 use bytes::{Buf, Bytes};
 use bytes_utils_buf::segmented::SegmentedBuf;
 use bytes_utils_buf::{Reason, Refused};
-pub use limited::{LimitedFrames, limited_frames_law};
-pub use line::{LineError, Lines, lines_laws};
+pub use limited::{LimitedFrames, limited_frame_laws};
+pub use lines::{LineError, Lines, line_laws};
 use memchr::memmem::Finder;
-pub use needle::{find, find_from, find_short};
-use search::Progress;
+pub use read::{ReadError, read_frame, read_frame_laws};
+use search::SearchState;
 use std::alloc::Global;
 use std::marker::Model;
 
-/// Frames of a stream, each ended by a separator. The stream comes in pieces that are cut anywhere.
+/// A reader of frames, each ended by a separator. The stream comes in pieces that are cut anywhere.
 ///
 /// ```text
 /// let mut frames = Frames::new(alloc, b"\r\n")?;
@@ -32,12 +34,17 @@ use std::marker::Model;
 /// frames.next_frame(alloc)?        // `GET / HTTP/1.1`; `Host` is left
 /// ```
 ///
-/// No piece is searched twice, and the bytes of a frame that lies in one piece are shared.
+/// Pieces that wait for a separator are not searched again. After each frame that ends in a piece,
+/// that piece is searched once more; after `split_to` the whole search starts again. The bytes of a
+/// frame that lies in one piece are shared.
+///
+/// There is no limit on the length of a frame. For a peer that is not trusted take
+/// [`LimitedFrames`].
 #[derive(Debug, Drop)]
 pub struct Frames {
     finder: Finder<'static>,
     pieces: SegmentedBuf<Bytes>,
-    progress: Progress,
+    progress: SearchState,
 }
 
 impl Model for Frames {
@@ -55,7 +62,8 @@ impl Model for Frames {
 }
 
 impl Frames {
-    /// A reader into which nothing came. It copies the separator.
+    /// Makes a reader that holds no bytes, and copies `separator`. Requires that `separator` is not
+    /// empty (test: `is_empty`). Fails with `OutOfMemory` if memory is refused.
     pub fn new(alloc: Global, separator: &[u8]) -> Result<Frames, Reason>
         requires { 0 < length separator.now }
         ensures ok { IfOk result (λ f. f ≡ record { separator = separator.now; held = [] }) }
@@ -64,11 +72,13 @@ impl Frames {
         Ok(Frames {
             finder: Finder::new(separator).into_owned(alloc)?,
             pieces: SegmentedBuf::new(alloc),
-            progress: Progress::new(alloc),
+            progress: SearchState::new(alloc),
         })
     }
 
-    /// Takes a piece in behind the others, without a copy.
+    /// Appends `piece` without a copy. Fails with `TooLong` if the number of held bytes would pass
+    /// `usize::MAX`, and with `OutOfMemory` if memory is refused; then nothing has changed and
+    /// `piece` comes back.
     #[inline(always)]
     pub fn push(&mut self, piece: Bytes) -> Result<(), Refused<Bytes>>
         ensures ok { OnOk result (self.new.held ≡ self.old.held ++ piece) }
@@ -87,7 +97,7 @@ impl Frames {
         self.pieces.push(piece)
     }
 
-    /// How many bytes came in and weren't given.
+    /// Returns the number of held bytes: those pushed and not yet taken.
     pub fn remaining(&self) -> usize
         ensures value { result ≡ length self.now.held }
         ensures some { 0 < length self.now.separator }
@@ -95,15 +105,16 @@ impl Frames {
         self.pieces.remaining()
     }
 
-    /// The separator.
+    /// Returns the separator.
     pub fn separator(&self) -> &[u8]
         ensures { result.now ≡ self.now.separator }
     {
         self.finder.needle()
     }
 
-    /// Gives the next frame, without its separator, or `None` while its end is to come. The bytes
-    /// are shared where they lie in one piece, and copied into one block where they don't.
+    /// Returns the next frame without its separator, or `None` if its end has not come yet. The
+    /// frame is shared if it lies in one piece, and copied into one block if not. Fails with
+    /// `OutOfMemory` if memory is refused; then nothing has changed.
     pub fn next_frame(&mut self, alloc: Global) -> Result<Option<Bytes>, Reason>
         ensures frame { IfOk result (λ next. IfSome next (λ frame.
             TakesFrame self.old.separator self.old.held frame self.new.held)) }
@@ -113,14 +124,17 @@ impl Frames {
         ensures err { OnErr result (self.new ≡ self.old) }
         ensures reason { IfErr result (λ reason. reason ≡ Reason.OutOfMemory) }
     {
-        let Some(len) = self.next_end()? else {
+        let Some(len) = self.next_len()? else {
             return Ok(None);
         };
-        Ok(Some(self.give(alloc, len)?))
+        Ok(Some(self.take_frame(alloc, len)?))
     }
 
-    /// Gives the next frame in the pieces in which it came, of which none is copied.
-    pub fn next_segments(&mut self, alloc: Global) -> Result<Option<SegmentedBuf<Bytes>>, Reason>
+    /// As `next_frame`, but in the pieces in which the frame came. No byte is copied.
+    pub fn next_frame_segments(
+        &mut self,
+        alloc: Global,
+    ) -> Result<Option<SegmentedBuf<Bytes>>, Reason>
         ensures frame { IfOk result (λ next. IfSome next (λ frame.
             TakesFrame self.old.separator self.old.held (concat frame.segments) self.new.held)) }
         ensures waits { IfOk result (λ next. IfNone next
@@ -129,14 +143,16 @@ impl Frames {
         ensures err { OnErr result (self.new ≡ self.old) }
         ensures reason { IfErr result (λ reason. reason ≡ Reason.OutOfMemory) }
     {
-        let Some(len) = self.next_end()? else {
+        let Some(len) = self.next_len()? else {
             return Ok(None);
         };
-        Ok(Some(self.give_segments(alloc, len)?))
+        Ok(Some(self.take_frame_segments(alloc, len)?))
     }
 
-    /// Gives the first `len` bytes, whatever stands in them, in the pieces in which they came: a body
-    /// whose length a frame told. `remaining` tests the condition.
+    /// Removes and returns the first `len` bytes, whatever they are, in the pieces in which they
+    /// came: a body whose length a frame reported. Requires that `len` is at most the number of
+    /// held bytes (test: `remaining`). Fails with `OutOfMemory` if memory is refused; then nothing
+    /// has changed.
     pub fn split_to(&mut self, alloc: Global, len: usize) -> Result<SegmentedBuf<Bytes>, Reason>
         requires { len ≤ length self.old.held }
         ensures front { IfOk result (λ front. concat front.segments ≡ take len self.old.held) }
@@ -149,8 +165,8 @@ impl Frames {
         Ok(front)
     }
 
-    /// How long the next frame is, or `None` while its end is to come.
-    fn next_end(&mut self) -> Result<Option<usize>, Reason>
+    /// The length of the next frame in bytes, or `None` if its end has not come yet.
+    fn next_len(&mut self) -> Result<Option<usize>, Reason>
         ensures frame { IfOk result (λ end. IfSome end (λ len. TakesFrame self.old.separator self.old.held
             (take len self.old.held) (drop (len + length self.old.separator) self.old.held))) }
         ensures within { IfOk result (λ end.
@@ -162,8 +178,8 @@ impl Frames {
         Ok(search::find(&self.finder, &self.pieces, &mut self.progress)?)
     }
 
-    /// Gives a frame of `len` bytes, and drops the separator behind it.
-    fn give(&mut self, alloc: Global, len: usize) -> Result<Bytes, Reason>
+    /// Removes a frame of `len` bytes and its separator, and returns the frame.
+    fn take_frame(&mut self, alloc: Global, len: usize) -> Result<Bytes, Reason>
         requires { len + length self.old.separator ≤ length self.old.held }
         ensures frame { IfOk result (λ frame. frame ≡ take len self.old.held) }
         ensures ok { OnOk result (self.new ≡ record self.old {
@@ -172,13 +188,17 @@ impl Frames {
         ensures err { OnErr result (self.new ≡ self.old) }
         ensures reason { IfErr result (λ reason. reason ≡ Reason.OutOfMemory) }
     {
-        let frame = self.pieces.copy_front(alloc, len)?;
-        self.pass(len);
+        let frame = self.pieces.peek_bytes(alloc, len)?;
+        self.discard_frame(len);
         Ok(frame)
     }
 
-    /// As `give`, in the pieces in which the frame came.
-    fn give_segments(&mut self, alloc: Global, len: usize) -> Result<SegmentedBuf<Bytes>, Reason>
+    /// As `take_frame`, in the pieces in which the frame came.
+    fn take_frame_segments(
+        &mut self,
+        alloc: Global,
+        len: usize,
+    ) -> Result<SegmentedBuf<Bytes>, Reason>
         requires { len + length self.old.separator ≤ length self.old.held }
         ensures frame { IfOk result (λ frame. concat frame.segments ≡ take len self.old.held) }
         ensures ok { OnOk result (self.new ≡ record self.old {
@@ -188,13 +208,13 @@ impl Frames {
         ensures reason { IfErr result (λ reason. reason ≡ Reason.OutOfMemory) }
     {
         let frame = self.split_to(alloc, len)?;
-        self.pass(0);
+        self.discard_frame(0);
         Ok(frame)
     }
 
-    /// Drops all up to the end of the next separator, and answers that it did; or, where that is to
-    /// come, all bytes from which it can't begin.
-    fn skip(&mut self) -> Result<bool, Reason>
+    /// Drops all bytes up to the end of the next separator and returns `true`. If that has not come
+    /// yet, drops the bytes in which no separator can begin and returns `false`.
+    fn discard_to_separator(&mut self) -> Result<bool, Reason>
         ensures ended { IfOk result (λ ended. OnTrue ended ((frame : List ℕ)
             × TakesFrame self.old.separator self.old.held frame self.new.held)) }
         ensures on { IfOk result (λ ended. OnFalse ended
@@ -206,17 +226,17 @@ impl Frames {
         ensures reason { IfErr result (λ reason. reason ≡ Reason.OutOfMemory) }
     {
         if let Some(len) = search::find(&self.finder, &self.pieces, &mut self.progress)? {
-            self.pass(len);
+            self.discard_frame(len);
             return Ok(true);
         }
         let searched = self.progress.base();
         self.pieces.advance(searched);
-        self.progress.rebase(self.pieces.segments());
+        self.progress.forget_front(self.pieces.segments());
         Ok(false)
     }
 
-    /// Drops a frame of `len` bytes and the separator behind it. The search begins anew.
-    fn pass(&mut self, len: usize)
+    /// Drops a frame of `len` bytes and its separator, and restarts the search.
+    fn discard_frame(&mut self, len: usize)
         requires { len + length self.old.separator ≤ length self.old.held }
         ensures { self.new ≡ record self.old {
           held = drop (len + length self.old.separator) self.old.held;
@@ -227,7 +247,8 @@ impl Frames {
         self.progress.restart();
     }
 
-    /// What is left behind the last separator that was found.
+    /// Returns the held bytes. Call it at the end of the stream: they are the last frame, if it has
+    /// no separator, and any frames not asked for.
     pub fn finish(self) -> SegmentedBuf<Bytes>
         ensures { concat result.segments ≡ self.held }
     {
@@ -235,10 +256,10 @@ impl Frames {
     }
 }
 
-/// What a run gives and what is left depend on the joined pieces alone, wherever they were cut and
-/// whenever frames were asked for. Frames that are put with the separator behind each come out again
-/// where each has its first separator there.
-pub fn frames_laws()
+/// The laws of a run of calls. The frames and the bytes left depend on the joined pieces alone, not
+/// on where these are cut or when frames are asked for. Frames written with a separator after each
+/// are returned again, exactly if the first separator in each of them is the one at its end.
+pub fn frame_laws()
     ensures run { FramesLaw }
     ensures parts { FramePartsLaw }
     ensures text { TextFramesLaw }

@@ -3,9 +3,11 @@ ghost use Rattle.std.specs.Prelude.{◌≡◌, ◌≢◌, ◌⊎◌, Ok, Err, �
 ghost use Rattle.std.specs.Str.{chars};
 ghost use Rattle.serde_json.specs.Read.{read};
 ghost use Rattle.serde_json.specs.View.{view};
-ghost use Rattle.bytes_utils.specs.Json.{json_string, whole_number, StandsFor, IsRefusedFor, HoldsText, IsNotJson, HoldsNoBytes, HoldsOtherBytes};
+ghost use Rattle.bytes_utils.specs.Json.{json_string, whole_number, Represents, IsRefusedFor, HoldsText, IsNotJson, HoldsNoBytes, HoldsOtherBytes};
 
 mod show;
+#[cfg(test)]
+mod tests;
 
 use crate::string::{Storage, StorageMut, StrInner};
 use bytes_utils_buf::Reason;
@@ -15,15 +17,14 @@ use std::alloc::{AllocError, Global};
 /// Why no text was read from JSON.
 #[derive(Clone, Copy, Debug, Eq, PartialEq)]
 pub enum JsonRefused {
-    /// A request for memory was refused, or the storage refused, for whatever reason.
+    /// Memory was refused, or the storage refused for another reason.
     OutOfMemory = 1,
-    /// What was to be read is no JSON: it has a fault, or goes on behind its value, or nests more
-    /// than 127 deep.
+    /// Not JSON: a syntax error, trailing input, or nesting deeper than 127.
     NotJson = 3,
-    /// It is JSON, and neither a string nor a list whose members are whole numbers from 0 to 255.
-    /// A number with a fraction or an exponent is none of these, whatever its value.
+    /// JSON, but neither a string nor a list of whole numbers from 0 to 255. A number with a
+    /// fraction or an exponent is not one of these, whatever its value.
     NotText = 4,
-    /// It is a list of such numbers, which as bytes aren't UTF-8.
+    /// A list of such numbers, which as bytes are not UTF-8.
     NotUtf8 = 5,
 }
 
@@ -36,7 +37,7 @@ fn written(alloc: Global, text: &str) -> Result<String, AllocError>
     Value::try_from_str(alloc, text)?.to_string(alloc)
 }
 
-/// The value that a JSON text has.
+/// The value of a JSON text.
 fn value_of(alloc: Global, json: &str) -> Result<Value, JsonRefused>
     ensures ok { IfOk result (λ value. read json.now ≡ Some (view value)) }
     ensures err { IfErr result
@@ -49,7 +50,7 @@ fn value_of(alloc: Global, json: &str) -> Result<Value, JsonRefused>
     }
 }
 
-/// The byte that a member of a list is.
+/// The byte that a member of a list is, if it is one.
 fn byte_of(member: &Value) -> Option<u8>
     ensures some { IfSome result (λ byte. view member.now ≡ whole_number byte) }
     ensures in_range { IfSome result (λ byte. byte < 256) }
@@ -77,7 +78,8 @@ fn bytes_of<S: StorageMut>(alloc: Global, members: &[Value]) -> Result<S, JsonRe
 }
 
 impl<S: Storage> StrInner<S> {
-    /// The text as a JSON string (RFC 8259, section 7), without white space around it.
+    /// Returns the text as a JSON string (RFC 8259, section 7), without white space around it.
+    /// Fails with `OutOfMemory` if memory is refused.
     pub fn to_json(&self, alloc: Global) -> Result<String, Reason>
         ensures table { IfOk result
             (λ json. string_bytes json ≡ encode_utf8_all (json_string (chars self.now))) }
@@ -92,15 +94,18 @@ impl<S: Storage> StrInner<S>
 where
     S::Creator: StorageMut,
 {
-    /// The text that a JSON text holds, as a string or as a list of the bytes of its UTF-8: what
-    /// `serde_json` reads as one value over the whole text.
+    /// Reads a text from JSON (RFC 8259): from a string, or from a list of the bytes of its UTF-8.
+    /// The JSON is what `serde_json` reads as one value over the whole text. Requires that a
+    /// creator's bytes are those of its text, as for `Str` and `StrMut`. Fails with a
+    /// `JsonRefused`.
     pub fn from_json(alloc: Global, json: &str) -> Result<Self, JsonRefused>
         requires creator { (c : S.Creator) → S.created c ≡ S.Creator.stored c }
         ensures ok { IfOk result (λ text. HoldsText json.now text) }
         ensures text { (text : List ℕ) → HoldsText json.now text
             → (result ≡ Ok text) ⊎ (result ≡ Err JsonRefused.OutOfMemory) }
 
-        // Want of memory aside, each refusal comes exactly where its cause is.
+        // Unless `OutOfMemory` is returned, each other error is returned exactly if its cause
+        // holds.
         ensures not_json { result ≢ Err JsonRefused.OutOfMemory
             → ((result ≡ Err JsonRefused.NotJson) ↔ IsNotJson json.now) }
         ensures not_text { result ≢ Err JsonRefused.OutOfMemory
@@ -112,10 +117,10 @@ where
         Self::from_value(alloc, &value)
     }
 
-    /// The text that a JSON value stands for.
+    /// The text that a JSON value represents.
     fn from_value(alloc: Global, value: &Value) -> Result<Self, JsonRefused>
         requires creator { (c : S.Creator) → S.created c ≡ S.Creator.stored c }
-        ensures ok { IfOk result (λ text. StandsFor (view value.now) text) }
+        ensures ok { IfOk result (λ text. Represents (view value.now) text) }
         ensures err { IfErr result (λ e. IsRefusedFor (view value.now) e) }
     {
         if let Some(text) = value.as_str() {

@@ -1,18 +1,21 @@
-//! Many byte buffers read as one, and text over shared storage that is cut into owned parts.
+//! Many byte buffers read as one, and text over shared bytes that is split into owned parts.
 //!
-//! [`SegmentedBuf`] holds buffers and [`SegmentedSlice`] reads lent ones; each reads as one buffer.
-//! [`Str`] is text over shared bytes, and its splitters give owned parts that mean what the methods
-//! of the same names on `str` mean.
+//! - [`SegmentedBuf`] holds buffers and [`SegmentedSlice`] borrows them. Each reads as one buffer.
+//!   `contiguous`, `parts` and `write` are about buffers too.
+//! - [`Str`] is text over shared bytes and [`StrMut`] is text that grows. `split` has the splitters
+//!   of `str`, with owned parts.
+//! - `frame` cuts a stream into frames or lines, and `find` searches the bytes of many segments.
+//! - `json` reads and writes texts as JSON. Texts also implement the traits of `serde`.
 #![tactic(auto)]
 
+pub mod find;
+#[cfg(test)]
+mod fixtures;
 pub mod frame;
 pub mod json;
 pub mod split;
 pub mod string;
 
-pub use bytes_utils_buf::{EitherBuf, Reason, Refused, parts, segmented, whole};
+pub use bytes_utils_buf::{EitherBuf, Reason, Refused, contiguous, parts, segmented, write};
 pub use segmented::{SegmentedBuf, SegmentedSlice};
 pub use string::{Str, StrMut};
-
-#[cfg(test)]
-mod tests;

@@ -1,4 +1,4 @@
-//! A text cut into owned parts.
+//! Iterators that split a text into owned parts.
 
 mod boundary;
 mod character;
@@ -13,6 +13,8 @@ mod once;
 mod search;
 mod separated;
 mod separator;
+#[cfg(test)]
+mod tests;
 mod words;
 
 pub use boundary::boundaries;

@@ -1,7 +1,9 @@
-pub mod Accepting
-mod Ledger
+pub mod SegmentsLemmas
+mod TallyLemmas
 pub mod Lists
 mod Pieces
 mod Queues
-pub mod Tables
-pub mod Lent
+pub mod SlicesLemmas
+pub mod LentLemmas
+pub mod Results
+mod WriteLemmas

@@ -14,7 +14,7 @@ length-concat-take_more xs k h =
     ap (λ l. length (concat l)) (take_more xs k [] h) ∙ ap length (concat_push (take k xs) (get_or xs k []))
     ∙ length-append (concat (take k xs)) (get_or xs k [])
 
--- what a read of the element at place k says of its unread list
+-- the unread list of the element at place k, as a read of it gives it
 pub read_at : {X : Type 0} (f : X → List ℕ) (xs : List X) (k : ℕ) (x : X) → k < length xs → x ≡ get_or xs k x
     → get_or (map f xs) k [] ≡ f x
 read_at f [] k x h e = absurd (omega arith)
@@ -28,7 +28,7 @@ concat-append (x ∷ xs) ys = ap (λ l. x ++ l) (concat-append xs ys) ∙ sym (a
 pub concat_split : (n : ℕ) (xs : List (List ℕ)) → concat xs ≡ concat (take n xs) ++ concat (drop n xs)
 concat_split n xs = ap concat (sym (take-append-drop n xs)) ∙ concat-append (take n xs) (drop n xs)
 
--- the bytes of elements in a row are those of its two parts
+-- the bytes of elements in a row are those of the two parts of the row
 pub concat-map_parts : {X : Type 0} (f : X → List ℕ) (xs ys all : List X) → xs ++ ys ≡ all → concat (map f all) ≡ concat (map f xs) ++ concat (map f ys)
 concat-map_parts f xs ys all parts =
     ap (λ l. concat (map f l)) (sym parts) ∙ ap concat (map-append f xs ys) ∙ concat-append (map f xs) (map f ys)
@@ -50,7 +50,7 @@ front_of_drop (x ∷ xs) zero = refl
 front_of_drop [] (suc p) = refl
 front_of_drop (x ∷ xs) (suc p) = front_of_drop xs p
 
--- so many lists are passed, and n bytes of the next one
+-- p lists are passed, and n bytes of the next one
 pub concat-cut_front : (xs : List (List ℕ)) (p n m : ℕ) → p ≤ length xs → length (concat (take p xs)) + n ≡ m → m ≤ length (concat xs)
     → (p < length xs → n < length (get_or xs p [])) → concat (cut_front n (drop p xs)) ≡ drop m (concat xs)
 concat-cut_front [] zero n m h e b q = let none : m ≡ 0 = omega arith in rw none refl
@@ -72,7 +72,7 @@ FrontUnread-cut [] (suc p) n q = λ h. absurd (omega arith)
 FrontUnread-cut (x ∷ xs) zero n q = λ h. length-drop_some n x (q (omega arith))
 FrontUnread-cut (x ∷ xs) (suc p) n q = FrontUnread-cut xs p n (λ l. q (omega arith))
 
--- what a loop that counts the passed lists found
+-- what a loop that counts the passed lists has found
 pub Skips-from_count : (xs ys : List (List ℕ)) (p n m : ℕ) → p ≤ length xs → length (concat (take p xs)) + n ≡ m → m ≤ length (concat xs)
     → (p < length xs → n < length (get_or xs p [])) → ys ≡ cut_front n (drop p xs) → Skips m xs ys
 Skips-from_count xs ys p n m within left fits next same =
@@ -87,7 +87,7 @@ Skips-from_count xs ys p n m within left fits next same =
 
 -- ---- lists none of which is empty
 
--- where no other list is empty, a first list that has unread bytes leaves none empty
+-- if no list is empty, and the first one keeps unread bytes after a cut, none is empty then
 pub NoneEmpty-cut_front : (xs : List (List ℕ)) (n : ℕ) → NoneEmpty xs → FrontUnread (cut_front n xs) → NoneEmpty (cut_front n xs)
 NoneEmpty-cut_front [] n all front = all
 NoneEmpty-cut_front (x ∷ xs) n all front =
@@ -98,15 +98,15 @@ NoneEmpty-Skips n xs ys all s =
     let front : FrontUnread (cut_front s.cut (drop s.passed xs)) = rw (← s.rest) s.front in
     All-same (λ x. 0 < length x) ys _ s.rest (NoneEmpty-cut_front (drop s.passed xs) s.cut (All-drop (λ x. 0 < length x) s.passed xs all) front)
 
--- what the element at place k has unread
+-- the unread list of the element at place k
 pub map_at : {X : Type 0} (f : X → List ℕ) (xs : List X) (k : ℕ) (d : X) → k < length xs → f (get_or xs k d) ≡ get_or (map f xs) k []
 map_at f [] k d h = absurd (omega arith)
 map_at f (x ∷ xs) zero d h = refl
 map_at f (x ∷ xs) (suc k) d h = map_at f xs k d (omega arith)
 
--- ---- passed lists are read out
+-- ---- passed lists are empty
 
--- one more is read out
+-- one more becomes empty
 set-replicated : (xs : List (List ℕ)) (i : ℕ) → i < length xs → set (replicate i [] ++ drop i xs) i [] ≡ replicate (suc i) [] ++ drop (suc i) xs
 set-replicated [] i h = absurd (omega arith)
 set-replicated (x ∷ xs) zero h = refl
@@ -115,13 +115,13 @@ set-replicated (x ∷ xs) (suc i) h = ap (λ l. [] ∷ l) (set-replicated xs i (
 pub set-replicated_more : (xs : List (List ℕ)) (i : ℕ) → i < length xs → set (replicate i [] ++ drop i xs) i [] ≡ replicate (i + 1) [] ++ drop (i + 1) xs
 set-replicated_more xs i h = let e : i + 1 ≡ suc i = omega arith in rw e (set-replicated xs i h)
 
--- what is behind those that are read out
+-- the lists after the emptied ones
 pub get_or-replicated : (xs : List (List ℕ)) (i : ℕ) → i < length xs → get_or (replicate i [] ++ drop i xs) i [] ≡ get_or xs i []
 get_or-replicated [] i h = absurd (omega arith)
 get_or-replicated (x ∷ xs) zero h = refl
 get_or-replicated (x ∷ xs) (suc i) h = get_or-replicated xs i (omega arith)
 
--- the list at one place is cut
+-- the list at place k is cut
 pub set_cut : (xs : List (List ℕ)) (k n : ℕ) → k < length xs → set xs k (drop n (get_or xs k [])) ≡ cut_at k n xs
 set_cut [] k n h = absurd (omega arith)
 set_cut (x ∷ xs) zero n h = refl
@@ -134,12 +134,12 @@ cut_past (x ∷ xs) zero zero h = refl
 cut_past (x ∷ xs) zero (suc n) h = absurd (omega (arith, h (omega arith)))
 cut_past (x ∷ xs) (suc k) n h = ap (λ l. x ∷ l) (cut_past xs k n (λ some. omega (arith, h some)))
 
-pub cut_behind : (xs : List (List ℕ)) (p n : ℕ) → cut_at p n (replicate p [] ++ xs) ≡ replicate p [] ++ cut_front n xs
-cut_behind [] zero n = refl
-cut_behind (x ∷ xs) zero n = refl
-cut_behind xs (suc p) n = ap (λ l. [] ∷ l) (cut_behind xs p n)
+pub cut_after : (xs : List (List ℕ)) (p n : ℕ) → cut_at p n (replicate p [] ++ xs) ≡ replicate p [] ++ cut_front n xs
+cut_after [] zero n = refl
+cut_after (x ∷ xs) zero n = refl
+cut_after xs (suc p) n = ap (λ l. [] ∷ l) (cut_after xs p n)
 
--- ---- lists that come in
+-- ---- accepted lists
 
 pub without_empty-append : (xs ys : List (List ℕ)) → without_empty (xs ++ ys) ≡ without_empty xs ++ without_empty ys
 without_empty-append [] ys = refl
@@ -162,7 +162,7 @@ length-without_empty [] = omega arith
 length-without_empty ([] ∷ xs) = omega (arith, length-without_empty xs)
 length-without_empty ((b ∷ x) ∷ xs) = omega (arith, length-without_empty xs)
 
--- lists that come in behind others
+-- lists accepted after others
 pub NoneEmpty-accepted : (xs ys : List (List ℕ)) → NoneEmpty xs → NoneEmpty (xs ++ without_empty ys)
 NoneEmpty-accepted xs ys all = All-append (λ s. 0 < length s) xs (without_empty ys) all (NoneEmpty-without_empty ys)
 
@@ -172,11 +172,11 @@ concat-accepted xs ys = concat-append xs (without_empty ys) ∙ ap (λ l. concat
 pub length-concat-accepted : (xs ys : List (List ℕ)) → length (concat (xs ++ without_empty ys)) ≡ length (concat xs) + length (concat ys)
 length-concat-accepted xs ys = ap length (concat-accepted xs ys) ∙ length-append (concat xs) (concat ys)
 
--- each is held or was empty
+-- each list is held or was empty
 pub length-accepted : (xs ys : List (List ℕ)) → (length ys - count_unread ys) + length (xs ++ without_empty ys) ≡ length xs + length ys
 length-accepted xs ys = omega (arith, length-append xs (without_empty ys), length-without_empty ys)
 
--- one more comes in
+-- one more list is accepted
 pub accepted_more : (xs ys : List (List ℕ)) (y : List ℕ) → (xs ++ without_empty ys) ++ without_empty (y ∷ []) ≡ xs ++ without_empty (ys ++ y ∷ [])
 accepted_more xs ys y =
     append_assoc xs (without_empty ys) (without_empty (y ∷ [])) ∙ ap (λ l. xs ++ l) (sym (without_empty-append ys (y ∷ [])))
@@ -200,10 +200,10 @@ pub cut_front-none : (xs : List (List ℕ)) → xs ≡ cut_front 0 xs
 cut_front-none [] = refl
 cut_front-none (x ∷ xs) = refl
 
--- a cut of lists that some were taken off before, and then a skip
-Skips-behind : (n m j p : ℕ) (xs ys zs : List (List ℕ)) → p ≤ length xs → ys ≡ cut_front j (drop p xs) → concat ys ≡ drop n (concat xs)
+-- a cut of lists from which some were removed before, and then a skip
+Skips-following : (n m j p : ℕ) (xs ys zs : List (List ℕ)) → p ≤ length xs → ys ≡ cut_front j (drop p xs) → concat ys ≡ drop n (concat xs)
     → Skips m ys zs → Skips (n + m) xs zs
-Skips-behind n m j p xs ys zs within same bytes s =
+Skips-following n m j p xs ys zs within same bytes s =
     elim (cases_zero s.passed) [
       | inl none ↦
           record {
@@ -226,13 +226,13 @@ Skips-behind n m j p xs ys zs within same bytes s =
     ]
 
 pub Skips-more : (n m : ℕ) (xs ys zs : List (List ℕ)) → Skips n xs ys → Skips m ys zs → Skips (n + m) xs zs
-Skips-more n m xs ys zs s t = Skips-behind n m s.cut s.passed xs ys zs s.within s.rest s.bytes t
+Skips-more n m xs ys zs s t = Skips-following n m s.cut s.passed xs ys zs s.within s.rest s.bytes t
 
--- the first list is cut, perhaps to nothing, and then trimmed away
+-- the first list is cut, perhaps to nothing, and is removed if it is empty
 pub Skips-trimmed : (n : ℕ) (xs ys zs : List (List ℕ)) → n ≤ length (front_of xs) → ys ≡ cut_front n xs → Skips 0 ys zs → Skips n xs zs
 Skips-trimmed n xs ys zs fits same s =
     let whole : n + 0 ≡ n = omega arith in
-    rw whole at (Skips-behind n 0 n 0 xs ys zs (omega arith) same (ap concat same ∙ concat-cut_first xs n fits) s)
+    rw whole at (Skips-following n 0 n 0 xs ys zs (omega arith) same (ap concat same ∙ concat-cut_first xs n fits) s)
   where
     concat-cut_first : (xs : List (List ℕ)) (n : ℕ) → n ≤ length (front_of xs) → concat (cut_front n xs) ≡ drop n (concat xs)
     concat-cut_first [] n h = sym (drop_all n [] (omega arith))
@@ -247,9 +247,9 @@ count_unread-more : (x : List ℕ) (xs : List (List ℕ)) → count_unread (x �
 count_unread-more [] xs = omega arith
 count_unread-more (b ∷ x) xs = omega arith
 
-count_unread-behind : (x : List ℕ) (xs : List (List ℕ)) → count_unread xs ≤ count_unread (x ∷ xs)
-count_unread-behind [] xs = omega arith
-count_unread-behind (b ∷ x) xs = omega arith
+count_unread-following : (x : List ℕ) (xs : List (List ℕ)) → count_unread xs ≤ count_unread (x ∷ xs)
+count_unread-following [] xs = omega arith
+count_unread-following (b ∷ x) xs = omega arith
 
 count_unread-some : (x : List ℕ) (xs : List (List ℕ)) → 0 < length x → count_unread (x ∷ xs) ≡ 1 + count_unread xs
 count_unread-some [] xs some = absurd (omega arith)
@@ -262,17 +262,17 @@ length-concat-cut_le (x ∷ xs) zero k =
     omega (arith, length-append x (concat xs), length-append (drop k x) (concat xs), length-drop k x)
 length-concat-cut_le (x ∷ xs) (suc p) k = omega (arith, length-append x (concat xs), length-concat-cut_le xs p k)
 
--- no more lists lose their last byte than bytes are lost
+-- at most as many lists lose their last byte as bytes are lost
 count_unread-cut : (xs : List (List ℕ)) (p k n : ℕ) → length (concat xs) ≤ length (concat (cut_front k (drop p xs))) + n
     → count_unread xs ≤ count_unread (cut_front k (drop p xs)) + n
 count_unread-cut [] zero k n few = omega arith
 count_unread-cut [] (suc p) k n few = omega arith
-count_unread-cut ([] ∷ xs) zero k n few = omega (arith, count_unread-behind (drop k []) xs)
+count_unread-cut ([] ∷ xs) zero k n few = omega (arith, count_unread-following (drop k []) xs)
 count_unread-cut ((b ∷ x) ∷ xs) zero k n few = elim (cases_zero n) [
   | inl none ↦ (let some : 0 < length (drop k (b ∷ x)) =
       omega (arith, none, few, length-append (b ∷ x) (concat xs), length-append (drop k (b ∷ x)) (concat xs)) in
       omega (arith, count_unread-some (drop k (b ∷ x)) xs some))
-  | inr some ↦ omega (arith, some, count_unread-behind (drop k (b ∷ x)) xs)
+  | inr some ↦ omega (arith, some, count_unread-following (drop k (b ∷ x)) xs)
 ]
 count_unread-cut ([] ∷ xs) (suc p) k n few = count_unread-cut xs p k n few
 count_unread-cut ((b ∷ x) ∷ xs) (suc p) k n few =
@@ -289,7 +289,7 @@ count_unread-Skips n xs ys s =
     omega (arith, ap (λ l. length (concat l)) s.rest, ap length s.bytes, length-drop n (concat xs)) in
     omega (arith, count_unread-cut xs s.passed s.cut n few, ap count_unread s.rest)
 
--- bytes of the first list alone are the last ones of no other
+-- bytes of the first list alone are last bytes of no other list
 pub count_unread-Skips_front : (n : ℕ) (xs ys : List (List ℕ)) → n ≤ length (front_of xs) → Skips n xs ys → count_unread xs ≤ count_unread ys + 1
 count_unread-Skips_front n [] ys within s = omega arith
 count_unread-Skips_front n (x ∷ xs) ys within s = by s.passed s.rest
@@ -298,7 +298,7 @@ count_unread-Skips_front n (x ∷ xs) ys within s = by s.passed s.rest
     left = omega (arith, within, ap length s.bytes, length-drop n (x ++ concat xs), length-append x (concat xs))
 
     by : (p : ℕ) → ys ≡ cut_front s.cut (drop p (x ∷ xs)) → count_unread (x ∷ xs) ≤ count_unread ys + 1
-    by zero rest = omega (arith, count_unread-more x xs, count_unread-behind (drop s.cut x) xs, ap count_unread rest)
+    by zero rest = omega (arith, count_unread-more x xs, count_unread-following (drop s.cut x) xs, ap count_unread rest)
     by (suc p) rest =
         let same : length (concat ys) ≡ length (concat (cut_front s.cut (drop p xs))) = ap (λ l. length (concat l)) rest in
         omega (arith, count_unread-more x xs, count_unread-cut xs p s.cut 0 (omega (arith, left, same)), ap count_unread rest)
@@ -316,7 +316,7 @@ map-filter_unread {X = X} f (x ∷ xs) = by (f x) refl (map f xs) _ (map-filter_
         let some : nat_lt 0 (length (b ∷ s)) ≡ true = lt-ltb 0 (length (b ∷ s)) (omega arith) in
         rw some (λ i. e i ∷ rest i)
 
--- clones that show the same unread bytes
+-- clones that have the same unread bytes
 pub map-clones : {X : Type 0} (R : X → X → Type 0) (f : X → List ℕ) → ((x y : X) → R x y → f y ≡ f x)
     → (xs ys : List X) → AllZip R xs ys → map f ys ≡ map f xs
 map-clones R f same [] [] all = refl

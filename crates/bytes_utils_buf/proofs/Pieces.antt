@@ -1,4 +1,4 @@
--- The next bytes of many lists, taken list by list.
+-- The next bytes of many lists, list by list.
 use Rattle.std.proofs.Common.{◌≡◌, ◌≢◌, ℕ, ◌+◌, ◌-◌, ◌<◌, ◌≤◌, List, [], ◌∷◌, ◌++◌, zero, suc, length, take, drop, min, get_or, ap, ◌∙◌, sym, refl, arith, append_assoc, length-append, length-drop, length-take}
 use Rattle.std.proofs.lemmas.List.{append_cancel_left, drop_all, drop-drop, take-append-le, take_min}
 use Rattle.std.proofs.lemmas.List.Elements.{All-nil, All-cons, All-head, All-tail}
@@ -7,22 +7,22 @@ use Rattle.bytes.proofs.Chunks.{concat_some}
 use Rattle.bytes_utils_buf.specs.Segments.{cut_front, front_of, IsInside, lists_from, take_bytes, NoneEmpty, Skips}
 use Rattle.bytes_utils_buf.proofs.Lists.{cut_front-none, front_of_drop, length-cut_front}
 
--- what is wanted of the first list, and then of those behind it
-take_first : (n : ℕ) (x ys : List ℕ) → take n (x ++ ys) ≡ take n x ++ take (n - length (take n x)) ys
-take_first zero x ys = refl
-take_first (suc n) [] ys = let d : suc n - 0 ≡ suc n = omega arith in rw d refl
-take_first (suc n) (b ∷ x) ys =
+-- the wanted bytes of the first list, and then those of the lists after it
+take_prefix : (n : ℕ) (x ys : List ℕ) → take n (x ++ ys) ≡ take n x ++ take (n - length (take n x)) ys
+take_prefix zero x ys = refl
+take_prefix (suc n) [] ys = let d : suc n - 0 ≡ suc n = omega arith in rw d refl
+take_prefix (suc n) (b ∷ x) ys =
     let d : suc n - suc (length (take n x)) ≡ n - length (take n x) = omega arith in
-    rw d (ap (λ l. b ∷ l) (take_first n x ys))
+    rw d (ap (λ l. b ∷ l) (take_prefix n x ys))
 
 -- ---- lists from a place on
 
--- bytes are wanted from there on, so there is a list
+-- bytes are wanted from the place on, so there is a list
 pub inside : (xs : List (List ℕ)) (passed offset n : ℕ) → 0 < n → n ≤ length (concat (lists_from passed offset xs)) → passed < length xs
 inside xs passed offset n some enough =
     omega (arith, concat_some (lists_from passed offset xs) (omega (arith, some, enough)), length-cut_front offset (drop passed xs), length-drop passed xs)
 
--- the first of them
+-- the first of these lists
 pub front_from : (xs : List (List ℕ)) (passed offset : ℕ) → front_of (lists_from passed offset xs) ≡ drop offset (get_or xs passed [])
 front_from xs passed offset = cut (drop passed xs) ∙ ap (drop offset) (front_of_drop xs passed)
   where
@@ -30,7 +30,7 @@ front_from xs passed offset = cut (drop passed xs) ∙ ap (drop offset) (front_o
     cut [] = sym (drop_all offset [] (omega arith))
     cut (y ∷ ys) = refl
 
--- those after it
+-- the lists after it
 pub next_from : (xs : List (List ℕ)) (passed offset : ℕ) → drop 1 (lists_from passed offset xs) ≡ lists_from (passed + 1) 0 xs
 next_from xs passed offset = cut (drop passed xs) ∙ drop-drop 1 passed xs ∙ cut_front-none (drop (passed + 1) xs)
   where
@@ -38,11 +38,11 @@ next_from xs passed offset = cut (drop passed xs) ∙ drop-drop 1 passed xs ∙ 
     cut [] = refl
     cut (y ∷ ys) = refl
 
--- before all
+-- the place before all bytes
 pub all_from : (xs : List (List ℕ)) → lists_from 0 0 xs ≡ xs
 all_from xs = sym (cut_front-none xs)
 
--- a search of the place after that many bytes has come to its list, or past all
+-- a search for the place after `at` bytes has come to its list, or past all lists
 pub IsInside-found : (xs : List (List ℕ)) (passed offset at : ℕ) → length (concat (take passed xs)) + offset ≡ at → at ≤ length (concat xs)
     → (passed < length xs → offset < length (get_or xs passed [])) → IsInside passed offset xs
 IsInside-found [] zero offset at sum fits next = omega arith
@@ -57,13 +57,13 @@ pub Skips-inside : (xs : List (List ℕ)) (passed offset at : ℕ) → Skips at 
 Skips-inside xs passed offset at skips more =
     inside xs passed offset 1 (omega arith) (omega (arith, more, ap length skips.bytes, length-drop at (concat xs)))
 
--- the byte at a place is the first one from there on
-pub byte_behind : (xs behind : List (List ℕ)) (at : ℕ) → Skips at xs behind → at < length (concat xs)
-    → (0 < length (front_of behind)) × (slice_get (front_of behind) 0 ≡ slice_get (concat xs) at)
-byte_behind xs behind at skips more =
-    let size : 0 < length (concat behind) = omega (arith, more, ap length skips.bytes, length-drop at (concat xs)) in
-    let some = skips.front (concat_some behind size) in
-    (some, first_byte behind some ∙ ap (λ l. slice_get l 0) skips.bytes ∙ dropped (concat xs) at)
+-- the byte at a place is the first byte from there on
+pub byte_after : (xs following : List (List ℕ)) (at : ℕ) → Skips at xs following → at < length (concat xs)
+    → (0 < length (front_of following)) × (slice_get (front_of following) 0 ≡ slice_get (concat xs) at)
+byte_after xs following at skips more =
+    let size : 0 < length (concat following) = omega (arith, more, ap length skips.bytes, length-drop at (concat xs)) in
+    let some = skips.front (concat_some following size) in
+    (some, first_byte following some ∙ ap (λ l. slice_get l 0) skips.bytes ∙ dropped (concat xs) at)
   where
     first_byte : (lists : List (List ℕ)) → 0 < length (front_of lists) → slice_get (front_of lists) 0 ≡ slice_get (concat lists) 0
     first_byte [] some = absurd (omega arith)
@@ -76,14 +76,14 @@ byte_behind xs behind at skips more =
     dropped (b ∷ bytes) zero = refl
     dropped (b ∷ bytes) (suc n) = dropped bytes n
 
--- bytes that the first list holds alone
-pub front_alone : (behind : List (List ℕ)) (n : ℕ) → n ≤ length (front_of behind) → take n (concat behind) ≡ take n (front_of behind)
+-- the first list alone has these bytes
+pub front_alone : (following : List (List ℕ)) (n : ℕ) → n ≤ length (front_of following) → take n (concat following) ≡ take n (front_of following)
 front_alone [] n fits = refl
 front_alone (x ∷ xs) n fits = take-append-le n x (concat xs) fits
 
 -- ---- a number of bytes is wanted
 
--- these are the first of them, and with the others, which are in the lists, they are all
+-- the bytes so far are the first of those wanted, and with the rest, which are in the lists, they are all
 pub record Has (lists : List (List ℕ)) (wanted : ℕ) (all had : List ℕ) : Type 0 where
   pub within : length had ≤ wanted
   pub enough : wanted - length had ≤ length (concat lists)
@@ -101,12 +101,12 @@ Has-more (x ∷ rest) wanted all had piece h more is =
       within = omega (arith, size, part, h.within);
       enough = omega (arith, left, part, h.enough, length-append x (concat rest));
       bytes = append_assoc had piece _ ∙ ap (λ m. had ++ (piece ++ take m (concat rest))) left
-          ∙ ap (λ l. had ++ (l ++ take (n - length l) (concat rest))) is ∙ ap (λ l. had ++ l) (sym (take_first n x (concat rest))) ∙ h.bytes;
+          ∙ ap (λ l. had ++ (l ++ take (n - length l) (concat rest))) is ∙ ap (λ l. had ++ l) (sym (take_prefix n x (concat rest))) ∙ h.bytes;
     }
 
--- ---- a text that the lists may begin with
+-- ---- a text that the lists may start with
 
--- the front of the text is their first bytes, and the rest is to be compared with the lists
+-- the front of the text is their first bytes, and the rest of the text is to be compared with the lists
 pub record Matches (lists : List (List ℕ)) (text all rest : List ℕ) : Type 0 where
   pub front : List ℕ
   pub split : text ≡ front ++ rest
@@ -119,26 +119,26 @@ Matches-piece lists text all rest piece m some is =
     let left : length rest ≡ length text - length m.front = omega (arith, size) in
     Has-more lists (length text) all m.front piece m.has (omega (arith, size, some)) (is ∙ ap (λ n. take n (front_of lists)) left)
 
-pub Matches-more : (lists : List (List ℕ)) (text all rest piece behind : List ℕ) → Matches lists text all rest → 0 < length rest
-    → piece ≡ take (length rest) (front_of lists) → rest ≡ piece ++ behind → Matches (drop 1 lists) text all behind
-Matches-more lists text all rest piece behind m some is same =
+pub Matches-more : (lists : List (List ℕ)) (text all rest piece following : List ℕ) → Matches lists text all rest → 0 < length rest
+    → piece ≡ take (length rest) (front_of lists) → rest ≡ piece ++ following → Matches (drop 1 lists) text all following
+Matches-more lists text all rest piece following m some is same =
     record {
       front = m.front ++ piece;
-      split = m.split ∙ ap (λ l. m.front ++ l) same ∙ sym (append_assoc m.front piece behind);
+      split = m.split ∙ ap (λ l. m.front ++ l) same ∙ sym (append_assoc m.front piece following);
       has = Matches-piece lists text all rest piece m some is;
     }
 
--- where the rest doesn't begin with the next piece, nor do the lists with the text
+-- if the rest does not start with the next piece, the lists do not start with the text
 pub Matches-differs : (lists : List (List ℕ)) (text all rest piece : List ℕ) → Matches lists text all rest → 0 < length rest
-    → piece ≡ take (length rest) (front_of lists) → ((behind : List ℕ) → rest ≢ piece ++ behind) → all ≢ text
+    → piece ≡ take (length rest) (front_of lists) → ((following : List ℕ) → rest ≢ piece ++ following) → all ≢ text
 Matches-differs lists text all rest piece m some is none same =
     let h = Matches-piece lists text all rest piece m some is in
-    let behind = take (length text - length (m.front ++ piece)) (concat (drop 1 lists)) in
-    none behind (append_cancel_left m.front rest (piece ++ behind) (sym m.split ∙ sym same ∙ sym h.bytes ∙ append_assoc m.front piece behind))
+    let following = take (length text - length (m.front ++ piece)) (concat (drop 1 lists)) in
+    none following (append_cancel_left m.front rest (piece ++ following) (sym m.split ∙ sym same ∙ sym h.bytes ∙ append_assoc m.front piece following))
 
--- ---- the same, list by list
+-- ---- pieces, list by list
 
--- these lists are the first of those that are given, and what is left of the bytes is in the lists
+-- the given pieces are the first of all pieces, and the bytes that are left are in the lists ahead
 pub record Gives (ahead : List (List ℕ)) (left : ℕ) (all given : List (List ℕ)) : Type 0 where
   pub enough : left ≤ length (concat ahead)
   pub lists : given ++ take_bytes left ahead ≡ all
@@ -165,7 +165,7 @@ concat-take_bytes zero xs = refl
 concat-take_bytes (suc n) [] = refl
 concat-take_bytes (suc n) (x ∷ xs) =
     let left : suc n - length x ≡ suc n - length (take (suc n) x) = omega (arith, length-take (suc n) x) in
-    ap (λ l. take (suc n) x ++ l) (concat-take_bytes (suc n - length x) xs ∙ ap (λ m. take m (concat xs)) left) ∙ sym (take_first (suc n) x (concat xs))
+    ap (λ l. take (suc n) x ++ l) (concat-take_bytes (suc n - length x) xs ∙ ap (λ m. take m (concat xs)) left) ∙ sym (take_prefix (suc n) x (concat xs))
 
 pub NoneEmpty-take_bytes : (n : ℕ) (xs : List (List ℕ)) → NoneEmpty xs → NoneEmpty (take_bytes n xs)
 NoneEmpty-take_bytes zero xs all = All-nil (λ s. 0 < length s)

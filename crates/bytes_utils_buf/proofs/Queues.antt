@@ -1,4 +1,4 @@
--- Segments that are moved one by one from a queue of bytes, and to one.
+-- Segments moved one by one from a queue of bytes, and to one.
 use Rattle.std.proofs.Common.{◌≡◌, ℕ, ◌+◌, List, [], ◌∷◌, ◌++◌, length, arith, ap, ◌∙◌, sym, append_assoc}
 use Rattle.std.proofs.lemmas.List.{length_push}
 use Rattle.std.specs.List.{concat}
@@ -7,7 +7,7 @@ use Rattle.bytes_utils_buf.specs.Segments.{Held}
 
 -- ---- from a queue
 
--- after a counted call that moved these in
+-- a value after a counted call that moved these lists in
 abbrev pub with_moved : Held → List (List ℕ) → Held
 with_moved held moved =
     record {
@@ -20,7 +20,7 @@ with_moved held moved =
       };
     }
 
--- one more, moved in by no call of its own
+-- one more chunk, moved in without a counted call
 abbrev pub with_chunk : Held → List ℕ → Held
 with_chunk held chunk =
     record {
@@ -41,7 +41,7 @@ with_chunk-moved held moved chunk =
       tally = record { given = given i; dropped = held.tally.dropped; calls = held.tally.calls + 1; turns = held.tally.turns };
     })
 
--- the queue's first chunk joins those moved
+-- the first chunk of the queue is moved too
 pub moved-more : (moved : List (List ℕ)) (chunk queue rest all : List ℕ) → concat moved ++ queue ≡ all → queue ≡ chunk ++ rest
     → concat (moved ++ chunk ∷ []) ++ rest ≡ all
 moved-more moved chunk queue rest all before split =
@@ -49,7 +49,7 @@ moved-more moved chunk queue rest all before split =
 
 -- ---- to a queue
 
--- the first of the lists left joins those moved
+-- the first of the lists left is moved too
 pub left-fewer : (all moved left rest : List (List ℕ)) (chunk : List ℕ) → all ≡ moved ++ left → left ≡ chunk ∷ rest
     → all ≡ (moved ++ chunk ∷ []) ++ rest
 left-fewer all moved left rest chunk before split =

@@ -7,3 +7,4 @@ pub mod Copies
 pub mod Refusals
 pub mod Either
 pub mod Chunks
+pub mod Write

@@ -3,7 +3,7 @@ use Rattle.std.specs.Prelude.{◌+◌}
 use Rattle.bytes_utils_buf.specs.Tally.{Tallied, nothing_counted}
 use Rattle.bytes_utils_buf.specs.declared.segmented.tally.Log.{Log, Start, Given', Called', Turned'}
 
--- what a chain counts
+-- the tally that a chain counts
 abbrev pub tallied : Log → Tallied
 tallied Start = nothing_counted
 tallied (Given' count dropped m before) =

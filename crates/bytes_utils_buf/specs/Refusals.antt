@@ -1,13 +1,13 @@
--- What is said of a refused call.
+-- What errors print.
 use Rattle.std.specs.Prelude.{ℕ, List, ◌++◌, codes, decimal}
 use Rattle.bytes_utils_buf.specs.declared.refused.Reason.{Reason}
 use Rattle.bytes_utils_buf.specs.declared.refused.Reason.TheVariants.{OutOfMemory, TooLong}
 
--- why, without a line feed
+-- the reason, without a line feed
 abbrev pub reason_text : Reason → List ℕ
 reason_text OutOfMemory = codes "out of memory"
 reason_text TooLong = codes "too long"
 
--- how much was lost by a copy that was refused for want of memory
+-- the number of bytes lost by a copy for which memory was refused
 abbrev pub copy_refused_text : ℕ → List ℕ
 copy_refused_text taken = codes "out of memory, bytes lost: " ++ decimal taken

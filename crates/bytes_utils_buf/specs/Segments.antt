@@ -22,7 +22,7 @@ without_empty ((b ∷ s) ∷ segments) = (b ∷ s) ∷ without_empty segments
 abbrev pub count_unread : List (List ℕ) → ℕ
 count_unread segments = length (without_empty segments)
 
--- the first list, and no bytes where there is none
+-- the first list, or no bytes if there is none
 abbrev pub front_of : List (List ℕ) → List ℕ
 front_of [] = []
 front_of (s ∷ segments) = s
@@ -42,8 +42,8 @@ cut_at k n [] = []
 cut_at zero n (s ∷ segments) = drop n s ∷ segments
 cut_at (suc k) n (s ∷ segments) = s ∷ cut_at k n segments
 
--- n bytes are skipped: some lists are gone from the front, the first of the rest is cut to an end of itself,
--- the bytes to read lost their first n, and the first list is not empty
+-- n bytes are skipped: some lists are removed from the front, the next one loses its first bytes, the bytes to read lose their first n, and the first
+-- list is not empty
 pub record Skips (n : ℕ) (old new : List (List ℕ)) : Type 0 where
   pub passed : ℕ
   pub cut : ℕ
@@ -52,15 +52,15 @@ pub record Skips (n : ℕ) (old new : List (List ℕ)) : Type 0 where
   pub bytes : concat new ≡ drop n (concat old)
   pub front : FrontUnread new
 
--- the lists from a place on: some are passed, and some bytes of the next one
+-- the lists from a place on: without the passed ones, and without the first bytes of the next one
 abbrev pub lists_from : ℕ → ℕ → List (List ℕ) → List (List ℕ)
 lists_from passed offset segments = cut_front offset (drop passed segments)
 
--- the place lies within that list, or after all of them
+-- the place is inside that list, or after all of them
 abbrev pub IsInside : ℕ → ℕ → List (List ℕ) → Type 0
 IsInside passed offset segments = offset ≤ length (front_of (drop passed segments))
 
--- after a counted call that accepts buffers with these unread lists, in order: empty ones are given too, but dropped and not held
+-- a value after a counted call that accepts buffers with these unread lists, in order: empty ones are given too, but dropped and not held
 abbrev pub after_accepting : Held → List (List ℕ) → Held
 after_accepting held lists =
     record {
@@ -73,7 +73,7 @@ after_accepting held lists =
       };
     }
 
--- the first n bytes of these lists, cut where the lists are
+-- the first n bytes of these lists: whole lists, and the first bytes of the last one
 abbrev pub take_bytes : ℕ → List (List ℕ) → List (List ℕ)
 take_bytes zero segments = []
 take_bytes (suc n) [] = []

@@ -1,21 +1,21 @@
--- What a segmented value counted so far: a ledger in which each segment given stands once, and what pays for the turns of its loops.
+-- What a segmented value has counted: a ledger in which each given segment is entered once, and what pays for the turns of its loops.
 use Rattle.std.specs.Prelude.{◌≡◌, ℕ, ◌+◌, ◌*◌, ◌≤◌, List, length}
 
 pub record Tallied : Type 0 where
   -- segments given
   pub given : ℕ
-  -- those of them that were empty, and so dropped at once
+  -- those of them that were empty, and were dropped at once
   pub dropped : ℕ
   -- counted calls
   pub calls : ℕ
   -- runs of the body of a loop that steps past segments
   pub turns : ℕ
 
--- what the tally of a new value is
+-- the tally of a new value
 abbrev pub nothing_counted : Tallied
 nothing_counted = record { given = 0; dropped = 0; calls = 0; turns = 0 }
 
--- the segments that were ever in the row: those passed, each by one turn, and those left
+-- all segments that were ever in the row: those passed, each by one turn, and those left
 abbrev pub lined_up : List (List ℕ) → Tallied → ℕ
 lined_up segments tally = tally.turns + length segments
 
@@ -23,19 +23,19 @@ lined_up segments tally = tally.turns + length segments
 abbrev pub IsBalanced : List (List ℕ) → Tallied → Type 0
 IsBalanced segments tally = tally.given ≡ tally.dropped + lined_up segments tally
 
--- the turns so far, and two to come for each segment left
+-- the turns so far, and two more for each segment left
 abbrev pub cost_of : List (List ℕ) → Tallied → ℕ
 cost_of segments tally = tally.turns + 2 * length segments
 
--- two for each segment given and two for each call
+-- two for each given segment, and two for each call
 abbrev pub pay_of : Tallied → ℕ
 pay_of tally = 2 * tally.given + 2 * tally.calls
 
--- what was given and called pays for the turns
+-- the given segments and the calls pay for the turns
 abbrev pub IsCovered : List (List ℕ) → Tallied → Type 0
 IsCovered segments tally = cost_of segments tally ≤ pay_of tally
 
--- a call that leads from old to new makes the cost less the pay no greater, so it pays for itself
+-- a call that leads from old to new adds at most as much cost as pay, so it pays for itself
 abbrev pub IsPaid : List (List ℕ) → Tallied → List (List ℕ) → Tallied → Type 0
 IsPaid old_segments old new_segments new =
     cost_of new_segments new + pay_of old ≤ cost_of old_segments old + pay_of new

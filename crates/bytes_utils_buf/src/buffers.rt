@@ -1,4 +1,4 @@
-//! The buffers of the kit's `bytes` as parts: what each hands out, and which of them lie together.
+//! `BufParts` and `ContiguousBuf` of the buffers of std and of the crate `bytes`.
 mod borrowed;
 mod boxed;
 mod bytes_mut;
@@ -8,3 +8,5 @@ mod deque;
 mod pair;
 mod queue;
 mod take;
+#[cfg(test)]
+mod tests;

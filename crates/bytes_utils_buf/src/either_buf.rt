@@ -4,21 +4,24 @@ ghost use Rattle.bytes.specs.Unread.{IsChunkOf};
 ghost use Rattle.bytes_utils_buf.specs.Either.{unread_of, kept_of};
 ghost use Rattle.bytes_utils_buf.specs.Slices.{taken_by, FillsTable};
 
+#[cfg(test)]
+mod tests;
+
 use crate::Reason;
+use crate::contiguous::ContiguousBuf;
 use crate::parts::{BufParts, CopyRefused};
-use crate::whole::BufWhole;
 use bytes::{Buf, Bytes};
 use std::alloc::Global;
 use std::ops::Range;
 
-/// A buffer of one of two types, which reads as the one that it is.
+/// A buffer of one of two types. It reads as the buffer that it holds.
 ///
-/// It serves where buffers of two types are read as one, as a borrowed head and a shared body:
+/// For buffers of two types that are read as one, such as a borrowed head and a shared body:
 ///
 /// ```text
 /// let mut message = SegmentedBuf::new(alloc);
-/// message.push(EitherBuf::Left(b"HELLO ".as_slice()))?; // where `message.fits(6)`
-/// message.push(EitherBuf::Right(body))?;                // a `Bytes`, where it fits
+/// message.push(EitherBuf::Left(b"HELLO ".as_slice()))?; // if `message.fits(6)`
+/// message.push(EitherBuf::Right(body))?;                // a `Bytes`, if it fits
 /// ```
 ///
 /// It nests: for three types, `EitherBuf<A, EitherBuf<B, C>>`.
@@ -58,7 +61,7 @@ impl<L: Buf, R: Buf> Buf for EitherBuf<L, R> {
 }
 
 impl<L: BufParts, R: BufParts> BufParts for EitherBuf<L, R> {
-    // What a refused copy of the one or of the other may have taken.
+    // How many bytes a refused copy of either side may have taken.
     ghost loses = { λ len taken. L.loses len taken ⊎ R.loses len taken };
 
     fn copy_out(&mut self, alloc: Global, len: usize) -> Result<Bytes, CopyRefused> {
@@ -76,18 +79,18 @@ impl<L: BufParts, R: BufParts> BufParts for EitherBuf<L, R> {
     }
 }
 
-impl<L: BufWhole, R: BufWhole> BufWhole for EitherBuf<L, R> {
-    fn whole(&self) -> &[u8] {
+impl<L: ContiguousBuf, R: ContiguousBuf> ContiguousBuf for EitherBuf<L, R> {
+    fn as_contiguous(&self) -> &[u8] {
         match self {
-            EitherBuf::Left(buf) => buf.whole(),
-            EitherBuf::Right(buf) => buf.whole(),
+            EitherBuf::Left(buf) => buf.as_contiguous(),
+            EitherBuf::Right(buf) => buf.as_contiguous(),
         }
     }
 
-    fn first(&self, alloc: Global, len: usize) -> Result<Bytes, Reason> {
+    fn prefix(&self, alloc: Global, len: usize) -> Result<Bytes, Reason> {
         match self {
-            EitherBuf::Left(buf) => buf.first(alloc, len),
-            EitherBuf::Right(buf) => buf.first(alloc, len),
+            EitherBuf::Left(buf) => buf.prefix(alloc, len),
+            EitherBuf::Right(buf) => buf.prefix(alloc, len),
         }
     }
 

@@ -1,15 +1,22 @@
-//! Many byte buffers read as one.
+//! Many byte buffers that read as one, without copying them together.
+//!
+//! [`SegmentedBuf`](segmented::SegmentedBuf) holds its buffers, and
+//! [`SegmentedSlice`](segmented::SegmentedSlice) borrows them. [`EitherBuf`] is a buffer of one of
+//! two types. [`BufParts`](parts::BufParts) and [`ContiguousBuf`](contiguous::ContiguousBuf) are
+//! the traits of buffers that copy their bytes out or show them as slices.
+//! [`write_all_of`](write::write_all_of) writes a buffer in few calls. Errors are a [`Reason`], a
+//! [`Refused`], which gives back a value, or a [`CopyRefused`](parts::CopyRefused).
 #![tactic(auto)]
 
 mod buffers;
+pub mod contiguous;
 mod either_buf;
+#[cfg(test)]
+mod fixtures;
 pub mod parts;
 mod refused;
 pub mod segmented;
-pub mod whole;
+pub mod write;
 
 pub use either_buf::EitherBuf;
 pub use refused::{Reason, Refused};
-
-#[cfg(test)]
-mod tests;

@@ -1,27 +1,31 @@
-//! Buffers that hand out their unread bytes in parts.
+//! Buffers that copy their unread bytes out, and show them as slices.
 ghost use Rattle.std.specs.Prelude.{ℕ, ⊤, ◌≡◌, ◌<◌, ◌≤◌, length, take, drop, IfOk, IfErr, OnErr, ◌⊎◌};
 ghost use Rattle.bytes_utils_buf.specs.Slices.{taken_by, joined, FillsTable};
+
+#[cfg(test)]
+mod tests;
 
 use bytes::{Buf, Bytes};
 use std::alloc::Global;
 
-/// A copy was refused for want of memory.
+/// The error of a copy for which memory was refused.
 #[derive(Clone, Copy, Debug, Eq, PartialEq)]
 pub struct CopyRefused {
-    /// How many bytes were taken before. They are gone.
+    /// How many bytes were already taken. They are lost.
     pub taken: usize,
 }
 
 /// A buffer that copies its unread bytes out, and shows them as slices.
 ///
-/// Generic code that reads segmented types asks for this trait. A type of the caller implements it
-/// by the laws that stand here as clauses.
+/// Generic code that reads segmented types asks for this trait. Your own type can implement it. The
+/// clauses are its laws.
 pub trait BufParts: Buf {
-    // How many bytes a refused copy of so many may have taken.
+    // How many bytes a refused copy may have taken, by the length of the copy.
     ghost loses: { ℕ → ℕ → Type 0 } = { λ _ _. ⊤ };
 
-    /// Takes the first `len` unread bytes out. A refusal gives none, and tells how many are gone.
-    /// `remaining` tests the condition.
+    /// Takes the first `len` unread bytes out. Requires that `len` is at most `remaining()` (test:
+    /// `remaining`). Fails with `CopyRefused` if memory is refused; then `taken` of them were taken
+    /// and are lost.
     fn copy_out(&mut self, alloc: Global, len: usize) -> Result<Bytes, CopyRefused>
         requires { len ≤ length (Self.unread self.old) }
         ensures value { IfOk result (λ copy. copy ≡ take len (Self.unread self.old)) }
@@ -30,13 +34,13 @@ pub trait BufParts: Buf {
         ensures rest { Self.unread self.new ≡ drop (taken_by len result) (Self.unread self.old) }
         ensures kept { Self.kept self.new ≡ Self.kept self.old };
 
-    /// Fills the first places of `dst` with slices of the unread bytes, and answers how many
-    /// places.
+    /// Fills the first places of `dst` with slices of the unread bytes, and returns how many places
+    /// it filled. If `dst` has room left, the slices are all of the unread bytes.
     fn chunks_into<'s>(&'s self, dst: &mut [&'s [u8]]) -> usize
         ensures { FillsTable result dst.old dst.new (Self.unread self.now) };
 }
 
-/// `copy_out` shares the bytes. A refusal has taken none.
+/// `copy_out` shares the bytes. If it fails, it has taken none.
 impl BufParts for Bytes {
     ghost loses = { λ _ taken. taken ≡ 0 };
 
@@ -67,7 +71,7 @@ impl BufParts for Bytes {
     }
 }
 
-/// `copy_out` copies the bytes. A refusal has taken none.
+/// `copy_out` copies the bytes. If it fails, it has taken none.
 impl BufParts for &[u8] {
     ghost loses = { λ _ taken. taken ≡ 0 };
 
@@ -100,8 +104,9 @@ impl BufParts for &[u8] {
     }
 }
 
-/// Takes the first `len` bytes out of any buffer, by a copy: a body for `copy_out`. A refusal has
-/// taken none, or all. `remaining` tests the condition.
+/// Takes the first `len` bytes out of any buffer by a copy: a body for `copy_out`. Requires that
+/// `len` is at most `remaining()` (test: `remaining`). Fails with `CopyRefused` if memory is
+/// refused; then it has taken none of them, or all `len`.
 pub fn copy_out_of<B: Buf>(buf: &mut B, alloc: Global, len: usize) -> Result<Bytes, CopyRefused>
     requires { len ≤ length (B.unread buf.old) }
     ensures value { IfOk result (λ copy. copy ≡ take len (B.unread buf.old)) }
@@ -120,8 +125,8 @@ pub fn copy_out_of<B: Buf>(buf: &mut B, alloc: Global, len: usize) -> Result<Byt
     }
 }
 
-/// Shows bytes that lie together in the first place of a table, and returns how many places it
-/// filled: a body for `chunks_into` where one slice is all there is.
+/// Puts `bytes` into the first place of `dst`, if neither is empty, and returns how many places it
+/// filled: a body for `chunks_into` of a buffer with one slice.
 pub fn slice_into<'s>(bytes: &'s [u8], dst: &mut [&'s [u8]]) -> usize
     ensures fills { FillsTable result dst.old dst.new bytes.now }
     ensures one { result ≤ 1 }

@@ -1,22 +1,24 @@
-//! What is told where a call is refused.
+//! Errors of refused calls.
 
 mod convert;
 mod show;
+#[cfg(test)]
+mod tests;
 
-/// Why a call was refused.
+/// Why a call failed.
 #[derive(Clone, Copy, Debug, Eq, PartialEq)]
 pub enum Reason {
-    /// A request for memory was refused. A length that no allocation can have counts as one.
+    /// Memory was refused, or a length is more than any allocation may have.
     OutOfMemory = 1,
-    /// A sum of lengths passes `usize::MAX`, or a frame is longer than a reader of frames allows.
+    /// A sum of lengths exceeds `usize::MAX`, or a frame is longer than its reader allows.
     TooLong = 2,
 }
 
-/// A refusal that hands back what was handed in.
+/// The error of a call that gives back the value it did not accept.
 #[derive(Debug, Drop)]
 pub struct Refused<T> {
-    /// Why it was refused.
+    /// Why the call failed.
     pub reason: Reason,
-    /// What was handed in.
+    /// The value that was not accepted.
     pub back: T,
 }

@@ -1,4 +1,4 @@
-//! Many buffers that read as one.
+//! `SegmentedBuf` and `SegmentedSlice`: many buffers that read as one.
 mod buf;
 mod copy;
 mod fill;
@@ -7,6 +7,8 @@ mod place;
 mod slice;
 mod sum;
 mod tally;
+#[cfg(test)]
+mod tests;
 mod walk;
 
 pub use buf::{Chunks, SegmentedBuf};

@@ -1,4 +1,4 @@
--- Replies that are right for a call, whatever the buffer holds, and that memory didn't refuse.
+-- Replies that are right for a call on any buffer, with memory never refused.
 use Rattle.std.proofs.Common.{◌≡◌, inl, inr, refl, sym, ap, subst, ◌∙◌, ℕ, zero, suc, ◌+◌, ◌-◌, ◌*◌, ◌<◌, ◌≤◌, ◌^◌, List, [], ◌∷◌, ◌++◌, length, take, drop, get_or, map, false, length-append, length-take, length-drop, take-append-drop, take_at, append_assoc, append-nil, arith, All}
 use Rattle.std.specs.Global.{Vec}
 use Rattle.std.specs.List.{concat}
@@ -18,11 +18,11 @@ use Rattle.bytes_utils_run.specs.declared.calls.ReadCall.TheVariants.{Remaining,
 use Rattle.bytes_utils_run.specs.declared.calls.Reply.{Reply}
 use Rattle.bytes_utils_run.specs.declared.calls.Reply.TheVariants.{Done, PastEnd, TooLong, Number, Piece, Shown, Slices}
 
--- a vector of these elements, of the kind of another
+-- a vector of these elements, with the pointer and allocator of another
 abbrev vec_of : {X Y : Type 0} (like : Vec Y) (xs : List X) → length xs < 2 ^ 63 → Vec X
 vec_of like xs fits = record { ptr = like.ptr; len = length xs; cap = length xs; alloc = like.alloc; items = xs; ok = (refl, omega arith); small = fits }
 
--- Slices of any bytes: at most n, each of at most four bytes, and all of the bytes where they are fewer than n.
+-- Slices of any bytes: at most n, each of at most four bytes, and all of the bytes if there are fewer than n slices.
 pieces : ℕ → List ℕ → List (List ℕ)
 pieces zero xs = []
 pieces (suc n) [] = []
@@ -46,7 +46,7 @@ pieces-size zero xs = omega arith
 pieces-size (suc n) [] = omega arith
 pieces-size (suc n) (x ∷ xs) = let more = pieces-size n (drop 3 xs) in omega (arith, more, length-drop 3 xs)
 
--- what no slice has, which is nothing where there are fewer slices than n
+-- the bytes that are in no slice: none if there are fewer slices than n
 pieces-rest : (n : ℕ) (xs : List ℕ) → (rest : List ℕ) × (concat (pieces n xs) ++ rest ≡ xs) × (length (pieces n xs) < n → rest ≡ [])
 unfolding pieces
 pieces-rest zero xs = (xs, refl, λ few. absurd (omega (arith, few)))
@@ -69,17 +69,17 @@ AreSlices-pieces n xs =
       whole = λ few. sym (append-nil all) ∙ ap (λ z. all ++ z) (sym (rest.2 few)) ∙ rest.1;
     }
 
--- where a skip of m bytes comes to: how many lists are passed, and how many bytes of the next one
+-- where a skip of m bytes ends: the number of lists passed, and the number of bytes skipped of the next one
 place : (lists : List (List ℕ)) (m : ℕ) → m ≤ length (concat lists)
     → (p : ℕ) × (n : ℕ) × (p ≤ length lists) × (length (concat (take p lists)) + n ≡ m) × (p < length lists → n < length (get_or lists p []))
 place [] m le = (0, m, omega arith, omega arith, λ l. absurd (omega (arith, l)))
 place (list ∷ lists) m le = elim (cases_lt m (length list)) [
   | inl inside ↦ (0, m, omega arith, omega arith, λ l. inside)
-  | inr behind ↦ (let found = place lists (m - length list) (omega (arith, behind, le, length-append list (concat lists))) in (
+  | inr following ↦ (let found = place lists (m - length list) (omega (arith, following, le, length-append list (concat lists))) in (
     suc found.0,
     found.1,
     omega (arith, found.2),
-    omega (arith, found.3, behind, length-append list (concat (take found.0 lists))),
+    omega (arith, found.3, following, length-append list (concat (take found.0 lists))),
     λ l. found.4 (omega (arith, l)),
   ))
 ]
@@ -92,7 +92,7 @@ skip lists m le =
 abbrev IsWhole : Reply → Type 0
 IsWhole reply = lacks_memory reply ≡ false
 
--- a reply that is right for the call, not for want of memory, and what it leaves
+-- a reply that is right for the call and doesn't say that memory was refused, and the state after it
 record Ample (call : Call (List ℕ)) (old : Held) : Type 0 where
   reply : Reply
   next : Held
@@ -100,7 +100,7 @@ record Ample (call : Call (List ℕ)) (old : Held) : Type 0 where
   whole : IsWhole reply
   fits : Fits next.segments
 
--- one call counted, and so many advances in it, with the turns of those that left these segments
+-- one call counted, with `advances` advances in it and the turns of a call that left these segments
 abbrev counted : ℕ → Held → List (List ℕ) → Held
 counted advances old segments =
     record {
@@ -117,7 +117,7 @@ cost-counted : (n advances : ℕ) (old : Held) (segments : List (List ℕ)) → 
     → lined_up segments (counted advances old segments).tally ≡ lined_up old.segments old.tally
 cost-counted n advances old segments skips = omega (arith, length-Skips n old.segments segments skips)
 
--- how many advances a copy of n bytes may be counted with
+-- the number of advances that a copy of n bytes may be counted with
 copies : (n : ℕ) (old : Held) (segments : List (List ℕ)) → Skips n old.segments segments → (advances : ℕ) × CountsCopyOf n n old (counted advances old segments)
 copies n old segments skips = elim (cases_lt (length (front_of old.segments)) n) [
   | inl across ↦ (
@@ -211,7 +211,7 @@ module _ {Y : Type 0} (like : Vec Y) where
         fits = fits;
       }
 
-  -- a run of calls whose replies are all right and not for want of memory
+  -- a run of calls whose replies are all right, and none says that memory was refused
   ample-run : (calls : List (Call (List ℕ))) (old : Held) → Fits old.segments
       → (replies : List Reply) × (left : Held) × IsRun (IsCall (λ bytes. bytes)) calls old replies left × All IsWhole replies × (length replies ≡ length calls)
   ample-run [] old fits = ([], old, refl, All-nil IsWhole, refl)
@@ -220,7 +220,8 @@ module _ {Y : Type 0} (like : Vec Y) where
       let more = ample-run calls one.next one.fits in
       (one.reply ∷ more.0, more.1, (one.next, one.is, more.2), All-cons IsWhole one.reply more.0 one.whole more.3, ap suc more.4)
 
-  -- A run whose first replies, up to some place, aren't for want of memory: with others behind those it's a whole run without any such.
+  -- If the first `count` replies of a run don't say that memory was refused, a whole run without such a reply begins
+  -- with them.
   pub stopped : (calls : List (Call (List ℕ))) (old : Held) (replies : List Reply) (left : Held) → IsRun (IsCall (λ bytes. bytes)) calls old replies left
       → Fits old.segments → (count : ℕ) → count < length replies → All IsWhole (take count replies)
       → (others : List Reply) × (0 < length others) × (end : Held) × IsRun (IsCall (λ bytes. bytes)) calls old (take count replies ++ others) end

@@ -1,8 +1,8 @@
--- What an input asks for, by way of the request that was read from it.
+-- What an input asks for, by the request that was read from it.
 use Rattle.std.proofs.Common.{◌≡◌, refl, sym, subst, ℕ, List, ◌++◌, Option, None, Some, map}
 use Rattle.std.proofs.lemmas.List.Folds.{concat-append}
 use Rattle.std.specs.List.{concat}
-use Rattle.bytes_utils.specs.Lines.{text_behind}
+use Rattle.bytes_utils.specs.Lines.{text_after}
 use Rattle.bytes_utils.specs.Outcome.{Outcome}
 use Rattle.bytes_utils_run.specs.Command.{IsCommand, command_line}
 use Rattle.bytes_utils_run.specs.Cutting.{Cutting, ArePartsBy}
@@ -11,11 +11,11 @@ use Rattle.bytes_utils_run.specs.Printed.{printed_part, printed_reply}
 use Rattle.bytes_utils_run.specs.Request.{AreAskedFor, AreReplies, ForParts, ForReplies, IsRequest}
 use Rattle.bytes_utils_run.specs.Run.{AsksFor}
 use Rattle.bytes_utils_run.proofs.Beginnings.{AppendsBeginning-more}
-use Rattle.bytes_utils_run.proofs.Outcomes.{Outcome-map}
+use Rattle.bytes_utils_run.proofs.OutcomeLemmas.{Outcome-map}
 use Rattle.bytes_utils_run.specs.declared.calls.Call.{Call}
 use Rattle.bytes_utils_run.specs.declared.calls.Reply.{Reply}
 
--- a list that is to come is right for this way to cut
+-- a list that is still to come is right for this way to split
 pub Outcome-parts : {E : Type 0} (way : Cutting) (line text : List ℕ) → IsCommand way line
     → (coming : List (List ℕ) → Type 0) → ((parts : List (List ℕ)) → coming parts → ArePartsBy way text parts)
     → (parts : List (List ℕ)) (refused : Option E) → Outcome coming parts refused
@@ -30,14 +30,14 @@ pub Outcome-replies : {E : Type 0} (calls : List (Call (List ℕ))) (line text :
 Outcome-replies calls line text asked given refused are =
     Outcome-map printed_reply (AreReplies calls) (AreAskedFor line text) (λ all is. record { request = ForReplies calls; is = asked; right = (all, is, refl) }) given refused are
 
--- what came of a line and a text is what came of the input that has them
-pub Outcome-input : {E : Type 0} (input line text : List ℕ) → line ≡ command_line input → text ≡ text_behind input
+-- the outcome for a line and a text is the outcome for the input that has them
+pub Outcome-input : {E : Type 0} (input line text : List ℕ) → line ≡ command_line input → text ≡ text_after input
     → (entries : List (List ℕ)) (refused : Option E) → Outcome (AreAskedFor line text) entries refused → Outcome (AsksFor input) entries refused
 Outcome-input input line text line_is text_is entries refused are =
-    subst (λ l. Outcome (AreAskedFor l (text_behind input)) entries refused) line_is
+    subst (λ l. Outcome (AreAskedFor l (text_after input)) entries refused) line_is
     (subst (λ t. Outcome (AreAskedFor line t) entries refused) text_is are)
 
--- a beginning of what was given is one of what is right for the whole
+-- first bytes of what was given are first bytes of a list that is right for the whole
 pub begun-asked : {E : Type 0} (Is : List (List ℕ) → Type 0) (given : List (List ℕ)) (refused : Option E) → Outcome Is given refused
     → (a b : Option (List ℕ)) → AppendsBeginning a b (concat given) → (all : List (List ℕ)) × Is all × AppendsBeginning a b (concat all)
 begun-asked Is given None is a b begun = (given, is, begun)

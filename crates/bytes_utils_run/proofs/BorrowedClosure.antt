@@ -4,19 +4,19 @@ use Rattle.std.specs.Str.{chars, NonePass}
 use Rattle.std.specs.Str.Pattern.{FindsBy, IsSplitAtFirstMatch}
 use Rattle.std.specs.Str.Iter.{split_steps, split_text, split_has_more, split_pattern}
 use Rattle.std.specs.declared.str.Split.{Split}
-use Rattle.bytes_utils.proofs.Words.{NonePass-chars}
+use Rattle.bytes_utils.proofs.WordsLemmas.{NonePass-chars}
 use Rattle.bytes_utils_run.specs.Borrowed.{ArePartsByTest, GivesParts, finds_tested, keeps_tested}
 use Rattle.bytes_utils_run.proofs.BorrowedCuts.{IsCutBy-from_finds}
 use Rattle.bytes_utils_run.proofs.BorrowedParts.{Leads, Leads-first_part, Leads-last_part, split-gives_by}
 
 module _ (passes : ℕ → Bool) where
-  -- a character that passes stands behind the first part
+  -- a character that passes follows the first part
   ByTest-more : (t part rest : List ℕ) (c : ℕ) → t ≡ part ++ c ∷ rest → passes c ≡ true → NonePass passes part → (others : List (List ℕ)) → ArePartsByTest passes rest others
       → ArePartsByTest passes t (part ∷ others)
   ByTest-more t part rest c whole passing none [] are = absurd are
   ByTest-more t part rest c whole passing none (next ∷ others) are = (c, rest, whole, passing, none, are)
 
-  -- any other stands at the front of the first part
+  -- any other character is the first of the first part
   ByTest-led : (c : ℕ) (t : List ℕ) → passes c ≡ false → (parts : List (List ℕ)) × ArePartsByTest passes t parts → (parts : List (List ℕ)) × ArePartsByTest passes (c ∷ t) parts
   ByTest-led c t other ([], are) = absurd are
   ByTest-led c t other ((part ∷ []), are) = ((c ∷ part) ∷ [], (ap (λ z. c ∷ z) are.0, (other, are.1)))
@@ -31,7 +31,7 @@ module _ (passes : ℕ → Bool) where
   has_tested [] = ([] ∷ [], (refl, tt))
   has_tested (c ∷ t) = ByTest-cons c t (passes c) refl (has_tested t)
 
-  -- whatever the limit
+  -- the same, with a limit that is ignored
   abbrev by_test : List ℕ → Option ℕ → List (List ℕ) → Type 0
   by_test t limit parts = ArePartsByTest passes t parts
 
@@ -50,10 +50,10 @@ module _ (passes : ℕ → Bool) where
           let whole : chars text ≡ chars part ++ at.character ∷ chars rest =
           at.whole ∙ ap (λ z. chars z ++ at.character ∷ chars (drop j text)) (sym cut_is.0) ∙ ap (λ z. chars part ++ at.character ∷ chars z) (sym cut_is.2) in
           let none : NonePass passes (chars part) = subst (λ z. NonePass passes (chars z)) (sym cut_is.0) at.before_none in
-          Leads-first_part by_test text part live rest None cut_is.1 (subst IsUtf8 (sym cut_is.2) at.behind_is)
+          Leads-first_part by_test text part live rest None cut_is.1 (subst IsUtf8 (sym cut_is.2) at.after_is)
           (ByTest-more (chars text) (chars part) (chars rest) at.character whole at.passing none)
 
-  -- a closure that answers by the test
+  -- a closure that returns the result of the test
   pub split_tested-gives : {F : Type 0} (answers : F → (ℕ → Bool) → Type 0) (s : Split F) (text : List ℕ) → split_text s ≡ text → split_has_more s ≡ true → IsUtf8 text
       → answers (split_pattern s) passes → GivesParts (split_steps (finds_tested answers) (keeps_tested answers)) s (ArePartsByTest passes (chars text))
   split_tested-gives answers = split-gives_by (finds_tested answers) (keeps_tested answers) (λ f. answers f passes) by_test has_tested

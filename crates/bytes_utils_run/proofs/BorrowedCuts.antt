@@ -1,4 +1,4 @@
--- Where std's patterns find a separator in a text, by characters.
+-- The places where std's patterns find a separator in a text, by characters.
 use Rattle.std.proofs.Common.{◌≡◌, refl, sym, ap, subst, ◌∙◌, ℕ, zero, suc, ◌+◌, ◌<◌, ◌≤◌, ◌==◌, List, [], ◌∷◌, ◌++◌, Bool, true, Option, None, Some, MatchOption, length, take, drop, take-append-drop, append-nil, arith, IsUtf8, eqb-true, eq-eqb}
 use Rattle.std.proofs.lemmas.Bool.{eqb-false}
 use Rattle.std.proofs.lemmas.Str.{IsUtf8-take, IsUtf8-drop, IsUtf8-past_char, chars_past_char, encodes-chars, len_utf8_bounds}
@@ -9,37 +9,37 @@ use Rattle.std.specs.Str.Pattern.{HasTextAt, LacksTextAt, FindsText, RFindsText,
 use Rattle.bytes_utils.specs.Text.{byte_place}
 use Rattle.bytes_utils.specs.Occurrence.{OccursAt, Occurs, OccursFirstAt, OccursLastAt}
 use Rattle.bytes_utils.proofs.Boundaries.{HasNeedleAt-from_occurs, OccursAt-fits}
-use Rattle.bytes_utils.proofs.Occurrences.{OccursAt-between}
-use Rattle.bytes_utils.proofs.Search.{chars-some, law, in_chars}
+use Rattle.bytes_utils.proofs.OccurrenceLemmas.{OccursAt-between}
+use Rattle.bytes_utils.proofs.SearchLemmas.{chars-some, law, in_chars}
 use Rattle.bytes_utils.proofs.Places.{byte_place-less}
-use Rattle.bytes_utils.proofs.PartCut.{end_boundary, next_boundary, chars_before, chars_behind}
-use Rattle.bytes_utils.proofs.Words.{NonePass-chars}
+use Rattle.bytes_utils.proofs.PartCut.{end_boundary, next_boundary, chars_before, chars_after}
+use Rattle.bytes_utils.proofs.WordsLemmas.{NonePass-chars}
 use Rattle.bytes_utils_run.specs.Borrowed.{finds_text, rfinds_text, keeps_text, keeps_character, finds_tested, keeps_tested}
 use Rattle.bytes_utils_run.proofs.TextBeginnings.{between}
 
--- p occurs in the characters of the text from byte i to byte j, at the place of which Best holds, and the text may be cut at both
+-- p occurs in the characters of the text from byte i to byte j, at the place of which Best holds, and both are character boundaries
 pub record IsCutAt (Best : List ℕ → List ℕ → ℕ → Type 0) (p text : List ℕ) (i j : ℕ) : Type 0 where
   pub place : ℕ
   pub found : Best p (chars text) place
   pub longer : i < j
   pub fits : j ≤ length text
   pub before_is : IsUtf8 (take i text)
-  pub behind_is : IsUtf8 (drop j text)
+  pub after_is : IsUtf8 (drop j text)
   pub before : chars (take i text) ≡ take place (chars text)
-  pub behind : chars (drop j text) ≡ drop (place + length p) (chars text)
+  pub following : chars (drop j text) ≡ drop (place + length p) (chars text)
 
--- what was found is such a cut, or p occurs nowhere
+-- what was found is such a place, or p does not occur
 abbrev pub FindsCut : (List ℕ → List ℕ → ℕ → Type 0) → List ℕ → List ℕ → Option (ℕ × ℕ) → Type 0
 FindsCut Best p text found = MatchOption found (¬ Occurs p (chars text)) (λ ends. IsCutAt Best p text ends.0 ends.1)
 
--- the first place, and the last
+-- the first place, and the last place
 abbrev pub First : List ℕ → List ℕ → ℕ → Type 0
 First p t i = OccursFirstAt p t i
 
 abbrev pub Last : List ℕ → List ℕ → ℕ → Type 0
 Last p t i = OccursLastAt p t i
 
--- patterns of which `is` holds find p, and `is` holds of what a search leaves of them
+-- patterns of which `is` holds find p, and a search keeps `is`
 pub record Seeks {P : Type 0} (finds : P → List ℕ → Option (ℕ × ℕ) → Type 0) (keeps : P → P → Type 0) (Best : List ℕ → List ℕ → ℕ → Type 0) (p : List ℕ) (is : P → Type 0) : Type 0 where
   pub cuts : (pattern : P) (text : List ℕ) (found : Option (ℕ × ℕ)) → is pattern → IsUtf8 text → finds pattern text found → FindsCut Best p text found
   pub kept : (pattern after : P) → is pattern → keeps pattern after → is after
@@ -51,11 +51,11 @@ module _ (text sep : List ℕ) (text_is : IsUtf8 text) (sep_is : IsUtf8 sep) (so
   abbrev place_of : ℕ → ℕ
   place_of = byte_place (chars text)
 
-  -- what `str` says that bytes have, they have
+  -- if `str` finds a text in the bytes, it occurs there
   has : (i j : ℕ) → HasTextAt sep text i j → OccursAt sep text i
   has i j here = ap (take (length sep)) here.split ∙ take-append_seam sep (drop j text)
 
-  -- and what they lack, its characters lack
+  -- if `str` finds none in the bytes, the characters have none
   lacks : (k : ℕ) → OccursAt (chars sep) (chars text) k → (place_of k ≤ length text → LacksTextAt sep text (place_of k)) → ⊥
   lacks k here none =
       let of_text = subst (λ z. OccursAt (encodes (chars sep)) z (place_of k)) (encodes-chars text text_is) ((law text sep text_is sep_is some (place_of k)).1 (k, refl, here)) in
@@ -81,12 +81,12 @@ module _ (text sep : List ℕ) (text_is : IsUtf8 text) (sep_is : IsUtf8 sep) (so
         longer = omega (arith, ends, some);
         fits = omega (arith, ends, fits);
         before_is = IsUtf8-take text i text_is (end_boundary text sep text_is sep_is i k place_is found);
-        behind_is = subst (λ n. IsUtf8 (drop n text)) (sym ends) (IsUtf8-drop text (i + length sep) text_is next);
+        after_is = subst (λ n. IsUtf8 (drop n text)) (sym ends) (IsUtf8-drop text (i + length sep) text_is next);
         before = chars_before text sep text_is sep_is i k place_is found (take i text) refl;
-        behind = chars_behind text sep text_is sep_is i k place_is found (drop j text) (ap (λ n. drop n text) ends);
+        following = chars_after text sep text_is sep_is i k place_is found (drop j text) (ap (λ n. drop n text) ends);
       }
 
-  -- what stands at a byte place stands at a place of the characters
+  -- a text that occurs at a byte place occurs at a place of the characters
   in_characters : (i j : ℕ) → HasTextAt sep text i j → (k : ℕ) × (i ≡ place_of k) × OccursAt (chars sep) (chars text) k
   in_characters i j here = in_chars text sep text_is sep_is some i (HasNeedleAt-from_occurs sep text i some (has i j here))
 
@@ -110,10 +110,10 @@ module _ (text sep : List ℕ) (text_is : IsUtf8 text) (sep_is : IsUtf8 sep) (so
       cut_at Last i j found.1 at.0 at.1 at.2
       (record {
         here = at.2;
-        none_behind = λ m there.
-            let not_behind : at.0 < m → ⊥ = λ less.
+        none_after = λ m there.
+            let not_after : at.0 < m → ⊥ = λ less.
             lacks m there (λ fits. found.0 (place_of m) (omega (arith, at.1, byte_place-less (chars text) at.0 m less (chars_fit m there))) fits) in
-            omega (arith, not_behind);
+            omega (arith, not_after);
       })
 
 module _ (sep : List ℕ) (sep_is : IsUtf8 sep) (some : 0 < length sep) where
@@ -131,14 +131,14 @@ module _ (sep : List ℕ) (sep_is : IsUtf8 sep) (some : 0 < length sep) where
 
 -- ---- a test of characters as the pattern
 
--- the first character of the text that passes the test stands from byte i to byte j, and the text may be cut at both
+-- the first character of the text that passes the test is from byte i to byte j, and both are character boundaries
 pub record IsCutBy (passes : ℕ → Bool) (text : List ℕ) (i j : ℕ) : Type 0 where
   pub character : ℕ
   pub passing : passes character ≡ true
   pub longer : i < j
   pub fits : j ≤ length text
   pub before_is : IsUtf8 (take i text)
-  pub behind_is : IsUtf8 (drop j text)
+  pub after_is : IsUtf8 (drop j text)
   pub before_none : NonePass passes (chars (take i text))
   pub whole : chars text ≡ chars (take i text) ++ character ∷ chars (drop j text)
 
@@ -157,12 +157,12 @@ IsCutBy-from_finds passes text i j text_is found =
       longer = omega (arith, ends, len_utf8_bounds c);
       fits = omega (arith, ends, fits);
       before_is = parts.0;
-      behind_is = IsUtf8-past_char (drop i text) (drop j text) c parts.1 at.split;
+      after_is = IsUtf8-past_char (drop i text) (drop j text) c parts.1 at.split;
       before_none = subst (NonePass passes) (sym parts.3) none.2;
       whole = parts.2 ∙ ap (λ z. chars (take i text) ++ z) (chars_past_char (drop i text) (drop j text) c parts.1 at.split);
     }
 
--- where no character in front is c, c stands behind them at the earliest
+-- if no character of `front` is c, c occurs after `front` at the earliest
 none_before : (c : ℕ) (front back : List ℕ) (k : ℕ) → NonePass (λ d. d == c) front → OccursAt (c ∷ []) (front ++ back) k → length front ≤ k
 none_before c [] back k none here = omega arith
 none_before c (d ∷ front) back zero none here =
@@ -193,16 +193,16 @@ module _ (c : ℕ) (text : List ℕ) (text_is : IsUtf8 text) where
         longer = cut.longer;
         fits = cut.fits;
         before_is = cut.before_is;
-        behind_is = cut.behind_is;
+        after_is = cut.after_is;
         before = sym (ap (take (length front)) whole ∙ take_at front ((c ∷ []) ++ back) (length front) refl);
-        behind = sym (ap (drop (length front + 1)) whole ∙ drop-append-add front ((c ∷ []) ++ back) 1);
+        following = sym (ap (drop (length front + 1)) whole ∙ drop-append-add front ((c ∷ []) ++ back) 1);
       }
 
   finds_character : (found : Option (ℕ × ℕ)) → FindsBy (λ d. d == c) text found → FindsCut First (c ∷ []) text found
   finds_character None nowhere = lacks_character nowhere
   finds_character (Some (i, j)) found = cut_at_character i j (IsCutBy-from_finds (λ d. d == c) text i j text_is found)
 
--- what is found as a character is found by the test for it
+-- what a character finds as a pattern, the test for it finds
 FindsBy-from_character : (c : ℕ) (text : List ℕ) (found : Option (ℕ × ℕ)) → FindsChar c text found → FindsBy (λ d. d == c) text found
 FindsBy-from_character c text None nowhere = nowhere
 FindsBy-from_character c text (Some ends) found = (found.0, (c, eq-eqb c c refl, found.1))

@@ -11,7 +11,7 @@ use Rattle.bytes_utils.specs.Occurrence.{Occurs}
 use Rattle.bytes_utils.specs.Parts.{AreInclusiveParts, EndsAtFirst}
 use Rattle.bytes_utils.proofs.Boundaries.{OccursAt-fits}
 use Rattle.bytes_utils.proofs.Inclusive.{AreInclusiveParts-none, AreInclusiveParts-more, AreInclusiveParts-last, ends_whole, has_inclusive_parts}
-use Rattle.bytes_utils.proofs.Search.{chars-some}
+use Rattle.bytes_utils.proofs.SearchLemmas.{chars-some}
 use Rattle.bytes_utils.proofs.Unique.{inclusive_same}
 use Rattle.bytes_utils_run.specs.Borrowed.{GivesParts}
 use Rattle.bytes_utils_run.proofs.BorrowedRuns.{GivesParts-from_steps}
@@ -26,11 +26,11 @@ none_to_come p [] none = subst (λ z. AreInclusiveParts z p []) (sym chars-nil) 
 none_to_come p (b ∷ text) none = absurd (omega (arith, none))
 
 module _ (p : List ℕ) (some : 0 < length p) where
-  -- what is left behind a part is text, and its parts go on from that part
+  -- what is left after a part is text, and its parts follow that part
   abbrev Follows : List ℕ → List ℕ → List ℕ → Type 0
   Follows text part rest = IsUtf8 rest × ((others : List (List ℕ)) → AreInclusiveParts (chars rest) p others → AreInclusiveParts (chars text) p (chars part ∷ others))
 
-  -- the last part is all
+  -- the last part is all of the text
   Follows-last : (text part rest : List ℕ) → IsUtf8 text → text ≡ part ++ rest → part ≡ text → 0 < length text → EndsAtFirst p (chars text) ⊎ (¬ Occurs p (chars text)) → Follows text part rest
   Follows-last text part rest text_is whole part_is long ends = empty rest (omega (arith, ap length whole, length-append part rest, ap length part_is))
     where
@@ -44,28 +44,28 @@ module _ (p : List ℕ) (some : 0 < length p) where
       empty (b ∷ r) e = absurd (omega (arith, e))
 
   module _ (text : List ℕ) (text_is : IsUtf8 text) (i j : ℕ) (cut : IsCutAt First p text i j) where
-    -- the characters up to the end of the separator, and those behind it
+    -- the characters up to the end of the separator, and those after it
     parted : chars text ≡ chars (take j text) ++ chars (drop j text)
     parted =
-        let boundary = IsCharBoundary-from_drop text j cut.fits cut.behind_is in
+        let boundary = IsCharBoundary-from_drop text j cut.fits cut.after_is in
         ap chars (sym (take-append-drop j text)) ∙ chars-append (take j text) (drop j text) (IsUtf8-take text j text_is boundary)
 
-    size_behind : length (chars (drop j text)) + (cut.place + length p) ≡ length (chars text)
-    size_behind =
+    size_after : length (chars (drop j text)) + (cut.place + length p) ≡ length (chars text)
+    size_after =
         let fits = OccursAt-fits p (chars text) cut.place some cut.found.here in
-        omega (arith, fits, ap length cut.behind, length-drop (cut.place + length p) (chars text))
+        omega (arith, fits, ap length cut.following, length-drop (cut.place + length p) (chars text))
 
     through : chars (take j text) ≡ take (cut.place + length p) (chars text)
     through =
         let sizes = ap length parted ∙ length-append (chars (take j text)) (chars (drop j text)) in
-        let size : length (chars (take j text)) ≡ cut.place + length p = omega (arith, sizes, size_behind) in
+        let size : length (chars (take j text)) ≡ cut.place + length p = omega (arith, sizes, size_after) in
         sym (ap (take (cut.place + length p)) parted ∙ take_at (chars (take j text)) (chars (drop j text)) (cut.place + length p) size)
 
     -- a separator at the end of the text ends the last part
     at_end : j ≡ length text → EndsAtFirst p (chars text)
     at_end end =
         let nothing : length (drop j text) ≡ 0 = omega (arith, length-drop j text, end) in
-        ends_whole p (chars text) cut.place cut.found (omega (arith, size_behind, no_characters (drop j text) nothing))
+        ends_whole p (chars text) cut.place cut.found (omega (arith, size_after, no_characters (drop j text) nothing))
       where
         no_characters : (r : List ℕ) → length r ≡ 0 → length (chars r) ≡ 0
         no_characters [] e = ap length chars-nil
@@ -81,12 +81,12 @@ module _ (p : List ℕ) (some : 0 < length p) where
         either (inr less) =
             let size : length part ≡ j = ap length part_is ∙ length-take-le j text cut.fits in
             let rest_is : rest ≡ drop j text = sym (ap (drop j) whole ∙ drop_at part rest j size) in
-            let long : 0 < length (chars (drop j text)) = chars-some (drop j text) cut.behind_is (omega (arith, length-drop j text, less)) in (
-              subst IsUtf8 (sym rest_is) cut.behind_is,
+            let long : 0 < length (chars (drop j text)) = chars-some (drop j text) cut.after_is (omega (arith, length-drop j text, less)) in (
+              subst IsUtf8 (sym rest_is) cut.after_is,
               λ others are.
-                  let behind = subst (λ z. AreInclusiveParts z p others) (ap chars rest_is ∙ cut.behind) are in
+                  let following = subst (λ z. AreInclusiveParts z p others) (ap chars rest_is ∙ cut.following) are in
                   subst (λ z. AreInclusiveParts (chars text) p (z ∷ others)) (sym (ap chars part_is ∙ through))
-                  (AreInclusiveParts-more p (chars text) cut.place some cut.found (omega (arith, size_behind, long)) others behind),
+                  (AreInclusiveParts-more p (chars text) cut.place some cut.found (omega (arith, size_after, long)) others following),
             )
 
   follows : (text part rest : List ℕ) (F : List ℕ → Option (ℕ × ℕ) → Type 0) → ((found : Option (ℕ × ℕ)) → F text found → FindsCut First p text found)

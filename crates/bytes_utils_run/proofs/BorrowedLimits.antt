@@ -14,7 +14,7 @@ use Rattle.bytes_utils_run.proofs.BorrowedRuns.{GivesParts-from_steps, GivesPart
 use Rattle.bytes_utils_run.proofs.BorrowedCuts.{First, Last, Seeks}
 use Rattle.bytes_utils_run.proofs.BorrowedParts.{ToCome, some_to_come, Leads, Leads-first, Leads-last, IsLeft, from_front, from_back}
 
--- with a limit of n parts, of which m are left behind this one
+-- with a limit of n parts, of which m are left after this one
 module _ (Are : List ℕ → Option ℕ → List (List ℕ) → Type 0) (text part : List ℕ) (live : Bool) (rest : List ℕ) (n m : ℕ) (positive : 0 < n) (m_is : m ≡ n - 1)
     (alone : Are (chars text) (Some 1) (chars text ∷ [])) (whole : n ≡ 1 → part ≡ text) (cut : 1 < n → Leads Are text part live rest (Some n)) where
   limited-left : (nat_lt 0 m && live) ≡ true → IsUtf8 rest × (1 < n)
@@ -40,7 +40,7 @@ module _ (Are : List ℕ → Option ℕ → List (List ℕ) → Type 0) (text pa
           (subst (λ k. ToCome live (Are (chars rest) (Some k)) others) m_is
           (subst (λ b. ToCome (b && live) (Are (chars rest) (Some m)) others) some_left are))
 
--- at the start there is no part by a limit of 0, and else those to come
+-- at the start, a limit of 0 gives no part, and any other limit gives the parts to come
 at_start : (Are : Option ℕ → List (List ℕ) → Type 0) → ((parts : List (List ℕ)) → parts ≡ [] → Are (Some 0) parts)
     → (most : ℕ) (live : Bool) → live ≡ true → (parts : List (List ℕ)) → ToCome (nat_lt 0 most && live) (Are (Some most)) parts → Are (Some most) parts
 at_start Are none zero live more parts are = none parts are

@@ -10,12 +10,12 @@ use Rattle.std.specs.Str.Lines.{IsFirstLine, StripsCarriageReturn}
 use Rattle.std.specs.Str.Iter.{lines_steps, lines_rest}
 use Rattle.std.specs.declared.str.Lines.{Lines}
 use Rattle.bytes_utils.specs.Lines.{lines, line_feed, carriage_return}
-use Rattle.bytes_utils.proofs.Lines.{LacksFeed, lines-whole, lines-at_return, lines-at_feed, lines-none}
-use Rattle.bytes_utils.proofs.Words.{NonePass-chars}
+use Rattle.bytes_utils.proofs.LinesLemmas.{LacksFeed, lines-whole, lines-at_return, lines-at_feed, lines-none}
+use Rattle.bytes_utils.proofs.WordsLemmas.{NonePass-chars}
 use Rattle.bytes_utils_run.specs.Borrowed.{GivesParts}
 use Rattle.bytes_utils_run.proofs.BorrowedRuns.{GivesParts-from_steps}
 
--- where no character passes the test for a line feed, none is one
+-- if no character passes the test for a line feed, none is a line feed
 LacksFeed-from_none : (cs : List ℕ) → NonePass is_newline cs → LacksFeed cs
 LacksFeed-from_none [] none front back e = absurd (omega (arith, ap length e, length-append front (line_feed ∷ back)))
 LacksFeed-from_none (c ∷ cs) none [] back e = let is : c ≡ 10 = cc in eqb-false c 10 none.0 is
@@ -26,10 +26,10 @@ lacks_feed : (text : List ℕ) → IsUtf8 text → NoCharPasses is_newline text 
 lacks_feed text text_is none = LacksFeed-from_none (chars text) (NonePass-chars is_newline text text_is none)
 
 LacksFeed-front : (front back : List ℕ) → LacksFeed (front ++ back) → LacksFeed front
-LacksFeed-front front back lacks before behind e =
-    lacks before (behind ++ back) (ap (λ z. z ++ back) e ∙ append_assoc before (line_feed ∷ behind) back)
+LacksFeed-front front back lacks before following e =
+    lacks before (following ++ back) (ap (λ z. z ++ back) e ∙ append_assoc before (line_feed ∷ following) back)
 
--- bytes that end with a carriage return are of characters that do
+-- if bytes end with a carriage return, their characters do
 chars-with_return : (line : List ℕ) → IsUtf8 (line ++ carriage_return ∷ []) → chars (line ++ carriage_return ∷ []) ≡ chars line ++ carriage_return ∷ []
 unfolding chars
 chars-with_return line both_is =
@@ -57,7 +57,7 @@ module _ (text x rest : List ℕ) (text_is : IsUtf8 text) (some : 0 < length tex
       empty [] e = IsUtf8-nil
       empty (b ∷ r) e = absurd (omega (arith, e))
 
-  -- a line feed ends it
+  -- a line feed ends this line
   at_feed : first.0 < length text → IsUtf8 rest × (lines (chars text) ≡ chars x ∷ lines (chars rest))
   unfolding encode_utf8
   at_feed below =

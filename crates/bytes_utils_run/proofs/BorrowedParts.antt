@@ -15,23 +15,23 @@ use Rattle.bytes_utils_run.specs.Borrowed.{GivesParts}
 use Rattle.bytes_utils_run.proofs.BorrowedRuns.{GivesParts-from_steps}
 use Rattle.bytes_utils_run.proofs.BorrowedCuts.{FindsCut, First, Last, Seeks}
 
--- where more is to come, Is says which parts, and else none is
+-- if more is to come, the parts are right by Is; otherwise there are none
 abbrev pub ToCome : Bool → (List (List ℕ) → Type 0) → List (List ℕ) → Type 0
 ToCome live Is parts = MatchBool live (Is parts) (parts ≡ [])
 
--- some list is to come where there is one that is right
+-- some list is to come if there is a right one
 pub some_to_come : (live : Bool) (Is : List (List ℕ) → Type 0) → (parts : List (List ℕ)) × Is parts → (parts : List (List ℕ)) × ToCome live Is parts
 some_to_come true Is right = right
 some_to_come false Is right = ([], refl)
 
--- Are says which lists are the parts of a text by a limit. The text is left where another part comes, and each list of parts that is then
--- to come goes on from the part.
+-- By the relation Are, which says which lists are the parts of a text with a limit: if another part is to come, the rest is text, and each
+-- list of parts that is then to come follows this part.
 pub record Leads (Are : List ℕ → Option ℕ → List (List ℕ) → Type 0) (text part : List ℕ) (live : Bool) (rest : List ℕ) (limit : Option ℕ) : Type 0 where
   pub left : live ≡ true → IsUtf8 rest
   pub each : (others : List (List ℕ)) → ToCome live (Are (chars rest) (one_less limit)) others → Are (chars text) limit (chars part ∷ others)
 
 module _ (Are : List ℕ → Option ℕ → List (List ℕ) → Type 0) (text part : List ℕ) (live : Bool) (rest : List ℕ) (limit : Option ℕ) where
-  -- the part is all of the text, and no other comes
+  -- the part is all of the text, and no other part is to come
   pub Leads-last_part : live ≡ false → part ≡ text → Are (chars text) limit (chars text ∷ []) → Leads Are text part live rest limit
   Leads-last_part ends whole alone = record {
     left = λ goes_on. let both : true ≡ false = sym goes_on ∙ ends in cc;
@@ -85,8 +85,8 @@ module _ (p : List ℕ) (some : 0 < length p) where
               let longer = at.longer in
               let cut_is = is (omega (arith, longer)) in
               let part_chars : chars part ≡ take at.place (chars text) = ap chars cut_is.0 ∙ at.before in
-              let rest_chars : chars rest ≡ drop (at.place + length p) (chars text) = ap chars cut_is.2 ∙ at.behind in
-              Leads-first_part (from_front p) text part live rest limit cut_is.1 (subst IsUtf8 (sym cut_is.2) at.behind_is)
+              let rest_chars : chars rest ≡ drop (at.place + length p) (chars text) = ap chars cut_is.2 ∙ at.following in
+              Leads-first_part (from_front p) text part live rest limit cut_is.1 (subst IsUtf8 (sym cut_is.2) at.after_is)
               (λ others are. subst (λ z. from_front p (chars text) limit (z ∷ others)) (sym part_chars)
               (front_more (chars text) at.place at.found others (subst (λ z. from_front p z (one_less limit) others) rest_chars are)))
 
@@ -102,22 +102,22 @@ module _ (p : List ℕ) (some : 0 < length p) where
               let longer = at.longer in
               let fits = at.fits in
               let cut_is = is (omega (arith, longer, fits)) in
-              let part_chars : chars part ≡ drop (at.place + length p) (chars text) = ap chars cut_is.0 ∙ at.behind in
+              let part_chars : chars part ≡ drop (at.place + length p) (chars text) = ap chars cut_is.0 ∙ at.following in
               let rest_chars : chars rest ≡ take at.place (chars text) = ap chars cut_is.2 ∙ at.before in
               Leads-first_part (from_back p) text part live rest limit cut_is.1 (subst IsUtf8 (sym cut_is.2) at.before_is)
               (λ others are. subst (λ z. from_back p (chars text) limit (z ∷ others)) (sym part_chars)
               (back_more (chars text) at.place at.found others (subst (λ z. from_back p z (one_less limit) others) rest_chars are)))
 
--- where more is to come, what is left is text, and `is` holds of the pattern
+-- if more is to come, what is left is text, and `is` holds of the pattern
 abbrev pub IsLeft : {P : Type 0} → (P → Type 0) → Bool → List ℕ → P → Type 0
 IsLeft is live text pattern = live ≡ true → IsUtf8 text × is pattern
 
--- what is said of the parts to come, at the start, where more is to come
+-- at the start more is to come, so the parts to come are right by Is
 pub GivesParts-at_start : {S : Type 0} (steps : S → Option (Bor (List ℕ)) → S → Type 0) (s : S) (live : Bool) (Is : List (List ℕ) → Type 0) → live ≡ true
     → GivesParts steps s (ToCome live Is) → GivesParts steps s Is
 GivesParts-at_start steps s live Is more = subst (λ b. GivesParts steps s (ToCome b Is)) more
 
--- `str::split` by patterns of which `is` holds, where each cut at the first match leads to the others
+-- `str::split` by patterns of which `is` holds, if each split at the first match leads to the other parts
 module _ {P : Type 0} (finds : P → List ℕ → Option (ℕ × ℕ) → Type 0) (keeps : P → P → Type 0) (is : P → Type 0) (Are : List ℕ → Option ℕ → List (List ℕ) → Type 0)
     (has : (t : List ℕ) → (parts : List (List ℕ)) × Are t None parts) (kept : (pattern after : P) → is pattern → keeps pattern after → is after)
     (leads : (pattern : P) (text part : List ℕ) (live : Bool) (rest : List ℕ) → is pattern → IsUtf8 text → IsSplitAtFirstMatch (finds pattern) text part live rest → Leads Are text part live rest None) where

@@ -4,12 +4,12 @@ use Rattle.std.specs.Iterator.{Yields}
 use Rattle.std.specs.Str.{chars}
 use Rattle.bytes_utils_run.specs.Borrowed.{characters_of, GivesParts}
 
--- `is s` holds of each state; `coming s parts` says that these parts are to come, and some list of them always is
+-- `is s` holds of each state; `coming s parts` says that these parts are to come, and there is always such a list
 module _ {S : Type 0} (steps : S → Option (Bor (List ℕ)) → S → Type 0) (is : S → Type 0) (coming : S → List (List ℕ) → Type 0)
     (some : (s : S) → is s → (parts : List (List ℕ)) × coming s parts)
     (last : (s u : S) → is s → steps s None u → coming s [])
     (first : (s t : S) (x : Bor (List ℕ)) → is s → steps s (Some x) t → is t × ((others : List (List ℕ)) → coming t others → coming s (chars x.now ∷ others))) where
-  -- the items so far, and behind them whatever is then to come
+  -- the items so far, followed by whatever is then to come
   along : (s t : S) (items : List (Bor (List ℕ))) → is s → Yields steps s items t
       → is t × ((others : List (List ℕ)) → coming t others → coming s (characters_of items ++ others))
   along s t [] s_is run = (subst is run s_is, λ others are. subst (λ z. coming z others) (sym run) are)
@@ -29,7 +29,7 @@ module _ {S : Type 0} (steps : S → Option (Bor (List ℕ)) → S → Type 0) (
         (more.0, so_far.1 more.0 more.1);
   }
 
--- what holds of each list that is right holds of those that are given
+-- what holds of each right list holds of the lists that are given
 pub GivesParts-map : {S : Type 0} (steps : S → Option (Bor (List ℕ)) → S → Type 0) (s : S) (Is Are : List (List ℕ) → Type 0) → ((parts : List (List ℕ)) → Is parts → Are parts)
     → GivesParts steps s Is → GivesParts steps s Are
 GivesParts-map steps s Is Are each gives = record {

@@ -10,29 +10,29 @@ use Rattle.std.specs.Str.Iter.{split_whitespace_steps, split_whitespace_rest, sp
 use Rattle.std.specs.declared.str.SplitWhitespace.{SplitWhitespace}
 use Rattle.std.specs.declared.str.SplitAsciiWhitespace.{SplitAscii}
 use Rattle.bytes_utils.specs.Words.{words, ends_word}
-use Rattle.bytes_utils.proofs.Search.{chars-some}
-use Rattle.bytes_utils.proofs.Words.{is_other, words-none, words-behind_space, words-run}
+use Rattle.bytes_utils.proofs.SearchLemmas.{chars-some}
+use Rattle.bytes_utils.proofs.WordsLemmas.{is_other, words-none, words-after_space, words-run}
 use Rattle.bytes_utils_run.specs.Borrowed.{GivesParts}
 use Rattle.bytes_utils_run.proofs.BorrowedRuns.{GivesParts-from_steps}
-use Rattle.bytes_utils_run.proofs.TextBeginnings.{behind, between}
+use Rattle.bytes_utils_run.proofs.TextBeginnings.{following, between}
 use Rattle.bytes_utils_run.proofs.WordRuns.{NonePass-spaces}
 
 module _ (is_space : ℕ → Bool) where
-  -- what is behind a word
+  -- what follows a word ends it
   ends-from_passing : (rest more : List ℕ) → IsUtf8 rest → EmptyOrStartsWithPassing is_space rest more → ends_word is_space (chars rest) ≡ true
   ends-from_passing [] more rest_is starts = ap (ends_word is_space) chars-nil
   ends-from_passing (b ∷ rest) more rest_is starts =
       let first = starts (omega arith) in
       ap (ends_word is_space) (chars_past_char (b ∷ rest) more first.0 rest_is first.2) ∙ first.1
 
-  -- white space, a word, and what is behind it
+  -- white space, a word, and what follows it
   first_word : (text gap x rest : List ℕ) → IsUtf8 text → text ≡ gap ++ (x ++ rest) → 0 < length x → NoCharPasses (is_other is_space) gap → NoCharPasses is_space x
       → (IsUtf8 rest → ends_word is_space (chars rest) ≡ true) → IsUtf8 rest × (words is_space (chars text) ≡ chars x ∷ words is_space (chars rest))
   first_word text gap x rest text_is e some spaces others ends =
       let bytes : text ≡ encodes spaces.0 ++ (encodes others.0 ++ rest) = e ∙ ap (λ z. z ++ (x ++ rest)) (sym spaces.1) ∙ ap (λ z. encodes spaces.0 ++ (z ++ rest)) (sym others.1) in
       let cut = between spaces.0 others.0 text rest x text_is bytes others.1 in (
         cut.1,
-        ap (words is_space) cut.2 ∙ words-behind_space is_space spaces.0 (chars x ++ chars rest) spaces.2
+        ap (words is_space) cut.2 ∙ words-after_space is_space spaces.0 (chars x ++ chars rest) spaces.2
             ∙ words-run is_space (chars x) (chars rest) (chars-some x cut.0 some) (subst (NonePass is_space) (sym cut.3) others.2) (ends cut.1),
       )
 
@@ -65,16 +65,16 @@ encodes-spaces (c ∷ cs) are =
 NoCharPasses-spaces : (bs : List ℕ) → Spaces bs → NoCharPasses (is_other is_ascii_whitespace) bs
 NoCharPasses-spaces bs all = (bs, encodes-spaces bs all, NonePass-spaces is_ascii_whitespace bs all)
 
--- what is behind a word: one byte of white space, or the end of the text
-behind_word : (sep rest : List ℕ) → IsAsciiSeparator sep rest → IsUtf8 (sep ++ rest)
+-- what follows a word: one byte of white space, or the end of the text
+after_word : (sep rest : List ℕ) → IsAsciiSeparator sep rest → IsUtf8 (sep ++ rest)
     → IsUtf8 rest × (ends_word is_ascii_whitespace (chars (sep ++ rest)) ≡ true) × (words is_ascii_whitespace (chars (sep ++ rest)) ≡ words is_ascii_whitespace (chars rest))
-behind_word [] [] sep_is both_is = (both_is, ap (ends_word is_ascii_whitespace) chars-nil, refl)
-behind_word [] (b ∷ rest) sep_is both_is = absurd (omega (arith, sep_is.2 refl))
-behind_word (c ∷ sep) rest sep_is both_is =
-    let cut = behind (c ∷ sep) (c ∷ sep ++ rest) rest both_is (ap (λ z. z ++ rest) (sym (encodes-spaces (c ∷ sep) sep_is.0))) in (
+after_word [] [] sep_is both_is = (both_is, ap (ends_word is_ascii_whitespace) chars-nil, refl)
+after_word [] (b ∷ rest) sep_is both_is = absurd (omega (arith, sep_is.2 refl))
+after_word (c ∷ sep) rest sep_is both_is =
+    let cut = following (c ∷ sep) (c ∷ sep ++ rest) rest both_is (ap (λ z. z ++ rest) (sym (encodes-spaces (c ∷ sep) sep_is.0))) in (
       cut.0,
       ap (ends_word is_ascii_whitespace) cut.1 ∙ All-head (λ b. is_ascii_whitespace b ≡ true) c sep sep_is.0,
-      ap (words is_ascii_whitespace) cut.1 ∙ words-behind_space is_ascii_whitespace (c ∷ sep) (chars rest) (NonePass-spaces is_ascii_whitespace (c ∷ sep) sep_is.0),
+      ap (words is_ascii_whitespace) cut.1 ∙ words-after_space is_ascii_whitespace (c ∷ sep) (chars rest) (NonePass-spaces is_ascii_whitespace (c ∷ sep) sep_is.0),
     )
 
 pub ascii_words-gives : (s : SplitAscii) (text : List ℕ) → split_ascii_whitespace_text s ≡ text → IsUtf8 text → GivesParts split_ascii_whitespace_steps s (λ parts. parts ≡ words is_ascii_whitespace (chars text))
@@ -88,7 +88,7 @@ ascii_words-gives s text text_is utf8 =
     let cut = step.3 in
     let rest = split_ascii_whitespace_text t in
     let one = first_word is_ascii_whitespace (split_ascii_whitespace_text s) cut.0 x.now (cut.1 ++ rest) s_is cut.2 step.0 (NoCharPasses-spaces cut.0 cut.3) step.1
-    (λ both_is. (behind_word cut.1 rest cut.4 both_is).1) in
-    let last = behind_word cut.1 rest cut.4 one.0 in
+    (λ both_is. (after_word cut.1 rest cut.4 both_is).1) in
+    let last = after_word cut.1 rest cut.4 one.0 in
     (last.0, λ others are. ap (λ z. chars x.now ∷ z) are ∙ sym (one.1 ∙ ap (λ z. chars x.now ∷ z) last.2)))
     s (subst IsUtf8 (sym text_is) utf8))

@@ -1,4 +1,4 @@
--- The definitions of the program beside worked cases: inputs and what they ask for, what is printed, whole runs, and faults.
+-- Worked cases of the program's definitions: inputs and what they ask for, what is printed, whole runs, and faults.
 use Rattle.std.proofs.Common.{◌≡◌, refl, sym, ap, subst, ◌∙◌, ℕ, List, [], ◌∷◌, ◌++◌, true, false, length, map, get_or, append-nil, None, Some, codes, arith, lit<}
 use Rattle.std.proofs.lemmas.List.{append_cancel_left, length-map}
 use Rattle.std.proofs.lemmas.Str.{is_utf8-from_IsUtf8}
@@ -7,7 +7,7 @@ use Rattle.std.specs.Char.{encode_utf8}
 use Rattle.std.specs.Fmt.{digits}
 use Rattle.std.specs.List.{concat}
 use Rattle.std.specs.Str.{chars, is_utf8}
-use Rattle.bytes_utils.specs.Lines.{line_feed, carriage_return, text_behind}
+use Rattle.bytes_utils.specs.Lines.{line_feed, carriage_return, text_after}
 use Rattle.bytes_utils.specs.Parts.{AreForwardParts}
 use Rattle.bytes_utils.proofs.Unique.{forward_same}
 use Rattle.bytes_utils.proofs.Cases.{all_parts, split-comma, empty_text}
@@ -26,7 +26,7 @@ use Rattle.bytes_utils_run.specs.declared.calls.ReadCall.TheVariants.{Remaining,
 use Rattle.bytes_utils_run.specs.declared.calls.Reply.TheVariants.{Done, PastEnd, TooLong, Number, Piece}
 use Rattle.bytes_utils_run.specs.declared.program.fault.Fault.TheVariants.{UnknownCommand, NotUtf8, OutOfMemory, Io}
 
--- Inputs: the command line, and the text behind it.
+-- Inputs: the command line, and the text after it.
 
 -- a command, its line feed, and the text
 abbrev program-split-input : List ℕ
@@ -39,34 +39,34 @@ program-return-input = codes "split ," ++ carriage_return ∷ line_feed ∷ code
 pub program-split-line : command_line program-split-input ≡ codes "split ,"
 program-split-line = refl
 
-pub program-split-text : text_behind program-split-input ≡ codes "a,b,,c"
+pub program-split-text : text_after program-split-input ≡ codes "a,b,,c"
 program-split-text = refl
 
 pub program-return-line : command_line program-return-input ≡ codes "split ,"
 program-return-line = refl
 
-pub program-return-text : text_behind program-return-input ≡ codes "a,b"
+pub program-return-text : text_after program-return-input ≡ codes "a,b"
 program-return-text = refl
 
 pub program-no-text-line : command_line (codes "split ,") ≡ codes "split ,"
 program-no-text-line = refl
 
-pub program-no-text-text : text_behind (codes "split ,") ≡ []
+pub program-no-text-text : text_after (codes "split ,") ≡ []
 program-no-text-text = refl
 
 pub nonsense-line : command_line (codes "nonsense") ≡ codes "nonsense"
 nonsense-line = refl
 
-pub nonsense-text : text_behind (codes "nonsense") ≡ []
+pub nonsense-text : text_after (codes "nonsense") ≡ []
 nonsense-text = refl
 
 pub no-input-line : command_line [] ≡ []
 no-input-line = refl
 
-pub no-input-text : text_behind [] ≡ []
+pub no-input-text : text_after [] ≡ []
 no-input-text = refl
 
--- one of two carriage returns before the line feed is taken off, and none where no line feed follows
+-- of two carriage returns before the line feed one is removed; without a line feed none is
 pub two-returns-line : command_line (codes "split ," ++ carriage_return ∷ carriage_return ∷ line_feed ∷ []) ≡ codes "split ," ++ carriage_return ∷ []
 two-returns-line = refl
 
@@ -78,7 +78,7 @@ pub empty-first-line : command_line (codes "\nsplit ,") ≡ []
 empty-first-line = refl
 
 -- the text keeps its own line feeds
-pub text-of-two-lines : text_behind (codes "split ,\na\n,b\n") ≡ codes "a\n,b\n"
+pub text-of-two-lines : text_after (codes "split ,\na\n,b\n") ≡ codes "a\n,b\n"
 text-of-two-lines = refl
 
 -- Which lines are commands.
@@ -94,7 +94,7 @@ split-space-is = refl
 pub split-empty-is : IsCommand (FromFront [] None) (codes "split ")
 split-empty-is = refl
 
--- no other way is read from the line
+-- no other way to split is read from the line
 pub split-comma-only : (way : Cutting) → IsCommand way (codes "split ,") → way ≡ FromFront (codes ",") None
 split-comma-only ByWords is = let first : 115 ≡ 119 = ap (λ line. get_or line 0 0) is in absurd (omega (arith, first))
 split-comma-only ByAsciiWords is = let first : 115 ≡ 97 = ap (λ line. get_or line 0 0) is in absurd (omega (arith, first))
@@ -105,7 +105,7 @@ split-comma-only (FromBack p None) is = let first : 115 ≡ 114 = ap (λ line. g
 split-comma-only (FromBack p (Some most)) is = let first : 115 ≡ 114 = ap (λ line. get_or line 0 0) is.2 in absurd (omega (arith, first))
 split-comma-only (Keeping p) is = let first : 115 ≡ 105 = ap (λ line. get_or line 0 0) is.1 in absurd (omega (arith, first))
 
--- the first character is that of no word
+-- no command word has this first character
 pub nonsense-no-command : (way : Cutting) → ¬ IsCommand way (codes "nonsense")
 nonsense-no-command ByWords is = let first : 110 ≡ 119 = ap (λ line. get_or line 0 0) is in omega (arith, first)
 nonsense-no-command ByAsciiWords is = let first : 110 ≡ 97 = ap (λ line. get_or line 0 0) is in omega (arith, first)
@@ -146,11 +146,11 @@ long-printed = refl
 pub program-split : AsksFor program-split-input (entries four-parts)
 program-split = record { request = ForParts (FromFront (codes ",") None); is = split-comma-is; right = (four-parts, split-comma, refl) }
 
--- no text behind the command is an empty text, which is its own only part
+-- with no text after the command, the text is empty, and its only part is empty
 pub program-no-text : AsksFor (codes "split ,") (entries ([] ∷ []))
 program-no-text = record { request = ForParts (FromFront (codes ",") None); is = split-comma-is; right = ([] ∷ [], empty_text, refl) }
 
--- the carriage return is none of the separator
+-- the carriage return is not part of the separator
 pub program-return : AsksFor program-return-input (entries (codes "a" ∷ codes "b" ∷ []))
 program-return = record { request = ForParts (FromFront (codes ",") None); is = split-comma-is; right = (codes "a" ∷ codes "b" ∷ [], all_parts _ _ _ (lit< tt) refl refl refl, refl) }
 
@@ -210,7 +210,7 @@ piece-printed = refl
 pub buf-alone : AsksFor (codes "buf") []
 buf-alone = record { request = ForReplies []; is = (refl, tt); right = ([], record { left = nothing_held; run = refl; whole = All-nil (λ reply. lacks_memory reply ≡ false) }, refl) }
 
--- Whole runs, from the bytes read to those written behind what the writer held.
+-- Whole runs, from the bytes read to the bytes written after those that the writer held.
 
 program-split-read : ReadsText (Some program-split-input) (Some []) program-split-input
 unfolding encode_utf8
@@ -226,7 +226,7 @@ program-split-run = record {
   written = refl;
 }
 
--- memory refused the third part
+-- memory was refused for the third part
 pub two-parts-run : PrintsFirst (Some program-split-input) (Some []) (Some []) (Some (codes "1:a\n1:b\n"))
 unfolding chars lib.Utf8.encode digits
 two-parts-run = record {
@@ -259,7 +259,7 @@ nonsense-run = record {
   unwritten = refl;
 }
 
--- nor is an empty line a command
+-- an empty line isn't a command either
 empty-line-no-command : (way : Cutting) → ¬ IsCommand way []
 empty-line-no-command ByWords is = omega (arith, ap length is)
 empty-line-no-command ByAsciiWords is = omega (arith, ap length is)
@@ -295,7 +295,7 @@ byte-255-run = record {
 
 -- Wrong runs are refused.
 
--- a known command told as an unknown one
+-- a known command reported as an unknown one
 pub command-unknown : ¬ FindsNoRequest (Some program-split-input) (Some []) (Some []) (Some [])
 unfolding chars
 command-unknown run =
@@ -308,14 +308,14 @@ input-left input read = let left : codes "b" ≡ [] = read.whole.1 in omega (ari
 
 -- Faults.
 
-pub unknown-command-told : (status_of UnknownCommand ≡ 2) × (fault_text UnknownCommand ≡ codes "unknown command")
-unknown-command-told = (refl, refl)
+pub unknown-command-reported : (status_of UnknownCommand ≡ 2) × (fault_text UnknownCommand ≡ codes "unknown command")
+unknown-command-reported = (refl, refl)
 
-pub not-utf8-told : (status_of NotUtf8 ≡ 3) × (fault_text NotUtf8 ≡ codes "not UTF-8")
-not-utf8-told = (refl, refl)
+pub not-utf8-reported : (status_of NotUtf8 ≡ 3) × (fault_text NotUtf8 ≡ codes "not UTF-8")
+not-utf8-reported = (refl, refl)
 
-pub out-of-memory-told : (status_of OutOfMemory ≡ 4) × (fault_text OutOfMemory ≡ codes "out of memory")
-out-of-memory-told = (refl, refl)
+pub out-of-memory-reported : (status_of OutOfMemory ≡ 4) × (fault_text OutOfMemory ≡ codes "out of memory")
+out-of-memory-reported = (refl, refl)
 
-pub io-told : (status_of Io ≡ 5) × (fault_text Io ≡ codes "read or write failed")
-io-told = (refl, refl)
+pub io-reported : (status_of Io ≡ 5) × (fault_text Io ≡ codes "read or write failed")
+io-reported = (refl, refl)

@@ -1,4 +1,4 @@
--- How many parts a text has, at most: two more than it has characters.
+-- The greatest number of parts that a text can have: two more than it has characters.
 use Rattle.std.proofs.Common.{◌≡◌, ap, ℕ, zero, suc, ◌+◌, ◌-◌, ◌<◌, ◌≤◌, Bool, List, [], ◌∷◌, ◌++◌, Option, None, Some, All, length, map, take, drop, reverse, arith, length-append, length-take}
 use Rattle.std.specs.Char.{is_whitespace, is_ascii_whitespace}
 use Rattle.std.specs.List.{starts_with}
@@ -13,14 +13,14 @@ use Rattle.bytes_utils.specs.Parts.{ArePartsFromFront, ArePartsFromBack, join}
 use Rattle.bytes_utils.specs.Words.{words, ends_word}
 use Rattle.bytes_utils_run.specs.Cutting.{Cutting, ByWords, ByAsciiWords, ByLines, FromFront, FromBack, Keeping, ArePartsBy}
 
--- each part but the last takes at least the length of the separator
+-- each part but the last comes with at least the length of the separator
 length-join : {X : Type 0} (p : List X) (parts : List (List X)) → 0 < length p → length parts ≤ length (join p parts) + 1
 length-join p [] some = omega arith
 length-join p (part ∷ []) some = omega arith
 length-join p (part ∷ next ∷ parts) some =
     omega (arith, length-join p (next ∷ parts) some, length-append part (p ++ join p (next ∷ parts)), length-append p (join p (next ∷ parts)))
 
--- parts that aren't empty take an element each
+-- parts that aren't empty have at least an element each
 length-join_nothing : {X : Type 0} (parts : List (List X)) → All (λ part. 0 < length part) parts → length parts ≤ length (join [] parts)
 length-join_nothing [] some = omega arith
 length-join_nothing (part ∷ []) some = omega (arith, All-head (λ p. 0 < length p) part [] some)
@@ -35,7 +35,7 @@ length-join_nothing (part ∷ next ∷ parts) some =
 length-single : {X : Type 0} (t : List X) → length (single t) ≡ length t + 2
 length-single {X} t = omega (arith, length-append (map (λ x. x ∷ []) t) ([] ∷ []), length-map t (λ (x : X). x ∷ []))
 
--- the empty separator makes an empty part, the characters, and an empty part, or fewer parts
+-- the empty separator gives an empty part, the characters, and an empty part, or fewer parts
 length-by_element : {X : Type 0} (t : List X) (limit : Option ℕ) → length (by_element t limit) ≤ length t + 2
 length-by_element t None = omega (arith, length-single t)
 length-by_element t (Some most) =
@@ -66,7 +66,7 @@ length-led : (c : ℕ) (parts : List (List ℕ)) → length (first_led_by c part
 length-led c [] = omega arith
 length-led c (part ∷ parts) = omega arith
 
--- each line takes a character, and each word does
+-- a text has at most as many lines as characters, and at most as many words
 length-lines : (t : List ℕ) → length (lines t) ≤ length t
 length-lines [] = omega arith
 length-lines (c ∷ t) =
@@ -99,7 +99,7 @@ length-parts (FromFront p limit) t parts are = length-front t p limit parts are
 length-parts (FromBack p limit) t parts are = length-back t p limit parts are
 length-parts (Keeping p) t parts are = omega (arith, ap length are.joined, length-join_nothing parts are.none_empty)
 
--- so many are given at most, all or a beginning of them
+-- all of the parts, and so each beginning of them, are at most `length t + 2`
 pub length-outcome : {E : Type 0} (way : Cutting) (t : List ℕ) (given : List (List ℕ)) (refused : Option E) → Outcome (ArePartsBy way t) given refused → length given ≤ length t + 2
 length-outcome way t given None whole = length-parts way t given whole
 length-outcome way t given (Some reason) begun = omega (arith, length-parts way t (given ++ begun.0) begun.2, length-append given begun.0)

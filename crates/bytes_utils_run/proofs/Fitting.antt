@@ -1,4 +1,4 @@
--- No call leaves more bytes than a `usize` can tell.
+-- No call leaves more bytes than a `usize` can count.
 use Rattle.std.proofs.Common.{◌≡◌, ◌∙◌, ap, ℕ, ◌+◌, ◌<◌, ◌^◌, List, [], ◌∷◌, length, length-append, length-drop, append-nil, arith}
 use Rattle.std.specs.List.{concat}
 use Rattle.std.proofs.lemmas.List.Folds.{concat-append}
@@ -12,7 +12,7 @@ use Rattle.bytes_utils_run.specs.declared.calls.ReadCall.TheVariants.{Remaining,
 use Rattle.bytes_utils_run.specs.declared.calls.Reply.{Reply}
 use Rattle.bytes_utils_run.specs.declared.calls.Reply.TheVariants.{Done, PastEnd, TooLong, NoMemory, CopyStopped, Number, Piece, Shown, Slices}
 
--- the bytes to read are as many as a `usize` can tell
+-- the number of bytes to read fits `usize`
 abbrev pub Fits : List (List ℕ) → Type 0
 Fits lists = length (concat lists) < 2 ^ 64
 

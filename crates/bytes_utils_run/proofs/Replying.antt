@@ -1,4 +1,4 @@
--- The replies that are printed: those before the first for want of memory.
+-- The replies that are printed: those before the first one that memory was refused for.
 use Rattle.std.proofs.Common.{◌≡◌, sym, ap, subst, ℕ, zero, suc, ◌<◌, ◌≤◌, List, [], ◌∷◌, ◌++◌, length, take, get_or, inl, inr, false, None, Some, arith, lit<, All}
 use Rattle.std.specs.Global.{Vec}
 use Rattle.std.specs.List.{before_first, position, position_or_len}
@@ -26,7 +26,7 @@ whole-before (reply ∷ replies) (suc count) none =
     All-cons (λ r. lacks_memory r ≡ false) reply (take count replies) (none 0 (omega arith))
     (whole-before replies count (λ k l. none (suc k) (omega (arith, l))))
 
--- where no reply is for want of memory, its place is past all of them
+-- if memory was refused for no reply, the place of the first such reply is the length of the list
 past_all : (replies : List Reply) → position lacks_memory replies ≡ None → length replies ≤ position_or_len lacks_memory replies
 past_all replies none = elim (cases_lt (position_or_len lacks_memory replies) (length replies)) [
   | inl found ↦ absurd (some found)
@@ -36,11 +36,11 @@ past_all replies none = elim (cases_lt (position_or_len lacks_memory replies) (l
     some : position_or_len lacks_memory replies < length replies → ⊥
     some found = grind (arith, common_steps)
 
--- and all of them stand before it
+-- then all replies are before it
 pub before-none : (replies : List Reply) → position lacks_memory replies ≡ None → replies ≡ before_first lacks_memory replies
 before-none replies none = sym (take_all (position_or_len lacks_memory replies) replies (past_all replies none))
 
--- so many stand before the first one that is
+-- `count` replies are before the first one that memory was refused for
 pub before-some : (replies : List Reply) (count : ℕ) → position lacks_memory replies ≡ Some count → take count replies ≡ before_first lacks_memory replies
 before-some replies count found = ap (λ n. take n replies) (sym (place_of (nat_lt (position_or_len lacks_memory replies) (length replies)) (position_or_len lacks_memory replies) found))
   where
@@ -48,14 +48,14 @@ before-some replies count found = ap (λ n. take n replies) (sym (place_of (nat_
     place_of true n some = ap (λ place. unwrap_or place 0) some
     place_of false n some = let no : ◌≡◌ {A = ℕ} 0 1 = ap (λ place. option_map_or (λ _. 1) place 0) some in absurd (omega (arith, no))
 
--- where no reply is for want of memory, all are right
+-- if memory was refused for no reply, all are right
 pub replies-all : (calls : List (Call (List ℕ))) (replies : List Reply) (left : Held) → IsRun (IsCall (λ bytes. bytes)) calls nothing_held replies left
     → position lacks_memory replies ≡ None → AreReplies calls replies
 replies-all calls replies left run none =
     let whole = whole-before replies (length replies) (λ k l. fails_before_first lacks_memory replies k Done (omega (arith, l, past_all replies none))) in
     record { left = left; run = run; whole = subst (All (λ reply. lacks_memory reply ≡ false)) (take_all (length replies) replies (omega arith)) whole }
 
--- those before the first one that is, are a beginning of replies that are right
+-- the replies before the first one that memory was refused for are the first of right replies
 pub replies-before : {Y : Type 0} (like : Vec Y) (calls : List (Call (List ℕ))) (replies : List Reply) (left : Held) (count : ℕ)
     → IsRun (IsCall (λ bytes. bytes)) calls nothing_held replies left → position lacks_memory replies ≡ Some count
     → (others : List Reply) × (0 < length others) × AreReplies calls (take count replies ++ others)

@@ -1,4 +1,4 @@
--- A text cut at bytes that pass a test, by the place of the first one.
+-- A text split at bytes that pass a test, by the place of the first one.
 use Rattle.std.proofs.Common.{◌≡◌, refl, sym, ap, subst, ◌∙◌, ℕ, ◌+◌, ◌<◌, ◌≤◌, Bool, true, false, List, [], ◌∷◌, ◌++◌, Option, None, Some, Result, Ok, length, take, drop, get_or, append_assoc, append-nil, arith, cond, nat_lt, IsUtf8}
 use Rattle.std.proofs.lemmas.Bool.Decides.{nat_tests}
 use Rattle.std.proofs.lemmas.List.Quantifiers.{position-Some}
@@ -9,7 +9,7 @@ use Rattle.std.specs.Fn.{Mut, CalledAt}
 use Rattle.std.specs.List.{position, position_or_len, slice_split, onto_first}
 use Rattle.std.specs.Option.{option_map_or}
 use denote.Ref.{Bor}
-use Rattle.bytes_utils.proofs.Walks.{chunk-given, nothing-left}
+use Rattle.bytes_utils.proofs.WalkLemmas.{chunk-given, nothing-left}
 use Rattle.bytes_utils.specs.declared.split.direction.Direction.TheVariants.{Forward}
 use Rattle.bytes_utils.specs.Segments.{without_empty}
 use Rattle.bytes_utils.specs.Walk.{Walk, IsLawfulCut, IsWalkStep, FollowsAnswer}
@@ -64,14 +64,14 @@ part-given {refuses = refuses} {s = s} {t = t} {part = part} cuts forward is ste
     let h = chunk-given CutsAtFirst cuts is step in
     ap parts_left h.2 ∙ answered refuses h.0 part h.1 t.rest h.3 (subst (λ d. FollowsAnswer refuses d h.0 h.1 (Ok part) t.rest) forward h.4)
 
--- one part more, unless it is empty
+-- one more part, unless it is empty
 pub one_more : (old new : List (List ℕ)) (part : List ℕ) (left right all : List (List ℕ)) → new ≡ old ++ without_empty (part ∷ []) → left ≡ part ∷ right
     → old ++ without_empty left ≡ all → new ++ without_empty right ≡ all
 one_more old new part left right all more gives whole =
     ap (λ l. l ++ without_empty right) more ∙ append_assoc old (without_empty (part ∷ [])) (without_empty right)
     ∙ ap (λ l. old ++ l) (sym (without_empty-append (part ∷ []) right)) ∙ ap (λ l. old ++ without_empty l) (sym gives) ∙ whole
 
--- where no part came, nothing was left
+-- if a step gives no part, nothing was left
 pub none_left : {F E : Type 0} {f : Mut F (Bor (List ℕ) × Unit {0}) (Option (ℕ × ℕ))} {refuses : E → Type 0} {s t : Walk F} {tokens all : List (List ℕ)}
     → IsWalkStep f refuses s None t → tokens ++ without_empty (parts_left s.rest) ≡ all → tokens ≡ all
 none_left {tokens = tokens} step whole =

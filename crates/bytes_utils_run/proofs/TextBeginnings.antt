@@ -6,19 +6,19 @@ use Rattle.std.specs.Str.{chars, encode_utf8_all as encodes, all_scalars as scal
 use Rattle.bytes_utils.proofs.Places.{scalars-part}
 
 -- what follows the bytes of these characters is text, and follows the characters
-pub behind : (cs text rest : List ℕ) → IsUtf8 text → text ≡ encodes cs ++ rest → IsUtf8 rest × (chars text ≡ cs ++ chars rest)
-behind [] text rest text_is e = (subst IsUtf8 e text_is, ap chars e)
-behind (c ∷ cs) text rest text_is e =
+pub following : (cs text rest : List ℕ) → IsUtf8 text → text ≡ encodes cs ++ rest → IsUtf8 rest × (chars text ≡ cs ++ chars rest)
+following [] text rest text_is e = (subst IsUtf8 e text_is, ap chars e)
+following (c ∷ cs) text rest text_is e =
     let split : text ≡ encode_utf8 c ++ (encodes cs ++ rest) = e ∙ append_assoc (encode_utf8 c) (encodes cs) rest in
-    let others = behind cs (encodes cs ++ rest) rest (IsUtf8-past_char text _ c text_is split) refl in
+    let others = following cs (encodes cs ++ rest) rest (IsUtf8-past_char text _ c text_is split) refl in
     (others.0, chars_past_char text _ c text_is split ∙ ap (λ z. c ∷ z) others.1)
 
--- a text between others in a text has the characters that its bytes are of
+-- a text between others in a text has the characters that its bytes encode
 pub between : (front xs text rest x : List ℕ) → IsUtf8 text → text ≡ encodes front ++ (encodes xs ++ rest) → encodes xs ≡ x
     → IsUtf8 x × IsUtf8 rest × (chars text ≡ front ++ (chars x ++ chars rest)) × (chars x ≡ xs)
 between front xs text rest x text_is e x_is =
-    let more = behind front text (encodes xs ++ rest) text_is e in
-    let last = behind xs (encodes xs ++ rest) rest more.0 refl in
+    let more = following front text (encodes xs ++ rest) text_is e in
+    let last = following xs (encodes xs ++ rest) rest more.0 refl in
     let whole : chars text ≡ front ++ (xs ++ chars rest) = more.1 ∙ ap (λ z. front ++ z) last.1 in
     let all : scalars (front ++ (xs ++ chars rest)) ≡ true = subst (λ z. scalars z ≡ true) whole (scalars-chars text text_is) in
     let scalar : scalars xs ≡ true = (scalars-part xs (chars rest) (scalars-part front (xs ++ chars rest) all).1).0 in

@@ -1,4 +1,4 @@
--- What the program reads from a command line, and what it prints of an answer.
+-- What the program reads from a command line, and what it prints of the results.
 use Rattle.std.specs.Prelude.{◌≡◌, ℕ, List, Option, map, codes, ⊤}
 use Rattle.std.specs.Io.KnownBytes.{Appends}
 use Rattle.std.specs.List.{concat}
@@ -19,22 +19,22 @@ abbrev pub IsReadFrom : List ℕ → Command → Type 0
 IsReadFrom line (Cut how) = IsAllowed how × IsCommand (cutting how) line
 IsReadFrom line Buf = line ≡ codes "buf"
 
--- These entries may come of an answer, each as it's printed, and this may be why there are no more of them: an outcome of the parts that
--- are to come, or the replies as they are.
+-- These are the results so far, each as it is printed, and the reason if some are missing. Parts are an outcome of the parts to come;
+-- replies are as they are.
 abbrev pub ComesOf : Answer → List (List ℕ) → Option Reason → Type 0
 ComesOf (Splitter splitter) given refused = (parts : List (List ℕ)) × (given ≡ map printed_part parts) × Outcome (AreToCome splitter) parts refused
 ComesOf (Replies replies) given refused = (given ≡ map printed_reply replies.given.items) × (refused ≡ replies.refused)
 
--- some parts are to come, where an answer gives parts
+-- if the results are parts, some list of parts is to come
 abbrev pub HasParts : Answer → Type 0
 HasParts (Splitter splitter) = (parts : List (List ℕ)) × AreToCome splitter parts
 HasParts (Replies replies) = ⊤
 
--- what came of an answer was printed, to a writer that held `held` and holds `held'`, where these are known
+-- the results were printed, to a writer that held `held` before and holds `held'` after, if these are known
 abbrev pub PrintsGiven : Answer → Option Reason → Option (List ℕ) → Option (List ℕ) → Type 0
 PrintsGiven answer refused held held' = (given : List (List ℕ)) × ComesOf answer given refused × Appends held held' (concat given)
 
--- a beginning of what may come of it was
+-- the first bytes of some results were printed: none, some or all of the bytes
 abbrev pub PrintsBeginning : Answer → Option (List ℕ) → Option (List ℕ) → Type 0
 PrintsBeginning answer held held' =
     (given : List (List ℕ)) × (refused : Option Reason) × ComesOf answer given refused × AppendsBeginning held held' (concat given)

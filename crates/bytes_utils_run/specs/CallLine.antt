@@ -1,4 +1,4 @@
--- The lines of the program's input that ask for calls on a buffer. A line is a list of characters here, and what is pushed is bytes.
+-- The lines of the program's input that ask for calls on a buffer. A line is a list of characters here, and the bytes to push are bytes.
 use Rattle.std.specs.Prelude.{◌≡◌, ℕ, List, [], ◌∷◌, ◌++◌, codes, ⊤}
 use Rattle.std.specs.Str.{encode_utf8_all}
 use Rattle.bytes_utils_run.specs.Number.{IsNumber}
@@ -10,8 +10,7 @@ use Rattle.bytes_utils_run.specs.declared.calls.ReadCall.TheVariants.{Remaining,
 abbrev pub IsNumbered : List ℕ → ℕ → List ℕ → Type 0
 IsNumbered word n line = (digits : List ℕ) × IsNumber digits n × (line ≡ word ++ digits)
 
--- the line asks for this call. A word and what follows it have one space between them; the text to push is all of the line behind its
--- space.
+-- The line asks for this call. There is one space between a word and what follows it. The text to push is all of the line after its space.
 abbrev pub IsCallLine : Call (List ℕ) → List ℕ → Type 0
 IsCallLine (Push bytes) line = (text : List ℕ) × (bytes ≡ encode_utf8_all text) × (line ≡ codes "push " ++ text)
 IsCallLine Segments line = line ≡ codes "segments"
@@ -21,7 +20,7 @@ IsCallLine (Read (Advance n)) line = IsNumbered (codes "advance ") n line
 IsCallLine (Read (CopyOut n)) line = IsNumbered (codes "copy ") n line
 IsCallLine (Read (Chunks n)) line = IsNumbered (codes "chunks ") n line
 
--- the lines ask for these calls, each for one
+-- the lines ask for these calls, one call a line
 abbrev pub AreCallLines : List (Call (List ℕ)) → List (List ℕ) → Type 0
 AreCallLines [] [] = ⊤
 AreCallLines (call ∷ calls) (line ∷ lines) = IsCallLine call line × AreCallLines calls lines

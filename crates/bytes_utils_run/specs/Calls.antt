@@ -1,5 +1,6 @@
--- Lists of calls on a buffer, and the replies to them. The lists of bytes below are the unread lists of what a `SegmentedBuf` holds,
--- front first. To `read_calls` every buffer, segmented or not, is one list, or none where it is empty.
+-- Lists of calls on a buffer, and the replies to them. The lists of bytes below are the unread bytes of each segment of
+-- a `SegmentedBuf`, first segment first. For `read_calls` every buffer, segmented or not, is one list, or none if it is
+-- empty.
 use Rattle.std.specs.Prelude.{◌≡◌, ℕ, ◌+◌, ◌^◌, ◌<◌, ◌≤◌, List, [], ◌∷◌, length, map, take}
 use Rattle.std.specs.List.{concat}
 use Rattle.bytes.specs.Unread.{IsChunkOf}
@@ -13,19 +14,19 @@ use Rattle.bytes_utils_run.specs.declared.calls.ReadCall.TheVariants.{Remaining,
 use Rattle.bytes_utils_run.specs.declared.calls.Reply.{Reply}
 use Rattle.bytes_utils_run.specs.declared.calls.Reply.TheVariants.{Done, PastEnd, TooLong, NoMemory, CopyStopped, Number, Piece, Shown, Slices}
 
--- a buffer with these unread bytes, seen as one list
+-- the unread bytes of a buffer as one list, or none if there are no bytes
 abbrev pub lists_of : List ℕ → List (List ℕ)
 lists_of unread = without_empty (unread ∷ [])
 
--- at most n slices of the unread bytes: none is empty, joined they are the first of these bytes, and all of them where they are fewer
--- than n
+-- at most n slices of the unread bytes: none is empty, and joined they are the first of these bytes, or all of them if
+-- there are fewer than n slices
 pub record AreSlices (n : ℕ) (slices : List (List ℕ)) (unread : List ℕ) : Type 0 where
   pub count : length slices ≤ n
   pub some : NoneEmpty slices
   pub front : concat slices ≡ take (length (concat slices)) unread
   pub whole : length slices < n → concat slices ≡ unread
 
--- what a read of these lists replies, and what it leaves of them
+-- the reply to a read of these lists, and the lists after it
 abbrev pub IsRead : ReadCall → List (List ℕ) → Reply → List (List ℕ) → Type 0
 IsRead Remaining old (Number n) new = (n ≡ length (concat old)) × (new ≡ old)
 IsRead Chunk old (Shown chunk) new = IsChunkOf chunk.items (concat old) × (new ≡ old)
@@ -39,12 +40,13 @@ IsRead (Chunks n) old (Slices slices) new = AreSlices n (map (λ s. s.items) sli
 IsRead (Chunks n) old NoMemory new = new ≡ old
 IsRead call old reply new = ⊥
 
--- a copy of n bytes that took so many counts as a call, and as one more for each advance that it made, within the bounds of `CountsCopy`
+-- a copy of n bytes that took `taken` counts as one call and one more for each advance that it made, within the bounds
+-- of `CountsCopy`
 abbrev pub CountsCopyOf : ℕ → ℕ → Held → Held → Type 0
 CountsCopyOf n taken old new = CountsCopy n taken old.segments old.tally new.segments new.tally
 
--- what a read adds to the tally: an advance that was done counts as a call, and takes one turn for each segment that it passed, a copy that
--- was made or stopped counts as `CountsCopyOf` says, and nothing else counts
+-- What a read adds to the tally. An advance that was done counts as a call, with one turn for each segment that it
+-- passed. A copy that was made or stopped counts as `CountsCopyOf` says. Nothing else counts.
 abbrev pub CountsRead : ReadCall → Held → Reply → Held → Type 0
 CountsRead (Advance n) old Done new =
     (new.tally.given ≡ old.tally.given)
@@ -55,7 +57,7 @@ CountsRead (CopyOut n) old (Piece piece) new = CountsCopyOf n n old new
 CountsRead (CopyOut n) old (CopyStopped taken) new = CountsCopyOf n taken old new
 CountsRead call old reply new = new.tally ≡ old.tally
 
--- what a call on a `SegmentedBuf` replies, and leaves of it
+-- the reply to a call on a `SegmentedBuf`, and the buffer after it
 abbrev pub IsCall : {B : Type 0} → (B → List ℕ) → Call B → Held → Reply → Held → Type 0
 IsCall unread (Push buf) old Done new =
     (length (concat old.segments) + length (unread buf) < 2 ^ 64) × (new ≡ after_accepting old (unread buf ∷ []))
@@ -66,7 +68,7 @@ IsCall unread Segments old (Number n) new = (n ≡ length old.segments) × (new 
 IsCall unread (Read call) old reply new = IsRead call old.segments reply new.segments × CountsRead call old reply new
 IsCall unread call old reply new = ⊥
 
--- a run of calls, one after another, each with its reply, which leads from the first state to the last
+-- a run of calls, one after another, each with its reply, from the first state to the last
 abbrev pub IsRun : {C S : Type 0} → (C → S → Reply → S → Type 0) → List C → S → List Reply → S → Type 0
 IsRun Is [] old [] new = new ≡ old
 IsRun {C} {S} Is (call ∷ calls) old (reply ∷ replies) new = (next : S) × Is call old reply next × IsRun Is calls next replies new

@@ -1,8 +1,8 @@
--- What is to come of a text by any of the ways to cut, one part a step.
+-- The parts to come of a text by any of the ways to split, one part a step.
 use Rattle.std.specs.Prelude.{ℕ, List, length}
 use Rattle.std.specs.Char.{is_whitespace, is_ascii_whitespace}
 use Rattle.std.specs.Option.{option_map_or}
-use Rattle.bytes_utils.specs.Keeping.{AreInclusivePartsToCome, CutsBehindNext, most_inclusive_parts}
+use Rattle.bytes_utils.specs.Keeping.{AreInclusivePartsToCome, CutsAfterNext, most_inclusive_parts}
 use Rattle.bytes_utils.specs.Lines.{AreLinesToCome, HoldsLineFeed}
 use Rattle.bytes_utils.specs.Splitting.{AreForwardPartsToCome, AreBackwardPartsToCome, CutsNext, most_parts}
 use Rattle.bytes_utils.specs.Words.{AreWordsToCome, HoldsSpace}
@@ -25,9 +25,9 @@ Cuts (AsciiWords rest) = HoldsSpace is_ascii_whitespace rest
 Cuts (Lines rest) = HoldsLineFeed rest
 Cuts (Split s) = CutsNext s
 Cuts (RSplit s) = CutsNext s
-Cuts (Inclusive s) = CutsBehindNext s
+Cuts (Inclusive s) = CutsAfterNext s
 
--- a bound on the parts to come
+-- a bound on the number of parts to come
 abbrev pub most_to_come : {S C : Type 0} → AnySplitter S C → ℕ
 most_to_come (Words rest) = option_map_or length rest 0
 most_to_come (AsciiWords rest) = option_map_or length rest 0

@@ -1,16 +1,16 @@
--- How a fault is told to who started the program.
+-- How a fault is reported to the user of the program.
 use Rattle.std.specs.Prelude.{ℕ, List, codes}
 use Rattle.bytes_utils_run.specs.declared.program.fault.Fault.{Fault}
 use Rattle.bytes_utils_run.specs.declared.program.fault.Fault.TheVariants.{UnknownCommand, NotUtf8, OutOfMemory, Io}
 
--- the status with which the program ends
+-- the exit status of the program
 abbrev pub status_of : Fault → ℕ
 status_of UnknownCommand = 2
 status_of NotUtf8 = 3
 status_of OutOfMemory = 4
 status_of Io = 5
 
--- what is said of it, without a line feed
+-- the message for a fault, without a line feed
 abbrev pub fault_text : Fault → List ℕ
 fault_text UnknownCommand = codes "unknown command"
 fault_text NotUtf8 = codes "not UTF-8"

@@ -1,17 +1,17 @@
--- Bodies behind their lengths.
+-- Bodies after their lengths.
 use Rattle.std.specs.Prelude.{◌≡◌, ℕ, ◌+◌, ◌<◌, ◌≤◌, List, ◌++◌, length, take}
 use Rattle.std.specs.Int.{w32, from_be_bytes}
 
--- the length that the first four bytes tell, the greatest first; where there are fewer, none is told yet
-abbrev pub told_len : List ℕ → ℕ
-told_len bytes = from_be_bytes w32 (take 4 bytes)
+-- the big-endian number in the first four bytes; with fewer bytes it has no meaning yet
+abbrev pub reported_len : List ℕ → ℕ
+reported_len bytes = from_be_bytes w32 (take 4 bytes)
 
--- some of the first prefix, or of the body as long as it tells, is still to come
+-- some of the four bytes of the length, or of the body, are still to come
 abbrev pub AwaitsMore : List ℕ → Type 0
-AwaitsMore bytes = 4 ≤ length bytes → length bytes < 4 + told_len bytes
+AwaitsMore bytes = 4 ≤ length bytes → length bytes < 4 + reported_len bytes
 
--- the bytes of before are a whole prefix, the body, as long as the prefix tells, and the bytes that are left
+-- the old bytes are four bytes of length, then the body of that length, then the new bytes
 pub record HandsOut (old body new : List ℕ) : Type 0 where
   pub prefix : 4 ≤ length old
-  pub len : length body ≡ told_len old
+  pub len : length body ≡ reported_len old
   pub bytes : old ≡ take 4 old ++ body ++ new

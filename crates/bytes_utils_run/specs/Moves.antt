@@ -1,12 +1,12 @@
--- What moved from a reader, and to a writer, whose bytes are known.
+-- What moved from a reader or to a writer, if its bytes are known.
 use Rattle.std.specs.Prelude.{ℕ, ◌≤◌, List, Option, length, take}
 use Rattle.std.specs.Io.KnownBytes.{Appends, Consumes, IsAtEnd}
 
--- known bytes grow by a beginning of bs: none of it, some of it, or all
+-- known bytes grow by the first bytes of bs: none, some or all of them
 abbrev pub AppendsBeginning : Option (List ℕ) → Option (List ℕ) → List ℕ → Type 0
 AppendsBeginning old new bs = (n : ℕ) × (n ≤ length bs) × Appends old new (take n bs)
 
--- known bytes lose a beginning
+-- known bytes lose some of the first bytes, perhaps none
 abbrev pub ConsumesSome : Option (List ℕ) → Option (List ℕ) → Type 0
 ConsumesSome old new = (bs : List ℕ) × Consumes old new bs
 

@@ -2,7 +2,7 @@
 use Rattle.std.specs.Prelude.{◌≡◌, ℕ, ◌<◌, ◌≤◌, ◌^◌, List, length}
 use Rattle.std.specs.Str.Parse.{IsNumeral, digits_value}
 
--- the text, as its characters, is 1 to 20 ASCII digits, which write the number n, and that is a `usize`
+-- the text, as characters, has 1 to 20 ASCII digits, which are the decimal number n, and n fits `usize`
 pub record IsNumber (text : List ℕ) (n : ℕ) : Type 0 where
   -- one digit or more, and nothing else
   pub digits : IsNumeral 10 text

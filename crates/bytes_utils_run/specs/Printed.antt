@@ -1,15 +1,15 @@
--- How the program prints.
+-- What the program prints.
 use Rattle.std.specs.Prelude.{ℕ, List, [], ◌++◌, length, map, codes, decimal}
 use Rattle.std.specs.List.{concat}
 use Rattle.std.specs.Str.{encode_utf8_all}
 use Rattle.bytes_utils_run.specs.declared.calls.Reply.{Reply}
 use Rattle.bytes_utils_run.specs.declared.calls.Reply.TheVariants.{Done, PastEnd, TooLong, NoMemory, CopyStopped, Number, Piece, Shown, Slices}
 
--- bytes that were cut out or are shown: their length, a colon, they themselves, a line feed
+-- bytes that were taken out or are shown: their length, a colon, the bytes, a line feed
 abbrev pub printed : List ℕ → List ℕ
 printed bytes = decimal (length bytes) ++ codes ":" ++ bytes ++ codes "\n"
 
--- a part, given as its characters
+-- a part, as characters
 abbrev pub printed_part : List ℕ → List ℕ
 printed_part part = printed (encode_utf8_all part)
 
@@ -17,7 +17,7 @@ printed_part part = printed (encode_utf8_all part)
 abbrev pub printed_number : ℕ → List ℕ
 printed_number n = decimal n ++ codes "\n"
 
--- a reply. Nothing is printed where memory refused it.
+-- a reply; nothing is printed if memory was refused for it
 abbrev pub printed_reply : Reply → List ℕ
 printed_reply Done = codes "ok\n"
 printed_reply PastEnd = codes "past end\n"

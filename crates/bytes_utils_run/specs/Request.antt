@@ -12,29 +12,29 @@ use Rattle.bytes_utils_run.specs.declared.calls.Call.{Call}
 use Rattle.bytes_utils_run.specs.declared.calls.Reply.{Reply}
 use Rattle.bytes_utils_run.specs.declared.calls.Reply.TheVariants.{NoMemory, CopyStopped}
 
--- the parts of a text by one way to cut, or the replies to calls on a new buffer
+-- the parts of a text by one way to split, or the replies to calls on a new buffer
 pub data Request : Type 0 where
   ForParts : Cutting → Request
   ForReplies : List (Call (List ℕ)) → Request
 
--- a command line and the text behind it ask for this; the lines of the text are the calls
+-- a command line and the text after it ask for this; the lines of the text are the calls
 abbrev pub IsRequest : Request → List ℕ → List ℕ → Type 0
 IsRequest (ForParts way) line text = IsCommand way line
 IsRequest (ForReplies calls) line text = (line ≡ codes "buf") × AreCallLines calls (lines text)
 
--- a reply for want of memory
+-- the reply says that memory was refused
 abbrev pub lacks_memory : Reply → Bool
 lacks_memory NoMemory = true
 lacks_memory (CopyStopped taken) = true
 lacks_memory reply = false
 
--- the replies are right for these calls on a new buffer, and none is for want of memory
+-- the replies are right for these calls on a new buffer, and none says that memory was refused
 pub record AreReplies (calls : List (Call (List ℕ))) (replies : List Reply) : Type 0 where
   pub left : Held
   pub run : IsRun (IsCall (λ bytes. bytes)) calls nothing_held replies left
   pub whole : All (λ reply. lacks_memory reply ≡ false) replies
 
--- what stands before the first reply for want of memory, or all where none is, of replies that are right for these calls on a new buffer
+-- of right replies to these calls on a new buffer, those before the first one that says that memory was refused, or all if none does
 pub record AreFirstReplies (calls : List (Call (List ℕ))) (replies : List Reply) : Type 0 where
   pub all : List Reply
   pub left : Held

@@ -1,4 +1,4 @@
--- Requests of a stream: a head up to an empty line, and a body as long as the head tells.
+-- Requests of a stream: a head up to an empty line, and a body as long as the head reports.
 use Rattle.std.specs.Prelude.{◌≡◌, ◌⊎◌, ℕ, List, codes, IsUtf8}
 use Rattle.std.specs.Str.{chars}
 use Rattle.bytes_utils.specs.Frames.{TakesFrame}
@@ -19,14 +19,14 @@ length_field = codes "\r\nContent-Length: "
 abbrev pub IsFirstLine : List ℕ → List ℕ → Type 0
 IsFirstLine bytes line = ((rest : List ℕ) × TakesFrame line_end bytes line rest) ⊎ ((line ≡ bytes) × (¬ Occurs line_end bytes))
 
--- the value is the rest of the line behind the first field that tells a length
+-- the value is the rest of the line behind the first field that reports a length
 abbrev pub HasValue : List ℕ → List ℕ → Type 0
-HasValue head value = (front : List ℕ) × (behind : List ℕ) × TakesFrame length_field head front behind × IsFirstLine behind value
+HasValue head value = (front : List ℕ) × (following : List ℕ) × TakesFrame length_field head front following × IsFirstLine following value
 
 -- the bytes are a text that is the number n
-abbrev pub TellsNumber : List ℕ → ℕ → Type 0
-TellsNumber value n = IsUtf8 value × IsNumber (chars value) n
+abbrev pub ReportsNumber : List ℕ → ℕ → Type 0
+ReportsNumber value n = IsUtf8 value × IsNumber (chars value) n
 
--- the head tells that the body has n bytes: none where it has no such field
-abbrev pub TellsLength : List ℕ → ℕ → Type 0
-TellsLength head n = ((n ≡ 0) × (¬ Occurs length_field head)) ⊎ ((value : List ℕ) × HasValue head value × TellsNumber value n)
+-- the head reports that the body has n bytes: none where it has no such field
+abbrev pub ReportsLength : List ℕ → ℕ → Type 0
+ReportsLength head n = ((n ≡ 0) × (¬ Occurs length_field head)) ⊎ ((value : List ℕ) × HasValue head value × ReportsNumber value n)

@@ -1,24 +1,24 @@
--- What a run of the program does, from the bytes that the reader has to those that the writer holds. Of the four lists below, where
--- they are known, `unread` and `unread'` are what the reader has before and after, `held` and `held'` what the writer holds.
+-- What a run of the program does, from the bytes of the reader to those of the writer. If they are known, `unread` and `unread'` are the
+-- bytes that the reader has before and after, and `held` and `held'` those that the writer holds.
 use Rattle.std.specs.Prelude.{ℕ, ◌<◌, List, ◌++◌, length, Option, IsUtf8}
 use Rattle.std.specs.List.{concat}
 use Rattle.std.specs.Io.KnownBytes.{Appends, Keeps}
 use Rattle.std.specs.Str.{chars}
-use Rattle.bytes_utils.specs.Lines.{text_behind}
+use Rattle.bytes_utils.specs.Lines.{text_after}
 use Rattle.bytes_utils_run.specs.Command.{command_line}
 use Rattle.bytes_utils_run.specs.Moves.{AppendsBeginning, ReadsWhole}
 use Rattle.bytes_utils_run.specs.Request.{AreAskedFor, IsRequest, Request}
 
--- these entries are right for the input, given as its characters: for its first line and the text behind that
+-- these entries are right for the input, as characters: for its first line and the text after it
 abbrev pub AsksFor : List ℕ → List (List ℕ) → Type 0
-AsksFor input entries = AreAskedFor (command_line input) (text_behind input) entries
+AsksFor input entries = AreAskedFor (command_line input) (text_after input) entries
 
 -- all of the input was read; these are its bytes, and they are UTF-8
 pub record ReadsText (unread unread' : Option (List ℕ)) (input : List ℕ) : Type 0 where
   pub whole : ReadsWhole unread unread' input
   pub utf8 : IsUtf8 input
 
--- entries that are right for the input were printed, all of them
+-- all entries that are right for the input were printed
 pub record PrintsAll (unread unread' held held' : Option (List ℕ)) : Type 0 where
   pub input : List ℕ
   pub entries : List (List ℕ)
@@ -26,7 +26,7 @@ pub record PrintsAll (unread unread' held held' : Option (List ℕ)) : Type 0 wh
   pub asked : AsksFor (chars input) entries
   pub written : Appends held held' (concat entries)
 
--- a beginning, perhaps empty but never the whole, of entries that are right for the input was printed
+-- the first of the entries that are right for the input were printed, perhaps none, but not all
 pub record PrintsFirst (unread unread' held held' : Option (List ℕ)) : Type 0 where
   pub input : List ℕ
   pub given : List (List ℕ)
@@ -36,7 +36,7 @@ pub record PrintsFirst (unread unread' held held' : Option (List ℕ)) : Type 0 
   pub asked : AsksFor (chars input) (given ++ others)
   pub written : Appends held held' (concat given)
 
--- a beginning of entries that are right for the input was written, byte by byte: none of it, some of it, or all
+-- the first bytes of the entries that are right for the input were written: none, some or all of them
 pub record WritesBeginning (unread unread' held held' : Option (List ℕ)) : Type 0 where
   pub input : List ℕ
   pub entries : List (List ℕ)
@@ -44,11 +44,11 @@ pub record WritesBeginning (unread unread' held held' : Option (List ℕ)) : Typ
   pub asked : AsksFor (chars input) entries
   pub written : AppendsBeginning held held' (concat entries)
 
--- the input asks for nothing that is known, and nothing was written
+-- the input asks for nothing that the program knows, and nothing was written
 pub record FindsNoRequest (unread unread' held held' : Option (List ℕ)) : Type 0 where
   pub input : List ℕ
   pub read : ReadsText unread unread' input
-  pub none : (request : Request) → ¬ IsRequest request (command_line (chars input)) (text_behind (chars input))
+  pub none : (request : Request) → ¬ IsRequest request (command_line (chars input)) (text_after (chars input))
   pub unwritten : Keeps held held'
 
 -- the input isn't UTF-8, and nothing was written

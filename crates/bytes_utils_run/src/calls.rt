@@ -1,4 +1,4 @@
-//! Lists of calls on a buffer, one reply a call.
+//! Lists of calls on a buffer, with one reply for each call.
 ghost use Rattle.std.specs.Prelude.{◌≡◌, [], Some, IfNone, OnSome, IfSome};
 ghost use Rattle.bytes_utils_buf.specs.Tally.{IsBalanced, IsCovered, IsPaid};
 ghost use Rattle.bytes_utils_run.specs.Calls.{IsCall, IsRead, IsRun, lists_of};
@@ -20,46 +20,46 @@ use std::alloc::Global;
 /// A call that reads a buffer.
 #[derive(Clone, Copy, Debug, Eq, PartialEq)]
 pub enum ReadCall {
-    /// How many bytes are unread.
+    /// Asks for the number of unread bytes.
     Remaining,
-    /// A copy of the chunk in front, which is empty only where nothing is unread.
+    /// Copies the first chunk, which is empty only if no byte is unread.
     Chunk,
-    /// Takes so many bytes off.
+    /// Skips this number of bytes.
     Advance(usize),
-    /// Takes so many bytes out.
+    /// Takes this number of bytes out.
     CopyOut(usize),
-    /// Copies of the slices in a table of so many places.
+    /// Copies the slices that a table with this number of places is filled with.
     Chunks(usize),
 }
 
 /// A call on a [`SegmentedBuf`].
 #[derive(Debug, Drop)]
 pub enum Call<B> {
-    /// Puts a buffer behind the others.
+    /// Appends a buffer.
     Push(B),
-    /// How many segments are held.
+    /// Asks for the number of segments that are held.
     Segments,
     /// Reads.
     Read(ReadCall),
 }
 
-/// What came of a call.
+/// The outcome of a call.
 #[derive(Debug, Drop)]
 pub enum Reply {
-    /// It was made.
+    /// The call was made.
     Done,
-    /// It asked for more bytes than are unread. Nothing has changed.
+    /// The call asked for more bytes than are unread. Nothing has changed.
     PastEnd,
-    /// With the buffer there would be more bytes than `usize::MAX`. Nothing has changed, and the
-    /// buffer is dropped.
+    /// With the buffer the length would pass `usize::MAX`. Nothing has changed, and the buffer is
+    /// dropped.
     TooLong,
-    /// A request for memory was refused. Nothing has changed, and a buffer to push is dropped.
+    /// Memory was refused. Nothing has changed, and a buffer to append is dropped.
     NoMemory,
-    /// A copy was refused, and so many bytes are gone.
+    /// A copy was refused, and this number of bytes is lost.
     CopyStopped(usize),
-    /// How many bytes or segments there are.
+    /// The number of bytes or segments.
     Number(usize),
-    /// What was taken out.
+    /// The bytes that were taken out.
     Piece(Bytes),
     /// A copy of a chunk.
     Shown(Vec<u8>),
@@ -67,17 +67,17 @@ pub enum Reply {
     Slices(Vec<Vec<u8>>),
 }
 
-/// The replies that were given, and what stopped them, if anything did.
+/// The replies to calls, and the reason if there are none.
 #[derive(Debug, Drop)]
 pub struct Replies {
-    /// A reply for each call, or none where the place for them was refused.
+    /// A reply for each call; none if memory for the list was refused.
     pub given: Vec<Reply>,
-    /// Why no call was made.
+    /// Why no call was made, if none was.
     pub refused: Option<Reason>,
 }
 
 impl Replies {
-    /// None, since memory refused the place for them.
+    /// No replies: memory for the list was refused.
     fn without_place(alloc: Global) -> Replies
         ensures given { result.given.items ≡ [] }
         ensures reason { result.refused ≡ Some WhyRefused.OutOfMemory }
@@ -89,8 +89,9 @@ impl Replies {
     }
 }
 
-/// Makes these calls on a buffer, one after another. The place for the replies is reserved first;
-/// where that is refused, no call is made.
+/// Makes these calls on `buf`, one after another, and returns a reply for each. Memory for the
+/// replies is reserved first. If it is refused, no call is made, and `refused` has the reason
+/// `OutOfMemory`.
 pub fn drive<B: BufParts + Drop>(
     alloc: Global,
     buf: &mut SegmentedBuf<B>,
@@ -102,9 +103,9 @@ pub fn drive<B: BufParts + Drop>(
     ensures none { OnSome result.refused (result.given.items ≡ []) }
     ensures same { OnSome result.refused (buf.new ≡ buf.old) }
 
-    // Each segment given since the beginning was dropped at once, was passed by one turn, or is
-    // left. So the turns of all the calls together are paid for, by these calls alone and since
-    // the beginning.
+    // Each segment that was ever given was dropped at once, was passed by one turn, or is left. So
+    // the turns of all the calls together are paid for, by these calls alone and since the
+    // beginning.
     ensures balanced { IsBalanced buf.new.segments buf.new.tally }
     ensures paid { IsPaid buf.old.segments buf.old.tally buf.new.segments buf.new.tally }
     ensures covered { IsCovered buf.new.segments buf.new.tally }
@@ -124,7 +125,7 @@ pub fn drive<B: BufParts + Drop>(
     }
 }
 
-/// Makes these calls on any buffer, one after another, as `drive` does.
+/// Makes these calls on any buffer, one after another, as `drive` does on a `SegmentedBuf`.
 pub fn read_calls<B: BufParts>(alloc: Global, buf: &mut B, calls: Vec<ReadCall>) -> Replies
     ensures run { IfNone result.refused (IsRun IsRead calls.items (lists_of (B.unread buf.old))
         result.given.items (lists_of (B.unread buf.new))) }

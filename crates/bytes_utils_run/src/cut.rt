@@ -1,4 +1,4 @@
-//! A text cut into all of its parts.
+//! A text split into all of its parts.
 ghost use Rattle.std.specs.Prelude.{◌≡◌, ◌+◌, ◌≤◌, ◌⊎◌, ℕ, List, [], IfErr, IfNone, IfSome, length, map};
 ghost use Rattle.std.specs.Result.{result_err};
 ghost use Rattle.std.specs.Str.{chars};
@@ -14,7 +14,7 @@ use std::alloc::Global;
 #[cfg(test)]
 pub(crate) mod tests;
 
-/// How a text is cut.
+/// How a text is split.
 #[derive(Clone, Copy, Debug)]
 pub enum How<'s> {
     /// Into words between white space, as `str::split_whitespace`.
@@ -25,26 +25,26 @@ pub enum How<'s> {
     Lines,
     /// At each separator, as `str::split`.
     Split(&'s str),
-    /// At separators, into at most so many parts, as `str::splitn`.
+    /// At separators, into at most the given number of parts, as `str::splitn`.
     SplitN(usize, &'s str),
     /// At each separator, from the back, as `str::rsplit`.
     RSplit(&'s str),
-    /// At separators, from the back, into at most so many parts, as `str::rsplitn`.
+    /// At separators, from the back, into at most the given number of parts, as `str::rsplitn`.
     RSplitN(usize, &'s str),
-    /// Behind each separator, as `str::split_inclusive`. The separator isn't empty.
+    /// After each separator, as `str::split_inclusive`. The separator isn't empty.
     Inclusive(&'s str),
 }
 
-/// The parts that were given, and what stopped the cutting, if anything did.
+/// The parts of a text, and the reason if not all were given.
 #[derive(Drop)]
 pub struct Parts<S: Storage> {
-    /// All of the parts, or a beginning of them where the cutting was refused.
+    /// All of the parts; if `refused` has a reason, the parts before the first that is missing.
     pub given: Vec<StrInner<S>>,
-    /// Why the next cut, or the place for the next part, was refused.
+    /// Why the next split, or memory for the next part, was refused.
     pub refused: Option<Reason>,
 }
 
-/// Puts all the parts that a splitter gives into an empty list.
+/// Appends all the parts that a splitter gives to an empty list.
 fn gather<S: Storage>(
     given: &mut Vec<StrInner<S>>,
     splitter: &mut AnySplitter<'_, S>,
@@ -61,8 +61,8 @@ fn gather<S: Storage>(
     Ok(())
 }
 
-/// Cuts a text into all of its parts. `is_empty` of the separator tests the condition on
-/// `Inclusive`.
+/// Splits a text into all of its parts, up to the first refusal: of a split by the storage, or of
+/// memory for the list. Requires that the separator of `Inclusive` isn't empty (test: `is_empty`).
 pub fn cut_all<S: Storage>(alloc: Global, text: StrInner<S>, how: How<'_>) -> Parts<S>
     requires { IsAllowed how }
     ensures outcome { Outcome (ArePartsBy (cutting how.entry) (chars text))
@@ -70,13 +70,13 @@ pub fn cut_all<S: Storage>(alloc: Global, text: StrInner<S>, how: How<'_>) -> Pa
     ensures few { length result.given.items ≤ length (chars text) + 2 }
     ensures joined { IfNone result.refused
         (JoinTo (cutting how.entry) (chars text) (map chars result.given.items)) }
-    // The storage refused a cut, or memory refused the place for the next part.
+    // The storage refused a split, or memory for the next part was refused.
     ensures reason { IfSome result.refused
         (λ reason. S.refuses reason ⊎ (reason ≡ Reason.OutOfMemory)) }
 {
     let mut given = Vec::new(alloc);
     let mut splitter = AnySplitter::new(text, how);
     let refused = gather(&mut given, &mut splitter).err();
-    drop(splitter); // by its own proof, and not by each of its cases once more here
+    drop(splitter); // An implicit drop would be proved here again, case by case.
     Parts { given, refused }
 }

@@ -1,10 +1,10 @@
-//! Readers and writers that are slow, fail, take nothing or never end.
+//! Readers and writers that are slow, fail, accept few bytes a call or never end.
 ghost use Rattle.std.specs.Prelude.{◌<◌};
 
 use std::io::{self, ErrorKind, Read, Write};
 
-/// Counts calls, and lets one of them fail: the one at `fails_at`, from 1 on, or none at 0. It
-/// fails as `Interrupted`, which std's own loops try again, and the next call succeeds.
+/// Counts calls and lets one fail: the one numbered `fails_at`, from 1 on, or none if that is 0. It
+/// fails with `Interrupted`, after which std's own loops try again, and the next call succeeds.
 #[derive(Drop)]
 struct Calls {
     made: usize,
@@ -30,7 +30,7 @@ impl Calls {
     }
 }
 
-/// Gives at most `most` bytes a call, and fails at one call.
+/// A reader that gives at most `most` bytes a call, and fails one call.
 #[derive(Drop)]
 pub(crate) struct SlowReader<'a> {
     rest: &'a [u8],
@@ -50,7 +50,7 @@ impl<'a> SlowReader<'a> {
         }
     }
 
-    /// The same with another error in the place of `Interrupted`.
+    /// Returns the same reader, which fails with `kind` in place of `Interrupted`.
     pub(crate) fn failing_as(self, kind: ErrorKind) -> Self {
         let SlowReader { rest, most, calls } = self;
         SlowReader {
@@ -77,8 +77,8 @@ impl Read for SlowReader<'_> {
     }
 }
 
-/// Gives its input by as few calls as may be, and notes the shortest and the longest place that it
-/// was to fill.
+/// Gives its input in as few calls as possible, and notes the lengths of the shortest and the
+/// longest buffer that it was given to fill.
 #[derive(Drop)]
 pub(crate) struct NotingReader<'a> {
     rest: &'a [u8],
@@ -95,7 +95,7 @@ impl<'a> NotingReader<'a> {
         }
     }
 
-    /// The shortest and the longest place.
+    /// Returns the lengths of the shortest and the longest buffer.
     pub(crate) fn places(&self) -> (usize, usize) {
         (self.shortest, self.longest)
     }
@@ -113,7 +113,7 @@ impl Read for NotingReader<'_> {
     }
 }
 
-/// Gives one `a` a call, never ends, and counts its calls.
+/// A reader that gives one `a` a call, never ends, and counts its calls.
 #[derive(Drop)]
 pub(crate) struct EndlessReader {
     pub(crate) calls: usize,
@@ -134,24 +134,7 @@ impl Read for EndlessReader {
     }
 }
 
-/// Is interrupted at every call, and counts them.
-#[derive(Drop)]
-pub(crate) struct InterruptedReader {
-    pub(crate) calls: usize,
-}
-
-impl Read for InterruptedReader {
-    ghost use Rattle.std.specs.Prelude.{Some, []};
-
-    ghost remaining = { λ _. Some [] };
-
-    fn read(&mut self, _buf: &mut [u8]) -> io::Result<usize> {
-        self.calls = self.calls.saturating_add(1);
-        Err(io::Error::from(ErrorKind::Interrupted))
-    }
-}
-
-/// Takes at most `most` bytes a call, and fails at one call.
+/// Accepts at most `most` bytes a call, and fails at one call.
 #[derive(Drop)]
 pub(crate) struct SlowWriter {
     held: Vec<u8>,
@@ -172,7 +155,7 @@ impl SlowWriter {
         self.held.as_slice()
     }
 
-    /// How many calls of `write` were made.
+    /// Returns how many calls of `write` were made.
     pub(crate) fn calls(&self) -> usize {
         self.calls.made
     }
@@ -195,7 +178,7 @@ impl Write for SlowWriter {
     }
 }
 
-/// Takes all it is given, and can't be flushed.
+/// Accepts all bytes, and fails to flush.
 #[derive(Drop)]
 pub(crate) struct UnflushedWriter {
     pub(crate) held: Vec<u8>,

@@ -1,16 +1,20 @@
-//! Texts cut whole, lists of calls on buffers, and a program that does both.
+//! Lists of calls on buffers and texts, laws, a program, and examples, over `bytes_utils`.
+//!
+//! - [`cut_all`] splits a text into all of its parts. [`drive`] makes a list of calls on a
+//!   `SegmentedBuf`, and [`read_calls`] on any buffer. [`script`] is a whole program over both.
+//! - `laws` has theorems about lists of parts, and the methods of `str` with contracts.
+//! - `odd` has lawful but unusual buffers and a storage that refuses, for tests.
+//! - `examples` has short functions and types to copy, each with a contract.
 #![tactic(auto)]
 
-pub mod borrowed;
-pub mod callers;
 mod calls;
 mod cut;
+pub mod examples;
 #[cfg(test)]
 mod fakes;
 pub mod laws;
 pub mod odd;
 mod program;
-mod read;
 #[cfg(test)]
 mod readme;
 mod splitter;
@@ -18,4 +22,3 @@ mod splitter;
 pub use calls::{Call, ReadCall, Replies, Reply, drive, read_calls};
 pub use cut::{How, Parts, cut_all};
 pub use program::{Fault, script};
-pub use read::{ReadError, read_frame, read_frames_law};

@@ -1,4 +1,4 @@
-//! Lawful but odd parts, for tests of what rests on a trait's laws alone.
+//! Lawful but odd buffers and storages, for tests of code that relies on a trait's laws alone.
 mod asked;
 mod drip;
 mod refuse_after;

@@ -1,4 +1,4 @@
-//! The program: it reads a command and a text, and prints what the command makes of the text.
+//! The program: reads a command and a text, runs the command on the text, and prints the result.
 ghost use Rattle.std.specs.Prelude.{◌≡◌, ◌⊎◌, None, Some, OnOk, OnErr, IfOk, IfErr, IsErrOf, IsOkUnless, IsUtf8};
 ghost use Rattle.std.specs.Io.KnownBytes.{Keeps};
 ghost use Rattle.bytes_utils_buf.specs.declared.refused.Reason.{Reason as WhyRefused};
@@ -8,25 +8,25 @@ ghost use Rattle.bytes_utils_run.specs.Run.{FindsNoRequest, FindsNotUtf8, Prints
 mod answer;
 mod call_line;
 mod command;
-mod entry;
 mod fault;
 mod input;
-pub(crate) mod number;
 mod output;
+mod print;
 #[cfg(test)]
 mod tests;
+pub(crate) mod word;
 
 use answer::{Answer, answer_to};
 use bytes::Bytes;
 use bytes_utils::{Reason, Str};
-use entry::{print_all, print_parts};
 pub use fault::Fault;
 use input::read_all;
 use output::flush_out;
+use print::{print_all, print_parts};
 use std::alloc::Global;
 use std::io::{Read, Write};
 
-/// The input as text.
+/// Turns the input into text.
 fn text_of(input: Vec<u8>) -> Result<Str, Fault>
     ensures ok { IfOk result (λ text. text ≡ input.items) }
     ensures utf8 { OnOk result (IsUtf8 input.items) }
@@ -42,7 +42,7 @@ fn text_of(input: Vec<u8>) -> Result<Str, Fault>
     }
 }
 
-/// Prints what an answer gives, one by one, and tells why there is no more, if there should be.
+/// Prints the results one by one. Returns the reason if a refusal left some of them out.
 fn print_given<W: Write>(writer: &mut W, answer: Answer<'_>) -> Result<Option<Reason>, Fault>
     requires { HasParts answer }
     ensures ok { IfOk result (λ refused. PrintsGiven answer.entry refused
@@ -54,7 +54,7 @@ fn print_given<W: Write>(writer: &mut W, answer: Answer<'_>) -> Result<Option<Re
     match answer {
         Answer::Splitter(mut splitter) => {
             let refused = print_parts(writer, &mut splitter);
-            drop(splitter); // by its own proof, and not by each of its cases once more here
+            drop(splitter); // An implicit drop would be proved here again, case by case.
             refused
         }
         Answer::Replies(replies) => {
@@ -64,7 +64,7 @@ fn print_given<W: Write>(writer: &mut W, answer: Answer<'_>) -> Result<Option<Re
     }
 }
 
-/// Prints what an answer gives and flushes, and tells whether more was refused.
+/// Prints the results and flushes. Fails if a write fails or a refusal left results out.
 fn print_answer<W: Write>(writer: &mut W, answer: Answer<'_>) -> Result<(), Fault>
     requires { HasParts answer }
     ensures ok { OnOk result (PrintsGiven answer.entry None
@@ -84,11 +84,13 @@ fn print_answer<W: Write>(writer: &mut W, answer: Answer<'_>) -> Result<(), Faul
     }
 }
 
-/// Reads all of its input, does what its first line says with the rest, and writes what comes of
-/// it.
+/// Reads all of its input, runs the command in the first line on the text after it, and prints the
+/// result. The input is read in at most 1,048,576 calls of `read`.
 ///
-/// The input is read by at most 1,048,576 calls of `read`; a reader that hasn't ended by then
-/// counts as one that failed.
+/// Fails with `UnknownCommand` or `NotUtf8`; then nothing was written. Fails with `OutOfMemory` if
+/// memory is refused; then some of the first results may have been written, each of them whole, but
+/// not all results. Fails with `Io` if a read, write or flush fails, or the input hasn't ended
+/// after those calls; then some of the first bytes of the output, or all, may have been written.
 pub fn script<R: Read, W: Write>(alloc: Global, reader: &mut R, writer: &mut W) -> Result<(), Fault>
     ensures ok { OnOk result (PrintsAll (R.remaining reader.old) (R.remaining reader.new)
         (W.contents writer.old) (W.contents writer.new)) }

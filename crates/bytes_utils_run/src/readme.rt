@@ -1,4 +1,4 @@
-//! The examples of the README, as they stand there but for this crate's own name.
+//! The examples of the README, as they are there.
 mod tests;
 
 use bytes::{Buf, Bytes};
@@ -7,13 +7,13 @@ use bytes_utils::{Reason, SegmentedBuf, Str};
 use std::alloc::Global;
 use std::io::{self, Write};
 
-/// The next line of a stream that comes in pieces, or `None` while its end is to come.
+/// Returns the next line of a stream that arrives in pieces, or `None` until the line has ended.
 fn next_line(alloc: Global, stream: &mut Lines, piece: Bytes) -> Result<Option<Str>, LineError> {
     stream.push(piece)?;
     stream.next_line(alloc)
 }
 
-/// The name and the value of a line such as `Host: example.org`.
+/// Splits a line such as `Host: example.org` into name and value.
 fn header(line: Str) -> Result<Option<(Str, Str)>, Reason> {
     let mut parts = line.splitn_bytes(2, ": ");
     match (parts.next(), parts.next()) {
@@ -22,7 +22,7 @@ fn header(line: Str) -> Result<Option<(Str, Str)>, Reason> {
     }
 }
 
-/// A body of `len` bytes off what came, or `None` while some of it is to come.
+/// Takes a body of `len` bytes out of `came`, or returns `None` until all of it has arrived.
 fn body(
     alloc: Global,
     came: &mut SegmentedBuf<Bytes>,
@@ -31,11 +31,11 @@ fn body(
     if came.remaining() < len {
         return Ok(None);
     }
-    Ok(Some(came.copy_to_bytes(alloc, len)?)) // shared where it lies in one piece
+    Ok(Some(came.copy_to_bytes(alloc, len)?)) // shared if it is in one piece
 }
 
-/// Writes what came in pieces by few calls. After an error, `came` holds what wasn't written.
+/// Writes all of `came`, small pieces together. After an error, `came` holds what wasn't written.
 fn send<W: Write>(out: &mut W, came: &mut SegmentedBuf<Bytes>) -> io::Result<()> {
-    crate::callers::writer::write_all_of(out, came)?;
+    bytes_utils::write::write_all_of(out, came)?;
     out.flush()
 }

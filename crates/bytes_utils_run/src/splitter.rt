@@ -1,4 +1,4 @@
-//! The splitter of a text by any of the ways to cut.
+//! The splitter of a text for any of the ways to split.
 ghost use Rattle.std.specs.Prelude.{ℕ, List};
 ghost use Rattle.std.specs.Iterator.{at_most};
 ghost use Rattle.std.specs.Str.{chars};
@@ -14,25 +14,25 @@ use bytes_utils::split::{
 };
 use bytes_utils::string::{Storage, StrInner};
 
-/// The splitter by one of the ways to cut, which gives the parts one by one.
+/// The splitter for one of the ways to split, which gives the parts one by one.
 #[derive(Drop)]
 pub(crate) enum AnySplitter<'s, S: Storage> {
-    /// That of `How::Words`.
+    /// For `How::Words`.
     Words(SplitWhitespaceBytes<S>),
-    /// That of `How::AsciiWords`.
+    /// For `How::AsciiWords`.
     AsciiWords(SplitAsciiWhitespaceBytes<S>),
-    /// That of `How::Lines`.
+    /// For `How::Lines`.
     Lines(LinesBytes<S>),
-    /// That of `How::Split` and of `How::SplitN`.
+    /// For `How::Split` and `How::SplitN`.
     Split(SplitBytes<'s, S>),
-    /// That of `How::RSplit` and of `How::RSplitN`.
+    /// For `How::RSplit` and `How::RSplitN`.
     RSplit(RSplitBytes<'s, S>),
-    /// That of `How::Inclusive`.
+    /// For `How::Inclusive`.
     Inclusive(SplitInclusiveBytes<'s, S>),
 }
 
 impl<'s, S: Storage> AnySplitter<'s, S> {
-    /// The splitter of a text by this way to cut.
+    /// Makes the splitter of a text for this way to split.
     pub(crate) fn new(text: StrInner<S>, how: How<'s>) -> Self
         requires { IsAllowed how }
         ensures some { (parts : List (List ℕ)) × AreToCome result parts }

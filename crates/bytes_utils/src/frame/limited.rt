@@ -1,10 +1,10 @@
-//! Frames of at most so many bytes.
+//! Frames with a limit on their length.
 ghost use Rattle.std.specs.Prelude.{◌≡◌, ◌+◌, ◌^◌, ◌<◌, ◌≤◌, ◌↔◌, false, [], ◌++◌, length, take, drop, IsTrue, IfOk, IfErr, IfSome, IfNone, OnOk, OnErr, OnSome};
 ghost use Rattle.std.specs.List.{concat};
 ghost use Rattle.std.specs.Bool.{OnTrue};
 ghost use Rattle.bytes_utils.specs.Occurrence.{Occurs};
 ghost use Rattle.bytes_utils.specs.Frames.{TakesFrame};
-ghost use Rattle.bytes_utils.specs.LimitedFrames.{Gives, IsOverlong, LimitedFramesLaw, Passes, Tells};
+ghost use Rattle.bytes_utils.specs.LimitedFrames.{Gives, IsOverlong, LimitedFramesLaw, Discards, Reports};
 
 use super::Frames;
 use bytes::Bytes;
@@ -13,15 +13,18 @@ use bytes_utils_buf::{Reason, Refused};
 use std::alloc::Global;
 use std::marker::Model;
 
-/// A [`Frames`] whose frames have at most so many bytes. A longer one is told by one error in its
-/// place, as soon as it is certain, and passed over: its bytes are dropped as they come, and the next
-/// frame is that behind it. So a stream that never ends its frame takes no more memory than
-/// that many bytes, a separator and one piece.
+/// A [`Frames`] with a limit on the bytes of a frame. A longer frame is reported once, as an error
+/// in its place, as soon as it is certain. It is skipped: its bytes are dropped as they come, and
+/// the next frame is the one after it.
+///
+/// If `next_frame` is called after each `push` until it returns `None`, then fewer bytes are held
+/// than `max_length` and the length of the separator together. Each held piece keeps its whole
+/// block alive.
 #[derive(Debug, Drop)]
 pub struct LimitedFrames {
     frames: Frames,
     max_length: usize,
-    passing: bool,
+    discarding: bool,
 }
 
 impl Model for LimitedFrames {
@@ -34,30 +37,34 @@ impl Model for LimitedFrames {
       separator = f.frames.separator;
       held = f.frames.held;
       max_length = f.max_length;
-      passing = f.passing;
+      discarding = f.discarding;
     } };
 }
 
 impl LimitedFrames {
-    /// A reader into which nothing came. It copies the separator.
+    /// Makes a reader that holds no bytes, and copies `separator`. A frame may have `max_length`
+    /// bytes, not counting its separator. Requires that `separator` is not empty (test:
+    /// `is_empty`). Fails with `OutOfMemory` if memory is refused.
     pub fn new(alloc: Global, separator: &[u8], max_length: usize) -> Result<LimitedFrames, Reason>
         requires { 0 < length separator.now }
         ensures ok { IfOk result (λ f. f ≡ record {
           separator = separator.now;
           held = [];
           max_length = max_length;
-          passing = false;
+          discarding = false;
         }) }
         ensures reason { IfErr result (λ reason. reason ≡ Reason.OutOfMemory) }
     {
         Ok(LimitedFrames {
             frames: Frames::new(alloc, separator)?,
             max_length,
-            passing: false,
+            discarding: false,
         })
     }
 
-    /// Takes a piece in behind the others, without a copy.
+    /// Appends `piece` without a copy. Fails with `TooLong` if the number of held bytes would pass
+    /// `usize::MAX`, and with `OutOfMemory` if memory is refused; then nothing has changed and
+    /// `piece` comes back.
     pub fn push(&mut self, piece: Bytes) -> Result<(), Refused<Bytes>>
         ensures ok { OnOk result (self.new ≡ record self.old { held = self.old.held ++ piece }) }
         ensures err { OnErr result (self.new ≡ self.old) }
@@ -68,17 +75,20 @@ impl LimitedFrames {
         self.frames.push(piece)
     }
 
-    /// Gives the next frame, or `None` while its end is to come, or `TooLong` where it is longer than
-    /// the limit. Where memory is refused, the call can be made again.
+    /// Returns the next frame without its separator, or `None` if its end has not come yet. Fails
+    /// with `TooLong` once for each frame over the limit. Fails with `OutOfMemory` if memory is
+    /// refused; then the call can be made again, and only bytes of a skipped frame may have been
+    /// dropped.
     pub fn next_frame(&mut self, alloc: Global) -> Result<Option<Bytes>, Reason>
         ensures frame { IfOk result (λ next. IfSome next (λ frame. Gives self.old frame self.new)) }
         ensures too_long { IfErr result
-            (λ reason. reason ≡ Reason.TooLong → Tells self.old self.new) }
-        ensures waits { IfOk result (λ next. IfNone next (Passes self.old self.new)) }
+            (λ reason. reason ≡ Reason.TooLong → Reports self.old self.new) }
+        ensures waits { IfOk result (λ next. IfNone next (Discards self.old self.new)) }
         ensures refused { IfErr result
-            (λ reason. reason ≡ Reason.OutOfMemory → Passes self.old self.new) }
+            (λ reason. reason ≡ Reason.OutOfMemory → Discards self.old self.new) }
 
-        // Only a frame whose end is to come, and that may still be within the limit, is waited for.
+        // It waits only for a frame whose end has not come yet and that may still be within the
+        // limit.
         ensures lacks { IfOk result
             (λ next. IfNone next (¬ Occurs self.new.separator self.new.held)) }
         ensures few { IfOk result (λ next. IfNone next
@@ -89,20 +99,24 @@ impl LimitedFrames {
         let Some(len) = self.next_len()? else {
             return Ok(None);
         };
-        Ok(Some(self.frames.give(alloc, len)?))
+        Ok(Some(self.frames.take_frame(alloc, len)?))
     }
 
-    /// As `next_frame`, in the pieces in which the frame came, of which none is copied.
-    pub fn next_segments(&mut self, alloc: Global) -> Result<Option<SegmentedBuf<Bytes>>, Reason>
+    /// As `next_frame`, but in the pieces in which the frame came. No byte is copied.
+    pub fn next_frame_segments(
+        &mut self,
+        alloc: Global,
+    ) -> Result<Option<SegmentedBuf<Bytes>>, Reason>
         ensures frame { IfOk result (λ next. IfSome next (λ frame.
             Gives self.old (concat frame.segments) self.new)) }
         ensures too_long { IfErr result
-            (λ reason. reason ≡ Reason.TooLong → Tells self.old self.new) }
-        ensures waits { IfOk result (λ next. IfNone next (Passes self.old self.new)) }
+            (λ reason. reason ≡ Reason.TooLong → Reports self.old self.new) }
+        ensures waits { IfOk result (λ next. IfNone next (Discards self.old self.new)) }
         ensures refused { IfErr result
-            (λ reason. reason ≡ Reason.OutOfMemory → Passes self.old self.new) }
+            (λ reason. reason ≡ Reason.OutOfMemory → Discards self.old self.new) }
 
-        // Only a frame whose end is to come, and that may still be within the limit, is waited for.
+        // It waits only for a frame whose end has not come yet and that may still be within the
+        // limit.
         ensures lacks { IfOk result
             (λ next. IfNone next (¬ Occurs self.new.separator self.new.held)) }
         ensures few { IfOk result (λ next. IfNone next
@@ -113,24 +127,26 @@ impl LimitedFrames {
         let Some(len) = self.next_len()? else {
             return Ok(None);
         };
-        Ok(Some(self.frames.give_segments(alloc, len)?))
+        Ok(Some(self.frames.take_frame_segments(alloc, len)?))
     }
 
-    /// How long the next frame is, if it has come, behind the one that is passed over.
+    /// The length of the next frame after the one that is skipped, or `None` if its end has not
+    /// come yet.
     fn next_len(&mut self) -> Result<Option<usize>, Reason>
         ensures frame { IfOk result (λ next. IfSome next (λ len.
             (len + length self.new.separator ≤ length self.new.held)
             × Gives self.old (take len self.new.held) (record self.new {
               held = drop (len + length self.new.separator) self.new.held;
             }))) }
-        ensures over { IfOk result (λ next. OnSome next (Passes self.old self.new)) }
+        ensures over { IfOk result (λ next. OnSome next (Discards self.old self.new)) }
         ensures too_long { IfErr result
-            (λ reason. reason ≡ Reason.TooLong → Tells self.old self.new) }
-        ensures waits { IfOk result (λ next. IfNone next (Passes self.old self.new)) }
+            (λ reason. reason ≡ Reason.TooLong → Reports self.old self.new) }
+        ensures waits { IfOk result (λ next. IfNone next (Discards self.old self.new)) }
         ensures refused { IfErr result
-            (λ reason. reason ≡ Reason.OutOfMemory → Passes self.old self.new) }
+            (λ reason. reason ≡ Reason.OutOfMemory → Discards self.old self.new) }
 
-        // Only a frame whose end is to come, and that may still be within the limit, is waited for.
+        // It waits only for a frame whose end has not come yet and that may still be within the
+        // limit.
         ensures lacks { IfOk result
             (λ next. IfNone next (¬ Occurs self.new.separator self.new.held)) }
         ensures few { IfOk result (λ next. IfNone next
@@ -138,38 +154,38 @@ impl LimitedFrames {
         ensures separator { self.new.separator ≡ self.old.separator }
         ensures max_length { self.new.max_length ≡ self.old.max_length }
     {
-        self.pass_over()?;
-        if self.passing {
+        self.discard_overlong()?;
+        if self.discarding {
             return Ok(None);
         }
         self.len_within()
     }
 
-    /// Leaves the frame behind that is passed over, if there is one, or more of its bytes.
-    fn pass_over(&mut self) -> Result<(), Reason>
-        ensures over { Passes self.old self.new }
-        ensures few { OnOk result (OnTrue self.new.passing
+    /// Drops the rest of the frame that is skipped, or those of its bytes that have come.
+    fn discard_overlong(&mut self) -> Result<(), Reason>
+        ensures over { Discards self.old self.new }
+        ensures few { OnOk result (OnTrue self.new.discarding
             (length self.new.held < length self.old.separator)) }
         ensures separator { self.new.separator ≡ self.old.separator }
         ensures max_length { self.new.max_length ≡ self.old.max_length }
         ensures reason { IfErr result (λ reason. reason ≡ Reason.OutOfMemory) }
     {
-        if self.passing && self.frames.skip()? {
-            self.passing = false;
+        if self.discarding && self.frames.discard_to_separator()? {
+            self.discarding = false;
         }
         Ok(())
     }
 
-    /// As `next_len`, where no frame is passed over.
+    /// As `next_len`, if no frame is skipped.
     fn len_within(&mut self) -> Result<Option<usize>, Reason>
-        requires { self.old.passing ≡ false }
+        requires { self.old.discarding ≡ false }
         ensures frame { IfOk result (λ next. IfSome next (λ len. (self.new ≡ self.old)
             × (len ≤ self.old.max_length)
             × (len + length self.old.separator ≤ length self.old.held)
             × TakesFrame self.old.separator self.old.held (take len self.old.held)
             (drop (len + length self.old.separator) self.old.held))) }
         ensures too_long { IfErr result (λ reason. reason ≡ Reason.TooLong → IsOverlong
-            self.old.separator self.old.max_length self.old.held self.new.passing self.new.held) }
+            self.old.separator self.old.max_length self.old.held self.new.discarding self.new.held) }
         ensures waits { IfOk result (λ next. IfNone next ((self.new ≡ self.old)
             × (¬ Occurs self.old.separator self.old.held)
             × (length self.old.held < self.old.max_length + length self.old.separator))) }
@@ -178,21 +194,21 @@ impl LimitedFrames {
         ensures separator { self.new.separator ≡ self.old.separator }
         ensures max_length { self.new.max_length ≡ self.old.max_length }
     {
-        match self.frames.next_end()? {
+        match self.frames.next_len()? {
             Some(len) if len <= self.max_length => Ok(Some(len)),
             Some(len) => {
-                self.frames.pass(len);
+                self.frames.discard_frame(len);
                 Err(Reason::TooLong)
             }
             None if self.is_overlong() => {
-                self.passing = true;
+                self.discarding = true;
                 Err(Reason::TooLong)
             }
             None => Ok(None),
         }
     }
 
-    /// Whether each place within the limit at which a separator may begin has come.
+    /// Whether all places within the limit at which a separator may begin have come.
     fn is_overlong(&self) -> bool
         ensures { IsTrue result ↔ (self.now.max_length + length self.now.separator ≤ length self.now.held) }
     {
@@ -200,15 +216,16 @@ impl LimitedFrames {
         size <= self.frames.remaining() && self.max_length <= self.frames.remaining() - size
     }
 
-    /// How many bytes came in and weren't given or dropped.
+    /// Returns the number of held bytes: those pushed and not yet taken or dropped.
     pub fn remaining(&self) -> usize
         ensures { result ≡ length self.now.held }
     {
         self.frames.remaining()
     }
 
-    /// What is left behind the last separator that was found, or the last bytes of a frame that is
-    /// passed over.
+    /// Returns the held bytes. Call it at the end of the stream: they are the last frame, if it has
+    /// no separator, and any frames not asked for, or else the last bytes of a frame that is
+    /// skipped.
     pub fn finish(self) -> SegmentedBuf<Bytes>
         ensures { concat result.segments ≡ self.held }
     {
@@ -216,8 +233,8 @@ impl LimitedFrames {
     }
 }
 
-/// What a run gives is, part by part of the joined pieces, the frame, or the error exactly where it is
-/// longer than the limit.
-pub fn limited_frames_law()
+/// The law of a run of calls. For each frame of the joined pieces it returns the frame, or the
+/// error exactly if the frame is longer than the limit.
+pub fn limited_frame_laws()
     ensures { LimitedFramesLaw }
 {}

@@ -1,40 +1,40 @@
-//! A search over pieces in a row. What was searched isn't searched again, but for the bytes that are
-//! held back: those from which the needle may still begin.
+//! A search over pieces in a row. Bytes are searched once, except the kept tail: the last bytes, in
+//! which the needle may still begin.
 ghost use Rattle.std.specs.Prelude.{◌≡◌, ◌≢◌, ℕ, ◌+◌, ◌-◌, ◌^◌, ◌<◌, ◌≤◌, List, [], ◌++◌, length, take, drop, slice_index, Some, MatchOption, IfOk, IfNone, OnErr, OnSome};
 ghost use Rattle.std.specs.List.{concat};
 ghost use Rattle.memchr.specs.Find.{FindsNeedle};
 ghost use Rattle.bytes_utils.specs.FrameSearch.{HoldsBack, Searched, SearchedPieces, StaysAt};
 
+use bytes_utils_buf::contiguous::ContiguousBuf;
 use bytes_utils_buf::segmented::SegmentedBuf;
-use bytes_utils_buf::whole::BufWhole;
 use memchr::memchr;
 use memchr::memmem::Finder;
 use std::alloc::{AllocError, Global};
 
-/// How far a search over pieces has come: how many of them were searched, and the last of their
-/// bytes, from place `base` on, from which the needle may still begin.
+/// How far a search over pieces has come: how many pieces were searched, and the kept tail: their
+/// last bytes, from place `base` on, in which the needle may still begin.
 #[derive(Debug, Drop)]
-pub(crate) struct Progress {
+pub(crate) struct SearchState {
     pieces: usize,
     base: usize,
     held: Vec<u8>,
 }
 
-impl Progress {
-    /// Nothing was searched.
-    pub(crate) fn new(alloc: Global) -> Progress
+impl SearchState {
+    /// The state before any search.
+    pub(crate) fn new(alloc: Global) -> SearchState
         ensures pieces { result.pieces ≡ 0 }
         ensures base { result.base ≡ 0 }
         ensures held { result.held.items ≡ [] }
     {
-        Progress {
+        SearchState {
             pieces: 0,
             base: 0,
             held: Vec::new(alloc),
         }
     }
 
-    /// Begins anew.
+    /// Starts the search again.
     #[inline]
     pub(crate) fn restart(&mut self)
         ensures pieces { self.new.pieces ≡ 0 }
@@ -46,15 +46,15 @@ impl Progress {
         self.held.clear();
     }
 
-    /// The place from which on bytes are held back.
+    /// The place at which the kept tail begins.
     pub(crate) fn base(&self) -> usize
         ensures { result ≡ self.now.base }
     {
         self.base
     }
 
-    /// The bytes before those that are held back are gone, and these lie in so many pieces.
-    pub(crate) fn rebase(&mut self, pieces: usize)
+    /// Forgets the bytes before the kept tail, which now spans `pieces` pieces.
+    pub(crate) fn forget_front(&mut self, pieces: usize)
         ensures pieces { self.new.pieces ≡ pieces }
         ensures base { self.new.base ≡ 0 }
         ensures held { self.new.held.items ≡ self.old.held.items }
@@ -63,7 +63,8 @@ impl Progress {
         self.base = 0;
     }
 
-    /// Searches the next piece: it gives the needle's place, or comes to the end of the piece.
+    /// Searches the next piece for the needle. If it isn't found, the search is at the end of the
+    /// piece.
     #[inline]
     fn step(&mut self, finder: &Finder, piece: &[u8]) -> Result<Option<usize>, AllocError>
         requires short { length self.old.held.items < length finder.now }
@@ -77,7 +78,7 @@ impl Progress {
         ensures stays { IfOk result (λ found. OnSome found (StaysAt self.old self.new)) }
         ensures err { OnErr result (StaysAt self.old self.new) }
     {
-        let from = quiet_front(finder.needle(), piece);
+        let from = prefix_without_first_byte(finder.needle(), piece);
         if from == piece.len() && self.held.is_empty() {
             self.base += from;
             return Ok(None);
@@ -85,16 +86,16 @@ impl Progress {
         if let Some(at) = find_next(finder, &mut self.held, piece, from)? {
             return Ok(Some(self.base + at));
         }
-        self.base += hold_back(&mut self.held, piece, finder.needle(), from)?;
+        self.base += keep_tail(&mut self.held, piece, finder.needle(), from)?;
         Ok(None)
     }
 }
 
-/// The first place of the needle in the pieces, of which some were searched already.
-pub(crate) fn find<B: BufWhole + Drop>(
+/// The first place of the needle in the pieces, some of which were already searched.
+pub(crate) fn find<B: ContiguousBuf + Drop>(
     finder: &Finder,
     pieces: &SegmentedBuf<B>,
-    progress: &mut Progress,
+    progress: &mut SearchState,
 ) -> Result<Option<usize>, AllocError>
     requires fits { length (concat pieces.now.segments) < 2 ^ 64 }
     requires searched { SearchedPieces finder.now pieces.now.segments progress.old }
@@ -115,10 +116,10 @@ pub(crate) fn find<B: BufWhole + Drop>(
     Ok(None)
 }
 
-/// How many bytes of a piece are passed at once, since the needle's first byte isn't among them. A
-/// needle of one byte is left to the finder.
+/// The number of bytes at the start of the piece that are skipped at once, because the needle's
+/// first byte is not among them. A needle of one byte is left to the finder.
 #[inline]
-fn quiet_front(needle: &[u8], piece: &[u8]) -> usize
+fn prefix_without_first_byte(needle: &[u8], piece: &[u8]) -> usize
     requires { 0 < length needle.now }
     ensures within { result ≤ length piece.now }
     ensures none { (k : ℕ) → k < result → slice_index piece.now k ≢ slice_index needle.now 0 }
@@ -129,8 +130,8 @@ fn quiet_front(needle: &[u8], piece: &[u8]) -> usize
     place_from(needle[0], piece, 0)
 }
 
-/// The first place of the needle in what is held back and a piece behind it, in which its first byte
-/// stands nowhere before place `from`.
+/// The first place of the needle in the kept tail and the next piece, in which its first byte does
+/// not occur before place `from`.
 #[inline]
 fn find_next(
     finder: &Finder,
@@ -146,19 +147,19 @@ fn find_next(
         (λ at. FindsNeedle (held.old.items ++ piece.now) finder.now 0 at) }
     ensures held { held.new.items ≡ held.old.items }
 {
-    if let Some(at) = find_across(finder, held, piece)? {
+    if let Some(at) = find_across_border(finder, held, piece)? {
         return Ok(Some(at));
     }
-    match find_behind(finder, piece, from) {
+    match find_in_piece(finder, piece, from) {
         Some(at) => Ok(Some(held.len() + at)),
         None => Ok(None),
     }
 }
 
-/// The first place of the needle in a piece, in which its first byte stands nowhere before place
+/// The first place of the needle in a piece, in which its first byte does not occur before place
 /// `from`.
 #[inline]
-fn find_behind(finder: &Finder, piece: &[u8], from: usize) -> Option<usize>
+fn find_in_piece(finder: &Finder, piece: &[u8], from: usize) -> Option<usize>
     requires some { 0 < length finder.now }
     requires within { from ≤ length piece.now }
     requires none { (k : ℕ) → k < from → slice_index piece.now k ≢ slice_index finder.now 0 }
@@ -170,10 +171,10 @@ fn find_behind(finder: &Finder, piece: &[u8], from: usize) -> Option<usize>
     }
 }
 
-/// The first place of the needle in what is held back and as much of the piece behind it as a needle
-/// that begins there may reach.
+/// The first place of the needle in the kept tail and those bytes of the next piece that a needle
+/// which begins in the tail can reach.
 #[inline]
-fn find_across(
+fn find_across_border(
     finder: &Finder,
     held: &mut Vec<u8>,
     piece: &[u8],
@@ -194,10 +195,10 @@ fn find_across(
     Ok(found)
 }
 
-/// Holds back the bytes of what is held and of the piece from which the needle may begin. Its first
-/// byte stands nowhere in the piece before place `from`. Answers at which place they begin.
+/// Keeps those last bytes of the tail and the piece in which the needle may still begin. Its first
+/// byte does not occur in the piece before place `from`. Returns the place at which they begin.
 #[inline]
-fn hold_back(
+fn keep_tail(
     held: &mut Vec<u8>,
     piece: &[u8],
     needle: &[u8],
@@ -214,14 +215,14 @@ fn hold_back(
 {
     let most = needle.len() - 1;
     if piece.len() < most {
-        hold_short(held, piece, needle)
+        keep_tail_short(held, piece, needle)
     } else {
-        hold_end(held, piece, needle, from)
+        keep_tail_long(held, piece, needle, from)
     }
 }
 
-/// As `hold_back`, for a piece that is shorter than what a needle that begins before it may reach.
-fn hold_short(held: &mut Vec<u8>, piece: &[u8], needle: &[u8]) -> Result<usize, AllocError>
+/// As `keep_tail`, for a piece with fewer bytes than the needle has after its first.
+fn keep_tail_short(held: &mut Vec<u8>, piece: &[u8], needle: &[u8]) -> Result<usize, AllocError>
     requires some { 0 < length needle.now }
     requires fits { length held.old.items + length piece.now < 2 ^ 64 }
     ensures cut { IfOk result (λ cut. HoldsBack needle.now (held.old.items ++ piece.now) cut) }
@@ -236,9 +237,9 @@ fn hold_short(held: &mut Vec<u8>, piece: &[u8], needle: &[u8]) -> Result<usize, 
     Ok(cut)
 }
 
-/// As `hold_back`, for another piece.
+/// As `keep_tail`, for a longer piece.
 #[inline]
-fn hold_end(
+fn keep_tail_long(
     held: &mut Vec<u8>,
     piece: &[u8],
     needle: &[u8],
@@ -262,7 +263,7 @@ fn hold_end(
     Ok(before + cut)
 }
 
-/// The first place from `from` on at which `first` stands, and the end where there is none.
+/// The first place from `from` on of the byte `first`, or the end if it does not occur.
 #[inline]
 fn place_from(first: u8, bytes: &[u8], from: usize) -> usize
     requires { from ≤ length bytes.now }
@@ -276,7 +277,7 @@ fn place_from(first: u8, bytes: &[u8], from: usize) -> usize
     }
 }
 
-/// Takes the first `len` bytes off.
+/// Removes the first `len` bytes.
 #[inline]
 fn drop_front(bytes: &mut Vec<u8>, len: usize)
     requires { len ≤ length bytes.old.items }

@@ -1,4 +1,4 @@
-//! What a refusal of JSON says of itself.
+//! The messages of `JsonRefused`.
 
 use super::JsonRefused;
 use std::error::Error;

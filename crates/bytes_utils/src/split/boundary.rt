@@ -1,10 +1,11 @@
-//! Bytes of a separator stand in a text's bytes where its characters stand in the text's.
+//! The law that a separator's bytes occur in a text's bytes exactly where its characters occur in
+//! the text.
 ghost use Rattle.bytes_utils.specs.Occurrence.{BoundariesLaw};
 
-/// For a separator that isn't empty, both of real characters: its bytes occur in the text's bytes
-/// exactly at the places at which a character begins from which on it occurs in the text. So a
-/// search in bytes finds the occurrences among characters, and no other (UTF-8 is
-/// self-synchronizing, RFC 3629).
+/// States, for a separator that isn't empty, that its bytes occur in a text's bytes exactly at the
+/// places at which its characters occur in the text. Both are UTF-8, which is self-synchronizing
+/// (RFC 3629). So a search among bytes finds each occurrence among characters, and no other. The
+/// call does nothing.
 pub fn boundaries()
     ensures { BoundariesLaw }
 {}

@@ -3,7 +3,7 @@ ghost use Rattle.std.specs.Prelude.{◌≡◌, ◌-◌, ◌<◌, [], MatchOption
 ghost use Rattle.std.specs.Str.{chars};
 ghost use Rattle.bytes_utils.specs.Text.{byte_place};
 
-/// The byte place at which the first character ends, of a text that isn't empty.
+/// Returns the byte place at which the first character ends, or `None` if the text is empty.
 #[inline]
 pub(super) fn first_end(text: &str) -> Option<usize>
     ensures { MatchOption result (chars text.now ≡ []) (λ end. (0 < length (chars text.now))
@@ -13,7 +13,7 @@ pub(super) fn first_end(text: &str) -> Option<usize>
     Some(character.len_utf8())
 }
 
-/// The byte place at which the last character begins, of a text that isn't empty.
+/// Returns the byte place at which the last character begins, or `None` if the text is empty.
 #[inline]
 pub(super) fn last_start(text: &str) -> Option<usize>
     ensures { MatchOption result (chars text.now ≡ []) (λ start. (0 < length (chars text.now))

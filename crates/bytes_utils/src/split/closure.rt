@@ -1,4 +1,4 @@
-//! A text cut at the places that a closure of the caller's answers.
+//! A text split at the places that a closure of the caller returns.
 ghost use Rattle.std.specs.Prelude.{◌≡◌, ◌<◌, ℕ, List, Result, Some, length, IfOk, IfErr, IfSome, IsUtf8};
 ghost use Rattle.std.specs.Iterator.{at_most, Drains};
 ghost use Rattle.std.specs.Str.{chars};
@@ -6,13 +6,13 @@ ghost use Rattle.bytes_utils.specs.Walk.{IsLawfulCut, IsLawfulClosure, IsWalkSte
 ghost use Rattle.bytes_utils_buf.specs.declared.refused.Reason.{Reason as WhyRefused};
 ghost use Rattle.bytes_utils.specs.Walk.{chunk_at, most_chunks, rest_at};
 
-use super::cut::{Cut, cut_out, yield_part};
+use super::cut::{Cut, cut_around, yield_part};
 use super::direction::Direction;
 use crate::string::{Storage, StrInner};
 use bytes_utils_buf::Reason;
 use std::marker::Model;
 
-/// The chunk that a cut gives and the text that it leaves. The edges are a closure's answer.
+/// Splits off the chunk between the edges that a closure returned, and returns it with the rest.
 #[inline(always)]
 fn chunk_and_rest<S: Storage>(
     text: StrInner<S>,
@@ -32,20 +32,20 @@ fn chunk_and_rest<S: Storage>(
 {
     match direction {
         Direction::Forward => {
-            let (chunk, rest) = cut_out(text, chunk_edge, separator_edge)?;
+            let (chunk, rest) = cut_around(text, chunk_edge, separator_edge)?;
             Ok((chunk, Some(rest)))
         }
         Direction::Backward => {
-            let (rest, chunk) = cut_out(text, separator_edge, chunk_edge)?;
+            let (rest, chunk) = cut_around(text, separator_edge, chunk_edge)?;
             Ok((chunk, Some(rest)))
         }
     }
 }
 
-/// The chunks of a text, cut at the places that a closure answers. A refused cut is its last item.
+/// An iterator over the chunks of a text, split at the places that a closure returns. If a split is
+/// refused, the error is the last item.
 ///
-/// It serves whoever wants cuts that no named splitter makes, as fields that a scanner ends, and
-/// still wants the chunks owned:
+/// Use it for owned chunks that no named splitter gives, such as fields whose ends a scanner finds:
 ///
 /// ```text
 /// let comma = |s: &str| s.find(',').map(|at| (at, at + 1));
@@ -67,21 +67,26 @@ impl<S: Storage, F> Model for BytesIter<S, F> {
 }
 
 impl<S: Storage, F: FnMut(&str) -> Option<(usize, usize)>> BytesIter<S, F> {
-    /// Cuts `s` at the places that `ext` answers on what is left of it.
+    /// Splits `s` from the end named by `direction`. For each item, `ext` is called once on what is
+    /// left. It returns two byte places, `chunk` and `separator`: forward, the end of the first
+    /// chunk and the end of the separator after it; backward, the start of the last chunk and the
+    /// start of the separator before it. If it returns `None`, all that is left is the last chunk,
+    /// which may be empty.
     ///
-    /// An answer is a pair of byte places. Forward they are the end of the next chunk and the end
-    /// of the separator behind it; backward they are the start of the next chunk and the start of
-    /// the separator in front of it. `None` makes all that is left the last chunk, which may be
-    /// empty. The closure is called once for each item.
+    /// Requires that `ext` may be called on any text, in any state, and that both places are
+    /// character boundaries: forward with `chunk <= separator` and `0 < separator`, backward with
+    /// `separator <= chunk` and `separator` less than the length of what is left. Nothing tests
+    /// this at run time; the caller proves it.
     pub fn new(s: StrInner<S>, direction: Direction, ext: F) -> Self
         requires { IsLawfulClosure F.FnMut direction }
         ensures value { result ≡ record { rest = Some s; direction = direction; closure = ext } }
-        // All that a run gives and leaves out, joined in order, is the text.
+        // The chunks of a whole run and what it leaves out between them, joined in order, are the
+        // text.
         ensures run { (items : List (Result (List ℕ) WhyRefused))
             → Drains (IsWalkStep F.FnMut S.refuses) result items
             → IsWholeWalk F.FnMut S.refuses direction s items }
     {
-        // Tells the proof that the bytes are UTF-8.
+        // Reports the proof that the bytes are UTF-8.
         let _ = s.as_str();
         BytesIter {
             rest: Some(s),

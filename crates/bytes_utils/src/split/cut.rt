@@ -1,4 +1,4 @@
-//! The one step that cuts a text: each splitter's cuts, and what it gives and keeps, go through here.
+//! The steps that cut a text: each splitter cuts, returns a part and keeps the rest by these.
 ghost use Rattle.std.specs.Prelude.{◌≡◌, ◌≤◌, ◌<◌, length, take, drop, IsCharBoundary, IfOk, IfErr, OnErr, MatchOption};
 
 use crate::string::{Storage, StrInner};
@@ -7,7 +7,7 @@ use bytes_utils_buf::Reason;
 /// A part, and what is left of the text, if anything.
 pub(super) type Cut<S> = (StrInner<S>, Option<StrInner<S>>);
 
-/// The text before the byte place `at` and that from it on, by one split.
+/// Returns the text before the byte place `at` and the text from it on, by one split.
 #[inline(always)]
 pub(super) fn cut_at<S: Storage>(
     text: StrInner<S>,
@@ -24,10 +24,10 @@ pub(super) fn cut_at<S: Storage>(
     }
 }
 
-/// The text before the byte place `end` and that from `next` on, by one split at the later place,
-/// and then the front of its first piece.
+/// Returns the text before the byte place `end` and the text from `next` on. Splits at `next`, the
+/// later place, first, and then takes the part from the first piece.
 #[inline(always)]
-pub(super) fn cut_out<S: Storage>(
+pub(super) fn cut_around<S: Storage>(
     text: StrInner<S>,
     end: usize,
     next: usize,
@@ -44,9 +44,10 @@ pub(super) fn cut_out<S: Storage>(
     Ok((before, after))
 }
 
-/// The text before a byte place, and that from it on, if any: at the end no split is made.
+/// Returns the text before the byte place `end` and the text from it on, if any: at the end of the
+/// text it makes no split.
 #[inline(always)]
-pub(super) fn cut_behind<S: Storage>(text: StrInner<S>, end: usize) -> Result<Cut<S>, Reason>
+pub(super) fn cut_after<S: Storage>(text: StrInner<S>, end: usize) -> Result<Cut<S>, Reason>
     requires { IsCharBoundary text end }
     ensures front { IfOk result (λ cut. cut.0 ≡ take end text) }
     ensures rest { IfOk result (λ cut. MatchOption cut.1 (end ≡ length text)
@@ -61,7 +62,7 @@ pub(super) fn cut_behind<S: Storage>(text: StrInner<S>, end: usize) -> Result<Cu
     Ok((front, Some(rest)))
 }
 
-/// The text from a byte place on: from its start on no cut is made.
+/// Returns the text from the byte place `start` on: at the start of the text it makes no cut.
 #[inline(always)]
 pub(super) fn cut_before<S: Storage>(text: StrInner<S>, start: usize) -> Result<StrInner<S>, Reason>
     requires { IsCharBoundary text start }
@@ -75,8 +76,8 @@ pub(super) fn cut_before<S: Storage>(text: StrInner<S>, start: usize) -> Result<
     text.into_back(start)
 }
 
-/// Gives the part of a cut and keeps what is left; a refused cut gives its reason, and keeps
-/// nothing.
+/// Returns the part of a cut and keeps what is left. Of a refused cut it returns the reason and
+/// keeps nothing.
 macro_rules! yield_part {
     ($rest:expr, $cut:expr) => {
         match $cut {

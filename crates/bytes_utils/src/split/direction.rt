@@ -1,10 +1,10 @@
-//! The end of a text at which cutting begins.
+//! The end of a text at which splitting begins.
 
-/// From which end a text is cut.
+/// The end from which a text is split.
 #[derive(Clone, Copy, Debug, PartialEq, Eq)]
 pub enum Direction {
-    /// From the front: the first part is given first.
+    /// From the front: the first part is returned first.
     Forward,
-    /// From the back: the last part is given first.
+    /// From the back: the last part is returned first.
     Backward,
 }

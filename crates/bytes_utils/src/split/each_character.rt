@@ -1,4 +1,4 @@
-//! A text cut by the empty separator: an empty part, each character, an empty part.
+//! A text split by the empty separator: an empty part, each character, an empty part.
 ghost use Rattle.std.specs.Prelude.{◌≡◌, ◌<◌, ℕ, [], Option, None, Some, length, true, false, IfOk, IfErr, OnErr, IfSome};
 ghost use Rattle.std.specs.Bool.{OnTrue};
 ghost use Rattle.std.specs.Str.{chars};
@@ -6,12 +6,12 @@ ghost use Rattle.bytes_utils.specs.Splitting.{ArePartsToCome, AreForwardPartsToC
 ghost use Rattle.bytes_utils.specs.Step.{GivesFirst};
 
 use super::character::{first_end, last_start};
-use super::cut::{Cut, cut_at, cut_out};
+use super::cut::{Cut, cut_around, cut_at};
 use super::direction::Direction;
 use crate::string::{Storage, StrInner};
 use bytes_utils_buf::Reason;
 
-/// The empty part at an end of a text, and the text, by one split.
+/// Splits off the empty part at an end of a text, by one split.
 #[inline(always)]
 fn empty_part<S: Storage>(text: StrInner<S>, from: Direction) -> Result<Cut<S>, Reason>
     ensures gives { IfOk result (λ cut. (limit : Option ℕ) → LeavesMore limit
@@ -34,7 +34,9 @@ fn empty_part<S: Storage>(text: StrInner<S>, from: Direction) -> Result<Cut<S>, 
     }
 }
 
-/// The first character and the text behind it, or the whole text where it is empty.
+/// Splits off the first character. An empty text is returned whole, as the last part. `cut_around`
+/// with the same place twice is no slip: like a step by any other separator, this one makes two
+/// splits, the rest at the later place and then the part.
 #[inline(always)]
 fn first_character<S: Storage>(text: StrInner<S>) -> Result<Cut<S>, Reason>
     ensures gives { IfOk result (λ cut. (limit : Option ℕ) → LeavesMore limit
@@ -48,11 +50,12 @@ fn first_character<S: Storage>(text: StrInner<S>) -> Result<Cut<S>, Reason>
     let Some(end) = first_end(text.as_str()) else {
         return Ok((text, None));
     };
-    let (part, rest) = cut_out(text, end, end)?;
+    let (part, rest) = cut_around(text, end, end)?;
     Ok((part, Some(rest)))
 }
 
-/// The last character and the text before it, or the whole text where it is empty.
+/// Splits off the last character. An empty text is returned whole, as the last part. It makes two
+/// splits, as `first_character` does.
 #[inline(always)]
 fn last_character<S: Storage>(text: StrInner<S>) -> Result<Cut<S>, Reason>
     ensures gives { IfOk result (λ cut. (limit : Option ℕ) → LeavesMore limit
@@ -66,12 +69,12 @@ fn last_character<S: Storage>(text: StrInner<S>) -> Result<Cut<S>, Reason>
     let Some(start) = last_start(text.as_str()) else {
         return Ok((text, None));
     };
-    let (rest, part) = cut_out(text, start, start)?;
+    let (rest, part) = cut_around(text, start, start)?;
     Ok((part, Some(rest)))
 }
 
-/// The next part by the empty separator and what is left, where more than one part may be given:
-/// the empty part first, then each character, and at last what is left of the text, which is empty.
+/// Returns the next part by the empty separator and the rest, if the limit leaves more than one
+/// part: first the empty part, then each character, and at last the rest, which is empty.
 #[inline(always)]
 pub(super) fn cut_character<S: Storage>(
     text: StrInner<S>,

@@ -1,8 +1,8 @@
-//! A text cut behind each place where a separator occurs.
+//! A text split after each separator.
 ghost use Rattle.std.specs.Prelude.{◌≡◌, ◌<◌, ℕ, List, Some, length, IfOk, IfErr, OnErr, IfSome};
 ghost use Rattle.std.specs.Iterator.{at_most};
 ghost use Rattle.std.specs.Str.{chars};
-ghost use Rattle.bytes_utils.specs.Keeping.{AreInclusivePartsToCome, CutsBehindNext};
+ghost use Rattle.bytes_utils.specs.Keeping.{AreInclusivePartsToCome, CutsAfterNext};
 ghost use Rattle.bytes_utils.specs.Keeping.{most_inclusive_parts};
 ghost use Rattle.bytes_utils.specs.Step.{GivesFirst, IsStep};
 
@@ -12,8 +12,8 @@ use crate::string::{Storage, StrInner};
 use bytes_utils_buf::Reason;
 use std::marker::Model;
 
-/// The part through the first separator and the text behind it, or the whole text where the
-/// separator ends it or there is none.
+/// Splits off the part up to the end of the first separator. Returns the whole text if no separator
+/// occurs in it, or first at its end.
 #[inline(always)]
 fn part_through<S: Storage>(text: StrInner<S>, separator: &str) -> Result<Cut<S>, Reason>
     requires separator { 0 < length separator.now }
@@ -23,7 +23,7 @@ fn part_through<S: Storage>(text: StrInner<S>, separator: &str) -> Result<Cut<S>
         (record { rest = cut.1; separator = separator.now })) }
     ensures shorter { IfOk result (λ cut. IfSome cut.1 (λ rest. length rest < length text)) }
     ensures err { OnErr result
-        (CutsBehindNext (record { rest = Some text; separator = separator.now })) }
+        (CutsAfterNext (record { rest = Some text; separator = separator.now })) }
     ensures reason { IfErr result S.refuses }
 {
     let Some(at) = find(text.as_str(), separator) else {
@@ -37,8 +37,8 @@ fn part_through<S: Storage>(text: StrInner<S>, separator: &str) -> Result<Cut<S>
     Ok((part, Some(rest)))
 }
 
-/// The parts of a text, each with the separator that ends it, as `str::split_inclusive` has them.
-/// A refused cut is its last item.
+/// An iterator over the parts of a text, each with the separator that ends it, as
+/// `str::split_inclusive` has them. If a split is refused, the error is the last item.
 #[derive(Drop)]
 pub struct SplitInclusiveBytes<'s, S: Storage> {
     rest: Option<StrInner<S>>,
@@ -57,8 +57,8 @@ impl<'s, S: Storage> Model for SplitInclusiveBytes<'s, S> {
 }
 
 impl<S: Storage> StrInner<S> {
-    /// The parts, each with the separator that ends it, as `str::split_inclusive` has them: none is
-    /// empty. `is_empty` of the separator tests the condition.
+    /// Splits after each `separator`, as `str::split_inclusive` does. Each part keeps its
+    /// separator, and no part is empty. Requires that `separator` isn't empty (test: `is_empty`).
     pub fn split_inclusive_bytes<'s>(self, separator: &'s str) -> SplitInclusiveBytes<'s, S>
         requires { 0 < length separator.now }
         ensures value { result ≡ record { rest = Some self; separator = separator.now } }
@@ -75,7 +75,7 @@ impl<'s, S: Storage> Iterator for SplitInclusiveBytes<'s, S> {
     type Item = Result<StrInner<S>, Reason>;
 
     ghost next_gives = { λ s r t. (t.separator ≡ s.separator)
-        × IsStep AreInclusivePartsToCome CutsBehindNext S.refuses s r t };
+        × IsStep AreInclusivePartsToCome CutsAfterNext S.refuses s r t };
 
     ghost remaining = { λ s. at_most (most_inclusive_parts s) };
 

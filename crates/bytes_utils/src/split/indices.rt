@@ -1,4 +1,4 @@
-//! The parts of a text between separators, each with the place at which it stands.
+//! The parts of a text between separators, each with the byte place at which it begins.
 ghost use Rattle.std.specs.Prelude.{◌≡◌};
 ghost use Rattle.std.specs.Iterator.{at_most};
 ghost use Rattle.bytes_utils.specs.Indices.{AreIndexedPartsToCome, CutsIndexedNext, index_and_chars};
@@ -6,17 +6,17 @@ ghost use Rattle.bytes_utils.specs.Splitting.{most_parts};
 ghost use Rattle.bytes_utils.specs.Step.{IsStepOf};
 ghost use Rattle.bytes_utils.specs.declared.split.direction.Direction.TheVariants.{Forward};
 
-use super::separated::Separated;
+use super::separated::SeparatorSplit;
 use crate::string::{Storage, StrInner};
 use bytes_utils_buf::Reason;
 use std::marker::Model;
 use std::mem;
 
-/// The parts of a text between separators, first to last, each with the byte place at which it
-/// begins. A refused cut is the last item.
+/// An iterator over the parts of a text between separators, first to last, each with the byte place
+/// at which it begins. If a split is refused, the error is the last item.
 #[derive(Drop)]
 pub struct SplitIndicesBytes<'s, S: Storage> {
-    parts: Separated<'s, S>,
+    parts: SeparatorSplit<'s, S>,
     total: usize,
     at: usize,
 }
@@ -37,8 +37,8 @@ impl<'s, S: Storage> Model for SplitIndicesBytes<'s, S> {
 }
 
 impl<'s, S: Storage> SplitIndicesBytes<'s, S> {
-    /// The parts to come, with their places in what is left to be cut.
-    pub(super) fn new(parts: Separated<'s, S>) -> Self
+    /// Pairs the parts to come with their byte places in what is still to be split.
+    pub(super) fn new(parts: SeparatorSplit<'s, S>) -> Self
         requires { parts.end ≡ Forward }
         ensures parts { result.parts ≡ parts.entry.state }
         ensures at { result.at ≡ 0 }

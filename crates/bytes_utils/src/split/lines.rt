@@ -1,23 +1,24 @@
-//! A text cut into its lines.
+//! A text split into its lines.
 ghost use Rattle.std.specs.Prelude.{◌≡◌, ◌<◌, ℕ, List, [], ◌∷◌, Some, MatchOption, length, take, drop, IsCharBoundary, IfOk, IfErr, OnErr, IfSome};
 ghost use Rattle.std.specs.Iterator.{at_most};
 ghost use Rattle.std.specs.Option.{option_map_or};
 ghost use Rattle.std.specs.Str.{chars};
-ghost use Rattle.bytes_utils.specs.Lines.{AreLinesToCome, HoldsLineFeed, lines, text_behind};
+ghost use Rattle.bytes_utils.specs.Lines.{AreLinesToCome, HoldsLineFeed, lines, text_after};
 ghost use Rattle.bytes_utils.specs.Step.{GivesFirst, IsStep};
 
-use super::cut::{Cut, cut_out, yield_part};
+use super::cut::{Cut, cut_around, yield_part};
 use super::search::find;
 use crate::string::{Storage, StrInner};
 use bytes_utils_buf::Reason;
 use std::marker::Model;
 
-/// Where the first line of a text ends, and where the text behind its line feed begins; `None` where
-/// the text has no line feed, and so is a line by itself unless it's empty.
+/// Returns the byte place at which the first line of `text` ends and that at which the text after
+/// its line feed begins. Returns `None` if the text has no line feed: then it is one line, or none
+/// if it is empty.
 ///
-/// The line is the one that `str::lines` gives first: one carriage return directly in front of the
-/// line feed is none of it. It is the step that [`lines_bytes`](StrInner::lines_bytes) makes, for a
-/// caller who takes one line off a text that is lent.
+/// The line is the first one of `str::lines`: a carriage return directly before the line feed isn't
+/// part of it. [`lines_bytes`](StrInner::lines_bytes) takes the same steps; use this call to take
+/// one line off a borrowed text.
 ///
 /// ```text
 /// let text = "Host: a\r\nbody";
@@ -36,8 +37,8 @@ pub fn line_place(text: &str) -> Option<(usize, usize)>
         (0 < length text.now → lines (chars text.now) ≡ chars text.now ∷ [])
         (λ place. lines (chars text.now)
         ≡ chars (take place.0 text.now) ∷ lines (chars (drop place.1 text.now))) }
-    ensures behind { MatchOption result (text_behind (chars text.now) ≡ [])
-        (λ place. chars (drop place.1 text.now) ≡ text_behind (chars text.now)) }
+    ensures after { MatchOption result (text_after (chars text.now) ≡ [])
+        (λ place. chars (drop place.1 text.now) ≡ text_after (chars text.now)) }
 {
     let at = find(text, "\n")?;
     let line = &text[..at];
@@ -45,7 +46,7 @@ pub fn line_place(text: &str) -> Option<(usize, usize)>
     Some((end, at + 1))
 }
 
-/// The first line and the text behind its line feed, or the whole text where there is none.
+/// Splits off the first line and its line feed. Returns the whole text if it has no line feed.
 #[inline(always)]
 fn first_line<S: Storage>(text: StrInner<S>) -> Result<Cut<S>, Reason>
     requires { 0 < length text }
@@ -57,11 +58,12 @@ fn first_line<S: Storage>(text: StrInner<S>) -> Result<Cut<S>, Reason>
     let Some((end, next)) = line_place(text.as_str()) else {
         return Ok((text, None));
     };
-    let (line, rest) = cut_out(text, end, next)?;
+    let (line, rest) = cut_around(text, end, next)?;
     Ok((line, Some(rest)))
 }
 
-/// The lines of a text, first to last, as `str::lines` has them. A refused cut is its last item.
+/// An iterator over the lines of a text, first to last, as `str::lines` has them. If a split is
+/// refused, the error is the last item.
 #[derive(Drop)]
 pub struct LinesBytes<S: Storage> {
     rest: Option<StrInner<S>>,
@@ -76,8 +78,8 @@ impl<S: Storage> Model for LinesBytes<S> {
 }
 
 impl<S: Storage> StrInner<S> {
-    /// The lines, without their line feeds and without one carriage return directly in front of
-    /// each, as `str::lines` has them.
+    /// Splits the text into its lines, as `str::lines` does: without their line feeds, and without
+    /// one carriage return directly before each line feed.
     pub fn lines_bytes(self) -> LinesBytes<S>
         ensures value { result ≡ Some self }
         ensures coming { (lines : List (List ℕ)) × AreLinesToCome result lines }

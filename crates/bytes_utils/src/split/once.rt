@@ -1,49 +1,53 @@
-//! A text cut once, around the first or the last separator.
+//! A text split once, at the first or the last separator.
 ghost use Rattle.std.specs.Prelude.{◌≡◌, ◌++◌, MatchOption, IfOk, IfErr, OnErr};
 ghost use Rattle.std.specs.Str.{chars};
 ghost use Rattle.bytes_utils.specs.Halves.{AreHalvesAtFirst, AreHalvesAtLast};
 ghost use Rattle.bytes_utils.specs.Occurrence.{Occurs};
 
-use super::cut::cut_out;
+use super::cut::cut_around;
 use super::search::{find, rfind};
 use crate::string::{Storage, StrInner};
 use bytes_utils_buf::Reason;
 
 impl<S: Storage> StrInner<S> {
-    /// The text before the first separator and that behind it, as `str::split_once` has them; or all
-    /// of the text, and `None`, where the separator doesn't occur. A refused cut drops the text.
+    /// Splits at the first `separator`, as `str::split_once` does, and returns the text before it
+    /// and the text after it. If the separator doesn't occur, returns all of the text and `None`.
+    /// The empty separator occurs first at the start of the text.
     ///
     /// ```text
     /// let (path, query) = target.split_once_bytes("?")?;
     /// let (name, Some(value)) = line.split_once_bytes(": ")? else { .. };
     /// ```
     ///
-    /// By the empty separator nothing is before it, and all of the text behind.
+    /// Fails for a reason of the storage, `OutOfMemory` for a [`Str`](crate::Str), and only if the
+    /// separator occurs; then the text is dropped.
     pub fn split_once_bytes(self, separator: &str) -> Result<(Self, Option<Self>), Reason>
         ensures halves { IfOk result (λ cut. MatchOption cut.1
             (¬ Occurs (chars separator.now) (chars self))
-            (λ behind. AreHalvesAtFirst (chars self) (chars separator.now)
-            (chars cut.0) (chars behind))) }
+            (λ following. AreHalvesAtFirst (chars self) (chars separator.now)
+            (chars cut.0) (chars following))) }
         ensures bytes { IfOk result (λ cut. MatchOption cut.1 (cut.0 ≡ self)
-            (λ behind. cut.0 ++ (separator.now ++ behind) ≡ self)) }
+            (λ following. cut.0 ++ (separator.now ++ following) ≡ self)) }
         ensures err { OnErr result (Occurs (chars separator.now) (chars self)) }
         ensures reason { IfErr result S.refuses }
     {
         let Some(at) = find(self.as_str(), separator) else {
             return Ok((self, None));
         };
-        let (before, behind) = cut_out(self, at, at + separator.len())?;
-        Ok((before, Some(behind)))
+        let (before, following) = cut_around(self, at, at + separator.len())?;
+        Ok((before, Some(following)))
     }
 
-    /// The text before the last separator and that behind it, as `str::rsplit_once` has them; or
-    /// `None`, and all of the text, where the separator doesn't occur. A refused cut drops the text.
+    /// Splits at the last `separator`, as `str::rsplit_once` does, and returns the text before it
+    /// and the text after it. If the separator doesn't occur, returns `None` and all of the text.
+    /// The empty separator occurs last at the end of the text.
     ///
     /// ```text
     /// let (folder, file) = path.rsplit_once_bytes("/")?;
     /// ```
     ///
-    /// By the empty separator all of the text is before it, and nothing behind.
+    /// Fails for a reason of the storage, `OutOfMemory` for a [`Str`](crate::Str), and only if the
+    /// separator occurs; then the text is dropped.
     pub fn rsplit_once_bytes(self, separator: &str) -> Result<(Option<Self>, Self), Reason>
         ensures halves { IfOk result (λ cut. MatchOption cut.0
             (¬ Occurs (chars separator.now) (chars self))
@@ -57,7 +61,7 @@ impl<S: Storage> StrInner<S> {
         let Some(at) = rfind(self.as_str(), separator) else {
             return Ok((None, self));
         };
-        let (before, behind) = cut_out(self, at, at + separator.len())?;
-        Ok((Some(before), behind))
+        let (before, following) = cut_around(self, at, at + separator.len())?;
+        Ok((Some(before), following))
     }
 }

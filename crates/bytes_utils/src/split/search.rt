@@ -1,4 +1,4 @@
-//! The search for a separator, in bytes and by `memchr` alone.
+//! The search for a separator, among bytes and by `memchr` alone.
 ghost use Rattle.std.specs.Prelude.{◌≡◌, ◌<◌, Some, length, IsUtf8};
 ghost use Rattle.std.specs.Str.{chars};
 ghost use Rattle.bytes_utils.specs.Occurrence.{FindsFirst, FindsLast};
@@ -7,7 +7,7 @@ ghost use Rattle.bytes_utils.specs.Search.{end_of, needle_of};
 use super::direction::Direction;
 use memchr::memmem::{self, Finder, FinderRev};
 
-/// The search for one separator from one end, made once for every step.
+/// The search for one separator from one end: prepared once for all steps of a splitter.
 #[derive(Drop)]
 pub(super) enum Search<'s> {
     First(Finder<'s>),
@@ -26,7 +26,7 @@ impl<'s> Search<'s> {
         }
     }
 
-    /// The end at which it begins.
+    /// Returns the end at which the search begins.
     #[inline]
     pub(super) fn end(&self) -> Direction
         ensures { result ≡ end_of self.now }
@@ -38,7 +38,7 @@ impl<'s> Search<'s> {
     }
 }
 
-/// The byte place at which the separator of a finder occurs first.
+/// Returns the byte place of the first occurrence of the finder's separator.
 #[inline]
 pub(super) fn find_by(finder: &Finder, text: &str) -> Option<usize>
     requires some { 0 < length finder.now }
@@ -48,7 +48,7 @@ pub(super) fn find_by(finder: &Finder, text: &str) -> Option<usize>
     finder.find(text.as_bytes())
 }
 
-/// The byte place at which the separator of a finder occurs last.
+/// Returns the byte place of the last occurrence of the finder's separator.
 #[inline]
 pub(super) fn rfind_by(finder: &FinderRev, text: &str) -> Option<usize>
     requires some { 0 < length finder.now }
@@ -58,16 +58,16 @@ pub(super) fn rfind_by(finder: &FinderRev, text: &str) -> Option<usize>
     finder.rfind(text.as_bytes())
 }
 
-/// The byte place at which the separator occurs first, by a finder made for this search alone. The
-/// empty one occurs first at the start.
+/// Returns the byte place of the first occurrence of `separator`, by a finder for this search
+/// alone. The empty separator occurs first at the start.
 pub(super) fn find(text: &str, separator: &str) -> Option<usize>
     ensures { FindsFirst (chars separator.now) (chars text.now) result }
 {
     memmem::find(text.as_bytes(), separator.as_bytes())
 }
 
-/// The byte place at which the separator occurs last, by such a finder. The empty one is found at the
-/// end.
+/// Returns the byte place of the last occurrence of `separator`, by a finder for this search alone.
+/// The empty separator is found at the end.
 pub(super) fn rfind(text: &str, separator: &str) -> Option<usize>
     ensures last { 0 < length separator.now
         → FindsLast (chars separator.now) (chars text.now) result }

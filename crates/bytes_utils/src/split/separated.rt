@@ -1,4 +1,4 @@
-//! A text that is cut by a separator, from either end.
+//! A text split by a separator, from either end.
 ghost use Rattle.std.specs.Prelude.{◌≡◌, ◌≢◌, ◌<◌, ◌==◌, ℕ, List, Option, Some, length, false, None, IfOk, IfErr, OnErr, OnSome, IfSome, IsUtf8};
 ghost use Rattle.std.specs.Bool.{OnTrue};
 ghost use Rattle.std.specs.Option.{option_map_or};
@@ -8,7 +8,7 @@ ghost use Rattle.bytes_utils.specs.Search.{end_of, needle_of};
 ghost use Rattle.bytes_utils.specs.Splitting.{ArePartsToCome, AreForwardPartsToCome, AreBackwardPartsToCome, CutsNext, LeavesMore, one_less, most_parts, splitting, all_of};
 ghost use Rattle.bytes_utils.specs.Step.{GivesFirst, IsStep};
 
-use super::cut::{Cut, cut_out, yield_part};
+use super::cut::{Cut, cut_around, yield_part};
 use super::direction::Direction;
 use super::each_character::cut_character;
 use super::search::{Search, find_by, rfind_by};
@@ -17,8 +17,7 @@ use bytes_utils_buf::Reason;
 use memchr::memmem::{Finder, FinderRev};
 use std::marker::Model;
 
-/// The part before the first separator and the text behind it, or the whole text where there is
-/// none.
+/// Splits off the part before the first separator. Returns the whole text if there is none.
 #[inline(always)]
 fn first_part<S: Storage>(
     text: StrInner<S>,
@@ -38,12 +37,11 @@ fn first_part<S: Storage>(
     let Some(at) = find_by(finder, text.as_str()) else {
         return Ok((text, None));
     };
-    let (part, rest) = cut_out(text, at, at + separator.len())?;
+    let (part, rest) = cut_around(text, at, at + separator.len())?;
     Ok((part, Some(rest)))
 }
 
-/// The part behind the last separator and the text before it, or the whole text where there is
-/// none.
+/// Splits off the part after the last separator. Returns the whole text if there is none.
 #[inline(always)]
 fn last_part<S: Storage>(
     text: StrInner<S>,
@@ -63,12 +61,12 @@ fn last_part<S: Storage>(
     let Some(at) = rfind_by(finder, text.as_str()) else {
         return Ok((text, None));
     };
-    let (rest, part) = cut_out(text, at, at + separator.len())?;
+    let (rest, part) = cut_around(text, at, at + separator.len())?;
     Ok((part, Some(rest)))
 }
 
-/// The next part and what is left, where more than one part may be given: a separator that isn't
-/// empty is searched for, an empty one stands around each character.
+/// Returns the next part and the rest, if the limit leaves more than one part. A separator that
+/// isn't empty is searched for; the empty one is before and after each character.
 #[inline(always)]
 fn cut_next<S: Storage>(
     text: StrInner<S>,
@@ -98,7 +96,7 @@ fn cut_next<S: Storage>(
     }
 }
 
-/// The next part and what is left: all of the text where one part is the limit.
+/// Returns the next part and the rest. If the limit is one part, the part is all of the text.
 #[inline(always)]
 fn next_part<S: Storage>(
     text: StrInner<S>,
@@ -128,10 +126,10 @@ fn next_part<S: Storage>(
     cut_next(text, separator, search, begun)
 }
 
-/// What is left of a text that is cut by a separator, and how many parts may still be given. A
-/// refused cut is its last item.
+/// What is left of a text that is split by a separator, and the number of parts that may still be
+/// returned. If a split is refused, the error is the last item.
 #[derive(Drop)]
-pub(super) struct Separated<'s, S: Storage> {
+pub(super) struct SeparatorSplit<'s, S: Storage> {
     rest: Option<StrInner<S>>,
     separator: &'s str,
     search: Search<'s>,
@@ -139,7 +137,7 @@ pub(super) struct Separated<'s, S: Storage> {
     begun: bool,
 }
 
-impl<'s, S: Storage> Model for Separated<'s, S> {
+impl<'s, S: Storage> Model for SeparatorSplit<'s, S> {
     ghost use Rattle.std.specs.Prelude.{◌≡◌, ◌≢◌, length, Some, IfSome, IsUtf8};
     ghost use Rattle.std.specs.Bool.{OnTrue};
     ghost use Rattle.bytes_utils.specs.Search.{SplittingFrom, end_of, needle_of};
@@ -161,8 +159,9 @@ impl<'s, S: Storage> Model for Separated<'s, S> {
         (λ _. OnTrue s.begun ((length s.separator.now ≡ 0) × (s.limit ≢ Some 0))) };
 }
 
-impl<'s, S: Storage> Separated<'s, S> {
-    /// All of a text, from an end, with at most so many parts.
+impl<'s, S: Storage> SeparatorSplit<'s, S> {
+    /// Starts to split all of `text` from the end `from`, into at most `limit` parts if there is a
+    /// limit.
     #[inline(always)]
     pub(super) fn new(
         text: StrInner<S>,
@@ -174,7 +173,7 @@ impl<'s, S: Storage> Separated<'s, S> {
         ensures end { result.end ≡ from }
         ensures coming { (parts : List (List ℕ)) × ArePartsToCome from result.state parts }
     {
-        Separated {
+        SeparatorSplit {
             rest: Some(text),
             separator,
             search: Search::new(separator, from),
@@ -183,7 +182,7 @@ impl<'s, S: Storage> Separated<'s, S> {
         }
     }
 
-    /// How many bytes are still to be cut.
+    /// Returns the number of bytes that are still to be split.
     #[inline(always)]
     pub(super) fn left(&self) -> usize
         ensures value { result ≡ option_map_or length self.now.state.rest 0 }
@@ -198,7 +197,7 @@ impl<'s, S: Storage> Separated<'s, S> {
         }
     }
 
-    /// The next part from its end.
+    /// Returns the next part from its end.
     #[inline(always)]
     pub(super) fn next(&mut self) -> Option<Result<StrInner<S>, Reason>>
         ensures step { IsStep (ArePartsToCome self.old.end) CutsNext S.refuses

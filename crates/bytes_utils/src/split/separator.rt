@@ -1,4 +1,4 @@
-//! The splitters by a separator, from either end, with a limit or without: names over one core.
+//! The splitters by a separator, from either end, with or without a limit.
 ghost use Rattle.std.specs.Prelude.{◌≡◌, ℕ, List, None, Some};
 ghost use Rattle.std.specs.Iterator.{at_most};
 ghost use Rattle.bytes_utils.specs.Splitting.{AreForwardPartsToCome, AreBackwardPartsToCome};
@@ -7,19 +7,19 @@ ghost use Rattle.bytes_utils.specs.Step.{IsStep};
 
 use super::direction::Direction;
 use super::indices::SplitIndicesBytes;
-use super::separated::Separated;
+use super::separated::SeparatorSplit;
 use crate::string::{Storage, StrInner};
 use bytes_utils_buf::Reason;
 use std::marker::Model;
 
-/// The parts of a text between separators, first to last, with a limit or without. A refused cut is
-/// the last item.
+/// An iterator over the parts of a text between separators, first to last. If a split is refused,
+/// the error is the last item.
 #[derive(Drop)]
 pub struct SplitBytes<'s, S: Storage> {
-    parts: Separated<'s, S>,
+    parts: SeparatorSplit<'s, S>,
 }
 
-/// What `splitn_bytes` answers.
+/// The iterator that `splitn_bytes` returns.
 pub type SplitNBytes<'s, S> = SplitBytes<'s, S>;
 
 impl<'s, S: Storage> Model for SplitBytes<'s, S> {
@@ -35,8 +35,9 @@ impl<'s, S: Storage> Model for SplitBytes<'s, S> {
 }
 
 impl<'s, S: Storage> SplitBytes<'s, S> {
-    /// The parts to come, each with the byte place at which it begins, as `str::match_indices` tells
-    /// it of matches: in the text, where no part was given yet, else in what is left of it.
+    /// Pairs each part to come with the byte place at which it begins in the text. If parts were
+    /// already taken, the places count from the start of what is left when this is called. These
+    /// are the places of the parts; `str::match_indices` reports those of the matches.
     pub fn indices(self) -> SplitIndicesBytes<'s, S>
         ensures parts { result.parts ≡ self.entry }
         ensures at { result.at ≡ 0 }
@@ -46,25 +47,25 @@ impl<'s, S: Storage> SplitBytes<'s, S> {
 }
 
 impl<S: Storage> StrInner<S> {
-    /// The parts between separators, first to last, as `str::split` has them. By the empty separator
-    /// they are an empty part, each character, and an empty part.
+    /// Splits at each `separator`, first part first, as `str::split` does. The empty separator
+    /// gives an empty part, each character, and an empty part.
     pub fn split_bytes<'s>(self, separator: &'s str) -> SplitBytes<'s, S>
         ensures value { result ≡ all_of self separator.now None }
         ensures coming { (parts : List (List ℕ)) × AreForwardPartsToCome result parts }
     {
         SplitBytes {
-            parts: Separated::new(self, separator, None, Direction::Forward),
+            parts: SeparatorSplit::new(self, separator, None, Direction::Forward),
         }
     }
 
-    /// At most `most` parts between separators, first to last, as `str::splitn` has them: the last
-    /// that is allowed is all that is left, uncut.
+    /// Splits into at most `most` parts, first part first, as `str::splitn` does. The last part
+    /// that the limit allows is all that is left, unsplit.
     pub fn splitn_bytes<'s>(self, most: usize, separator: &'s str) -> SplitBytes<'s, S>
         ensures value { result ≡ all_of self separator.now (Some most) }
         ensures coming { (parts : List (List ℕ)) × AreForwardPartsToCome result parts }
     {
         SplitBytes {
-            parts: Separated::new(self, separator, Some(most), Direction::Forward),
+            parts: SeparatorSplit::new(self, separator, Some(most), Direction::Forward),
         }
     }
 }
@@ -82,14 +83,14 @@ impl<'s, S: Storage> Iterator for SplitBytes<'s, S> {
     }
 }
 
-/// The parts of a text between separators, last to first, with a limit or without. A refused cut is
-/// the last item.
+/// An iterator over the parts of a text between separators, last to first. If a split is refused,
+/// the error is the last item.
 #[derive(Drop)]
 pub struct RSplitBytes<'s, S: Storage> {
-    parts: Separated<'s, S>,
+    parts: SeparatorSplit<'s, S>,
 }
 
-/// What `rsplitn_bytes` answers.
+/// The iterator that `rsplitn_bytes` returns.
 pub type RSplitNBytes<'s, S> = RSplitBytes<'s, S>;
 
 impl<'s, S: Storage> Model for RSplitBytes<'s, S> {
@@ -105,25 +106,25 @@ impl<'s, S: Storage> Model for RSplitBytes<'s, S> {
 }
 
 impl<S: Storage> StrInner<S> {
-    /// The parts between separators, last to first, as `str::rsplit` has them: each is cut at the
-    /// last separator of what is left.
+    /// Splits at each `separator`, last part first, as `str::rsplit` does: each part is split off
+    /// at the last separator of what is left.
     pub fn rsplit_bytes<'s>(self, separator: &'s str) -> RSplitBytes<'s, S>
         ensures value { result ≡ all_of self separator.now None }
         ensures coming { (parts : List (List ℕ)) × AreBackwardPartsToCome result parts }
     {
         RSplitBytes {
-            parts: Separated::new(self, separator, None, Direction::Backward),
+            parts: SeparatorSplit::new(self, separator, None, Direction::Backward),
         }
     }
 
-    /// At most `most` parts between separators, last to first, as `str::rsplitn` has them: the last
-    /// that is allowed is all that is left, uncut.
+    /// Splits into at most `most` parts, last part first, as `str::rsplitn` does. The last part
+    /// that the limit allows is all that is left, unsplit.
     pub fn rsplitn_bytes<'s>(self, most: usize, separator: &'s str) -> RSplitBytes<'s, S>
         ensures value { result ≡ all_of self separator.now (Some most) }
         ensures coming { (parts : List (List ℕ)) × AreBackwardPartsToCome result parts }
     {
         RSplitBytes {
-            parts: Separated::new(self, separator, Some(most), Direction::Backward),
+            parts: SeparatorSplit::new(self, separator, Some(most), Direction::Backward),
         }
     }
 }

@@ -1,4 +1,4 @@
-//! A text cut into its words.
+//! A text split into its words.
 ghost use Rattle.std.specs.Prelude.{◌≡◌, ◌<◌, ◌≤◌, ◌⊎◌, true, false, ℕ, Bool, List, [], ◌∷◌, Some, MatchOption, length, take, drop, IsCharBoundary, IfOk, IfErr, OnErr, IfSome, OnSome};
 ghost use Rattle.std.specs.Char.{IsAsciiGraphic, is_ascii_whitespace, is_whitespace};
 ghost use Rattle.std.specs.Iterator.{at_most};
@@ -10,21 +10,21 @@ ghost use Rattle.bytes_utils.specs.Words.{AreWordsToCome, HoldsSpace, ends_word,
 mod graphic;
 
 use self::graphic::graphic_end;
-use super::cut::{Cut, cut_before, cut_behind, yield_part};
+use super::cut::{Cut, cut_after, cut_before, yield_part};
 use crate::string::{Storage, StrInner};
 use bytes_utils_buf::Reason;
 use std::marker::Model;
 
 /// What counts as white space.
 trait WhiteSpace {
-    // Which characters do.
+    // Which characters are white space.
     ghost is_space: { ℕ → Bool };
 
-    /// Whether a character does.
+    /// Returns whether `c` is white space.
     fn has(c: char) -> bool
         ensures { result ≡ is_space c };
 
-    /// No graphic ASCII character does: a law, which does nothing.
+    /// A law, with nothing to do at run time: no graphic ASCII character is white space.
     fn no_graphic()
         ensures { (c : ℕ) → IsAsciiGraphic c → is_space c ≡ false };
 }
@@ -55,8 +55,8 @@ impl WhiteSpace for Ascii {
     fn no_graphic() {}
 }
 
-/// Where white space begins, or the text ends. The graphic ASCII in front is passed a block at a
-/// time.
+/// Returns the byte place at which white space begins, or the text ends. Graphic ASCII at the front
+/// is passed a block at a time.
 #[inline]
 fn word_length<W: WhiteSpace>(text: &str) -> usize
     ensures boundary { IsCharBoundary text.now result }
@@ -70,7 +70,7 @@ fn word_length<W: WhiteSpace>(text: &str) -> usize
     graphic + length
 }
 
-/// Where the first word begins, and where it ends.
+/// Returns the byte places at which the first word begins and ends.
 #[inline(always)]
 fn word_place<W: WhiteSpace>(text: &str) -> Option<(usize, usize)>
     ensures order { IfSome result (λ place. place.0 < place.1) }
@@ -78,7 +78,7 @@ fn word_place<W: WhiteSpace>(text: &str) -> Option<(usize, usize)>
     ensures end { IfSome result (λ place. IsCharBoundary text.now place.1) }
     ensures before { IfSome result (λ place. 0 < place.0
         → HoldsSpace W.is_space (Some text.now)) }
-    ensures behind { IfSome result (λ place. place.1 < length text.now
+    ensures after { IfSome result (λ place. place.1 < length text.now
         → HoldsSpace W.is_space (Some text.now)) }
     ensures word { MatchOption result (words W.is_space (chars text.now) ≡ [])
         (λ place. words W.is_space (chars text.now)
@@ -90,8 +90,8 @@ fn word_place<W: WhiteSpace>(text: &str) -> Option<(usize, usize)>
     Some((start, start + length))
 }
 
-/// The text between two byte places, and that behind the second, if any. The later place is split
-/// first.
+/// Returns the text between two byte places, and the text after the second, if any. It splits at
+/// the later place first.
 #[inline(always)]
 fn cut_word<S: Storage>(text: StrInner<S>, start: usize, end: usize) -> Result<Cut<S>, Reason>
     requires order { start ≤ end }
@@ -103,12 +103,12 @@ fn cut_word<S: Storage>(text: StrInner<S>, start: usize, end: usize) -> Result<C
     ensures err { OnErr result ((0 < start) ⊎ (end < length text)) }
     ensures reason { IfErr result S.refuses }
 {
-    let (front, rest) = cut_behind(text, end)?;
+    let (front, rest) = cut_after(text, end)?;
     let word = cut_before(front, start)?;
     Ok((word, rest))
 }
 
-/// One step by words.
+/// Takes the first word off `rest`.
 #[inline(always)]
 fn next_word<W: WhiteSpace, S: Storage>(
     rest: &mut Option<StrInner<S>>,
@@ -123,8 +123,9 @@ fn next_word<W: WhiteSpace, S: Storage>(
     yield_part!(*rest, cut_word(text, start, end))
 }
 
-/// The words of a text between characters with Unicode's property White_Space, first to last, as
-/// `str::split_whitespace` has them. A refused cut is its last item.
+/// An iterator over the words of a text between characters with Unicode's property White_Space,
+/// first to last, as `str::split_whitespace` has them. If a split is refused, the error is the last
+/// item.
 #[derive(Drop)]
 pub struct SplitWhitespaceBytes<S: Storage> {
     rest: Option<StrInner<S>>,
@@ -138,8 +139,8 @@ impl<S: Storage> Model for SplitWhitespaceBytes<S> {
     ghost view = { λ s. s.rest };
 }
 
-/// The words of a text between ASCII white space, first to last, as `str::split_ascii_whitespace`
-/// has them. A refused cut is its last item.
+/// An iterator over the words of a text between ASCII white space, first to last, as
+/// `str::split_ascii_whitespace` has them. If a split is refused, the error is the last item.
 #[derive(Drop)]
 pub struct SplitAsciiWhitespaceBytes<S: Storage> {
     rest: Option<StrInner<S>>,
@@ -154,8 +155,8 @@ impl<S: Storage> Model for SplitAsciiWhitespaceBytes<S> {
 }
 
 impl<S: Storage> StrInner<S> {
-    /// The maximal runs of characters without Unicode's property White_Space, as
-    /// `str::split_whitespace` has them.
+    /// Splits the text into its words, as `str::split_whitespace` does: the maximal runs of
+    /// characters without Unicode's property White_Space.
     pub fn split_whitespace_bytes(self) -> SplitWhitespaceBytes<S>
         ensures value { result ≡ Some self }
         ensures coming { (parts : List (List ℕ)) × AreWordsToCome is_whitespace result parts }
@@ -163,8 +164,8 @@ impl<S: Storage> StrInner<S> {
         SplitWhitespaceBytes { rest: Some(self) }
     }
 
-    /// The maximal runs of characters other than U+0009, U+000A, U+000C, U+000D and U+0020, as
-    /// `str::split_ascii_whitespace` has them.
+    /// Splits the text into its words, as `str::split_ascii_whitespace` does: the maximal runs of
+    /// characters other than U+0009, U+000A, U+000C, U+000D and U+0020.
     pub fn split_ascii_whitespace_bytes(self) -> SplitAsciiWhitespaceBytes<S>
         ensures value { result ≡ Some self }
         ensures coming { (parts : List (List ℕ)) × AreWordsToCome is_ascii_whitespace result parts }

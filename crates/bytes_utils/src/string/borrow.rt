@@ -1,4 +1,4 @@
-//! A text that is borrowed: as a `str`, by its methods and by generic code, and as bytes.
+//! Borrowing a text as a `str`, also by its methods and by generic code, and as bytes.
 ghost use Rattle.std.specs.Prelude.{◌≡◌, length};
 
 use crate::string::{Storage, StrInner};
@@ -6,7 +6,7 @@ use std::convert::{AsSlice, AsStr};
 use std::ops::DerefStr;
 
 impl<S: Storage> StrInner<S> {
-    /// How many bytes the text has.
+    /// Returns the number of bytes.
     pub fn len(&self) -> usize
         ensures { result ≡ length self.now }
     {
@@ -14,7 +14,7 @@ impl<S: Storage> StrInner<S> {
     }
 }
 
-/// The methods of `str` are those of the text, and `&text` is a `&str` where one is wanted.
+/// Gives a text the methods of `str`, and makes `&text` a `&str` if one is expected.
 impl<S: Storage> DerefStr for StrInner<S> {
     ghost deref_gives = { λ text bytes. bytes ≡ text };
 
@@ -23,7 +23,7 @@ impl<S: Storage> DerefStr for StrInner<S> {
     }
 }
 
-/// Generic code that takes text takes it.
+/// Makes a text an argument of generic code over texts.
 impl<S: Storage> AsStr for StrInner<S> {
     ghost text = { λ text. text };
 
@@ -32,7 +32,7 @@ impl<S: Storage> AsStr for StrInner<S> {
     }
 }
 
-/// Generic code that takes bytes takes it.
+/// Makes a text an argument of generic code over bytes.
 impl<S: Storage> AsSlice<u8> for StrInner<S> {
     ghost items = { λ text. text };
 

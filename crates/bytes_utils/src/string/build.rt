@@ -1,4 +1,4 @@
-//! Text that is built.
+//! Building a text.
 ghost use Rattle.std.specs.Prelude.{◌≡◌, ◌++◌, [], encode_utf8, ◌⊎◌, IfOk, IfErr, OnOk, OnErr};
 
 use crate::string::{Storage, StorageMut, StrInner};
@@ -6,7 +6,7 @@ use bytes_utils_buf::Reason;
 use std::alloc::Global;
 
 impl<S: Storage> StrInner<S> {
-    /// The empty text.
+    /// Makes an empty text. Fails with the storage's reason (`OutOfMemory` for `Str` and `StrMut`).
     pub fn new(alloc: Global) -> Result<Self, Reason>
         ensures ok { IfOk result (λ text. text ≡ []) }
         ensures reason { IfErr result S.refuses }
@@ -17,7 +17,8 @@ impl<S: Storage> StrInner<S> {
 }
 
 impl<S: StorageMut> StrInner<S> {
-    /// Puts `s` behind the text.
+    /// Appends `s`. Fails with the storage's reason (`OutOfMemory` for `StrMut`); then nothing has
+    /// changed.
     pub fn push_str(&mut self, s: &str) -> Result<(), Reason>
         ensures ok { OnOk result (self.new ≡ self.old ++ s.now) }
         ensures err { OnErr result (self.new ≡ self.old) }
@@ -27,7 +28,8 @@ impl<S: StorageMut> StrInner<S> {
         Ok(())
     }
 
-    /// Puts the character `c` behind the text.
+    /// Appends the character `c`. Fails with the storage's reason (`OutOfMemory` for `StrMut`);
+    /// then nothing has changed.
     pub fn push(&mut self, c: char) -> Result<(), Reason>
         ensures ok { OnOk result (self.new ≡ self.old ++ encode_utf8 c) }
         ensures err { OnErr result (self.new ≡ self.old) }
@@ -42,7 +44,8 @@ impl<S: Storage> StrInner<S>
 where
     S::Creator: StorageMut,
 {
-    /// A copy of `s`.
+    /// Copies `s` into a new text. Requires that a creator's bytes are those of its text, as for
+    /// `Str` and `StrMut`. Fails with the storage's reason (`OutOfMemory` for `Str` and `StrMut`).
     pub fn from_str(alloc: Global, s: &str) -> Result<Self, Reason>
         requires creator { (c : S.Creator) → S.created c ≡ S.Creator.stored c }
         ensures ok { IfOk result (λ text. text ≡ s.now) }
@@ -53,7 +56,7 @@ where
         StrInner::from_built(text)
     }
 
-    /// The text, in the storage that is made of what it was built in.
+    /// The built text, in the storage that is made from its own.
     pub(super) fn from_built(text: StrInner<S::Creator>) -> Result<Self, Reason>
         requires creator { (c : S.Creator) → S.created c ≡ S.Creator.stored c }
         ensures ok { IfOk result (λ made. made ≡ text) }

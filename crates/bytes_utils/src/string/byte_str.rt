@@ -1,10 +1,10 @@
-//! Conversions between a `Str` and the shared text of the kit's crate `bytes`.
+//! Conversions between a `Str` and `ByteStr`, the shared text of the crate `bytes`.
 ghost use Rattle.std.specs.Prelude.{◌≡◌};
 
 use crate::string::Str;
 use bytes::ByteStr;
 
-/// The same text. Nothing is tested or copied.
+/// Converts the text without a check or a copy.
 impl From<ByteStr> for Str {
     ghost from_gives = { λ text same. same ≡ text };
 
@@ -13,7 +13,7 @@ impl From<ByteStr> for Str {
     }
 }
 
-/// The same text. Nothing is tested or copied.
+/// Converts the text without a check or a copy.
 impl From<Str> for ByteStr {
     ghost from_gives = { λ text same. same ≡ text };
 

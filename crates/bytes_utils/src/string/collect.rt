@@ -1,5 +1,5 @@
-//! Texts that `collect` makes of the items of an iterator that ends. A `String` is built, and its
-//! block taken over.
+//! Collecting the items of an iterator that ends. A `String` is built, and its block becomes the
+//! text's.
 
 mod owned;
 mod shared;

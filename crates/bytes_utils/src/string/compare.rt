@@ -1,4 +1,4 @@
-//! Equality, order and hash: those of the text, whatever it is stored in.
+//! Equality, order and hash of the text, in any storage.
 ghost use Rattle.std.specs.Prelude.{◌≡◌, ◌↔◌, IsTrue, nat_eq, refl, Some};
 ghost use Rattle.std.specs.Ordering.{nat_cmp};
 ghost use Rattle.std.specs.Hash as fed;
@@ -12,18 +12,18 @@ use std::cmp::Ordering;
 use std::hash::{Hash, Hasher};
 
 impl<S: Storage> StrInner<S> {
-    /// Whether the text is `other`. It stands for `==` with a `&str`.
+    /// Returns whether the text is `other`, in place of `==` with a `&str`.
     pub fn eq_str(&self, other: &str) -> bool
         ensures same { IsTrue result ↔ (self.now ≡ other.now) }
-        // As `==` at two texts.
+        // As `==` of two texts.
         ensures eq { result ≡ pointwise nat_eq self.now other.now }
     {
         self.as_str() == other
     }
 
-    /// The order of the text and `other`, which is that of their bytes and of their code points.
+    /// Compares the text with `other` by their bytes, which is by their code points too.
     pub fn cmp_str(&self, other: &str) -> Ordering
-        // As `cmp` at two texts.
+        // As `cmp` of two texts.
         ensures { result ≡ slice_cmp nat_cmp self.now other.now }
     {
         self.as_str().cmp(other)
@@ -68,7 +68,7 @@ impl<S: Storage> Ord for StrInner<S> {
     }
 }
 
-/// As the text's `str`.
+/// Hashes as the text's `str`.
 impl<S: Storage> Hash for StrInner<S> {
     ghost hash_input = { fed.str };
 

@@ -1,11 +1,11 @@
-//! Copies by std's trait, for types that derive theirs.
+//! `Clone`, for types that derive it.
 ghost use Rattle.std.specs.Prelude.{◌≡◌};
 
 use crate::string::{Str, StrInner, StrMut};
 use bytes::{Bytes, BytesMut};
 use std::alloc::AllocError;
 
-/// The same text, sharing the bytes, as `try_clone`.
+/// Shares the bytes, as `try_clone`.
 impl Clone for StrInner<Bytes> {
     ghost is_clone = { λ text copy. copy ≡ text };
 
@@ -14,7 +14,7 @@ impl Clone for StrInner<Bytes> {
     }
 }
 
-/// A copy of the text, as `try_clone`.
+/// Copies the text, as `try_clone`.
 impl Clone for StrInner<BytesMut> {
     ghost is_clone = { λ text copy. copy ≡ text };
 

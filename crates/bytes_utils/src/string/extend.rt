@@ -1,4 +1,4 @@
-//! Items that `extend` appends to a text: std's trait, by which a refused item is dropped.
+//! `Extend` for `StrMut`. An item that is refused is dropped.
 ghost use Rattle.std.specs.Prelude.{◌≡◌, ◌++◌, string_bytes};
 ghost use Rattle.std.specs.List.{flat_map};
 ghost use Rattle.std.specs.Str.{encode_utf8_all};
@@ -7,7 +7,7 @@ use crate::string::StrInner;
 use bytes::BytesMut;
 use std::alloc::AllocError;
 
-/// As `extend_chars`, but for the refused character, which is dropped.
+/// As `extend_chars`, but a refused character is dropped.
 impl Extend<char> for StrInner<BytesMut> {
     ghost extend_gives = { λ text cs longer. longer ≡ text ++ encode_utf8_all cs };
 
@@ -21,7 +21,7 @@ impl Extend<char> for StrInner<BytesMut> {
     }
 }
 
-/// As `extend_strs`, but for the refused item, which is dropped.
+/// As `extend_strs`, but a refused item is dropped.
 impl<'a> Extend<&'a str> for StrInner<BytesMut> {
     ghost extend_gives = { λ text items longer. longer ≡ text ++ flat_map (λ item. item.now) items };
 
@@ -35,7 +35,7 @@ impl<'a> Extend<&'a str> for StrInner<BytesMut> {
     }
 }
 
-/// As `extend_strings`, but for the refused item, which is dropped.
+/// As `extend_strings`, but a refused item is dropped.
 impl Extend<String> for StrInner<BytesMut> {
     ghost extend_gives = { λ text items longer. longer ≡ text ++ flat_map string_bytes items };
 

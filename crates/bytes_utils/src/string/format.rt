@@ -1,11 +1,11 @@
-//! Text that a format writes.
+//! Formatting into a text.
 ghost use Rattle.std.specs.Prelude.{◌≡◌, ◌++◌, IsOk, IfOk, IfSome, OnErr};
 
 use crate::string::{Storage, StorageMut, StrInner};
 use std::alloc::Global;
 use std::fmt;
 
-/// `write_str` appends all or nothing. Either refusal of the storage is an `fmt::Error`.
+/// Appends all of a string or nothing. Any refusal of the storage is an `fmt::Error`.
 impl<S: StorageMut> fmt::Write for StrInner<S> {
     ghost write_str_gives = { λ text s after. after ≡ text ++ s };
 
@@ -24,7 +24,8 @@ impl<S: Storage> StrInner<S>
 where
     S::Creator: StorageMut,
 {
-    /// What the macros call. A refusal is an `fmt::Error` too.
+    /// Formats `value` into a new text. The macros call it. Requires what `from_str` requires.
+    /// Fails with `fmt::Error` if `value` does so or the storage refuses.
     pub fn format<D: fmt::Display + Drop>(alloc: Global, value: D) -> Result<Self, fmt::Error>
         requires creator { (c : S.Creator) → S.created c ≡ S.Creator.stored c }
         ensures ok { IfOk result (λ text. IfSome (D.output value) (λ written. text ≡ written)) }
@@ -41,8 +42,8 @@ where
     }
 }
 
-/// `format_bytes!(alloc; "..", ..)` is the `Str` that the format writes. Want of memory is an
-/// `fmt::Error`, and so is a fault of an argument's own.
+/// Formats into a `Str`: `format_bytes!(alloc; "..", ..)`. Fails with `fmt::Error` if memory is
+/// refused or an argument does so.
 #[macro_export]
 macro_rules! format_bytes {
     ($alloc:expr; $($arg:tt)+) => {
@@ -50,7 +51,7 @@ macro_rules! format_bytes {
     };
 }
 
-/// As `format_bytes!`, giving a `StrMut`.
+/// As `format_bytes!`, into a `StrMut`.
 #[macro_export]
 macro_rules! format_bytes_mut {
     ($alloc:expr; $($arg:tt)+) => {

@@ -1,4 +1,4 @@
-//! Text that grows no more: what was built, and what is text already.
+//! Freezing what was built, and taking over a `String`.
 ghost use Rattle.std.specs.Prelude.{◌≡◌, string_bytes, string_len, [], IsOk, IfOk, IfErr};
 
 use crate::string::{Storage, StorageMut, Str, StrInner, StrMut};
@@ -10,7 +10,9 @@ impl<S: StorageMut> StrInner<S>
 where
     S::Immutable: Storage<Creator = S>,
 {
-    /// The same text in the storage that this one's is made into.
+    /// Turns built text into the storage that its own is made into: a `StrMut` into a `Str`.
+    /// Requires that the creator's bytes are those of the text, as for `StrMut`. Fails with the new
+    /// storage's reason (`OutOfMemory` for `StrMut`); then the text comes back in `Refused::back`.
     pub fn freeze(self) -> Result<StrInner<S::Immutable>, Refused<Self>>
         requires creator { (c : S) → S.Immutable.created c ≡ S.stored c }
         ensures ok { IfOk result (λ frozen. frozen ≡ self) }
@@ -29,14 +31,15 @@ where
 }
 
 impl StrInner<Bytes> {
-    /// The text of a `String`, whose bytes aren't copied.
+    /// Turns a `String` into a `Str` without copying its bytes. `_alloc` is not used. Fails with
+    /// `OutOfMemory` if memory is refused, never for an empty text; then the text comes back.
     pub fn from_string(_alloc: Global, text: String) -> Result<Str, Refused<String>>
         ensures ok { IfOk result (λ made. made ≡ string_bytes text) }
         ensures err { IfErr result (λ e. string_bytes e.back ≡ string_bytes text) }
         ensures empty { string_bytes text ≡ [] → IsOk result }
         ensures reason { IfErr result (λ e. e.reason ≡ Reason.OutOfMemory) }
     {
-        // Tells the proof that the bytes are UTF-8.
+        // The contract of `as_str` says that the bytes are UTF-8.
         let _ = text.as_str();
         match Bytes::from_vec(text.into_bytes()) {
             Ok(storage) => Ok(StrInner { storage }),

@@ -11,8 +11,10 @@ use bytes_utils_buf::{Reason, Refused};
 use std::alloc::Global;
 
 impl<S: StorageMut> StrInner<S> {
-    /// Puts the characters behind the text, until one is refused. Those behind it are dropped with the
-    /// iterator; one that is lent (`&mut iter`) stands right behind the refused item.
+    /// Appends the characters. Requires that `iter` ends. Fails with the first refused character
+    /// and the storage's reason (`OutOfMemory` for `StrMut`); then those before it are in the text.
+    /// Those after it are dropped with `iter`, but an iterator passed as `&mut iter` continues
+    /// right after the refused character.
     pub fn extend_chars<I: Iterator<Item = char> + Drop>(
         &mut self,
         iter: I,
@@ -20,7 +22,7 @@ impl<S: StorageMut> StrInner<S> {
         requires can { I.can_next iter }
         requires ends { IsFinite (I.remaining iter) }
 
-        // All items went in, or those before the one that comes back.
+        // All items are appended, or those before the one that comes back.
         ensures ok { OnOk result ((items : List ℕ) × Drains I.next_gives iter items
             × (self.new ≡ self.old ++ encode_utf8_all items)) }
         ensures err { IfErr result (λ e. (items : List ℕ) × (rest : I)
@@ -36,8 +38,10 @@ impl<S: StorageMut> StrInner<S> {
         Ok(())
     }
 
-    /// Puts the items behind the text, until one is refused. Those behind it are dropped with the
-    /// iterator; one that is lent (`&mut iter`) stands right behind the refused item.
+    /// Appends the items. Requires that `iter` ends. Fails with the first refused item and the
+    /// storage's reason (`OutOfMemory` for `StrMut`); then those before it are in the text. Those
+    /// after it are dropped with `iter`, but an iterator passed as `&mut iter` continues right
+    /// after the refused item.
     pub fn extend_strs<'s, I: Iterator<Item = &'s str> + Drop>(
         &mut self,
         iter: I,
@@ -45,7 +49,7 @@ impl<S: StorageMut> StrInner<S> {
         requires can { I.can_next iter }
         requires ends { IsFinite (I.remaining iter) }
 
-        // All items went in, or those before the one that comes back.
+        // All items are appended, or those before the one that comes back.
         ensures ok { OnOk result ((items : List (Bor (List ℕ))) × Drains I.next_gives iter items
             × (self.new ≡ self.old ++ concat (map (λ s. s.now) items))) }
         ensures err { IfErr result (λ e. (items : List (Bor (List ℕ))) × (rest : I)
@@ -61,8 +65,10 @@ impl<S: StorageMut> StrInner<S> {
         Ok(())
     }
 
-    /// Puts the items behind the text, until one is refused. Those behind it are dropped with the
-    /// iterator; one that is lent (`&mut iter`) stands right behind the refused item.
+    /// Appends the items. Requires that `iter` ends. Fails with the first refused item and the
+    /// storage's reason (`OutOfMemory` for `StrMut`); then those before it are in the text. Those
+    /// after it are dropped with `iter`, but an iterator passed as `&mut iter` continues right
+    /// after the refused item.
     pub fn extend_strings<I: Iterator<Item = String> + Drop>(
         &mut self,
         iter: I,
@@ -70,7 +76,7 @@ impl<S: StorageMut> StrInner<S> {
         requires can { I.can_next iter }
         requires ends { IsFinite (I.remaining iter) }
 
-        // All items went in, or those before the one that comes back.
+        // All items are appended, or those before the one that comes back.
         ensures ok { OnOk result ((items : List (String Global)) × Drains I.next_gives iter items
             × (self.new ≡ self.old ++ concat (map string_bytes items))) }
         ensures err { IfErr result (λ e. (items : List (String Global)) × (rest : I)
@@ -91,7 +97,8 @@ impl<S: Storage> StrInner<S>
 where
     S::Creator: StorageMut,
 {
-    /// The characters, one after another.
+    /// Concatenates the characters. Requires that `iter` ends, and what `from_str` requires. Fails
+    /// as `from_str`.
     pub fn from_chars<I: Iterator<Item = char> + Drop>(
         alloc: Global,
         iter: I,
@@ -110,7 +117,8 @@ where
         }
     }
 
-    /// The items, one after another.
+    /// Concatenates the items. Requires that `iter` ends, and what `from_str` requires. Fails as
+    /// `from_str`.
     pub fn from_strs<'s, I: Iterator<Item = &'s str> + Drop>(
         alloc: Global,
         iter: I,
@@ -129,7 +137,8 @@ where
         }
     }
 
-    /// The items, one after another.
+    /// Concatenates the items. Requires that `iter` ends, and what `from_str` requires. Fails as
+    /// `from_str`.
     pub fn from_strings<I: Iterator<Item = String> + Drop>(
         alloc: Global,
         iter: I,

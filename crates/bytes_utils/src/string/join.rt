@@ -1,4 +1,4 @@
-//! Text that is put together of parts, with a separator between them.
+//! Joining parts with a separator between them.
 ghost use Rattle.std.specs.Prelude.{◌≡◌, ℕ, List, map, ◌⊎◌, IfOk, IfErr};
 ghost use Rattle.std.specs.Iterator.{IsFinite, Drains};
 ghost use Rattle.bytes_utils.specs.Parts.{join};
@@ -12,9 +12,10 @@ impl<S: Storage> StrInner<S>
 where
     S::Creator: StorageMut,
 {
-    /// The parts with the separator between neighbours, as `join` of a slice has them; of no part the
-    /// empty text. By the empty separator they stand behind one another, as by `from_strs`: cut again
-    /// by it, only an empty part, single characters and an empty part come back.
+    /// Joins the parts with `separator` between neighbours, as `join` of a slice. No parts give the
+    /// empty text. With an empty separator they are concatenated, as by `from_strs`; to split the
+    /// text by it again returns single characters between two empty parts. Requires that `parts`
+    /// ends, and what `from_str` requires. Fails as `from_str`.
     pub fn join<'s, I: Iterator<Item = &'s str> + Drop>(
         alloc: Global,
         parts: I,

@@ -1,11 +1,11 @@
-//! Texts that take no memory: that of a literal, and the empty one.
+//! Texts that take no memory: literals and the empty text.
 ghost use Rattle.std.specs.Prelude.{◌≡◌, []};
 
 use crate::string::{Str, StrInner};
 use bytes::Bytes;
 
 impl StrInner<Bytes> {
-    /// A text that lasts as long as the program.
+    /// Makes a text of a literal. It takes no memory and never fails.
     pub fn from_static(text: &'static str) -> Str
         ensures { result ≡ text.now }
     {
@@ -14,7 +14,7 @@ impl StrInner<Bytes> {
         }
     }
 
-    /// The empty text.
+    /// Makes the empty text. It takes no memory and never fails.
     pub fn empty() -> Str
         ensures { result ≡ [] }
     {

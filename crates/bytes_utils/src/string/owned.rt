@@ -1,4 +1,4 @@
-//! Calls of text that grows in bytes with one owner.
+//! Calls of `StrMut`.
 ghost use Rattle.std.specs.Prelude.{◌≡◌, [], map, IsOk, IfOk, IfErr, OnOk, OnErr};
 ghost use Rattle.std.specs.Char.{to_ascii_uppercase, to_ascii_lowercase};
 
@@ -7,7 +7,8 @@ use bytes::BytesMut;
 use bytes_utils_buf::Reason;
 
 impl StrInner<BytesMut> {
-    /// All of the text that has been built. What is left here is empty.
+    /// Moves the text out and returns it; an empty text remains. Fails with `OutOfMemory` if memory
+    /// is refused, never for an empty text; then nothing has changed.
     pub fn split_built(&mut self) -> Result<StrMut, Reason>
         ensures ok { IfOk result (λ built. built ≡ self.old) }
         ensures rest { OnOk result (self.new ≡ []) }
@@ -21,7 +22,7 @@ impl StrInner<BytesMut> {
         }
     }
 
-    /// A copy of the text.
+    /// Copies the text. Fails with `OutOfMemory` if memory is refused.
     pub fn try_clone(&self) -> Result<StrMut, Reason>
         ensures ok { IfOk result (λ copy. copy ≡ self.now) }
         ensures reason { IfErr result (λ reason. reason ≡ Reason.OutOfMemory) }
@@ -32,7 +33,7 @@ impl StrInner<BytesMut> {
         }
     }
 
-    /// Writes `A` to `Z` in place of `a` to `z`. It takes no memory.
+    /// Replaces `a` to `z` by `A` to `Z`. It takes no memory and never fails.
     pub fn make_ascii_uppercase(&mut self) -> Result<(), Reason>
         ensures ok { self.new ≡ map to_ascii_uppercase self.old }
         ensures succeeds { IsOk result }
@@ -41,7 +42,7 @@ impl StrInner<BytesMut> {
         Ok(())
     }
 
-    /// Writes `a` to `z` in place of `A` to `Z`. It takes no memory.
+    /// Replaces `A` to `Z` by `a` to `z`. It takes no memory and never fails.
     pub fn make_ascii_lowercase(&mut self) -> Result<(), Reason>
         ensures ok { self.new ≡ map to_ascii_lowercase self.old }
         ensures succeeds { IsOk result }

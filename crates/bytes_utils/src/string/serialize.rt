@@ -1,4 +1,4 @@
-//! A text as a value of each format of `serde`: one text of the format, read as it was written.
+//! Texts in the formats of `serde`: written as one text of the format, and read as it was written.
 ghost use Rattle.std.specs.Prelude.{◌≡◌, IfOk};
 ghost use Rattle.serde.specs.Event.{Logs, text};
 ghost use Rattle.serde.specs.Steps.{Gives};
@@ -14,14 +14,14 @@ impl<S: Storage> Described for StrInner<S> {
     ghost writes = { λ written old new. Logs old new (text written) };
 }
 
-/// One text of the format.
+/// Writes one text of the format.
 impl<S: Storage> Serialize for StrInner<S> {
     fn serialize<W: Serializer>(&self, out: &mut W) -> Result<(), W::Error> {
         out.str(self.as_str())
     }
 }
 
-/// The next text of the format, in the block that the format read it into.
+/// Reads the next text of the format, and keeps the block that the format read it into.
 impl DeserializeOwned for StrInner<Bytes> {
     fn deserialize_owned<F: Format>(
         alloc: Global,
@@ -46,7 +46,7 @@ impl<'de> Deserialize<'de> for StrInner<Bytes> {
     }
 }
 
-/// The next text of the format, in the block that the format read it into.
+/// Reads the next text of the format, and keeps the block that the format read it into.
 impl DeserializeOwned for StrInner<BytesMut> {
     fn deserialize_owned<F: Format>(
         alloc: Global,

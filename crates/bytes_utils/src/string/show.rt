@@ -1,4 +1,4 @@
-//! Printed text, as that of the text's `str`.
+//! Printing a text, as its `str` is printed.
 ghost use Rattle.std.specs.Prelude.{Some};
 
 use crate::string::{Storage, StrInner};

@@ -1,4 +1,4 @@
-//! Parts and copies of a text over shared bytes, which leave the text as it is.
+//! Parts and copies of a `Str`, which leave it as it is.
 ghost use Rattle.std.specs.Prelude.{◌≡◌, ◌≤◌, length, take, drop, slice_range, IsCharBoundary, IsOk, IfOk, IfErr};
 
 use crate::string::{Str, StrInner, StrMut};
@@ -7,8 +7,10 @@ use bytes_utils_buf::Reason;
 use std::ops::Range;
 
 impl StrInner<Bytes> {
-    /// The text from the byte place `range.start` to `range.end`, sharing the bytes.
-    /// `is_char_boundary` of `as_str` tests the conditions on places.
+    /// Returns the text from byte `range.start` to byte `range.end`, sharing the bytes. Requires
+    /// that the range is not reversed and that both are character boundaries (test:
+    /// `as_str().is_char_boundary`). Fails with `OutOfMemory` if memory is refused, never for an
+    /// empty range.
     pub fn slice(&self, range: Range<usize>) -> Result<Str, Reason>
         requires ordered { range.start ≤ range.end }
         requires start { IsCharBoundary self.now range.start }
@@ -23,7 +25,7 @@ impl StrInner<Bytes> {
         }
     }
 
-    /// The text from the byte place `start` on, as `slice`.
+    /// As `slice`, from byte `start` to the end of the text.
     pub fn slice_from(&self, start: usize) -> Result<Str, Reason>
         requires { IsCharBoundary self.now start }
         ensures ok { IfOk result (λ part. part ≡ drop start self.now) }
@@ -33,19 +35,19 @@ impl StrInner<Bytes> {
         self.slice(start..self.as_str().len())
     }
 
-    /// The text before the byte place `end`, as `slice`.
+    /// As `slice`, from the start of the text to byte `end`.
     pub fn slice_to(&self, end: usize) -> Result<Str, Reason>
         requires { IsCharBoundary self.now end }
         ensures ok { IfOk result (λ part. part ≡ take end self.now) }
         ensures empty { end ≡ 0 → IsOk result }
         ensures reason { IfErr result (λ reason. reason ≡ Reason.OutOfMemory) }
     {
-        // Tells the proof that the bytes are UTF-8.
+        // The contract of `as_str` says that the bytes are UTF-8.
         let _ = self.as_str();
         self.slice(0..end)
     }
 
-    /// The same text, sharing the bytes.
+    /// Returns the same text, sharing the bytes. Fails with `OutOfMemory` if memory is refused.
     pub fn try_clone(&self) -> Result<Str, Reason>
         ensures ok { IfOk result (λ copy. copy ≡ self.now) }
         ensures reason { IfErr result (λ reason. reason ≡ Reason.OutOfMemory) }

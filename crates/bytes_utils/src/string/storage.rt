@@ -1,4 +1,4 @@
-//! What text is stored in.
+//! The storages of a text.
 ghost use Rattle.std.specs.Prelude.{⊤, ◌≡◌, ℕ, ◌≤◌, List, [], ◌++◌, length, take, drop, IfOk, IfErr, OnOk, OnErr};
 ghost use Rattle.bytes_utils_buf.specs.declared.refused.Reason.{Reason};
 
@@ -8,9 +8,10 @@ mod shared;
 use bytes_utils_buf::{Reason, Refused};
 use std::alloc::Global;
 
-/// A storage of bytes that can be cut into owned pieces.
+/// A storage of bytes that can be split into owned pieces. Your own type can implement it; the
+/// clauses are its laws.
 pub trait Storage: Sized + Drop {
-    /// What a storage is made of, once it has been filled.
+    /// The storage that this one is frozen from: `BytesMut` for `Bytes`.
     type Creator: Drop;
 
     // The storage's bytes.
@@ -19,26 +20,28 @@ pub trait Storage: Sized + Drop {
     // The bytes of a creator.
     ghost created: { Self.Creator → List ℕ };
 
-    // The reasons that it may refuse for.
+    // The reasons for which it may refuse.
     ghost refuses: { Reason → Type 0 } = { λ _. ⊤ };
 
-    /// A storage of no bytes.
+    /// Makes a storage of no bytes. Fails with a reason that `refuses` allows.
     fn empty(alloc: Global) -> Result<Self, Reason>
         ensures ok { IfOk result (λ s. stored s ≡ []) }
         ensures reason { IfErr result refuses };
 
-    /// All of the bytes.
+    /// Returns all bytes.
     fn as_bytes(&self) -> &[u8]
         ensures { result.now ≡ stored self.now };
 
-    /// Takes over what was filled, or hands it back.
+    /// Takes over a filled creator. Fails with a reason that `refuses` allows; then the creator
+    /// comes back.
     fn from_creator(creator: Self::Creator) -> Result<Self, Refused<Self::Creator>>
         ensures ok { IfOk result (λ s. stored s ≡ created creator) }
         ensures err { IfErr result (λ e. created e.back ≡ created creator) }
         ensures reason { IfErr result (λ e. refuses e.reason) };
 
-    /// The bytes before `at` and those from `at` on, or the storage back. The length of `as_bytes`
-    /// tests the condition.
+    /// Splits the storage into the bytes before `at` and those from `at` on. Requires that `at` is
+    /// at most the number of bytes (test: `as_bytes().len()`). Fails with a reason that `refuses`
+    /// allows; then the storage comes back.
     fn split_at(self, at: usize) -> Result<(Self, Self), Refused<Self>>
         requires { at ≤ length (stored self) }
         ensures left { IfOk result (λ pieces. stored pieces.0 ≡ take at (stored self)) }
@@ -46,8 +49,8 @@ pub trait Storage: Sized + Drop {
         ensures err { IfErr result (λ e. stored e.back ≡ stored self) }
         ensures reason { IfErr result (λ e. refuses e.reason) };
 
-    /// The bytes before `at` alone, or the storage back. A storage may have a cheaper way to them
-    /// than a split. The length of `as_bytes` tests the condition.
+    /// Returns the bytes before `at` alone, for which a storage may have a cheaper way than a
+    /// split. Requires and fails as `split_at`.
     #[inline]
     fn into_front(self, at: usize) -> Result<Self, Refused<Self>>
         requires { at ≤ length (stored self) }
@@ -59,7 +62,7 @@ pub trait Storage: Sized + Drop {
         Ok(front)
     }
 
-    /// The bytes from `at` on alone, or the storage back, as `into_front`, with the same test.
+    /// Returns the bytes from `at` on alone. Requires and fails as `split_at`.
     #[inline]
     fn into_back(self, at: usize) -> Result<Self, Refused<Self>>
         requires { at ≤ length (stored self) }
@@ -72,12 +75,12 @@ pub trait Storage: Sized + Drop {
     }
 }
 
-/// A storage that text is built in.
+/// A storage in which text is built.
 pub trait StorageMut: Storage {
-    /// What a text is kept in once it has been built.
+    /// The storage into which this one is frozen: `Bytes` for `BytesMut`.
     type Immutable;
 
-    /// Appends `s`.
+    /// Appends `s`. Fails with a reason that `refuses` allows; then nothing has changed.
     fn push_slice(&mut self, s: &[u8]) -> Result<(), Reason>
         ensures ok { OnOk result (Self.stored self.new ≡ Self.stored self.old ++ s.now) }
         ensures err { OnErr result (Self.stored self.new ≡ Self.stored self.old) }

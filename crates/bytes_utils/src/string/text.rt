@@ -1,4 +1,4 @@
-//! Text: its check, its reading and its cut.
+//! A text: checked, read and split.
 ghost use Rattle.std.specs.Prelude.{◌≡◌, ◌↔◌, length, take, drop, IsUtf8, IsCharBoundary, IsOk, IfOk, IfErr};
 ghost use Rattle.std.specs.Str.{valid_up_to, error_len};
 ghost use Rattle.std.specs.Str.Lossy.{utf8_valid_len, utf8_error_len};
@@ -11,16 +11,16 @@ use std::str;
 
 /// Text over a storage.
 ///
-/// It serves whoever keeps parts of a text after the text is gone: a part is owned, and shares what
-/// it was cut from where the storage does, as `Bytes` does:
+/// For parts that outlive the text they were cut from. A part is owned, and shares its bytes if the
+/// storage shares them, as `Bytes` does:
 ///
 /// ```text
-/// let text = Str::from_inner(bytes)?;          // `Bytes` of `key=value`, refused where it isn't UTF-8
-/// let (key, rest) = text.split_at_bytes(3)?;   // `key`, `=value`, where 3 is a character boundary
+/// let text = Str::from_inner(bytes)?;          // `Bytes` of `key=value`; fails if not UTF-8
+/// let (key, rest) = text.split_at_bytes(3)?;   // `key`, `=value`; 3 is a character boundary
 /// for part in rest.split_bytes("=") { .. }     // an empty part, `value`
 /// ```
 ///
-/// A clause sees its bytes.
+/// In clauses a text is its bytes.
 #[derive(Drop)]
 pub struct StrInner<S: Storage> {
     pub(super) storage: S,
@@ -37,7 +37,8 @@ impl<S: Storage> Model for StrInner<S> {
 }
 
 impl<S: Storage> StrInner<S> {
-    /// The text of these bytes, where they are UTF-8.
+    /// Makes a text of a storage. Fails with a `Utf8Error` if its bytes are not UTF-8; then `s`
+    /// comes back in the error.
     pub fn from_inner(s: S) -> Result<Self, Utf8Error<S>>
         ensures variant { IsOk result ↔ IsUtf8 (S.stored s) }
         ensures ok { IfOk result (λ text. text ≡ S.stored s) }
@@ -53,8 +54,8 @@ impl<S: Storage> StrInner<S> {
         }
     }
 
-    /// The text of bytes that are known to be UTF-8: nothing is tested. `from_inner` tests the
-    /// condition.
+    /// Makes a text of a storage without a check. Requires that its bytes are UTF-8 (test:
+    /// `from_inner`).
     pub fn from_inner_unchecked(s: S) -> Self
         requires { IsUtf8 (S.stored s) }
         ensures { result ≡ S.stored s }
@@ -62,7 +63,7 @@ impl<S: Storage> StrInner<S> {
         StrInner { storage: s }
     }
 
-    /// The storage.
+    /// Returns a reference to the storage.
     pub fn inner(&self) -> &S
         ensures value { S.stored result.now ≡ self.now }
         ensures utf8 { IsUtf8 (S.stored result.now) }
@@ -70,7 +71,7 @@ impl<S: Storage> StrInner<S> {
         &self.storage
     }
 
-    /// The storage.
+    /// Turns the text into its storage.
     pub fn into_inner(self) -> S
         ensures value { S.stored result ≡ self }
         ensures utf8 { IsUtf8 (S.stored result) }
@@ -79,7 +80,7 @@ impl<S: Storage> StrInner<S> {
         storage
     }
 
-    /// The text. Its `is_char_boundary` tests the conditions on places.
+    /// Returns the text as a `str`. Its `is_char_boundary` is the test of the conditions on places.
     #[inline]
     pub fn as_str(&self) -> &str
         ensures value { result.now ≡ self.now }
@@ -88,8 +89,9 @@ impl<S: Storage> StrInner<S> {
         unsafe { str::from_utf8_unchecked(self.storage.as_bytes()) }
     }
 
-    /// The text before the byte place `at` and that from it on, or the text back.
-    /// `is_char_boundary` of `as_str` tests the condition.
+    /// Splits the text into the text before byte `at` and the text from it on. Requires that `at`
+    /// is a character boundary (test: `as_str().is_char_boundary`). Fails with the storage's reason
+    /// (`OutOfMemory` for `Str` and `StrMut`); then the text comes back.
     #[inline]
     pub fn split_at_bytes(self, at: usize) -> Result<(Self, Self), Refused<Self>>
         requires { IsCharBoundary self at }
@@ -108,7 +110,7 @@ impl<S: Storage> StrInner<S> {
         }
     }
 
-    /// The text before the byte place `at` alone.
+    /// The text before byte `at` alone.
     #[inline(always)]
     pub(crate) fn into_front(self, at: usize) -> Result<Self, Reason>
         requires { IsCharBoundary self at }
@@ -122,7 +124,7 @@ impl<S: Storage> StrInner<S> {
         }
     }
 
-    /// The text from the byte place `at` on alone.
+    /// The text from byte `at` on alone.
     #[inline(always)]
     pub(crate) fn into_back(self, at: usize) -> Result<Self, Reason>
         requires { IsCharBoundary self at }

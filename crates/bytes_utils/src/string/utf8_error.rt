@@ -1,11 +1,11 @@
-//! What is told where bytes aren't UTF-8.
+//! The error for bytes that are not UTF-8.
 ghost use Rattle.std.specs.Prelude.{◌≡◌};
 ghost use Rattle.bytes_utils.specs.Errors.{refused_storage, fault_of};
 
 use std::error::Error;
 use std::{fmt, str};
 
-/// Bytes that were to be text aren't UTF-8. It hands the storage back.
+/// The bytes for a text are not UTF-8. The error has their storage.
 #[derive(Debug, Drop)]
 pub struct Utf8Error<S> {
     storage: S,
@@ -20,7 +20,7 @@ impl<S> Utf8Error<S> {
         Utf8Error { storage, fault }
     }
 
-    /// The storage that was refused.
+    /// Returns the storage that was refused.
     pub fn into_inner(self) -> S
         ensures { result ≡ refused_storage self }
     {
@@ -28,7 +28,7 @@ impl<S> Utf8Error<S> {
         storage
     }
 
-    /// What is wrong with the bytes, and where.
+    /// Returns std's error, which says what is wrong with the bytes and where.
     pub fn utf8_error(&self) -> str::Utf8Error
         ensures { result ≡ fault_of self.now }
     {
@@ -36,7 +36,7 @@ impl<S> Utf8Error<S> {
     }
 }
 
-/// The text that std has for such a fault.
+/// Writes std's text for the same error.
 impl<S> fmt::Display for Utf8Error<S> {
     ghost use Rattle.std.specs.Prelude.{Some};
     ghost use Rattle.std.specs.Str.{valid_up_to, error_len};

@@ -3,8 +3,8 @@ ghost use Rattle.std.specs.Prelude.{◌≡◌, ◌≤◌, length, take, drop, sl
 ghost use Rattle.bytes_utils_buf.specs.Slices.{taken_by, FillsTable};
 
 use crate::Reason;
+use crate::contiguous::ContiguousBuf;
 use crate::parts::{BufParts, CopyRefused};
-use crate::whole::BufWhole;
 use bytes::Bytes;
 use std::alloc::Global;
 use std::ops::Range;
@@ -21,13 +21,13 @@ impl<T: BufParts> BufParts for &mut T {
     }
 }
 
-impl<T: BufWhole> BufWhole for &mut T {
-    fn whole(&self) -> &[u8] {
-        T::whole(&**self)
+impl<T: ContiguousBuf> ContiguousBuf for &mut T {
+    fn as_contiguous(&self) -> &[u8] {
+        T::as_contiguous(&**self)
     }
 
-    fn first(&self, alloc: Global, len: usize) -> Result<Bytes, Reason> {
-        T::first(&**self, alloc, len)
+    fn prefix(&self, alloc: Global, len: usize) -> Result<Bytes, Reason> {
+        T::prefix(&**self, alloc, len)
     }
 
     fn part(&self, alloc: Global, range: Range<usize>) -> Result<Bytes, Reason> {

@@ -1,10 +1,10 @@
-//! Boxes: a boxed buffer is asked itself.
+//! Boxed buffers: each call goes to the buffer in the box.
 ghost use Rattle.std.specs.Prelude.{◌≡◌, ◌≤◌, length, take, drop, slice_range, IsOk, IfOk, IfErr};
 ghost use Rattle.bytes_utils_buf.specs.Slices.{taken_by, FillsTable};
 
 use crate::Reason;
+use crate::contiguous::ContiguousBuf;
 use crate::parts::{BufParts, CopyRefused};
-use crate::whole::BufWhole;
 use bytes::Bytes;
 use std::alloc::{Allocator, Global};
 use std::ops::Range;
@@ -21,13 +21,13 @@ impl<T: BufParts, A: Allocator> BufParts for Box<T, A> {
     }
 }
 
-impl<T: BufWhole, A: Allocator> BufWhole for Box<T, A> {
-    fn whole(&self) -> &[u8] {
-        T::whole(&**self)
+impl<T: ContiguousBuf, A: Allocator> ContiguousBuf for Box<T, A> {
+    fn as_contiguous(&self) -> &[u8] {
+        T::as_contiguous(&**self)
     }
 
-    fn first(&self, alloc: Global, len: usize) -> Result<Bytes, Reason> {
-        T::first(&**self, alloc, len)
+    fn prefix(&self, alloc: Global, len: usize) -> Result<Bytes, Reason> {
+        T::prefix(&**self, alloc, len)
     }
 
     fn part(&self, alloc: Global, range: Range<usize>) -> Result<Bytes, Reason> {

@@ -1,14 +1,14 @@
-//! `BytesMut`: what is taken out of it is shared.
+//! `BytesMut`: bytes that are taken out of it are shared.
 ghost use Rattle.std.specs.Prelude.{◌≡◌, ◌<◌, ◌≤◌, length, take, drop, IfOk, IfErr, OnErr};
 ghost use Rattle.bytes.specs.Adapters.{kept_spare};
 ghost use Rattle.bytes_utils_buf.specs.Slices.{taken_by, joined, FillsTable};
 
+use crate::contiguous::ContiguousBuf;
 use crate::parts::{BufParts, CopyRefused, slice_into};
-use crate::whole::BufWhole;
 use bytes::{Bytes, BytesMut};
 use std::alloc::Global;
 
-/// `copy_out` shares the bytes. A refusal has taken none.
+/// `copy_out` shares the bytes. If it fails, it has taken none.
 impl BufParts for BytesMut {
     ghost loses = { λ _ taken. taken ≡ 0 };
 
@@ -36,9 +36,9 @@ impl BufParts for BytesMut {
     }
 }
 
-/// `first` and `part` copy the bytes: only a call that takes them can share them.
-impl BufWhole for BytesMut {
-    fn whole(&self) -> &[u8] {
+/// `prefix` and `part` copy the bytes: only a call that takes them out can share them.
+impl ContiguousBuf for BytesMut {
+    fn as_contiguous(&self) -> &[u8] {
         self.as_slice()
     }
 }

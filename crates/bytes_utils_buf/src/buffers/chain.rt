@@ -4,15 +4,15 @@ ghost use Rattle.bytes.specs.Adapters.{chain_first, chain_last, chain_limit};
 ghost use Rattle.bytes_utils_buf.specs.Slices.{taken_by, FillsTable};
 
 use super::pair::{first_of_both, first_slices_into};
+use crate::contiguous::ContiguousBuf;
 use crate::parts::{BufParts, CopyRefused};
-use crate::whole::BufWhole;
 use bytes::buf::Chain;
 use bytes::{Buf, Bytes};
 use std::alloc::Global;
 
-/// `copy_out` shares the bytes where they lie in one of the two, and it does. A refusal has taken
-/// none.
-impl<T: BufWhole, U: BufWhole> BufParts for Chain<T, U> {
+/// `copy_out` shares the bytes if one of the two buffers has them all, and shares its own. If it
+/// fails, it has taken none.
+impl<T: ContiguousBuf, U: ContiguousBuf> BufParts for Chain<T, U> {
     ghost loses = { λ _ taken. taken ≡ 0 };
 
     fn copy_out(&mut self, alloc: Global, len: usize) -> Result<Bytes, CopyRefused> {
@@ -25,8 +25,8 @@ impl<T: BufWhole, U: BufWhole> BufParts for Chain<T, U> {
 
     fn chunks_into<'s>(&'s self, dst: &mut [&'s [u8]]) -> usize {
         first_slices_into(
-            self.first_ref().whole(),
-            self.last_ref().whole(),
+            self.first_ref().as_contiguous(),
+            self.last_ref().as_contiguous(),
             self.remaining(),
             dst,
         )

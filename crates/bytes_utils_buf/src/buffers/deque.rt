@@ -1,4 +1,4 @@
-//! Deques of bytes, which lie in two slices where they wrap.
+//! Deques of bytes, which are two slices if they wrap around.
 ghost use Rattle.std.specs.Prelude.{◌≡◌, ◌≤◌, length, take, drop, IfOk, IfErr};
 ghost use Rattle.bytes_utils_buf.specs.Slices.{taken_by, FillsTable};
 
@@ -8,7 +8,7 @@ use bytes::{Buf, Bytes};
 use std::alloc::{Allocator, Global};
 use std::collections::VecDeque;
 
-/// `copy_out` copies the bytes. A refusal has taken none.
+/// `copy_out` copies the bytes. If it fails, it has taken none.
 impl<A: Allocator> BufParts for VecDeque<u8, A> {
     ghost loses = { λ _ taken. taken ≡ 0 };
 

@@ -1,16 +1,16 @@
-//! Two buffers whose bytes are read one after the other.
+//! Two buffers that are read one after the other.
 ghost use Rattle.std.specs.Prelude.{◌≡◌, ◌+◌, ◌≤◌, ◌++◌, length, take, IfOk, IfErr};
 ghost use Rattle.bytes_utils_buf.specs.Slices.{FillsTable};
 
 use crate::Reason;
+use crate::contiguous::ContiguousBuf;
 use crate::parts::slice_into;
-use crate::whole::BufWhole;
 use bytes::Bytes;
 use std::alloc::Global;
 
-/// The first `len` bytes of both, which stay there too. Where they lie in one of the two, that one
-/// is asked alone.
-pub(super) fn first_of_both<T: BufWhole, U: BufWhole>(
+/// Copies the first `len` bytes of both, which stay there too. If one of the two has them all, its
+/// own `prefix` returns them.
+pub(super) fn first_of_both<T: ContiguousBuf, U: ContiguousBuf>(
     front: &T,
     back: &U,
     alloc: Global,
@@ -23,18 +23,18 @@ pub(super) fn first_of_both<T: BufWhole, U: BufWhole>(
 {
     let in_front = front.remaining();
     if len <= in_front {
-        return front.first(alloc, len);
+        return front.prefix(alloc, len);
     }
     if in_front == 0 {
-        return back.first(alloc, len);
+        return back.prefix(alloc, len);
     }
     let mut copy = Vec::with_capacity(alloc, len)?;
-    copy.extend_from_slice(front.whole())?;
-    copy.extend_from_slice(&back.whole()[..len - in_front])?;
+    copy.extend_from_slice(front.as_contiguous())?;
+    copy.extend_from_slice(&back.as_contiguous()[..len - in_front])?;
     Ok(Bytes::from_vec(copy)?)
 }
 
-/// Shows two slices in the first places of a table, and returns how many places it filled.
+/// Puts two slices into the first places of `dst`, and returns how many places it filled.
 pub(super) fn slices_into<'s>(front: &'s [u8], back: &'s [u8], dst: &mut [&'s [u8]]) -> usize
     ensures { FillsTable result dst.old dst.new (front.now ++ back.now) }
 {
@@ -45,7 +45,7 @@ pub(super) fn slices_into<'s>(front: &'s [u8], back: &'s [u8], dst: &mut [&'s [u
     filled + slice_into(back, &mut dst[filled..])
 }
 
-/// As `slices_into`, of the first `len` bytes alone.
+/// Like `slices_into`, but of the first `len` bytes only.
 pub(super) fn first_slices_into<'s>(
     front: &'s [u8],
     back: &'s [u8],

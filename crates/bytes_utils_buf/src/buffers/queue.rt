@@ -1,4 +1,4 @@
-//! `BytesQueue`: shared chunks in a row.
+//! `BytesQueue`: a queue of shared chunks.
 ghost use Rattle.std.specs.Prelude.{◌≡◌, ◌≤◌, length, take, drop, IfOk, IfErr};
 ghost use Rattle.bytes_utils_buf.specs.Slices.{taken_by, FillsTable};
 
@@ -6,8 +6,8 @@ use crate::parts::{BufParts, CopyRefused};
 use bytes::{Bytes, BytesQueue};
 use std::alloc::Global;
 
-/// `copy_out` shares the bytes where they lie in the first chunk. A refusal has taken what the
-/// queue's own has.
+/// `copy_out` shares the bytes if the first chunk has them all. If it fails, the bytes that the
+/// queue's own `split_to` took are lost.
 impl BufParts for BytesQueue {
     fn copy_out(&mut self, alloc: Global, len: usize) -> Result<Bytes, CopyRefused> {
         match self.split_to(alloc, len) {

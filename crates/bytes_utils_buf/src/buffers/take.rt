@@ -4,35 +4,35 @@ ghost use Rattle.bytes.specs.Adapters.{take_inner, take_limit, take_kept};
 ghost use Rattle.bytes_utils_buf.specs.Slices.{taken_by, FillsTable};
 
 use crate::Reason;
+use crate::contiguous::{ContiguousBuf, take_prefix};
 use crate::parts::{BufParts, CopyRefused, slice_into};
-use crate::whole::{BufWhole, take_first};
 use bytes::Bytes;
 use bytes::buf::Take;
 use std::alloc::Global;
 use std::ops::Range;
 
-/// `copy_out` shares the bytes where the buffer under it does. A refusal has taken none.
-impl<T: BufWhole> BufParts for Take<T> {
+/// `copy_out` shares the bytes if the inner buffer does. If it fails, it has taken none.
+impl<T: ContiguousBuf> BufParts for Take<T> {
     ghost loses = { λ _ taken. taken ≡ 0 };
 
     fn copy_out(&mut self, alloc: Global, len: usize) -> Result<Bytes, CopyRefused> {
-        take_first(self, alloc, len)
+        take_prefix(self, alloc, len)
     }
 
     fn chunks_into<'s>(&'s self, dst: &mut [&'s [u8]]) -> usize {
-        slice_into(self.whole(), dst)
+        slice_into(self.as_contiguous(), dst)
     }
 }
 
-/// `first` and `part` share the bytes where the buffer under it does.
-impl<T: BufWhole> BufWhole for Take<T> {
-    fn whole(&self) -> &[u8] {
-        let whole = self.get_ref().whole();
+/// `prefix` and `part` share the bytes if the inner buffer does.
+impl<T: ContiguousBuf> ContiguousBuf for Take<T> {
+    fn as_contiguous(&self) -> &[u8] {
+        let whole = self.get_ref().as_contiguous();
         &whole[..whole.len().min(self.limit())]
     }
 
-    fn first(&self, alloc: Global, len: usize) -> Result<Bytes, Reason> {
-        self.get_ref().first(alloc, len)
+    fn prefix(&self, alloc: Global, len: usize) -> Result<Bytes, Reason> {
+        self.get_ref().prefix(alloc, len)
     }
 
     fn part(&self, alloc: Global, range: Range<usize>) -> Result<Bytes, Reason> {

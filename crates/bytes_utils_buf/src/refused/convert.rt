@@ -1,4 +1,4 @@
-//! What `?` makes of a refusal.
+//! What `?` converts an error to.
 ghost use Rattle.std.specs.Prelude.{◌≡◌};
 ghost use Rattle.bytes_utils_buf.specs.declared.refused.Reason.TheVariants.{OutOfMemory};
 
@@ -6,7 +6,7 @@ use super::{Reason, Refused};
 use crate::parts::CopyRefused;
 use std::alloc::{AllocError, AllocFailed};
 
-/// Why; what was handed in is dropped.
+/// Keeps the reason, and drops the value.
 impl<T: Drop> From<Refused<T>> for Reason {
     ghost from_gives = { λ refused reason. reason ≡ refused.reason };
 
@@ -31,7 +31,7 @@ impl From<AllocError> for Reason {
     }
 }
 
-/// What wasn't stored is dropped.
+/// Drops the value that was not stored.
 impl<T: Drop> From<AllocFailed<T>> for Reason {
     ghost from_gives = { λ _ reason. reason ≡ OutOfMemory };
 

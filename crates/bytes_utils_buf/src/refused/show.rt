@@ -1,4 +1,4 @@
-//! What a refusal says of itself.
+//! How errors print.
 ghost use Rattle.std.specs.Prelude.{Some};
 ghost use Rattle.bytes_utils_buf.specs.Refusals.{reason_text, copy_refused_text};
 
@@ -10,7 +10,7 @@ use std::fmt;
 impl fmt::Display for Reason {
     ghost output = { λ reason. Some (reason_text reason) };
 
-    // The same in any style, as `{:#}`.
+    // The same text in every style, such as `{:#}`.
     ghost styled_output = { λ reason _. Some (reason_text reason) };
 
     fn fmt<W: fmt::Write>(&self, f: &mut fmt::Formatter<W>) -> fmt::Result {
@@ -23,7 +23,7 @@ impl fmt::Display for Reason {
 
 impl Error for Reason {}
 
-/// The text of its reason.
+/// Prints its reason.
 impl<T> fmt::Display for Refused<T> {
     ghost output = { λ refused. Some (reason_text refused.reason) };
 

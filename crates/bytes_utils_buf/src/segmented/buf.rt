@@ -5,16 +5,16 @@ ghost use Rattle.bytes_utils_buf.specs.Lent.{as_lent};
 ghost use Rattle.bytes_utils_buf.specs.Segments.{NoneEmpty, newly_held, nothing_held, Skips};
 ghost use Rattle.bytes_utils_buf.specs.Tally.{IsBalanced, IsCovered, IsPaid, lined_up};
 
-mod accept;
 mod chunks;
+mod copy;
 mod front;
-mod hand_out;
+mod insert;
 mod join;
-mod look;
+mod peek;
 mod queue;
 mod range;
-mod share;
-mod take_out;
+mod remove;
+mod split;
 
 use super::copy::Segmented;
 use super::tally::Tally;
@@ -26,21 +26,20 @@ use std::alloc::Global;
 use std::collections::VecDeque;
 use std::marker::Model;
 
-/// Buffers that read as one buffer.
+/// Held buffers that read as one buffer.
 ///
-/// It serves whoever gets a body in pieces and reads it as a whole, without copying the pieces
-/// together:
+/// For bodies that arrive in pieces and are read as one, without copying the pieces together:
 ///
 /// ```text
 /// let mut body = SegmentedBuf::new(alloc);
-/// body.push(head)?;                // a `Bytes` of `Hello`, where `body.fits(head.len())`
+/// body.push(head)?;                // a `Bytes` of `Hello`, if `body.fits(head.len())`
 /// body.push(tail)?;                // and one of ` World`
-/// body.advance(3);                 // where `body.remaining()` is at least 3
+/// body.advance(3);                 // if `body.remaining()` is at least 3
 /// body.copy_to_bytes(alloc, 6)?    // `lo Wor`; 2 bytes are left in 1 segment
 /// ```
 ///
-/// A piece goes behind the others by [`push`](SegmentedBuf::push). It holds no empty buffer: one that
-/// comes in is dropped, and so is one that is read out. It is a `Buf` itself, so these nest.
+/// [`push`](SegmentedBuf::push) appends a piece. No empty buffer is held: an empty piece is
+/// dropped, and so is a piece once it is read. It is a `Buf` itself, so it nests.
 #[derive(Debug, Drop)]
 pub struct SegmentedBuf<B: Buf + Drop> {
     segments: VecDeque<B>,
@@ -64,7 +63,7 @@ impl<B: Buf + Drop> Model for SegmentedBuf<B> {
 }
 
 impl<B: Buf + Drop> SegmentedBuf<B> {
-    /// An empty value. It allocates nothing.
+    /// Returns an empty value. It allocates nothing.
     pub fn new(alloc: Global) -> SegmentedBuf<B>
         ensures { result ≡ nothing_held }
     {
@@ -75,12 +74,12 @@ impl<B: Buf + Drop> SegmentedBuf<B> {
         }
     }
 
-    /// How many segments are held.
+    /// Returns how many segments are held.
     pub fn segments(&self) -> usize
         ensures count { result ≡ length self.now.segments }
         ensures none { (result ≡ 0) ↔ (concat self.now.segments ≡ []) }
 
-        // What is true of every value, whatever was called before.
+        // True of every value, whatever was called before.
         ensures none_empty { NoneEmpty self.now.segments }
         ensures balanced { IsBalanced self.now.segments self.now.tally }
         ensures covered { IsCovered self.now.segments self.now.tally }
@@ -88,8 +87,8 @@ impl<B: Buf + Drop> SegmentedBuf<B> {
         self.segments.len()
     }
 
-    /// Whether `n` more bytes leave `remaining` a `usize`. It is the test for `push`,
-    /// `prepend` and `append`.
+    /// Returns whether `remaining() + n` fits `usize`. It is the test for `push`, `prepend`,
+    /// `append`, `append_queue` and `drain_into_queue`.
     pub fn fits(&self, n: usize) -> bool
         ensures test { IsTrue result ↔ (length (concat self.now.segments) + n < 2 ^ 64) }
         ensures always { length (concat self.now.segments) < 2 ^ 64 }
@@ -97,7 +96,7 @@ impl<B: Buf + Drop> SegmentedBuf<B> {
         n <= usize::MAX - self.remaining
     }
 
-    /// The held segments, front first.
+    /// Returns the held segments, front first.
     pub fn into_inner(self) -> VecDeque<B>
         ensures { map B.unread result.items ≡ self.segments }
     {
@@ -109,15 +108,15 @@ impl<B: Buf + Drop> SegmentedBuf<B> {
         segments
     }
 
-    /// Takes `cnt` bytes off the front. A segment that is passed is dropped, and isn't advanced
-    /// before. `remaining` tests the condition.
+    /// Removes the first `cnt` bytes. A passed segment is dropped without being advanced. Requires
+    /// that `cnt` is at most `remaining()` (test: `remaining`).
     #[inline]
     pub fn advance(&mut self, cnt: usize)
         requires { cnt ≤ length (concat self.old.segments) }
         ensures skips { Skips cnt self.old.segments self.new.segments }
         ensures bytes { concat self.new.segments ≡ drop cnt (concat self.old.segments) }
 
-        // Each segment that is passed takes one turn, on this value's own tally.
+        // Each passed segment counts one turn, on this value's own tally.
         ensures turns { lined_up self.new.segments self.new.tally
             ≡ lined_up self.old.segments self.old.tally }
         ensures given { self.new.tally.given ≡ self.old.tally.given }
@@ -130,7 +129,7 @@ impl<B: Buf + Drop> SegmentedBuf<B> {
         self.remaining -= cnt;
     }
 
-    /// These buffers, none of which is empty, with a tally of their own.
+    /// Holds these buffers, none of which is empty, with a tally of their own.
     fn newly_held(segments: VecDeque<B>, remaining: usize) -> SegmentedBuf<B>
         requires sum { remaining ≡ length (concat (map B.unread segments.items)) }
         requires none_empty { NoneEmpty (map B.unread segments.items) }
@@ -147,8 +146,8 @@ impl<B: Buf + Drop> SegmentedBuf<B> {
 }
 
 impl<B: Buf + Clone> SegmentedBuf<B> {
-    /// Clones of the held segments, with a tally of their own. Clones have to show the same unread
-    /// bytes.
+    /// Clones the held segments, with a tally of their own. Requires that a clone has the same
+    /// unread bytes. Fails with `OutOfMemory` if memory is refused.
     pub fn try_clone(&self) -> Result<SegmentedBuf<B>, Reason>
         requires { (x y : B) → B.is_clone x y → B.unread y ≡ B.unread x }
         ensures ok { IfOk result (λ all. all ≡ newly_held self.now.segments) }
@@ -189,7 +188,7 @@ impl<B: Buf + Drop> Segmented for SegmentedBuf<B> {
 impl<B: Buf + Drop> Buf for SegmentedBuf<B> {
     ghost unread = { λ q. concat q.segments };
 
-    // What no read changes: how many segments were given, and how many of them were dropped at once.
+    // What no read changes: the number of segments given, and of those that were dropped at once.
     ghost kept = { λ q. ([], q.tally.given) ∷ ([], q.tally.dropped) ∷ [] };
 
     #[inline]

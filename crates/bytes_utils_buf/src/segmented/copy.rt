@@ -1,4 +1,4 @@
-//! A copy of bytes: collected across segments, what it took, and a chunk appended to it.
+//! Copying bytes across segments.
 ghost use Rattle.std.specs.Prelude.{◌≡◌, ◌+◌, ◌-◌, ◌≤◌, ◌++◌, length, min, take, vec_capacity, IfOk, IfErr, ◌⊎◌};
 ghost use Rattle.std.specs.List.{concat};
 ghost use Rattle.bytes.specs.Unread.{IsChunkOf};
@@ -12,21 +12,21 @@ use std::alloc::Global;
 
 /// Segments in a row, whose calls are counted.
 pub(super) trait Segmented {
-    // The value as lent buffers.
+    // The value as borrowed buffers.
     ghost lent: { Self → Lent };
 
-    /// A chunk of the first segment.
+    /// Returns a chunk of the first segment.
     fn front_chunk(&self) -> &[u8]
         ensures bytes { IsChunkOf result.now (concat (lent self.now).segments) }
         ensures front { IsChunkOf result.now (front_of (lent self.now).segments) };
 
-    /// Takes `cnt` bytes off the front, by one counted call.
+    /// Removes the first `cnt` bytes, by one counted call.
     fn skip(&mut self, cnt: usize)
         requires { cnt ≤ length (concat (lent self.old).segments) }
         ensures passes { Passes cnt (lent self.old) (lent self.new) }
         ensures calls { (lent self.new).tally.calls ≡ (lent self.old).tally.calls + 1 };
 
-    /// Collects the first `len` bytes, chunk by chunk.
+    /// Takes the first `len` bytes out, chunk by chunk.
     final fn collect(&mut self, alloc: Global, len: usize) -> Result<Bytes, CopyRefused>
     where
         Self: Sized,
@@ -56,7 +56,7 @@ pub(super) trait Segmented {
     }
 }
 
-/// How many bytes a copy of `len` bytes took.
+/// Returns how many bytes a copy of `len` bytes took.
 #[inline]
 pub(super) fn bytes_taken(copy: &Result<Bytes, CopyRefused>, len: usize) -> usize
     ensures { result ≡ taken_by len copy.now }
@@ -67,8 +67,8 @@ pub(super) fn bytes_taken(copy: &Result<Bytes, CopyRefused>, len: usize) -> usiz
     }
 }
 
-/// Appends the bytes of `chunk` to a copy that is to hold `len` bytes, or as many as it still
-/// wants, and answers how many. There is room for them.
+/// Appends the bytes of `chunk` to a copy, up to `len` bytes in all, and returns how many it
+/// appended. The copy has room for them.
 #[inline]
 pub(super) fn append_chunk(copy: &mut Vec<u8>, chunk: &[u8], len: usize) -> usize
     requires { (length copy.old.items ≤ len) × (len ≤ vec_capacity copy.old) }

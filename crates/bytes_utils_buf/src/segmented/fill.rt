@@ -1,4 +1,4 @@
-//! Tables filled with the slices of buffers in a row.
+//! Tables filled with the slices of many buffers.
 ghost use Rattle.std.specs.Prelude.{◌≡◌, ◌≤◌, length, map};
 ghost use Rattle.std.specs.List.{concat};
 ghost use Rattle.bytes_utils_buf.specs.Slices.{FillsTable};
@@ -6,7 +6,7 @@ ghost use Rattle.bytes_utils_buf.specs.Slices.{FillsTable};
 use crate::parts::BufParts;
 use std::collections::VecDeque;
 
-/// Asks one buffer after another for its slices, until the table is full.
+/// Fills the table with the slices of one buffer after another, until it is full.
 pub(super) fn fill_from<'s, B: BufParts>(bufs: &'s [B], dst: &mut [&'s [u8]]) -> usize
     ensures { FillsTable result dst.old dst.new (concat (map B.unread bufs.now)) }
 {
@@ -19,7 +19,7 @@ pub(super) fn fill_from<'s, B: BufParts>(bufs: &'s [B], dst: &mut [&'s [u8]]) ->
     filled
 }
 
-/// As `fill_from`, over the two slices of a deque.
+/// Like `fill_from`, but over the two slices of a deque.
 pub(super) fn fill_from_held<'s, B: BufParts>(
     segments: &'s VecDeque<B>,
     dst: &mut [&'s [u8]],

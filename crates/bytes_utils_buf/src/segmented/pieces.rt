@@ -1,4 +1,4 @@
-//! The bytes of held buffers from a place on, in pieces: of each buffer what is wanted of it.
+//! The bytes of held buffers from a place on, buffer by buffer.
 ghost use Rattle.std.specs.Prelude.{◌≡◌, ◌<◌, ◌≤◌, [], length, map, take, vec_capacity, IsTrue, ◌↔◌, IsOk, IfOk, IfErr};
 ghost use Rattle.std.specs.List.{concat};
 ghost use Rattle.bytes_utils_buf.specs.Segments.{IsInside, front_of, lists_from, take_bytes};
@@ -6,25 +6,25 @@ ghost use Rattle.bytes_utils_buf.specs.Segments.{IsInside, front_of, lists_from,
 use super::copy::append_chunk;
 use super::place::{FRONT, Place};
 use crate::Reason;
-use crate::whole::BufWhole;
+use crate::contiguous::ContiguousBuf;
 use bytes::{Buf, Bytes};
 use std::alloc::Global;
 use std::collections::VecDeque;
 
-/// What the buffer at a place holds from there on.
+/// Returns the bytes of the buffer at a place, from there to its end.
 #[inline]
-pub(super) fn rest_at<B: BufWhole>(bufs: &VecDeque<B>, place: Place) -> &[u8]
+pub(super) fn rest_at<B: ContiguousBuf>(bufs: &VecDeque<B>, place: Place) -> &[u8]
     requires some { place.passed < length bufs.now.items }
     requires inside { IsInside place.passed place.offset (map B.unread bufs.now.items) }
     ensures { result.now
         ≡ front_of (lists_from place.passed place.offset (map B.unread bufs.now.items)) }
 {
-    &bufs[place.passed].whole()[place.offset..]
+    &bufs[place.passed].as_contiguous()[place.offset..]
 }
 
-/// The same, at most `most` bytes.
+/// Like `rest_at`, but at most `most` bytes.
 #[inline]
-fn piece_at<B: BufWhole>(bufs: &VecDeque<B>, place: Place, most: usize) -> &[u8]
+fn piece_at<B: ContiguousBuf>(bufs: &VecDeque<B>, place: Place, most: usize) -> &[u8]
     requires some { place.passed < length bufs.now.items }
     requires inside { IsInside place.passed place.offset (map B.unread bufs.now.items) }
     ensures { result.now ≡ take most
@@ -35,7 +35,7 @@ fn piece_at<B: BufWhole>(bufs: &VecDeque<B>, place: Place, most: usize) -> &[u8]
 }
 
 /// Fills `dst` with the first bytes.
-pub(super) fn copy_into<B: BufWhole>(bufs: &VecDeque<B>, dst: &mut [u8])
+pub(super) fn copy_into<B: ContiguousBuf>(bufs: &VecDeque<B>, dst: &mut [u8])
     requires { length dst.old ≤ length (concat (map B.unread bufs.now.items)) }
     ensures { dst.new ≡ take (length dst.old) (concat (map B.unread bufs.now.items)) }
 {
@@ -50,8 +50,8 @@ pub(super) fn copy_into<B: BufWhole>(bufs: &VecDeque<B>, dst: &mut [u8])
     }
 }
 
-/// Appends the next `len` bytes to an empty copy that has room for them.
-pub(super) fn copy_pieces<B: BufWhole>(
+/// Appends the next `len` bytes to an empty copy, which has room for them.
+pub(super) fn copy_pieces<B: ContiguousBuf>(
     bufs: &VecDeque<B>,
     from: Place,
     copy: &mut Vec<u8>,
@@ -72,8 +72,8 @@ pub(super) fn copy_pieces<B: BufWhole>(
     }
 }
 
-/// Whether the next bytes, which are as many at least, are these.
-pub(super) fn starts_with<B: BufWhole>(bufs: &VecDeque<B>, from: Place, prefix: &[u8]) -> bool
+/// Whether the next bytes are `prefix`. There are at least as many.
+pub(super) fn starts_with<B: ContiguousBuf>(bufs: &VecDeque<B>, from: Place, prefix: &[u8]) -> bool
     requires inside { IsInside from.passed from.offset (map B.unread bufs.now.items) }
     requires some { length prefix.now
         ≤ length (concat (lists_from from.passed from.offset (map B.unread bufs.now.items))) }
@@ -84,18 +84,18 @@ pub(super) fn starts_with<B: BufWhole>(bufs: &VecDeque<B>, from: Place, prefix: 
     let mut rest = prefix;
     let mut place = from;
     while !rest.is_empty() {
-        let Some(behind) = rest.strip_prefix(piece_at(bufs, place, rest.len())) else {
+        let Some(following) = rest.strip_prefix(piece_at(bufs, place, rest.len())) else {
             return false;
         };
-        rest = behind;
+        rest = following;
         place.passed += 1;
         place.offset = 0;
     }
     true
 }
 
-/// The next `len` bytes, shared where a buffer shares its own.
-pub(super) fn share_pieces<B: BufWhole>(
+/// Returns the next `len` bytes in pieces, shared if a buffer shares its own.
+pub(super) fn share_pieces<B: ContiguousBuf>(
     bufs: &VecDeque<B>,
     from: Place,
     alloc: Global,

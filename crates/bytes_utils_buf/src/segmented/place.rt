@@ -1,4 +1,4 @@
-//! Where bytes lie in held buffers.
+//! Places of bytes in held buffers.
 ghost use Rattle.std.specs.Prelude.{◌≡◌, ◌<◌, ◌≤◌, [], length, map, slice_index_or, IfSome, IfNone};
 ghost use Rattle.std.specs.List.{concat};
 ghost use Rattle.bytes_utils_buf.specs.Segments.{IsInside, lists_from, Skips};
@@ -13,13 +13,14 @@ pub(super) struct Place {
     pub offset: usize,
 }
 
-/// Before all of them.
+/// The place before all bytes.
 pub(super) const FRONT: Place = Place {
     passed: 0,
     offset: 0,
 };
 
-/// The place after the first `at` bytes. It looks at the buffers before it, and advances none.
+/// Finds the place after the first `at` bytes. It looks at the buffers up to there, and advances
+/// none.
 pub(super) fn find_place<B: Buf>(bufs: &VecDeque<B>, at: usize) -> Place
     requires { at ≤ length (concat (map B.unread bufs.now.items)) }
     ensures skips { Skips at (map B.unread bufs.now.items)
@@ -35,7 +36,7 @@ pub(super) fn find_place<B: Buf>(bufs: &VecDeque<B>, at: usize) -> Place
     Place { passed, offset }
 }
 
-/// How many bytes the buffer at a place has, where it has no more than `left`.
+/// Returns how many bytes the buffer at index `at` has, if they are at most `left`.
 #[inline]
 fn size_within<B: Buf>(bufs: &VecDeque<B>, at: usize, left: usize) -> Option<usize>
     ensures some { IfSome result (λ size. (at < length bufs.now.items) × (size ≤ left)

@@ -1,4 +1,4 @@
-//! Lent buffers that read as one.
+//! Borrowed buffers that read as one.
 ghost use Rattle.std.specs.Prelude.{◌≡◌, ◌+◌, ◌^◌, ◌<◌, ◌≤◌, [], ◌∷◌, length, map, drop};
 ghost use Rattle.std.specs.List.{concat};
 ghost use Rattle.std.specs.Option.{SomeIff};
@@ -6,7 +6,7 @@ ghost use Rattle.bytes_utils_buf.specs.Lent.{lists_of, IsPassedOnce, IsReading, 
 ghost use Rattle.bytes_utils_buf.specs.Segments.{Skips};
 ghost use Rattle.bytes_utils_buf.specs.Tally.{IsBalanced, IsCovered, IsPaid, lined_up};
 
-mod hand_out;
+mod copy;
 
 use super::copy::Segmented;
 use super::sum::sum_of;
@@ -16,22 +16,21 @@ use bytes::Buf;
 use std::marker::Model;
 use std::snapshot::Snapshot;
 
-/// Lent buffers that read as one buffer.
+/// Borrowed buffers that read as one buffer.
 ///
-/// It serves a reader that wants one buffer where the parts lie side by side in a slice of their
-/// owner, who keeps them:
+/// Reads the parts of a slice as one buffer, while their owner keeps them:
 ///
 /// ```text
 /// let mut parts = [b"Hello".as_slice(), b"", b" ", b"World"];
-/// let mut all = SegmentedSlice::new(&mut parts); // where `SegmentedSlice::total(&parts)` isn't `None`
-/// all.advance(7);                                // where `all.remaining()` is at least 7
-/// // `all.chunk()` is `orld`; of `parts` the first three are read out, and the last is `orld`
+/// let mut all = SegmentedSlice::new(&mut parts); // if `total(&parts)` isn't `None`
+/// all.advance(7);                                // if `all.remaining()` is at least 7
+/// // `all.chunk()` is `orld`; of `parts` the first three are empty, and the last is `orld`
 /// ```
 ///
-/// Reading takes the bytes off the lent buffers themselves: one that is passed is read out, and
-/// empty ones stay where they stand. The owner has what is left by
-/// [`into_lent`](SegmentedSlice::into_lent), or once the borrow ends. It is a `Buf` itself, so these
-/// nest.
+/// Reading removes the bytes from the borrowed buffers themselves. A buffer that is passed becomes
+/// empty, and empty ones are left in place. The owner gets the rest back by
+/// [`into_lent`](SegmentedSlice::into_lent), or when the borrow ends. It is a `Buf` itself, so it
+/// nests.
 #[derive(Drop)]
 #[derive_where(Debug; B)]
 pub struct SegmentedSlice<'a, B: Buf> {
@@ -43,7 +42,7 @@ pub struct SegmentedSlice<'a, B: Buf> {
     handed_in: Snapshot<Loan<'a, B>>,
 }
 
-/// The lent buffers before they are read. A snapshot of it has no bytes at run time.
+/// The borrowed buffers before they are read. A snapshot of it has no bytes at run time.
 #[derive(Drop)]
 struct Loan<'a, B> {
     bufs: &'a mut [B],
@@ -64,8 +63,8 @@ impl<'a, B: Buf> Model for SegmentedSlice<'a, B> {
 }
 
 impl<'a, B: Buf> SegmentedSlice<'a, B> {
-    /// How many bytes these buffers hold together, where that is a `usize`. It is the test for
-    /// `new`.
+    /// Returns how many unread bytes these buffers have together, or `None` if the sum exceeds
+    /// `usize::MAX`. It is the test for `new`.
     pub fn total(bufs: &[B]) -> Option<usize>
         ensures { SomeIff result (length (concat (map B.unread bufs.now)) < 2 ^ 64)
             (length (concat (map B.unread bufs.now))) }
@@ -73,8 +72,8 @@ impl<'a, B: Buf> SegmentedSlice<'a, B> {
         sum_of(bufs)
     }
 
-    /// Reads these buffers as one. The reading place is the first that isn't empty. It counts as a
-    /// call, which gives all the buffers, the empty ones too. `total` tests the condition.
+    /// Reads these buffers as one, from the first that isn't empty. Requires that the sum of their
+    /// unread bytes fits `usize` (test: `total` isn't `None`).
     pub fn new(bufs: &'a mut [B]) -> SegmentedSlice<'a, B>
         requires { length (concat (map B.unread bufs.old)) < 2 ^ 64 }
         ensures handed_in { result.handed_in ≡ map B.unread bufs.old }
@@ -83,6 +82,7 @@ impl<'a, B: Buf> SegmentedSlice<'a, B> {
         ensures bytes { concat result.segments ≡ concat (map B.unread bufs.old) }
         ensures place { result.place + length result.segments ≡ length bufs.old }
 
+        // It counts as one call, which is given all buffers, the empty ones too.
         ensures given { result.tally.given ≡ length bufs.old }
         ensures calls { result.tally.calls ≡ 1 }
         ensures passed { IsPassedOnce result }
@@ -107,8 +107,8 @@ impl<'a, B: Buf> SegmentedSlice<'a, B> {
         }
     }
 
-    /// Hands the lent buffers back: the passed ones are read out, the one at the reading place
-    /// holds what is left of it, and the others are as they were.
+    /// Returns the borrowed buffers. The passed ones are empty, the one that is being read has what
+    /// is left of it, and the others are unchanged.
     pub fn into_lent(self) -> &'a mut [B]
         ensures lists { map B.unread result.now ≡ lists_of self.entry }
         ensures bytes { concat (map B.unread result.now) ≡ concat self.entry.segments }
@@ -125,14 +125,14 @@ impl<'a, B: Buf> SegmentedSlice<'a, B> {
         bufs
     }
 
-    /// Takes `cnt` bytes off the front. The buffers that are passed are read out, each by one
-    /// `advance`. `remaining` tests the condition.
+    /// Removes the first `cnt` bytes. Each buffer that is passed becomes empty, by one `advance`.
+    /// Requires that `cnt` is at most `remaining()` (test: `remaining`).
     pub fn advance(&mut self, cnt: usize)
         requires { cnt ≤ length (concat self.old.segments) }
         ensures skips { SkipsLent cnt self.old self.new }
         ensures bytes { concat self.new.segments ≡ drop cnt (concat self.old.segments) }
 
-        // Each buffer that is passed takes one turn, on this value's own tally.
+        // Each passed buffer counts one turn, on this value's own tally.
         ensures turns { lined_up self.new.segments self.new.tally
             ≡ lined_up self.old.segments self.old.tally }
         ensures given { self.new.tally.given ≡ self.old.tally.given }
@@ -171,14 +171,14 @@ impl<B: Buf> Buf for SegmentedSlice<'_, B> {
     ghost unread = { λ q. concat q.segments };
 
     // What no read changes, packed into lists of bytes with a number each: the name of the borrow,
-    // and the unread list of each buffer as it was handed in.
+    // and the unread list of each buffer before any read.
     ghost kept = { λ q. ([], q.name) ∷ map (λ s. (s, 0)) q.handed_in };
 
     fn remaining(&self) -> usize
         ensures value { result ≡ length (concat self.now.segments) }
         ensures reading { IsReading self.now }
 
-        // What is true of every value, whatever was called before.
+        // True of every value, whatever was called before.
         ensures passed { IsPassedOnce self.now }
         ensures balanced { IsBalanced self.now.segments self.now.tally }
         ensures covered { IsCovered self.now.segments self.now.tally }

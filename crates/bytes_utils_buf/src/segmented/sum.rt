@@ -1,4 +1,4 @@
-//! How many bytes buffers in a row hold together.
+//! The sum of the unread bytes of buffers.
 ghost use Rattle.std.specs.Prelude.{◌≡◌, ◌^◌, ◌<◌, length, map};
 ghost use Rattle.std.specs.List.{concat};
 ghost use Rattle.std.specs.Option.{SomeIff};
@@ -6,7 +6,7 @@ ghost use Rattle.std.specs.Option.{SomeIff};
 use bytes::Buf;
 use std::collections::VecDeque;
 
-/// How many bytes are unread in all, or `None` past `usize`.
+/// Sums the unread bytes of all buffers, or returns `None` if the sum exceeds `usize::MAX`.
 pub(super) fn sum_of<B: Buf>(bufs: &[B]) -> Option<usize>
     ensures { SomeIff result (length (concat (map B.unread bufs.now)) < 2 ^ 64)
         (length (concat (map B.unread bufs.now))) }
@@ -18,7 +18,7 @@ pub(super) fn sum_of<B: Buf>(bufs: &[B]) -> Option<usize>
     Some(sum)
 }
 
-/// As `sum_of`, over the two slices of a deque.
+/// Like `sum_of`, but over the two slices of a deque.
 pub(super) fn sum_of_held<B: Buf>(bufs: &VecDeque<B>) -> Option<usize>
     ensures { SomeIff result (length (concat (map B.unread bufs.now.items)) < 2 ^ 64)
         (length (concat (map B.unread bufs.now.items))) }

@@ -1,4 +1,4 @@
-//! What a segmented value counted, for contracts alone.
+//! What a segmented value counts, for contracts alone.
 ghost use Rattle.std.specs.Prelude.{◌≡◌, ◌+◌};
 ghost use Rattle.bytes_utils_buf.specs.Tally.{nothing_counted};
 
@@ -7,7 +7,7 @@ use std::marker::Model;
 use std::mem::replace;
 use std::snapshot::Snapshot;
 
-/// What was counted last, and what before it.
+/// The last count, and the counts before it.
 #[derive(Drop)]
 enum Log {
     Start,
@@ -16,7 +16,8 @@ enum Log {
     Turned(Snapshot<Log>),
 }
 
-/// Segments given, those dropped at once, calls and turns. It has no bytes at run time, since a snapshot has none.
+/// Counts of segments given, of those dropped at once, of calls and of turns. It has no bytes at
+/// run time, since a snapshot has none.
 #[derive(Drop)]
 pub(crate) struct Tally {
     log: Snapshot<Log>,
@@ -40,7 +41,7 @@ impl Tally {
         }
     }
 
-    /// So many segments were accepted, of which so many were empty and dropped at once.
+    /// Counts `count` accepted segments, of which `dropped` were empty and dropped at once.
     pub(crate) fn give(&mut self, count: usize, dropped: usize)
         ensures { self.new ≡ record self.old {
           given = self.old.given + count;
@@ -51,7 +52,7 @@ impl Tally {
         self.log = Snapshot::of(&Log::Given(count, dropped, before));
     }
 
-    /// A counted call was made.
+    /// Counts a call.
     pub(crate) fn call(&mut self)
         ensures { self.new ≡ record self.old { calls = self.old.calls + 1 } }
     {
@@ -59,7 +60,7 @@ impl Tally {
         self.log = Snapshot::of(&Log::Called(before));
     }
 
-    /// The body of a loop that steps past segments runs once more.
+    /// Counts a turn: one more run of the body of a loop that steps past segments.
     pub(crate) fn turn(&mut self)
         ensures { self.new ≡ record self.old { turns = self.old.turns + 1 } }
     {

@@ -1,5 +1,5 @@
-//! The only loops that step past segments. Each run of their bodies is a turn of the tally, and steps
-//! past one segment.
+//! The only loops that step past segments. Each run of their bodies steps past one segment, and is
+//! a turn of the tally.
 ghost use Rattle.std.specs.Prelude.{◌≡◌, ◌+◌, ◌<◌, ◌≤◌, [], length, map, take, drop, replicate, slice_index_or, ◌++◌, IfSome, IfNone};
 ghost use Rattle.std.specs.List.{concat};
 ghost use Rattle.bytes_utils_buf.specs.Segments.{cut_front, cut_at, front_of, Skips};
@@ -8,8 +8,8 @@ use super::tally::Tally;
 use bytes::Buf;
 use std::collections::VecDeque;
 
-/// Takes `cnt` bytes off the held segments: each that is passed is dropped, and isn't advanced
-/// before, and the next one is advanced.
+/// Removes the first `cnt` bytes of the held segments. A passed segment is dropped without being
+/// advanced. The next one is advanced.
 #[inline]
 pub(super) fn skip_held<B: Buf + Drop>(segments: &mut VecDeque<B>, tally: &mut Tally, cnt: usize)
     requires { cnt ≤ length (concat (map B.unread segments.old.items)) }
@@ -19,7 +19,7 @@ pub(super) fn skip_held<B: Buf + Drop>(segments: &mut VecDeque<B>, tally: &mut T
     ensures rest { tally.new ≡ record tally.old { turns = tally.new.turns } }
 {
     let mut left = cnt;
-    while let Some(size) = front_within(segments, left) {
+    while let Some(size) = front_len_within(segments, left) {
         tally.turn();
         left -= size;
         let _ = segments.pop_front();
@@ -27,9 +27,9 @@ pub(super) fn skip_held<B: Buf + Drop>(segments: &mut VecDeque<B>, tally: &mut T
     advance_front(segments, left);
 }
 
-/// How many bytes the first held segment has, where it has no more than `left`.
+/// Returns how many bytes the first held segment has, if they are at most `left`.
 #[inline]
-fn front_within<B: Buf>(segments: &VecDeque<B>, left: usize) -> Option<usize>
+fn front_len_within<B: Buf>(segments: &VecDeque<B>, left: usize) -> Option<usize>
     ensures some { IfSome result (λ size. (0 < length segments.now.items) × (size ≤ left)
         × (size ≡ length (front_of (map B.unread segments.now.items)))) }
     ensures none { IfNone result (0 < length segments.now.items
@@ -41,7 +41,7 @@ fn front_within<B: Buf>(segments: &VecDeque<B>, left: usize) -> Option<usize>
     }
 }
 
-/// Takes `left` bytes off the first segment, if there is one.
+/// Removes `left` bytes from the first segment, if there is one.
 #[inline]
 fn advance_front<B: Buf>(segments: &mut VecDeque<B>, left: usize)
     requires { 0 < length segments.old.items
@@ -56,8 +56,8 @@ fn advance_front<B: Buf>(segments: &mut VecDeque<B>, left: usize)
     }
 }
 
-/// Takes `cnt` bytes off lent buffers: each that is passed is read out by one `advance`, and the
-/// next one is advanced. Answers how many were passed.
+/// Removes the first `cnt` bytes of borrowed buffers. A passed buffer becomes empty by one
+/// `advance`. The next one is advanced. Returns how many were passed.
 pub(super) fn skip_lent<B: Buf>(bufs: &mut [B], tally: &mut Tally, cnt: usize) -> usize
     requires { cnt ≤ length (concat (map B.unread bufs.old)) }
     ensures passed { result ≤ length bufs.old }
@@ -67,7 +67,7 @@ pub(super) fn skip_lent<B: Buf>(bufs: &mut [B], tally: &mut Tally, cnt: usize) -
 {
     let mut passed = 0;
     let mut left = cnt;
-    while let Some(size) = lent_within(bufs, passed, left) {
+    while let Some(size) = lent_len_within(bufs, passed, left) {
         tally.turn();
         bufs[passed].advance(size);
         left -= size;
@@ -77,7 +77,7 @@ pub(super) fn skip_lent<B: Buf>(bufs: &mut [B], tally: &mut Tally, cnt: usize) -
     passed
 }
 
-/// Counts the empty lent buffers at the front.
+/// Counts the empty borrowed buffers at the front.
 pub(super) fn count_empty<B: Buf>(bufs: &[B], tally: &mut Tally) -> usize
     ensures passed { result ≤ length bufs.now }
     ensures read_out { map B.unread bufs.now
@@ -86,16 +86,16 @@ pub(super) fn count_empty<B: Buf>(bufs: &[B], tally: &mut Tally) -> usize
     ensures turns { tally.new ≡ record tally.old { turns = tally.old.turns + result } }
 {
     let mut empty = 0;
-    while let Some(_) = lent_within(bufs, empty, 0) {
+    while let Some(_) = lent_len_within(bufs, empty, 0) {
         tally.turn();
         empty += 1;
     }
     empty
 }
 
-/// How many bytes the lent buffer at `at` has, where it has no more than `left`.
+/// Returns how many bytes the borrowed buffer at index `at` has, if they are at most `left`.
 #[inline]
-fn lent_within<B: Buf>(bufs: &[B], at: usize, left: usize) -> Option<usize>
+fn lent_len_within<B: Buf>(bufs: &[B], at: usize, left: usize) -> Option<usize>
     ensures some { IfSome result (λ size. (at < length bufs.now) × (size ≤ left)
         × (size ≡ length (slice_index_or (map B.unread bufs.now) at []))) }
     ensures none { IfNone result (at < length bufs.now
@@ -107,7 +107,7 @@ fn lent_within<B: Buf>(bufs: &[B], at: usize, left: usize) -> Option<usize>
     }
 }
 
-/// Takes `left` bytes off the lent buffer at `at`, if there is one.
+/// Removes `left` bytes from the borrowed buffer at index `at`, if there is one.
 fn advance_at<B: Buf>(bufs: &mut [B], at: usize, left: usize)
     requires { at < length bufs.old → left ≤ length (slice_index_or (map B.unread bufs.old) at []) }
     ensures { map B.unread bufs.new ≡ cut_at at left (map B.unread bufs.old) }

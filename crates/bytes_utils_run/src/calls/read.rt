@@ -8,7 +8,7 @@ use bytes::Buf;
 use bytes_utils::parts::BufParts;
 use std::alloc::Global;
 
-/// Makes this read.
+/// Makes this call and returns its reply.
 pub(super) fn read<B: BufParts>(alloc: Global, buf: &mut B, call: ReadCall) -> Reply
     ensures reply { IsRead call (lists_of (B.unread buf.old)) result (lists_of (B.unread buf.new)) }
     ensures kept { B.kept buf.new ≡ B.kept buf.old }

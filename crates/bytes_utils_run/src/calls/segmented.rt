@@ -9,7 +9,7 @@ use bytes_utils::SegmentedBuf;
 use bytes_utils::parts::BufParts;
 use std::alloc::Global;
 
-/// Makes this call.
+/// Makes this call and returns its reply.
 pub(super) fn make<B: BufParts + Drop>(
     alloc: Global,
     buf: &mut SegmentedBuf<B>,

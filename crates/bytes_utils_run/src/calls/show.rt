@@ -1,4 +1,4 @@
-//! Copies of what a buffer shows.
+//! Copies of the bytes that a buffer shows.
 ghost use Rattle.std.specs.Prelude.{◌≡◌, List, ℕ, map, IfOk};
 ghost use Rattle.std.specs.List.{concat};
 ghost use Rattle.bytes_utils_run.specs.Calls.{AreSlices, IsRead};
@@ -9,7 +9,7 @@ use bytes::Buf;
 use bytes_utils::parts::BufParts;
 use std::alloc::{AllocError, Global};
 
-/// A copy of the chunk in front.
+/// Copies the first chunk.
 pub(super) fn chunk<B: Buf>(alloc: Global, buf: &B) -> Reply
     ensures { (lists : List (List ℕ)) → concat lists ≡ B.unread buf.now
         → IsRead Reading.Chunk lists result lists }
@@ -20,7 +20,7 @@ pub(super) fn chunk<B: Buf>(alloc: Global, buf: &B) -> Reply
     }
 }
 
-/// Copies of the slices in a table of so many places.
+/// Copies the slices that a table of `places` places is filled with.
 pub(super) fn slices<B: BufParts>(alloc: Global, buf: &B, places: usize) -> Reply
     ensures { (lists : List (List ℕ)) → concat lists ≡ B.unread buf.now
         → IsRead (Reading.Chunks places) lists result lists }
@@ -31,7 +31,8 @@ pub(super) fn slices<B: BufParts>(alloc: Global, buf: &B, places: usize) -> Repl
     }
 }
 
-/// The table has no more places than there are bytes, since each slice has one at least.
+/// Copies these slices. The table has at most as many places as there are bytes, since each slice
+/// has at least one.
 fn copies_of_slices<B: BufParts>(
     alloc: Global,
     buf: &B,

@@ -49,14 +49,14 @@ impl Want {
     }
 }
 
-/// A read, and the reply that it has.
+/// A read and its reply.
 type Row = (ReadCall, Want);
 
 fn reads(alloc: Global, rows: &[Row]) -> Result<Vec<ReadCall>, AllocError> {
     rows.iter().map(|row| row.0).collect(alloc)
 }
 
-/// Asserts the replies of any buffer, through its bound alone.
+/// Asserts the replies of any buffer, through the trait alone.
 fn assert_reads<B: BufParts>(
     rt: &impl Abort,
     alloc: Global,
@@ -71,7 +71,7 @@ fn assert_reads<B: BufParts>(
     Ok(())
 }
 
-// The third part of the conversions that pass `usize`.
+// A buffer that would make the length pass `usize::MAX` isn't appended.
 #[test]
 fn pushed_past_the_greatest_length(rt: HostRuntime) -> Result<(), Fail> {
     let all = vec![in rt.alloc(); Zeros::new(usize::MAX)]?;
@@ -83,7 +83,7 @@ fn pushed_past_the_greatest_length(rt: HostRuntime) -> Result<(), Fail> {
     Ok(())
 }
 
-/// The buffer that holds four, if there is memory for it.
+/// Makes a buffer out of four, one of them empty, if there is memory for it.
 fn four(alloc: Global) -> Option<SegmentedBuf<Bytes>> {
     let mut bufs = Vec::new(alloc);
     for text in &["Hello", " ", "", "World"] {

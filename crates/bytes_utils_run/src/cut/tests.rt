@@ -1,4 +1,4 @@
-//! Worked cases of whole texts that are cut.
+//! Worked cases of texts split into all of their parts.
 ghost use Rattle.std.specs.Prelude.{IsTrue};
 ghost use Rattle.bytes_utils_run.specs.Cutting.{IsAllowed};
 
@@ -13,7 +13,7 @@ use std::alloc::Global;
 use std::process::Abort;
 use std::test::Fail;
 
-/// Whether a text may be cut so.
+/// Returns whether a text may be split this way.
 fn is_allowed(how: How<'_>) -> bool
     ensures { IsTrue result → IsAllowed how.entry }
 {
@@ -23,9 +23,9 @@ fn is_allowed(how: How<'_>) -> bool
     }
 }
 
-/// What is left of `wanted` after these parts, where it begins with them. In `wanted` a bar comes
-/// after each part.
-fn behind<'w, S: Storage>(parts: &Parts<S>, wanted: &'w str) -> Option<&'w str> {
+/// Returns what is left of `wanted` after these parts, if it begins with them. In `wanted` a bar
+/// comes after each part.
+fn following<'w, S: Storage>(parts: &Parts<S>, wanted: &'w str) -> Option<&'w str> {
     let mut rest = wanted;
     for part in &parts.given {
         rest = rest.strip_prefix(part.as_str())?.strip_prefix("|")?;
@@ -33,7 +33,7 @@ fn behind<'w, S: Storage>(parts: &Parts<S>, wanted: &'w str) -> Option<&'w str> 
     Some(rest)
 }
 
-/// A text, how it's cut, and its parts, a bar after each.
+/// A text, how it is split, and its parts, with a bar after each.
 pub(crate) type Row<'r> = (&'r str, How<'r>, &'r str);
 
 const ROWS: &[Row<'static>] = &[
@@ -75,12 +75,12 @@ const ROWS: &[Row<'static>] = &[
     (",,", How::Inclusive(","), ",|,|"),
 ];
 
-/// Whether all was cut, and into these parts.
+/// Returns whether the text was split completely, into these parts.
 fn gave<S: Storage>(parts: &Parts<S>, wanted: &str) -> bool {
-    parts.refused.is_none() && behind(parts, wanted) == Some("")
+    parts.refused.is_none() && following(parts, wanted) == Some("")
 }
 
-/// Asserts that a text is cut into its parts, over both storages of the crate below.
+/// Asserts the parts of a text, over both storages of `bytes_utils`.
 pub(crate) fn assert_cut(
     rt: &impl Abort,
     alloc: Global,

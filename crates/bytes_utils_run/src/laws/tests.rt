@@ -1,4 +1,4 @@
-//! The laws at characters, as `cut_all` keeps them.
+//! The laws on texts, tested by `cut_all`.
 use super::{
     agree, come_back, limits, mirror, texts_come_back, unique_backward, unique_forward,
     unique_inclusive,
@@ -9,13 +9,13 @@ use bytes_utils::Str;
 use std::test::Fail;
 
 const ROWS: &[Row<'static>] = &[
-    // in a mirror the order of the parts stays, and each of them is turned around
+    // mirrored, the parts keep their order and each is reversed
     ("β,αβ,γ", How::RSplitN(2, "β,"), "γ|β,α|"),
     ("γ,βα,β", How::SplitN(2, ",β"), "γ|α,β|"),
-    // both ways agree where the separator doesn't overlap itself
+    // both ways give the same parts if the separator doesn't overlap itself
     ("abcab", How::Split("ab"), "|c||"),
     ("abcab", How::RSplit("ab"), "|c||"),
-    // what a limit leaves uncut is in the order of the text
+    // the rest that a limit leaves is in the order of the text
     ("a,b,c", How::RSplitN(1, ","), "a,b,c|"),
     ("a,b,c", How::RSplitN(4, ","), "c|b|a|"),
 ];
@@ -34,11 +34,11 @@ fn parts_are_as_the_laws_say(rt: HostRuntime) -> Result<(), Fail> {
     Ok(())
 }
 
-/// Parts, the separator that they are joined by, and what comes back of them, a bar after each.
+/// Parts, their separator, and the parts that come back from the joined text, a bar after each.
 type Joined = (&'static [&'static str], &'static str, &'static str);
 
-// The first parts are separable. In the second row no part holds the separator, but the first one
-// begins within `a-`.
+// The first parts are separable. In the second row no part holds the separator, but the first
+// separator of the joined text begins inside `a-`. No parts come back as one empty part.
 const JOINED: &[Joined] = &[
     (&["a", "", "β"], ",", "a||β|"),
     (&["a-", "b"], "--", "a|-b|"),

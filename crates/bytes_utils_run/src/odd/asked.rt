@@ -1,4 +1,4 @@
-//! A buffer that counts what it is asked.
+//! A buffer that counts the calls made on it.
 ghost use Rattle.std.specs.Prelude.{◌≡◌};
 
 use bytes::{Buf, Bytes};
@@ -6,7 +6,7 @@ use std::cell::Cell;
 use std::marker::Model;
 
 /// Bytes that count how often they are advanced and how often they are looked at, so that a test
-/// sees whether they are walked again. A count that has reached `usize::MAX` stays.
+/// sees whether they are walked again. A count stays at `usize::MAX` once it is there.
 #[derive(Debug, Drop)]
 pub struct Asked {
     bytes: Bytes,
@@ -23,7 +23,7 @@ impl Model for Asked {
 }
 
 impl Asked {
-    /// A buffer of these bytes, which was asked nothing yet.
+    /// Makes a buffer of these bytes, with both counts at 0.
     pub fn new(bytes: Bytes) -> Asked
         ensures { result ≡ bytes }
     {
@@ -34,12 +34,12 @@ impl Asked {
         }
     }
 
-    /// How often `advance` was called.
+    /// Returns how often `advance` was called.
     pub fn advances(&self) -> usize {
         self.advances
     }
 
-    /// How often `remaining` or `chunk` was called.
+    /// Returns how often `remaining` or `chunk` was called.
     pub fn looked(&self) -> usize {
         self.looks.get()
     }

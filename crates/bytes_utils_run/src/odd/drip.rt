@@ -8,7 +8,7 @@ use bytes_utils::parts::{BufParts, CopyRefused};
 use std::alloc::Global;
 use std::marker::Model;
 
-/// Bytes of which each lies alone.
+/// Bytes that are shown one at a time: each chunk and each slice is one byte.
 #[derive(Debug, Drop)]
 pub struct Drip {
     bytes: Bytes,
@@ -23,7 +23,7 @@ impl Model for Drip {
 }
 
 impl Drip {
-    /// A buffer of these bytes.
+    /// Makes a buffer of these bytes.
     pub fn new(bytes: Bytes) -> Drip
         ensures { result ≡ bytes }
     {

@@ -1,4 +1,4 @@
-//! A storage that grants a number of splits.
+//! A storage that grants a limited number of splits.
 ghost use Rattle.std.specs.Prelude.{◌≡◌, ◌-◌, ◌^◌, ◌≤◌, length, take, drop, [], IsErr, IsOkAnd, IfOk, IfErr};
 ghost use Rattle.bytes_utils_buf.specs.declared.refused.Reason.TheVariants.{OutOfMemory};
 
@@ -8,11 +8,11 @@ use bytes_utils::{Reason, Refused};
 use std::alloc::{AllocFailed, Global};
 use std::marker::Model;
 
-/// Shared bytes that grant a number of splits, and refuse the next as if memory were short.
+/// Shared bytes that grant a limited number of splits, and refuse the next as if memory were short.
 ///
-/// A split with none left is refused with [`Reason::OutOfMemory`]. Else the left piece may be split
-/// one time less, and the right piece two times less: a splitter that cuts a separator off by two
-/// splits a step then makes exactly as many splits as were granted.
+/// With no split left, a split fails with [`Reason::OutOfMemory`]. Else the left piece grants one
+/// split less than before, and the right piece two less. So a splitter that makes two splits a step
+/// makes exactly as many splits as were granted.
 #[derive(Drop)]
 pub struct RefuseAfter {
     bytes: Bytes,
@@ -28,7 +28,7 @@ impl Model for RefuseAfter {
 }
 
 impl RefuseAfter {
-    /// A storage of these bytes that grants so many splits.
+    /// Makes a storage of these bytes that grants `splits` splits.
     pub fn new(bytes: Bytes, splits: usize) -> RefuseAfter
         ensures { result ≡ record { stored = bytes; granted = splits } }
     {
@@ -36,7 +36,7 @@ impl RefuseAfter {
     }
 }
 
-/// What is made empty, or from a creator, grants the greatest number of splits.
+/// A storage made by `empty` or `from_creator` grants the greatest number of splits.
 impl Storage for RefuseAfter {
     type Creator = BytesMut;
 

@@ -1,4 +1,5 @@
-//! What no clause says of the odd parts: that calls succeed, worked cases, and what is counted.
+//! What no clause says of the odd buffers and storages: that calls succeed, worked cases, and
+//! counts.
 mod counts;
 mod memory;
 mod storages;

@@ -9,11 +9,11 @@ use bytes_utils::parts::{BufParts, CopyRefused};
 use std::alloc::{AllocError, Global};
 use std::marker::Model;
 
-/// What a chunk shows the beginning of.
+/// The bytes whose beginning each chunk shows.
 static EIGHT: [u8; 8] = [0; 8];
 
-/// So many zero bytes, of which at most 8 lie together. It holds none of them, so there may be as
-/// many as `usize::MAX`.
+/// A number of zero bytes, shown eight at a time. It holds none of them, so there may be as many as
+/// `usize::MAX`.
 #[derive(Debug, Drop)]
 pub struct Zeros {
     left: usize,
@@ -28,7 +28,7 @@ impl Model for Zeros {
 }
 
 impl Zeros {
-    /// A buffer of so many zero bytes.
+    /// Makes a buffer of `left` zero bytes.
     pub fn new(left: usize) -> Zeros
         ensures { result ≡ replicate left 0 }
     {
@@ -61,7 +61,7 @@ impl Buf for Zeros {
     }
 }
 
-/// `copy_out` makes bytes anew.
+/// `copy_out` allocates new bytes.
 impl BufParts for Zeros {
     ghost loses = { λ _ taken. taken ≡ 0 };
 

@@ -1,8 +1,8 @@
-//! Doing what an input asks for.
+//! Running the command of an input.
 ghost use Rattle.std.specs.Prelude.{◌≡◌, ◌⊎◌, ℕ, List, Option, IfOk, IfErr, IsErrOf, IsOkUnless};
 ghost use Rattle.std.specs.List.{position};
 ghost use Rattle.std.specs.Str.{chars};
-ghost use Rattle.bytes_utils.specs.Lines.{text_behind};
+ghost use Rattle.bytes_utils.specs.Lines.{text_after};
 ghost use Rattle.bytes_utils.specs.Outcome.{Outcome};
 ghost use Rattle.bytes_utils_buf.specs.declared.refused.Reason.{Reason as WhyRefused};
 ghost use Rattle.bytes_utils_run.specs.Answer.{ComesOf, HasParts};
@@ -24,18 +24,18 @@ use std::alloc::Global;
 pub(super) enum Answer<'l> {
     /// The parts that a splitter gives.
     Splitter(AnySplitter<'l, Bytes>),
-    /// The replies to calls before the first for want of memory, if one was.
+    /// The replies to calls, up to the first one that memory was refused for.
     Replies(Replies),
 }
 
-/// The place of the first reply for want of memory.
+/// Finds the first reply that memory was refused for.
 fn first_lacking_memory(replies: &[Reply]) -> Option<usize>
     ensures { result ≡ position lacks_memory replies.now }
 {
     replies.iter().position(|reply| matches!(reply, Reply::NoMemory | Reply::CopyStopped(_)))
 }
 
-/// Makes calls on a new buffer, and leaves out the replies from the first for want of memory on.
+/// Makes the calls on a new buffer. Keeps the replies before the first refusal of memory.
 fn replies_to(alloc: Global, calls: Vec<Call<Bytes>>) -> Result<Replies, Fault>
     ensures ok { IfOk result
         (λ replies. Outcome (AreReplies calls.items) replies.given.items replies.refused) }
@@ -62,13 +62,13 @@ fn replies_to(alloc: Global, calls: Vec<Call<Bytes>>) -> Result<Replies, Fault>
     }
 }
 
-/// What the first line of an input asks for with the text behind it.
+/// Runs the command in the first line of `input` on the text after it.
 pub(super) fn answer_to(alloc: Global, input: &Str) -> Result<Answer<'_>, Fault>
     ensures ok { IfOk result (λ answer. (given : List (List ℕ)) (refused : Option WhyRefused)
         → ComesOf answer given refused → Outcome (AsksFor (chars input.now)) given refused) }
     ensures some { IfOk result HasParts }
     ensures unknown { IsErrOf result Fault.UnknownCommand → (request : Request)
-        → ¬ IsRequest request (command_line (chars input.now)) (text_behind (chars input.now)) }
+        → ¬ IsRequest request (command_line (chars input.now)) (text_after (chars input.now)) }
     ensures fault { IfErr result
         (λ fault. (fault ≡ Fault.UnknownCommand) ⊎ (fault ≡ Fault.OutOfMemory)) }
 {

@@ -1,4 +1,4 @@
-//! The lines of an input that ask for calls on a buffer.
+//! Lines of the input that ask for calls on a buffer.
 ghost use Rattle.std.specs.Prelude.{◌≡◌, ◌⊎◌, ℕ, List, MatchOption, IfOk, IfErr, IsErrOf};
 ghost use Rattle.std.specs.Str.{chars};
 ghost use Rattle.bytes_utils.specs.Lines.{lines};
@@ -9,23 +9,22 @@ ghost use Rattle.bytes_utils_run.specs.declared.calls.ReadCall.{ReadCall as Aske
 ghost use Rattle.bytes_utils_run.specs.declared.calls.ReadCall.TheVariants.{Advance as Advancing, CopyOut as Copying, Chunks as Showing};
 
 use crate::program::Fault;
-use crate::program::command::{behind, is_word};
-use crate::program::number::number;
+use crate::program::word::{is_word, number, rest_after};
 use crate::{Call, ReadCall};
 use bytes::Bytes;
 use bytes_utils::Str;
 use std::alloc::Global;
 
-/// The number behind a word.
+/// Reads a word and the number after it.
 fn numbered(line: &str, word: &str) -> Option<usize>
     ensures { MatchOption result ((n : ℕ) → ¬ IsNumbered (chars word.now) n (chars line.now))
         (λ n. IsNumbered (chars word.now) n (chars line.now)) }
 {
-    number(behind(line, word)?)
+    number(rest_after(line, word)?)
 }
 
-/// The calls that are a word alone.
-fn plain(line: &str) -> Option<Call<Bytes>>
+/// Reads a call that is a word alone.
+fn word_call(line: &str) -> Option<Call<Bytes>>
     ensures { MatchOption result
         ((¬ IsCallLine Counting (chars line.now))
         × (¬ IsCallLine (Reading AskedRead.Remaining) (chars line.now))
@@ -44,7 +43,7 @@ fn plain(line: &str) -> Option<Call<Bytes>>
     None
 }
 
-/// The calls of a word and a number.
+/// Reads a call that is a word and a number.
 fn with_number(line: &str) -> Option<Call<Bytes>>
     ensures { MatchOption result
         ((n : ℕ) → (¬ IsCallLine (Reading (Advancing n)) (chars line.now))
@@ -62,7 +61,7 @@ fn with_number(line: &str) -> Option<Call<Bytes>>
     Some(Call::Read(ReadCall::Chunks(places)))
 }
 
-/// What is behind the word and the space of a call that pushes.
+/// Reads the bytes to push: all of the line after the word and its space.
 fn pushed(line: &Str) -> Result<Bytes, Fault>
     ensures ok { IfOk result (λ bytes. IsCallLine (Pushing bytes) (chars line.now)) }
     ensures unknown { IsErrOf result Fault.UnknownCommand
@@ -70,7 +69,7 @@ fn pushed(line: &Str) -> Result<Bytes, Fault>
     ensures fault { IfErr result
         (λ fault. (fault ≡ Fault.UnknownCommand) ⊎ (fault ≡ Fault.OutOfMemory)) }
 {
-    let Some(text) = behind(line.as_str(), "push ") else {
+    let Some(text) = rest_after(line.as_str(), "push ") else {
         return Err(Fault::UnknownCommand);
     };
     match line.slice_from(line.as_str().len() - text.len()) {
@@ -79,7 +78,7 @@ fn pushed(line: &Str) -> Result<Bytes, Fault>
     }
 }
 
-/// The call that a line asks for.
+/// Reads the call that a line asks for.
 fn call_of(line: &Str) -> Result<Call<Bytes>, Fault>
     ensures ok { IfOk result (λ call. IsCallLine call (chars line.now)) }
     ensures unknown { IsErrOf result Fault.UnknownCommand
@@ -87,7 +86,7 @@ fn call_of(line: &Str) -> Result<Call<Bytes>, Fault>
     ensures fault { IfErr result
         (λ fault. (fault ≡ Fault.UnknownCommand) ⊎ (fault ≡ Fault.OutOfMemory)) }
 {
-    if let Some(call) = plain(line.as_str()) {
+    if let Some(call) = word_call(line.as_str()) {
         return Ok(call);
     }
     if let Some(call) = with_number(line.as_str()) {
@@ -96,7 +95,7 @@ fn call_of(line: &Str) -> Result<Call<Bytes>, Fault>
     Ok(Call::Push(pushed(line)?))
 }
 
-/// The calls that the lines of a text ask for, read one line after the other.
+/// Reads the calls that the lines of a text ask for, in order.
 pub(super) fn calls_of(alloc: Global, text: Str) -> Result<Vec<Call<Bytes>>, Fault>
     ensures ok { IfOk result (λ calls. AreCallLines calls.items (lines (chars text))) }
     ensures unknown { IsErrOf result Fault.UnknownCommand

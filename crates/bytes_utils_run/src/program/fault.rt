@@ -7,13 +7,13 @@ use std::fmt;
 /// Why a run of the program ended early.
 #[derive(Clone, Copy, Debug, Eq, PartialEq)]
 pub enum Fault {
-    /// The input begins with no command, or a line behind `buf` is no call.
+    /// The input doesn't begin with a command, or a line after `buf` isn't a call.
     UnknownCommand,
     /// The input isn't UTF-8.
     NotUtf8,
     /// A request for memory was refused.
     OutOfMemory,
-    /// A read, a write or a flush failed, a write took nothing, or the input hadn't ended after
+    /// A read, a write or a flush failed, a write took no byte, or the input hadn't ended after
     /// 1,048,576 reads.
     Io,
 }
@@ -22,7 +22,7 @@ impl Fault {
     ghost use Rattle.std.specs.Prelude.{◌≡◌};
     ghost use Rattle.bytes_utils_run.specs.Fault.{status_of};
 
-    /// The status with which the program ends.
+    /// Returns the exit status of the program: 2 to 5, in the order of the cases above.
     pub fn status(&self) -> u8
         ensures { result ≡ status_of self.now }
     {
@@ -53,7 +53,7 @@ impl fmt::Display for Fault {
 
 impl Error for Fault {}
 
-/// Either way there is no room for what was to be held.
+/// With either reason there is no room for what was to be held, so it is `OutOfMemory`.
 impl From<Reason> for Fault {
     ghost use Rattle.std.specs.Prelude.{◌≡◌};
     ghost use Rattle.bytes_utils_run.specs.declared.program.fault.Fault.TheVariants.{OutOfMemory};

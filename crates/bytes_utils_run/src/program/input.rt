@@ -6,14 +6,14 @@ use crate::program::Fault;
 use std::alloc::Global;
 use std::io::Read;
 
-/// How many bytes one call of `read` may give.
+/// The most bytes that one call of `read` may give.
 const BYTES_PER_READ: usize = 4_096;
 
-/// How many calls of `read` are made at most.
+/// The most calls of `read` that are made.
 const MOST_READS: usize = 1_048_576;
 
-/// Reads to the end of the input. A read that fails isn't tried again, and a reader that hasn't
-/// ended after `MOST_READS` calls counts as a failed one.
+/// Reads to the end of the input. A read that fails isn't tried again. A reader that hasn't ended
+/// after `MOST_READS` calls counts as failed.
 pub(super) fn read_all<R: Read>(alloc: Global, reader: &mut R) -> Result<Vec<u8>, Fault>
     ensures whole { IfOk result
         (λ bytes. ReadsWhole (R.remaining reader.old) (R.remaining reader.new) bytes.items) }

@@ -1,4 +1,4 @@
-//! Writing the output, which takes no memory.
+//! Writing the output, without memory of its own.
 ghost use Rattle.std.specs.Prelude.{OnOk, OnErr, IsOkUnless};
 ghost use Rattle.std.specs.Io.KnownBytes.{Appends, Keeps};
 ghost use Rattle.bytes_utils_run.specs.Moves.{AppendsBeginning};
@@ -8,8 +8,8 @@ use crate::program::Fault;
 use itoa::Buffer;
 use std::io::Write;
 
-/// Writes all of `bytes`, by as many calls of `write` as it takes. A write that fails, or takes
-/// nothing, isn't tried again.
+/// Writes all of `bytes`, in as many calls of `write` as needed. A write that fails, or takes no
+/// byte, isn't tried again.
 pub(super) fn write_out<W: Write>(writer: &mut W, bytes: &[u8]) -> Result<(), Fault>
     ensures ok { OnOk result (Appends (W.contents writer.old) (W.contents writer.new) bytes.now) }
     ensures err { OnErr result
@@ -26,7 +26,7 @@ pub(super) fn write_out<W: Write>(writer: &mut W, bytes: &[u8]) -> Result<(), Fa
     Ok(())
 }
 
-/// Prints bytes: how many they are, a colon, they themselves, a line feed.
+/// Prints the number of bytes, a colon, the bytes, and a line feed.
 pub(super) fn print_bytes<W: Write>(writer: &mut W, bytes: &[u8]) -> Result<(), Fault>
     ensures ok { OnOk result
         (Appends (W.contents writer.old) (W.contents writer.new) (printed bytes.now)) }

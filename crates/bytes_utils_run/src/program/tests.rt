@@ -1,5 +1,5 @@
-//! Runs of the program over readers and writers that are slow, fail or never end. Runs on inputs are
-//! runs of the built program.
+//! Runs of the program over readers and writers that are slow, fail or never end. Runs of the built
+//! program are in `runs.txt` of the crate `bytes_utils_demo`.
 mod memory;
 
 use crate::fakes::{EndlessReader, NotingReader, SlowReader, SlowWriter, UnflushedWriter};
@@ -12,16 +12,16 @@ const INPUT: &[u8] = b"split ,\na,b,,c";
 
 const PRINTED: &[u8] = b"1:a\n1:b\n0:\n1:c\n";
 
-// A fault is written as it is, however wide the hole and whatever it is filled with.
+// A fault is printed as it is: width, fill and precision change nothing.
 #[test]
-fn faults_are_told_without_padding(rt: HostRuntime) -> Result<(), Fail> {
+fn faults_are_reported_without_padding(rt: HostRuntime) -> Result<(), Fail> {
     let fault = Fault::NotUtf8;
-    let told = format!(in rt.alloc(); "{fault:*^12}|{fault:12}|{fault:.3}")?;
-    assert_eq!(rt; told.as_str(), "not UTF-8|not UTF-8|not UTF-8");
+    let reported = format!(in rt.alloc(); "{fault:*^12}|{fault:12}|{fault:.3}")?;
+    assert_eq!(rt; reported.as_str(), "not UTF-8|not UTF-8|not UTF-8");
     Ok(())
 }
 
-// 4,096 bytes a call, also of the last.
+// Each call of `read` may give 4,096 bytes, the last one too.
 #[test]
 fn reads_by_the_same_place(rt: HostRuntime) {
     let mut reader = NotingReader::new(&[b'a'; 9_000]);
@@ -46,8 +46,8 @@ fn reader_endless(rt: HostRuntime) {
     assert!(rt; reader.calls == 1_048_576 && writer.is_empty());
 }
 
-/// Asserts what comes of a writer that takes at most `most` bytes a call, and fails at one of its
-/// calls, or at none.
+/// Asserts the result and the output over a writer that takes at most `most` bytes a call and fails
+/// call `fails_at`, or none if that is 0.
 fn assert_slow(
     rt: &impl Abort,
     alloc: Global,
@@ -59,7 +59,7 @@ fn assert_slow(
     assert!(rt; script(alloc, &mut &*INPUT, &mut writer) == answer && writer.held() == held);
 }
 
-// One that fails at its fourth byte, one that takes a byte a call, and one that takes nothing.
+// A writer that fails at its fourth byte, one that takes a byte a call, and one that takes none.
 #[test]
 fn writer_fails(rt: HostRuntime) {
     assert_slow(&rt, rt.alloc(), (1, 4), Err(Fault::Io), b"1:a");

@@ -1,4 +1,4 @@
-//! What the examples of the README answer.
+//! Tests of the examples of the README.
 use super::{body, header, next_line, send};
 use bytes::{Buf, Bytes};
 use bytes_utils::frame::Lines;
@@ -7,7 +7,7 @@ use std::alloc::Global;
 use std::process::Abort;
 use std::test::Fail;
 
-/// Asserts that a line comes, and which, or that none does.
+/// Asserts which line is returned, or that none is.
 fn assert_line(rt: &impl Abort, line: Option<Str>, wanted: Option<&str>) {
     assert!(rt; line.as_ref().map(Str::as_str) == wanted);
 }

@@ -4,7 +4,7 @@ use Rattle.serde_json.specs.View.{view}
 use Rattle.bytes_utils.specs.Json.{whole_number}
 use Rattle.bytes_utils.proofs.json.bytes_of.Given as goal
 
--- the members so far are the bytes so far
+-- the members so far are the numbers of the bytes so far
 abbrev pub invariant-loop-member : goal.invariant-loop-member
 invariant-loop-member g l = record {
   are : map view (take l.member-index l.members) ≡ map whole_number (g.S.Storage.stored l.bytes);

@@ -1,4 +1,4 @@
--- The value of a string has no float, so its text is the compact one.
+-- A string contains no float, so the written JSON is its compact form.
 use Rattle.std.proofs.Common.{ap, ◌∙◌}
 use Rattle.std.proofs.lemmas.Result.{IfOk-weaker}
 use Rattle.serde_json.specs.Written.{has_float, compact_text}

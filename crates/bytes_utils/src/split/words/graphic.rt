@@ -1,14 +1,14 @@
-//! Where the graphic ASCII characters in front of bytes end: sixteen bytes are compared at once.
+//! Where the graphic ASCII at the front of bytes ends: sixteen bytes are compared at once.
 ghost use Rattle.std.specs.Prelude.{◌≡◌, ◌+◌, ◌≤◌, length, drop};
 ghost use Rattle.std.specs.Char.{is_ascii_graphic};
 ghost use Rattle.std.specs.List.{prefix_len};
 
 use std::simd::prelude::*;
 
-/// How many bytes are compared at once.
+/// The number of bytes that are compared at once.
 const BLOCK: usize = 16;
 
-/// How many bytes at the front of a block are graphic ASCII.
+/// Returns the number of graphic ASCII bytes at the front of a block.
 #[inline(always)]
 fn graphic_in_block(block: u8x16) -> usize
     ensures { result ≡ prefix_len is_ascii_graphic block }
@@ -23,7 +23,7 @@ fn graphic_in_block(block: u8x16) -> usize
     }
 }
 
-/// Where the graphic ASCII from a place on ends, byte by byte.
+/// Returns the place at which the graphic ASCII from `from` on ends, byte by byte.
 #[inline]
 fn graphic_end_by_bytes(bytes: &[u8], from: usize) -> usize
     requires { from ≤ length bytes.now }
@@ -36,7 +36,8 @@ fn graphic_end_by_bytes(bytes: &[u8], from: usize) -> usize
     at
 }
 
-/// Where the graphic ASCII at the front ends. Each of these bytes is a character.
+/// Returns the place at which the graphic ASCII at the front ends. Each of these bytes is a
+/// character.
 #[inline]
 pub(super) fn graphic_end(bytes: &[u8]) -> usize
     ensures { result ≡ prefix_len is_ascii_graphic bytes.now }

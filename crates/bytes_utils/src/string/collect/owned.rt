@@ -1,4 +1,4 @@
-//! Text that grows, made of a `String` or of items.
+//! A `StrMut` from a `String` or from items.
 ghost use Rattle.std.specs.Prelude.{◌≡◌, string_bytes};
 ghost use Rattle.std.specs.List.{flat_map};
 ghost use Rattle.std.specs.Str.{encode_utf8_all};
@@ -8,18 +8,18 @@ use bytes::BytesMut;
 use std::alloc::{AllocError, Global};
 use std::iter::FromIterator;
 
-/// The text of a `String`, whose bytes aren't copied.
+/// Turns a `String` into a `StrMut` without copying its bytes.
 impl From<String> for StrInner<BytesMut> {
     ghost from_gives = { λ text same. same ≡ string_bytes text };
 
     fn from(text: String) -> StrMut {
-        // The proof takes from this that the bytes are UTF-8.
+        // The contract of `as_str` says that the bytes are UTF-8.
         let _ = text.as_str();
         StrMut::from_inner_unchecked(BytesMut::from_vec(text.into_bytes()))
     }
 }
 
-/// The characters, one after another.
+/// Concatenates the characters.
 impl FromIterator<char> for StrInner<BytesMut> {
     type Alloc = Global;
 
@@ -34,7 +34,7 @@ impl FromIterator<char> for StrInner<BytesMut> {
     }
 }
 
-/// The items, one after another.
+/// Concatenates the items.
 impl<'a> FromIterator<&'a str> for StrInner<BytesMut> {
     type Alloc = Global;
 
@@ -49,7 +49,7 @@ impl<'a> FromIterator<&'a str> for StrInner<BytesMut> {
     }
 }
 
-/// The items, one after another.
+/// Concatenates the items.
 impl FromIterator<String> for StrInner<BytesMut> {
     type Alloc = Global;
 

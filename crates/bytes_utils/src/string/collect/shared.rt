@@ -1,4 +1,4 @@
-//! Text over shared bytes, made of items.
+//! Collecting items into a `Str`.
 ghost use Rattle.std.specs.Prelude.{◌≡◌, string_bytes};
 ghost use Rattle.std.specs.List.{flat_map};
 ghost use Rattle.std.specs.Str.{encode_utf8_all};
@@ -8,7 +8,7 @@ use bytes::Bytes;
 use std::alloc::{AllocError, Global};
 use std::iter::FromIterator;
 
-/// The characters, one after another.
+/// Concatenates the characters.
 impl FromIterator<char> for StrInner<Bytes> {
     type Alloc = Global;
 
@@ -20,7 +20,7 @@ impl FromIterator<char> for StrInner<Bytes> {
     }
 }
 
-/// The items, one after another.
+/// Concatenates the items.
 impl<'a> FromIterator<&'a str> for StrInner<Bytes> {
     type Alloc = Global;
 
@@ -35,7 +35,7 @@ impl<'a> FromIterator<&'a str> for StrInner<Bytes> {
     }
 }
 
-/// The items, one after another.
+/// Concatenates the items.
 impl FromIterator<String> for StrInner<Bytes> {
     type Alloc = Global;
 

@@ -57,7 +57,7 @@ impl Storage for Bytes {
         ensures succeeds { IsOk result }
     {
         if at == 0 {
-            // What is empty keeps no block.
+            // An empty piece keeps no block.
             return Ok(Bytes::new());
         }
         self.truncate(at);
@@ -72,7 +72,7 @@ impl Storage for Bytes {
         ensures succeeds { IsOk result }
     {
         if at == self.len() {
-            // What is empty keeps no block.
+            // An empty piece keeps no block.
             return Ok(Bytes::new());
         }
         self.advance(at);

@@ -1,5 +1,5 @@
 use Rattle.std.proofs.Common.{rules, refl}
-use Rattle.bytes_utils_buf.proofs.Tables.{FillsTable-first, joined-first}
+use Rattle.bytes_utils_buf.proofs.SlicesLemmas.{FillsTable-first, joined-first}
 use Rattle.bytes_utils_buf.proofs.parts.slice_into.Goals as goal
 
 pub returns-clause-all : goal.returns-clause-all

@@ -1,20 +1,20 @@
-//! The segments, one after another, and none taken.
+//! The bytes of the segments, one segment after another.
 ghost use Rattle.std.specs.Prelude.{◌≡◌};
 ghost use Rattle.std.specs.Iterator.{YieldsFirstRef, item_count};
 ghost use Rattle.bytes_utils_buf.specs.Chunks.{to_come};
 
 use super::SegmentedBuf;
-use crate::whole::BufWhole;
+use crate::contiguous::ContiguousBuf;
 
-/// The bytes of each segment, front first. [`SegmentedBuf::chunks`] makes it.
+/// An iterator over the bytes of each segment, front first. [`SegmentedBuf::chunks`] makes it.
 #[derive(Drop)]
-pub struct Chunks<'a, B: BufWhole + Drop> {
+pub struct Chunks<'a, B: ContiguousBuf + Drop> {
     buf: &'a SegmentedBuf<B>,
     place: usize,
 }
 
-impl<B: BufWhole + Drop> SegmentedBuf<B> {
-    /// The bytes of each segment, front first, to go over a whole body and still hold it:
+impl<B: ContiguousBuf + Drop> SegmentedBuf<B> {
+    /// Returns an iterator over the bytes of each segment, front first. It takes none of them:
     ///
     /// ```text
     /// for chunk in body.chunks() {
@@ -31,7 +31,7 @@ impl<B: BufWhole + Drop> SegmentedBuf<B> {
     }
 }
 
-impl<'a, B: BufWhole + Drop> Iterator for Chunks<'a, B> {
+impl<'a, B: ContiguousBuf + Drop> Iterator for Chunks<'a, B> {
     type Item = &'a [u8];
 
     ghost next_gives = { YieldsFirstRef to_come };

@@ -1,4 +1,4 @@
-//! The first held segment, asked alone.
+//! Calls on the first held segment alone.
 ghost use Rattle.std.specs.Prelude.{◌≡◌, ◌<◌, ◌≤◌, length, map, take, IsTrue, ◌↔◌, IfOk, IfErr};
 ghost use Rattle.bytes_utils_buf.specs.Slices.{taken_by};
 ghost use Rattle.bytes_utils_buf.specs.Segments.{cut_front, front_of};
@@ -8,7 +8,7 @@ use bytes::{Buf, Bytes};
 use std::alloc::Global;
 use std::collections::VecDeque;
 
-/// Whether the first held segment alone holds at least `len` bytes.
+/// Whether the first held segment has at least `len` bytes.
 #[inline]
 pub(super) fn front_holds<B: Buf>(segments: &VecDeque<B>, len: usize) -> bool
     ensures { IsTrue result
@@ -22,7 +22,7 @@ pub(super) fn front_holds<B: Buf>(segments: &VecDeque<B>, len: usize) -> bool
 
 /// Copies `len` bytes out of the first held segment alone.
 #[inline]
-pub(super) fn copy_front<B: BufParts>(
+pub(super) fn take_from_front<B: BufParts>(
     segments: &mut VecDeque<B>,
     alloc: Global,
     len: usize,

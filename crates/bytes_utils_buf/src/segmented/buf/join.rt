@@ -1,4 +1,4 @@
-//! One buffer put in front, and a whole value put behind.
+//! `prepend` and `append`.
 ghost use Rattle.std.specs.Prelude.{◌≡◌, ◌+◌, ◌^◌, ◌<◌, [], ◌∷◌, ◌++◌, length, IsOk, OnOk, OnErr, IfErr};
 ghost use Rattle.std.specs.List.{concat};
 ghost use Rattle.bytes_utils_buf.specs.Segments.{after_accepting, without_empty};
@@ -9,8 +9,9 @@ use crate::{Reason, Refused};
 use bytes::Buf;
 
 impl<B: Buf + Drop> SegmentedBuf<B> {
-    /// Puts `buf` in front of the held segments. An empty one is dropped. `fits` tests the
-    /// condition.
+    /// Puts `buf` before the held segments. An empty buffer is dropped, and never fails. Requires
+    /// that `remaining() + buf.remaining()` fits `usize` (test: `fits`). Fails with `OutOfMemory`
+    /// if memory is refused; then nothing has changed and `buf` comes back.
     pub fn prepend(&mut self, buf: B) -> Result<(), Refused<B>>
         requires { length (concat self.old.segments) + length (B.unread buf) < 2 ^ 64 }
         ensures ok { OnOk result (self.new.segments
@@ -18,7 +19,7 @@ impl<B: Buf + Drop> SegmentedBuf<B> {
         ensures bytes { OnOk result
             (concat self.new.segments ≡ B.unread buf ++ concat self.old.segments) }
 
-        // It counts as a `push`.
+        // It counts like a `push`.
         ensures tally { OnOk result
             (self.new.tally ≡ (after_accepting self.old (B.unread buf ∷ [])).tally) }
         ensures err { OnErr result (self.new ≡ self.old) }
@@ -44,7 +45,9 @@ impl<B: Buf + Drop> SegmentedBuf<B> {
         Ok(())
     }
 
-    /// Moves the segments of `other` behind the held ones. `fits` tests the condition.
+    /// Moves the segments of `other` to the end of the held ones. Requires that
+    /// `remaining() + other.remaining()` fits `usize` (test: `fits`). Fails with `OutOfMemory` if
+    /// memory is refused; then nothing has changed and `other` comes back.
     pub fn append(&mut self, mut other: SegmentedBuf<B>) -> Result<(), Refused<SegmentedBuf<B>>>
         requires { length (concat self.old.segments) + length (concat other.segments) < 2 ^ 64 }
         ensures ok { OnOk result (self.new ≡ record {

@@ -1,4 +1,4 @@
-//! Segments moved from and to the kit's queue of `Bytes`.
+//! Segments moved from and to a `BytesQueue`.
 ghost use Rattle.std.specs.Prelude.{◌≡◌, ℕ, ◌+◌, ◌^◌, ◌<◌, List, [], ◌∷◌, ◌++◌, length, IsOk, OnOk, OnErr, IfErr};
 ghost use Rattle.std.specs.List.{concat};
 ghost use Rattle.bytes_utils_buf.specs.Tally.{IsPaid, lined_up};
@@ -9,12 +9,14 @@ use bytes::{Bytes, BytesQueue};
 use std::alloc::AllocFailed;
 
 impl SegmentedBuf<Bytes> {
-    /// Moves the chunks of `queue` behind the held segments, one after another, and copies no byte.
-    /// After a refusal the call can be made again. `fits` tests the condition.
+    /// Moves the chunks of `queue` to the end of the held segments, and copies no byte. Requires
+    /// that `remaining() + queue.len()` fits `usize` (test: `fits`). Fails with `OutOfMemory` if
+    /// memory is refused; then the chunks moved so far are held, the others are in `queue`, and the
+    /// call can be repeated.
     pub fn append_queue(&mut self, queue: &mut BytesQueue) -> Result<(), Reason>
         requires { length (concat self.old.segments) + length queue.old < 2 ^ 64 }
 
-        // Chunks that were moved are held as they were in the queue, and the others are left there.
+        // Chunks that were moved are held as they were in the queue. The others are left there.
         ensures moved { (moved : List (List ℕ)) × (concat moved ++ queue.new ≡ queue.old)
             × (self.new ≡ record {
               segments = self.old.segments ++ moved;
@@ -38,7 +40,7 @@ impl SegmentedBuf<Bytes> {
         Ok(())
     }
 
-    /// Moves the first chunk of `queue` in. Its place is reserved before. It is no counted call.
+    /// Moves the first chunk of `queue` to the end, after reserving its place. It counts no call.
     fn accept_first(&mut self, queue: &mut BytesQueue) -> Result<(), Reason>
         requires some { 0 < length queue.old }
         requires sum { length (concat self.old.segments) + length queue.old < 2 ^ 64 }
@@ -62,12 +64,14 @@ impl SegmentedBuf<Bytes> {
         Ok(())
     }
 
-    /// Moves the held segments behind the chunks of `queue`, one after another, and copies no byte.
-    /// After a refusal the call can be made again. `fits` tests the condition.
+    /// Moves the held segments to the end of `queue`, and copies no byte. Requires that
+    /// `remaining() + queue.len()` fits `usize` (test: `fits`). Fails with `OutOfMemory` if memory
+    /// is refused; then the segments moved so far are in `queue`, the others are held, and the call
+    /// can be repeated.
     pub fn drain_into_queue(&mut self, queue: &mut BytesQueue) -> Result<(), Reason>
         requires { length (concat self.old.segments) + length queue.old < 2 ^ 64 }
 
-        // The queue has the bytes of the segments that were moved, and the others are left here.
+        // The queue has the bytes of the segments that were moved. The others are left here.
         ensures moved { (moved : List (List ℕ)) × (self.old.segments ≡ moved ++ self.new.segments)
             × (queue.new ≡ queue.old ++ concat moved) }
         ensures bytes { queue.new ++ concat self.new.segments
@@ -92,8 +96,8 @@ impl SegmentedBuf<Bytes> {
         Ok(())
     }
 
-    /// Moves the front segment behind the chunks of `queue`. One that is refused goes back to its
-    /// place, which needs no memory. It is no counted call.
+    /// Moves the first segment to the end of `queue`. If memory is refused, it goes back to its
+    /// place, which needs no memory. It counts no call.
     fn give_first(&mut self, queue: &mut BytesQueue) -> Result<(), Reason>
         requires { 0 < length self.old.segments }
         ensures ok { OnOk result ((chunk : List ℕ) × (self.old.segments ≡ chunk ∷ self.new.segments)

@@ -1,19 +1,19 @@
-//! Places and ranges of the bytes, seen or shared and not taken.
+//! Single bytes and ranges, read or shared and not taken.
 ghost use Rattle.std.specs.Prelude.{◌≡◌, ◌+◌, ◌-◌, ◌≤◌, List, ℕ, length, slice_range, IsTrue, ◌↔◌, IsOk, IfOk, IfErr};
 ghost use Rattle.std.specs.List.{concat, slice_get};
 ghost use Rattle.bytes_utils_buf.specs.Segments.{newly_held, Skips, take_bytes};
 
 use super::SegmentedBuf;
 use crate::Reason;
+use crate::contiguous::ContiguousBuf;
 use crate::segmented::pieces::{copy_pieces, rest_at, share_pieces, starts_with};
 use crate::segmented::place::find_place;
-use crate::whole::BufWhole;
 use bytes::{Buf, Bytes};
 use std::alloc::Global;
 use std::ops::Range;
 
-impl<B: BufWhole + Drop> SegmentedBuf<B> {
-    /// The byte at a place, if there is one: of `Hello` and ` World`, the byte at 6 is `W`.
+impl<B: ContiguousBuf + Drop> SegmentedBuf<B> {
+    /// Returns the byte at index `place`, if there is one: of `Hello` and ` World`, byte 6 is `W`.
     pub fn byte_at(&self, place: usize) -> Option<u8>
         ensures { result ≡ slice_get (concat self.now.segments) place }
     {
@@ -23,8 +23,8 @@ impl<B: BufWhole + Drop> SegmentedBuf<B> {
         Some(rest_at(&self.segments, find_place(&self.segments, place))[0])
     }
 
-    /// Whether the bytes from a place on begin with these: those of `Hello` and ` World` from 3 on
-    /// begin with `lo W`.
+    /// Returns whether the unread bytes from index `place` on start with `bytes`: those of `Hello`
+    /// and ` World` from 3 on start with `lo W`.
     pub fn holds_at(&self, place: usize, bytes: &[u8]) -> bool
         ensures { IsTrue result
             ↔ ((place + length bytes.now ≤ length (concat self.now.segments))
@@ -36,13 +36,15 @@ impl<B: BufWhole + Drop> SegmentedBuf<B> {
         starts_with(&self.segments, find_place(&self.segments, place), bytes)
     }
 
-    /// The bytes of a range as segments of their own, which stay here too. Of `Hello` and ` World`
-    /// the range `3..8` is `lo` and ` Wo`. `remaining` tests the condition.
+    /// Returns the bytes of a range as segments of their own, shared if a segment shares its own.
+    /// They stay here too. Of `Hello` and ` World` the range `3..8` is `lo` and ` Wo`. Requires
+    /// that `range.start <= range.end` and `range.end <= remaining()` (test: `remaining`). Fails
+    /// with `OutOfMemory` if memory is refused. An empty range never fails.
     pub fn slice(&self, alloc: Global, range: Range<usize>) -> Result<SegmentedBuf<Bytes>, Reason>
         requires ordered { range.start ≤ range.end }
         requires within { range.end ≤ length (concat self.now.segments) }
 
-        // They are the first bytes that a skip to the start of the range leaves.
+        // They are the first bytes after a skip to the start of the range.
         ensures ok { IfOk result (λ part. (rest : List (List ℕ))
             × Skips range.start self.now.segments rest
             × (part ≡ newly_held (take_bytes (range.end - range.start) rest))) }
@@ -57,8 +59,10 @@ impl<B: BufWhole + Drop> SegmentedBuf<B> {
         Ok(SegmentedBuf::newly_held(pieces, len))
     }
 
-    /// The bytes of a range in one, which stay here too. Where they lie in one segment it is asked
-    /// alone; else they are copied into one block. `remaining` tests the condition.
+    /// Returns the bytes of a range in one `Bytes`. They stay here too. If one segment has them
+    /// all, its own `part` returns them: a `Bytes` shares them. Otherwise they are copied into one
+    /// block. Requires that `range.start <= range.end` and `range.end <= remaining()` (test:
+    /// `remaining`). Fails with `OutOfMemory` if memory is refused. An empty range never fails.
     pub fn copy_range(&self, alloc: Global, range: Range<usize>) -> Result<Bytes, Reason>
         requires ordered { range.start ≤ range.end }
         requires within { range.end ≤ length (concat self.now.segments) }

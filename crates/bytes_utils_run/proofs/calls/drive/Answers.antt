@@ -1,7 +1,7 @@
 use Rattle.std.proofs.Common.{◌∙◌, ◌++◌, ◌∷◌, [], sym, ap, append_assoc, arith}
 use Rattle.bytes_utils_run.specs.Calls.{IsCall}
-use Rattle.bytes_utils_run.proofs.Runs.{IsRun-push}
-use Rattle.bytes_utils_run.proofs.Slices.{length-none_empty}
+use Rattle.bytes_utils_run.proofs.CallsLemmas.{IsRun-push}
+use Rattle.bytes_utils_run.proofs.OddLemmas.{length-none_empty}
 use Rattle.bytes_utils_run.proofs.calls.drive.Goals as goal
 
 pub prove-unreachable-requires : goal.prove-unreachable-requires

@@ -1,6 +1,6 @@
 use Rattle.std.proofs.Common.{◌∙◌, ◌++◌, ◌∷◌, [], sym, ap, append_assoc, arith}
 use Rattle.bytes_utils_run.specs.Calls.{IsRead, lists_of}
-use Rattle.bytes_utils_run.proofs.Runs.{IsRun-push}
+use Rattle.bytes_utils_run.proofs.CallsLemmas.{IsRun-push}
 use Rattle.bytes_utils_run.proofs.calls.read_calls.Goals as goal
 
 pub push_reserved-requires : goal.push_reserved-requires

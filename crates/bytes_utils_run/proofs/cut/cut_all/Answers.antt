@@ -5,7 +5,7 @@ use Rattle.bytes_utils.specs.Outcome.{Outcome}
 use Rattle.bytes_utils_run.specs.Cutting.{ArePartsBy, cutting}
 use Rattle.bytes_utils_run.proofs.Counts.{length-outcome}
 use Rattle.bytes_utils_run.proofs.Joining.{outcome_joins}
-use Rattle.bytes_utils_run.proofs.Outcomes.{Outcome-right}
+use Rattle.bytes_utils_run.proofs.OutcomeLemmas.{Outcome-right}
 use Rattle.bytes_utils_run.proofs.cut.cut_all.Goals as goal
 
 pub returns-clause-outcome : goal.returns-clause-outcome

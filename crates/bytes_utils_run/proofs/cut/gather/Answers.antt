@@ -1,10 +1,10 @@
 use Rattle.std.proofs.Common.{sym, subst, ◌∷◌, ◌++◌, map, arith}
 use Rattle.std.specs.Str.{chars}
 use Rattle.bytes_utils_run.specs.Coming.{AreToCome}
-use Rattle.bytes_utils_run.proofs.Outcomes.{Outcome-refused, map-between, some-of}
+use Rattle.bytes_utils_run.proofs.OutcomeLemmas.{Outcome-refused, map-between, some-of}
 use Rattle.bytes_utils_run.proofs.cut.gather.Goals as goal
 
--- a cut was refused: those that were to come are missing
+-- a split was refused: the parts that were to come are missing
 pub returns-in_err-item-clause-outcome : goal.returns-in_err-item-clause-outcome
 returns-in_err-item-clause-outcome g c =
     let before = c.loop-item.invariant in
@@ -26,7 +26,7 @@ loop-item-preserved g c =
           (before.each (chars part ∷ more) (step.gives.each more to_come)));
     }
 
--- the place for a part was refused: that part is missing, and those behind it
+-- memory for a part was refused: that part and those after it are missing
 pub returns-in_err-push-clause-outcome : goal.returns-in_err-push-clause-outcome
 returns-in_err-push-clause-outcome g c =
     let before = c.loop-item.invariant in
@@ -34,5 +34,5 @@ returns-in_err-push-clause-outcome g c =
     let others = step.gives.some in
     let parts = chars c.in_ok-item.field-0 ∷ others.0 in
     let right = before.each parts (step.gives.each others.0 others.1) in
-    let behind = subst (λ given. AreToCome c.args.splitter.now (map chars given ++ parts)) (sym c.in_err-push.ensures.items) right in
-    Outcome-refused (AreToCome c.args.splitter.now) (map chars c.push.new.self.items) c.from_residual-in_err-push.result c.from_residual-in_err-push.ensures.0 parts (omega arith) behind
+    let following = subst (λ given. AreToCome c.args.splitter.now (map chars given ++ parts)) (sym c.in_err-push.ensures.items) right in
+    Outcome-refused (AreToCome c.args.splitter.now) (map chars c.push.new.self.items) c.from_residual-in_err-push.result c.from_residual-in_err-push.ensures.0 parts (omega arith) following

@@ -3,7 +3,7 @@ use Rattle.std.specs.Str.{chars}
 use Rattle.bytes_utils_run.specs.Coming.{AreToCome}
 use Rattle.bytes_utils_run.proofs.cut.gather.Given as goal
 
--- Some list is to come, and each such list behind the parts so far is right for the whole.
+-- Some list is to come, and the parts so far followed by any such list are right for the whole.
 abbrev pub invariant-loop-item : goal.invariant-loop-item
 invariant-loop-item g l = record {
   some : (more : List (List ℕ)) × AreToCome l.item-iterator more;

@@ -7,7 +7,7 @@ use Rattle.bytes_utils_run.specs.Laws.{limited}
 use Rattle.bytes_utils_run.proofs.laws.limits.Goals as goal
 
 module _ {X : Type 0} (uncut : List (List X) → List X) (most : ℕ) (parts : List (List X)) where
-  -- as many parts as the limit, the last uncut
+  -- as many parts as the limit, the last one not split
   abbrev cut_short : List (List X)
   cut_short = take (most - 1) parts ++ (uncut (drop (most - 1) parts) ∷ [])
 
@@ -15,7 +15,7 @@ module _ {X : Type 0} (uncut : List (List X) → List X) (most : ℕ) (parts : L
   limited-is P more few =
       cond_both (nat_lt most (length parts)) cut_short parts P (λ e. more (ltb-true most (length parts) e)) (λ e. few (ltb-false most (length parts) e))
 
--- what is uncut, of parts that are given from the back
+-- the rest that isn't split, of parts that are given from the back
 abbrev join_back : {X : Type 0} → List X → List (List X) → List X
 join_back p rest = join p (reverse rest)
 

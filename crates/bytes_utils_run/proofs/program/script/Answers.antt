@@ -4,7 +4,7 @@ use Rattle.bytes_utils_run.specs.Run.{AsksFor}
 use Rattle.bytes_utils_run.proofs.Asked.{begun-asked}
 use Rattle.bytes_utils_run.proofs.program.script.Goals as goal
 
--- what was given is a beginning of what the input asks for
+-- first bytes of the given results are first bytes of what the input asks for
 pub returns-clause-io : goal.returns-clause-io
 returns-clause-io g c is =
     let input = c.in_ok-input.input.items in

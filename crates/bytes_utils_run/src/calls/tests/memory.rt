@@ -1,5 +1,5 @@
-//! What is answered, and what stands, where a request for memory is refused. With ample memory none
-//! is: a run that refuses one prints a line for it.
+//! The replies and the state after a refused request for memory. With enough memory none is
+//! refused; a run that refuses one prints a line for it.
 use super::{Row, Want, four, reads};
 use crate::{Call, ReadCall, Replies, Reply, drive, read_calls};
 use bytes::{Buf, Bytes};
@@ -22,8 +22,8 @@ fn lacks_memory(reply: &Reply) -> bool {
     matches!(reply, Reply::NoMemory | Reply::CopyStopped(_))
 }
 
-/// Whether a request was refused: the place for the replies, and then there is none, or that of one
-/// call, and then the others are replied to as with ample memory.
+/// Returns whether a request was refused: the one for the list, and then there is no reply, or the
+/// one of a call, and then the other replies are those with enough memory.
 fn is_refused(rt: &impl Abort, replies: &Replies) -> bool {
     if let Some(reason) = replies.refused {
         assert!(rt; reason == Reason::OutOfMemory && replies.given.is_empty());
@@ -40,7 +40,7 @@ fn is_refused(rt: &impl Abort, replies: &Replies) -> bool {
     is_refused
 }
 
-/// How many bytes the last of the reads leaves.
+/// Returns how many bytes the last of the reads leaves.
 fn left(replies: &Replies) -> usize {
     match replies.given.last() {
         None => TEXT.len(),
@@ -49,7 +49,7 @@ fn left(replies: &Replies) -> usize {
     }
 }
 
-/// Asserts that a buffer holds so many bytes of the end of the text, and gives them.
+/// Asserts that a buffer holds the last `left` bytes of the text, and gives them.
 fn assert_gives<B: BufParts>(
     rt: &impl Abort,
     alloc: Global,
@@ -65,8 +65,8 @@ fn assert_gives<B: BufParts>(
     Ok(())
 }
 
-/// Asserts that the replies are right where a request was refused, tells of it, and asserts what
-/// the next call gives.
+/// After a refused request, asserts the replies, reports the refusal, and asserts what the next
+/// call gives.
 fn assert_stands<B: BufParts>(
     rt: &(impl Abort + Print),
     alloc: Global,
@@ -113,7 +113,7 @@ fn reads_of_held_buffers(rt: HostRuntime) -> Result<(), Fail> {
     assert_stands(&rt, rt.alloc(), &mut buf, &replies, "drive")
 }
 
-/// More buffers than a queue takes at first.
+/// More buffers than a queue has room for at first.
 const COUNT: usize = 20;
 
 fn pushes(alloc: Global) -> Result<Vec<Call<Bytes>>, AllocError> {
@@ -124,7 +124,7 @@ fn pushes(alloc: Global) -> Result<Vec<Call<Bytes>>, AllocError> {
     Ok(calls)
 }
 
-/// How many buffers were pushed. Each of the others was refused.
+/// Returns how many buffers were pushed. Asserts that memory for each of the others was refused.
 fn pushed(rt: &impl Abort, replies: &Replies) -> usize {
     let mut count = 0_usize;
     for reply in &replies.given {

@@ -1,12 +1,12 @@
-//! What is given where a request for memory is refused. With ample memory none is: a run that
-//! refuses one prints a line for it.
-use super::{behind, gave};
+//! The parts that are given if a request for memory is refused. With enough memory none is refused;
+//! a run that refuses one prints a line for it.
+use super::{following, gave};
 use crate::{How, cut_all};
 use bytes_utils::{Reason, StrMut};
 use std::test::Fail;
 
-// Where a request was refused, the parts are a beginning that isn't the whole, and the same text is
-// then cut whole.
+// After a refused request the parts are a proper beginning of all, and the same text is then split
+// completely.
 #[test]
 fn parts(rt: HostRuntime) -> Result<(), Fail> {
     let alloc = rt.alloc();
@@ -21,7 +21,7 @@ fn parts(rt: HostRuntime) -> Result<(), Fail> {
     if parts.refused.is_some() {
         println!(rt; "refused cut_all")?;
         assert!(rt; parts.refused == Some(Reason::OutOfMemory));
-        assert!(rt; behind(&parts, wanted).is_some_and(|rest| !rest.is_empty()));
+        assert!(rt; following(&parts, wanted).is_some_and(|rest| !rest.is_empty()));
         parts = cut_all(alloc, again, How::Split(","));
     }
     assert!(rt; gave(&parts, wanted));

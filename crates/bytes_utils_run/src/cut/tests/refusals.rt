@@ -1,5 +1,5 @@
 //! Texts over storages that refuse their splits.
-use super::{behind, is_allowed};
+use super::{following, is_allowed};
 use crate::odd::RefuseAfter;
 use crate::{How, cut_all};
 use bytes::{Bytes, BytesMut};
@@ -9,7 +9,7 @@ use std::alloc::Global;
 use std::process::Abort;
 use std::test::Fail;
 
-/// A text over a storage that grants a number of splits.
+/// Makes a text over a storage that grants `splits` splits.
 pub(super) fn granting(
     alloc: Global,
     text: &str,
@@ -20,7 +20,7 @@ pub(super) fn granting(
     Ok(text.ok_or("not UTF-8")?)
 }
 
-/// Asserts that a text is cut into these parts, and then refused for this reason, or not.
+/// Asserts the parts that a text is split into, and the reason of the refusal, if there is one.
 fn assert_refused<S: Storage>(
     rt: &impl Abort,
     alloc: Global,
@@ -31,14 +31,14 @@ fn assert_refused<S: Storage>(
     assert!(rt; is_allowed(how));
     let parts = cut_all(alloc, text, how);
     assert!(rt;
-        behind(&parts, wanted) == Some("") && parts.refused == refused,
+        following(&parts, wanted) == Some("") && parts.refused == refused,
         "{how:?}"
     );
 }
 
 const REFUSED: Option<Reason> = Some(Reason::OutOfMemory);
 
-/// A text, how many splits are granted, a way to cut, and what comes of it.
+/// A text, the number of splits granted, how it is split, and the outcome.
 type Row = (
     &'static str,
     usize,
@@ -46,7 +46,7 @@ type Row = (
     (&'static str, Option<Reason>),
 );
 
-// Each part but the last takes two splits, and one where it keeps its separator.
+// Each part but the last takes two splits, or one if it keeps its separator.
 const ROWS: &[Row] = &[
     ("a,b,c", 0, How::Split(","), ("", REFUSED)),
     ("a,b,c", 1, How::Split(","), ("", REFUSED)),
@@ -71,7 +71,7 @@ fn refused_after_each_split(rt: HostRuntime) -> Result<(), Fail> {
     Ok(())
 }
 
-/// What refuses its splits as [`RefuseAfter`] does, for another reason.
+/// A storage that refuses as [`RefuseAfter`] does, for another reason.
 #[derive(Drop)]
 struct Long(RefuseAfter);
 
@@ -106,7 +106,7 @@ impl Storage for Long {
 }
 
 #[test]
-fn the_reason_is_told(rt: HostRuntime) -> Result<(), Fail> {
+fn the_reason_is_reported(rt: HostRuntime) -> Result<(), Fail> {
     let text = StrInner::from_inner(Long(RefuseAfter::new(Bytes::from_static(b"a,b,c"), 2))).ok();
     let text = text.ok_or("not UTF-8")?;
     let outcome = ("a|", Some(Reason::TooLong));

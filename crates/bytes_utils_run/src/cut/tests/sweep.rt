@@ -1,4 +1,4 @@
-//! Every splitter under each number of granted splits, from none to enough.
+//! Every splitter with each number of granted splits, from none to enough.
 ghost use Rattle.bytes_utils_run.specs.Cutting.{IsAllowed};
 
 use super::is_allowed;
@@ -15,16 +15,16 @@ use std::test::Fail;
 /// More splits than any run below makes.
 const MANY: usize = 64;
 
-/// The next item, also after the last. A loop that called `next` itself would be measured by the
-/// items that are left.
+/// Returns the next item, also after the last. If a loop called `next` itself, it would be measured
+/// by the items that are left.
 fn next_of(
     splitter: &mut AnySplitter<'_, RefuseAfter>,
 ) -> Option<Result<StrInner<RefuseAfter>, Reason>> {
     splitter.next()
 }
 
-/// Asserts that the splitter gives all of these parts, or a beginning of them that isn't the whole
-/// and then one refusal, and from then on nothing. Returns whether it gave all.
+/// Asserts that the splitter gives all of these parts, or a proper beginning of them and then one
+/// refusal, and nothing after that. Returns whether it gave all.
 fn is_whole(
     rt: &impl Abort,
     mut splitter: AnySplitter<'_, RefuseAfter>,
@@ -48,8 +48,8 @@ fn is_whole(
     is_whole
 }
 
-/// The number of splits that it takes to cut the text into these parts. Each one that is less gives a
-/// beginning of them.
+/// Returns the least number of splits that gives all of these parts. Asserts that each smaller
+/// number gives a proper beginning of them.
 fn needed(
     rt: &impl Abort,
     alloc: Global,
@@ -68,8 +68,8 @@ fn needed(
     panic!(rt; "{text:?}, {how:?}")
 }
 
-/// Asserts that each number of splits that is too few gives a beginning of what ample splits give.
-/// Only a text that stays uncut needs no split.
+/// Asserts that each number of splits that is too small gives a beginning of the parts that enough
+/// splits give. Only a text that is its own only part needs no split.
 fn sweep(rt: &impl Abort, alloc: Global, text: &str, how: How<'_>) -> Result<(), Fail>
     requires { IsAllowed how }
 {

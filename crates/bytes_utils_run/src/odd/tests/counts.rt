@@ -1,4 +1,4 @@
-//! How often a buffer was asked.
+//! How often a buffer was called.
 use crate::odd::Asked;
 use bytes::{Buf, Bytes};
 use std::process::Abort;

@@ -1,5 +1,5 @@
-//! What stands where a request for memory is refused. With ample memory none is: a run that refuses
-//! one prints a line for it.
+//! The state after a refused request for memory. With enough memory none is refused; a run that
+//! refuses one prints a line for it.
 use crate::odd::{RefuseAfter, Zeros};
 use bytes::{Buf, BytesMut};
 use bytes_utils::Reason;
@@ -22,7 +22,7 @@ fn copy_out_of_zeros(rt: HostRuntime) -> Result<(), Fail> {
     Ok(())
 }
 
-// What is handed back makes a storage then.
+// The creator that a refusal returns makes a storage in the next call.
 #[test]
 fn from_creator_of_refuse_after(rt: HostRuntime) -> Result<(), Fail> {
     let Ok(creator) = BytesMut::copy_from_slice(rt.alloc(), b"hello") else {

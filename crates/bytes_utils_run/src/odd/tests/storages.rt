@@ -1,4 +1,4 @@
-//! A storage that grants splits, through the trait.
+//! A storage that grants a limited number of splits, used through the trait.
 use crate::odd::RefuseAfter;
 use bytes::Bytes;
 use bytes_utils::Reason;
@@ -6,7 +6,7 @@ use bytes_utils::string::Storage;
 use std::process::Abort;
 use std::test::Fail;
 
-/// Asserts that the first byte of a storage, alone, is this.
+/// Asserts the first byte of a storage, taken alone.
 fn assert_front<S: Storage>(rt: &impl Abort, storage: S, wanted: u8) -> Result<(), Reason> {
     assert!(rt; !storage.as_bytes().is_empty());
     let front = storage.into_front(1).map_err(|refused| refused.reason)?;
@@ -14,7 +14,7 @@ fn assert_front<S: Storage>(rt: &impl Abort, storage: S, wanted: u8) -> Result<(
     Ok(())
 }
 
-/// Asserts that the bytes of a storage behind its first one, alone, are these.
+/// Asserts the bytes of a storage after its first one, taken alone.
 fn assert_back<S: Storage>(rt: &impl Abort, storage: S, wanted: &[u8]) -> Result<(), Reason> {
     assert!(rt; !storage.as_bytes().is_empty());
     let back = storage.into_back(1).map_err(|refused| refused.reason)?;

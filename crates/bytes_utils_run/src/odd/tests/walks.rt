@@ -65,7 +65,7 @@ fn lent_walked_together(rt: HostRuntime) -> Result<(), Fail> {
     Ok(())
 }
 
-/// Asserts that one buffer is left, which was asked seldom.
+/// Asserts that one buffer is left, and that few calls were made on it.
 fn assert_one_left(rt: &impl Abort, all: SegmentedBuf<Asked>) {
     let left = all.into_inner();
     assert!(rt; left.len() == 1);

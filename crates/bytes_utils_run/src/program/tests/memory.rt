@@ -1,9 +1,9 @@
-//! What the program answers, and has written, where a request for memory is refused. With ample
-//! memory none is: a run that refuses one prints a line for it.
+//! The result and the output of the program if a request for memory is refused. With enough memory
+//! none is refused. A run in which one is refused prints a line for it.
 use crate::How;
 use crate::fakes::SlowReader;
 use crate::odd::RefuseAfter;
-use crate::program::entry::print_parts;
+use crate::program::print::print_parts;
 use crate::program::{Fault, script};
 use crate::splitter::AnySplitter;
 use bytes::Bytes;
@@ -25,7 +25,7 @@ advance 9
 
 const REPLIES: &[u8] = b"ok\nok\nok\nok\n8:Hello Wo\n1\n3:rld\npast end\n";
 
-/// How many bytes were written, where they are the first of the replies, each of them whole.
+/// The number of bytes written, if they are the first replies, each of them whole.
 fn whole_replies(written: &[u8]) -> Option<usize> {
     let is_whole = written.is_empty() || written.ends_with(b"\n");
     if is_whole && REPLIES.starts_with(written) {
@@ -35,8 +35,8 @@ fn whole_replies(written: &[u8]) -> Option<usize> {
     }
 }
 
-/// Runs the program on calls that come in small pieces, and returns how many bytes of the replies it
-/// has written.
+/// Runs the program on calls that arrive in small pieces. Returns the result, and the number of
+/// bytes of replies that it wrote.
 fn run(alloc: Global) -> (Result<(), Fault>, Option<usize>) {
     let mut reader = SlowReader::new(CALLS, 7, 0);
     let mut place = [0; 80];
@@ -46,8 +46,8 @@ fn run(alloc: Global) -> (Result<(), Fault>, Option<usize>) {
     (answer, whole_replies(&place[..80 - left]))
 }
 
-// Where a request was refused, the first of the replies alone may be written, and want of memory is
-// reported. The next run writes all of them.
+// If a request is refused, only the first replies may be written, and the fault is `OutOfMemory`.
+// The next run writes all of them.
 #[test]
 fn replies(rt: HostRuntime) -> Result<(), Fail> {
     let (mut answer, mut written) = run(rt.alloc());
@@ -55,7 +55,7 @@ fn replies(rt: HostRuntime) -> Result<(), Fail> {
         assert!(rt; answer == Err(Fault::OutOfMemory) && written.is_some());
         println!(rt; "refused script")?;
         if written != Some(0) {
-            println!(rt; "refused script behind a reply")?;
+            println!(rt; "refused script after a reply")?;
         }
         (answer, written) = run(rt.alloc());
     }
@@ -63,7 +63,7 @@ fn replies(rt: HostRuntime) -> Result<(), Fail> {
     Ok(())
 }
 
-// Of two splits, both are of the first part.
+// The storage grants two splits, and the first part takes both.
 #[test]
 fn parts_before_a_refusal(rt: HostRuntime) -> Result<(), Fail> {
     let Ok(bytes) = Bytes::copy_from_slice(rt.alloc(), b"a,b,c") else {

@@ -3,7 +3,7 @@ use Rattle.std.proofs.lemmas.List.{take_all}
 use Rattle.std.specs.List.{concat}
 use Rattle.bytes_utils.specs.FrameSearch.{Searched}
 use Rattle.bytes_utils.proofs.Pieces.{concat-take_next, concat_around}
-use Rattle.bytes_utils.proofs.Searching.{Searched-all}
+use Rattle.bytes_utils.proofs.FrameSearchLemmas.{Searched-all}
 use Rattle.bytes_utils.proofs.frame.search.find.Goals as goal
 
 pub step-requires-clause-fits : goal.step-requires-clause-fits

@@ -1,5 +1,5 @@
 use Rattle.std.proofs.Common.{◌-◌, length, arith, ap}
-use Rattle.bytes_utils.proofs.Searching.{found_across, found_behind, missed_next}
+use Rattle.bytes_utils.proofs.FrameSearchLemmas.{found_across, found_after, missed_next}
 use Rattle.bytes_utils.proofs.frame.search.find_next.Goals as goal
 
 pub returns-in-Some-clause-found : goal.returns-in-Some-clause-found
@@ -8,12 +8,12 @@ returns-in-Some-clause-found c =
     let short = c.requires.short in
     found_across p c.args.held.now.items c.args.piece.now (length p - 1) (omega arith) c.in-Some.at (rw c.in-Some.is at c.in_ok-at.ensures.found)
 
-pub returns-in-Some-find_behind-clause-found : goal.returns-in-Some-find_behind-clause-found
-returns-in-Some-find_behind-clause-found c =
+pub returns-in-Some-find_in_piece-clause-found : goal.returns-in-Some-find_in_piece-clause-found
+returns-in-Some-find_in_piece-clause-found c =
     let p = c.args.finder.now in
     let short = c.requires.short in
-    found_behind p c.args.held.now.items c.args.piece.now (length p - 1) (omega arith) c.in-Some-find_behind.at _ (omega (arith, c.len.ensures, ap length c.in_ok-at.ensures.held))
-    (rw c.in_default.is at c.in_ok-at.ensures.found) c.in-Some-find_behind.ensures
+    found_after p c.args.held.now.items c.args.piece.now (length p - 1) (omega arith) c.in-Some-find_in_piece.at _ (omega (arith, c.len.ensures, ap length c.in_ok-at.ensures.held))
+    (rw c.in_default.is at c.in_ok-at.ensures.found) c.in-Some-find_in_piece.ensures
 
 pub returns-in-None-clause-found : goal.returns-in-None-clause-found
 returns-in-None-clause-found c =

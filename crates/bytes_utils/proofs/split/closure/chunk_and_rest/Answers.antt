@@ -1,11 +1,11 @@
 use Rattle.std.proofs.Common.{rules, ◌≡◌, take, drop}
-use Rattle.bytes_utils.proofs.Chunks.{fewer_behind, fewer_before}
+use Rattle.bytes_utils.proofs.Chunks.{fewer_after, fewer_before}
 use Rattle.bytes_utils.proofs.split.closure.chunk_and_rest.Goals as goal
 
 pub returns-in_ok-chunk-in-Forward-clause-fewer : goal.returns-in_ok-chunk-in-Forward-clause-fewer
 returns-in_ok-chunk-in-Forward-clause-fewer g c =
     let cut = rw c.in-Forward.is at c.requires.cut in
-    let fewer = fewer_behind _ _ c.requires.text cut.1 cut.3 in
+    let fewer = fewer_after _ _ c.requires.text cut.1 cut.3 in
     let rest_is : c.in_ok-chunk-in-Forward.rest ≡ drop c.args.separator_edge c.args.text = search rules in
     rw rest_is fewer
 

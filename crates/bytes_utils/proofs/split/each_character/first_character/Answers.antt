@@ -1,13 +1,13 @@
 use Rattle.std.proofs.Common.{◌<◌, length}
-use Rattle.bytes_utils.proofs.CharacterCut.{boundary, gives_first_character, behind_shorter, text_some}
-use Rattle.bytes_utils.proofs.Results.{OnErr-always}
+use Rattle.bytes_utils.proofs.CharacterCut.{boundary, gives_first_character, after_shorter, text_some}
+use Rattle.bytes_utils_buf.proofs.Results.{OnErr-always}
 use Rattle.bytes_utils.proofs.split.each_character.first_character.Goals as goal
 
-pub cut_out-requires-clause-end : goal.cut_out-requires-clause-end
-cut_out-requires-clause-end g c = rw (← c.as_str.ensures.value) (boundary _ c.as_str.utf8 1 _ c.in-Some.ensures.1)
+pub cut_around-requires-clause-end : goal.cut_around-requires-clause-end
+cut_around-requires-clause-end g c = rw (← c.as_str.ensures.value) (boundary _ c.as_str.utf8 1 _ c.in-Some.ensures.1)
 
-pub cut_out-requires-clause-next : goal.cut_out-requires-clause-next
-cut_out-requires-clause-next g c = rw (← c.as_str.ensures.value) (boundary _ c.as_str.utf8 1 _ c.in-Some.ensures.1)
+pub cut_around-requires-clause-next : goal.cut_around-requires-clause-next
+cut_around-requires-clause-next g c = rw (← c.as_str.ensures.value) (boundary _ c.as_str.utf8 1 _ c.in-Some.ensures.1)
 
 pub returns-in_err-part-clause-err : goal.returns-in_err-part-clause-err
 returns-in_err-part-clause-err g c =
@@ -23,4 +23,4 @@ returns-clause-gives g c =
 pub returns-clause-shorter : goal.returns-clause-shorter
 returns-clause-shorter g c =
     let rest_is = rw (← c.as_str.ensures.value) at c.in_ok-part.ensures.after in
-    rw (← c.as_str.ensures.value) (behind_shorter _ c.as_str.utf8 _ c.in-Some.ensures.0 c.in-Some.ensures.1 _ rest_is)
+    rw (← c.as_str.ensures.value) (after_shorter _ c.as_str.utf8 _ c.in-Some.ensures.0 c.in-Some.ensures.1 _ rest_is)

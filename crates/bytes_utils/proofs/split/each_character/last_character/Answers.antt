@@ -1,13 +1,13 @@
 use Rattle.std.proofs.Common.{◌<◌, length}
 use Rattle.bytes_utils.proofs.CharacterCut.{boundary, gives_last_character, before_shorter, text_some}
-use Rattle.bytes_utils.proofs.Results.{OnErr-always}
+use Rattle.bytes_utils_buf.proofs.Results.{OnErr-always}
 use Rattle.bytes_utils.proofs.split.each_character.last_character.Goals as goal
 
-pub cut_out-requires-clause-end : goal.cut_out-requires-clause-end
-cut_out-requires-clause-end g c = rw (← c.as_str.ensures.value) (boundary _ c.as_str.utf8 _ _ c.in-Some.ensures.1)
+pub cut_around-requires-clause-end : goal.cut_around-requires-clause-end
+cut_around-requires-clause-end g c = rw (← c.as_str.ensures.value) (boundary _ c.as_str.utf8 _ _ c.in-Some.ensures.1)
 
-pub cut_out-requires-clause-next : goal.cut_out-requires-clause-next
-cut_out-requires-clause-next g c = rw (← c.as_str.ensures.value) (boundary _ c.as_str.utf8 _ _ c.in-Some.ensures.1)
+pub cut_around-requires-clause-next : goal.cut_around-requires-clause-next
+cut_around-requires-clause-next g c = rw (← c.as_str.ensures.value) (boundary _ c.as_str.utf8 _ _ c.in-Some.ensures.1)
 
 pub returns-in_err-rest-clause-err : goal.returns-in_err-rest-clause-err
 returns-in_err-rest-clause-err g c =

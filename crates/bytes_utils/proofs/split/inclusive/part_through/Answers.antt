@@ -1,6 +1,6 @@
 use Rattle.std.proofs.Common.{rules, arith, ap, ◌≡◌, ◌+◌, ◌≤◌, length, take, drop, inl, inr}
 use Rattle.bytes_utils.proofs.PartCut.{next_boundary}
-use Rattle.bytes_utils.proofs.KeepingCut.{gives_whole, gives_through, ends_text, cuts_behind}
+use Rattle.bytes_utils.proofs.KeepingLemmas.{gives_whole, gives_through, ends_text, cuts_after}
 use Rattle.bytes_utils.proofs.split.inclusive.part_through.Goals as goal
 
 pub returns-in_default-clause-gives : goal.returns-in_default-clause-gives
@@ -30,7 +30,7 @@ returns-in_err-part-clause-err g c =
     let text_is = rw c.as_str.ensures.value at c.as_str.utf8 in
     let found = rw c.as_str.ensures.value at c.in-Some.ensures in
     let fits = next_boundary _ _ text_is c.utf8.separator _ _ found.1 found.2.here in
-    let cuts = cuts_behind _ _ text_is c.utf8.separator _ found c.requires.separator (omega (arith, fits.0, ap length c.as_str-2.ensures.value, c.if-end-as_str.false)) in
+    let cuts = cuts_after _ _ text_is c.utf8.separator _ found c.requires.separator (omega (arith, fits.0, ap length c.as_str-2.ensures.value, c.if-end-as_str.false)) in
     search rules
 
 pub returns-clause-gives : goal.returns-clause-gives

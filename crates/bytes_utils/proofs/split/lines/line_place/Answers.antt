@@ -2,7 +2,7 @@ use Rattle.std.proofs.Common.{◌≡◌, ◌∙◌, ap, subst, arith, take}
 use Rattle.std.proofs.lemmas.Str.Pattern.{strip_suffix_char}
 use Rattle.std.specs.Str.{chars}
 use Rattle.bytes_utils.specs.Lines.{IsWithoutReturn}
-use Rattle.bytes_utils.proofs.Lines.{IsWithoutReturn-stripped, feed-boundary, next-boundary, line-boundary, line-at, lines-last, text-at, text_behind-none}
+use Rattle.bytes_utils.proofs.LinesLemmas.{IsWithoutReturn-stripped, feed-boundary, next-boundary, line-boundary, line-at, lines-last, text-at, text_after-none}
 use Rattle.bytes_utils.proofs.split.lines.line_place.Goals as goal
 
 pub returns-in_err-at-clause-line : goal.returns-in_err-at-clause-line
@@ -13,15 +13,15 @@ pub returns-in_err-at-clause-feed : goal.returns-in_err-at-clause-feed
 unfolding chars
 returns-in_err-at-clause-feed c = rw c.from_residual.ensures c.in_err-at.ensures
 
-pub returns-in_err-at-clause-behind : goal.returns-in_err-at-clause-behind
+pub returns-in_err-at-clause-after : goal.returns-in_err-at-clause-after
 unfolding chars
-returns-in_err-at-clause-behind c = rw c.from_residual.ensures (text_behind-none _ c.in_err-at.ensures)
+returns-in_err-at-clause-after c = rw c.from_residual.ensures (text_after-none _ c.in_err-at.ensures)
 
 pub range-line-requires-clause-end_boundary : goal.range-line-requires-clause-end_boundary
 unfolding chars
 range-line-requires-clause-end_boundary c = feed-boundary _ c.utf8.text _ c.in_ok-at.ensures
 
--- the line, from what `strip_suffix` answered
+-- the line, from what `strip_suffix` returned
 without_return : (c : goal.After-unwrap_or-end) → IsWithoutReturn c.unwrap_or-end.result.now (take c.in_ok-at.at c.args.text.now)
 without_return c =
     let before_is : c.range-line.result.now ≡ take c.in_ok-at.at c.args.text.now = c.range-line.ensures.value ∙ ap (λ n. take n c.args.text.now) (omega arith) in
@@ -44,6 +44,6 @@ pub returns-clause-line : goal.returns-clause-line
 unfolding chars
 returns-clause-line c = line-at _ c.utf8.text _ c.in_ok-at.ensures _ c.unwrap_or-end.utf8 (without_return c)
 
-pub returns-clause-behind : goal.returns-clause-behind
+pub returns-clause-after : goal.returns-clause-after
 unfolding chars
-returns-clause-behind c = text-at _ c.utf8.text _ c.in_ok-at.ensures
+returns-clause-after c = text-at _ c.utf8.text _ c.in_ok-at.ensures

@@ -1,4 +1,4 @@
-use Rattle.bytes_utils.proofs.Search.{FindsFirst-from_any}
+use Rattle.bytes_utils.proofs.SearchLemmas.{FindsFirst-from_any}
 use Rattle.bytes_utils.proofs.split.search.find.Goals as goal
 
 pub returns : goal.returns

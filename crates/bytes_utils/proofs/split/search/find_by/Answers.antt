@@ -1,4 +1,4 @@
-use Rattle.bytes_utils.proofs.Search.{FindsFirst-from_needle}
+use Rattle.bytes_utils.proofs.SearchLemmas.{FindsFirst-from_needle}
 use Rattle.bytes_utils.proofs.split.search.find_by.Goals as goal
 
 pub returns : goal.returns

@@ -1,4 +1,4 @@
-use Rattle.bytes_utils.proofs.Search.{FindsLast-from_needle, FindsLastNeedle-empty}
+use Rattle.bytes_utils.proofs.SearchLemmas.{FindsLast-from_needle, FindsLastNeedle-empty}
 use Rattle.bytes_utils.proofs.split.search.rfind.Goals as goal
 
 pub returns-clause-last : goal.returns-clause-last

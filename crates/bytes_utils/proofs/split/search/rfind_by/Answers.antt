@@ -1,4 +1,4 @@
-use Rattle.bytes_utils.proofs.Search.{FindsLast-from_needle}
+use Rattle.bytes_utils.proofs.SearchLemmas.{FindsLast-from_needle}
 use Rattle.bytes_utils.proofs.split.search.rfind_by.Goals as goal
 
 pub returns : goal.returns

@@ -1,6 +1,6 @@
 use Rattle.std.proofs.Common.{rules, ◌+◌, ◌≤◌, length}
-use Rattle.bytes_utils.proofs.Search.{chars-some}
-use Rattle.bytes_utils.proofs.PartCut.{end_boundary, next_boundary, behind_shorter, gives_first, gives_whole}
+use Rattle.bytes_utils.proofs.SearchLemmas.{chars-some}
+use Rattle.bytes_utils.proofs.PartCut.{end_boundary, next_boundary, after_shorter, gives_first, gives_whole}
 use Rattle.bytes_utils.proofs.split.separated.first_part.Goals as goal
 
 pub find_by-requires-clause-some : goal.find_by-requires-clause-some
@@ -16,13 +16,13 @@ overflow_add-at g c =
     (next_boundary _ _ c.as_str.utf8 c.utf8.separator _ _ found.1 found.2.here).0 in
     search rules
 
-pub cut_out-requires-clause-end : goal.cut_out-requires-clause-end
-cut_out-requires-clause-end g c =
+pub cut_around-requires-clause-end : goal.cut_around-requires-clause-end
+cut_around-requires-clause-end g c =
     let found = rw c.requires.needle at c.in-Some.ensures in
     rw (← c.as_str.ensures.value) (end_boundary _ _ c.as_str.utf8 c.utf8.separator _ _ found.1 found.2.here)
 
-pub cut_out-requires-clause-next : goal.cut_out-requires-clause-next
-cut_out-requires-clause-next g c =
+pub cut_around-requires-clause-next : goal.cut_around-requires-clause-next
+cut_around-requires-clause-next g c =
     let found = rw c.requires.needle at c.in-Some.ensures in
     rw (← c.as_str.ensures.value) (next_boundary _ _ c.as_str.utf8 c.utf8.separator _ _ found.1 found.2.here)
 
@@ -42,4 +42,4 @@ pub returns-clause-shorter : goal.returns-clause-shorter
 returns-clause-shorter g c =
     let found = rw c.requires.needle at c.in-Some.ensures in
     let rest_is = rw (← c.as_str.ensures.value) at c.in_ok-part.ensures.after in
-    rw (← c.as_str.ensures.value) (behind_shorter _ _ c.as_str.utf8 c.utf8.separator _ _ found.1 found.2.here _ c.requires.some rest_is)
+    rw (← c.as_str.ensures.value) (after_shorter _ _ c.as_str.utf8 c.utf8.separator _ _ found.1 found.2.here _ c.requires.some rest_is)

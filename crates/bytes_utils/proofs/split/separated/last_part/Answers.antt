@@ -1,5 +1,5 @@
 use Rattle.std.proofs.Common.{rules, ◌+◌, ◌≤◌, length}
-use Rattle.bytes_utils.proofs.Search.{chars-some}
+use Rattle.bytes_utils.proofs.SearchLemmas.{chars-some}
 use Rattle.bytes_utils.proofs.PartCut.{end_boundary, next_boundary, before_shorter, gives_last, gives_whole_back}
 use Rattle.bytes_utils.proofs.split.separated.last_part.Goals as goal
 
@@ -16,13 +16,13 @@ overflow_add-at g c =
     (next_boundary _ _ c.as_str.utf8 c.utf8.separator _ _ found.1 found.2.here).0 in
     search rules
 
-pub cut_out-requires-clause-end : goal.cut_out-requires-clause-end
-cut_out-requires-clause-end g c =
+pub cut_around-requires-clause-end : goal.cut_around-requires-clause-end
+cut_around-requires-clause-end g c =
     let found = rw c.requires.needle at c.in-Some.ensures in
     rw (← c.as_str.ensures.value) (end_boundary _ _ c.as_str.utf8 c.utf8.separator _ _ found.1 found.2.here)
 
-pub cut_out-requires-clause-next : goal.cut_out-requires-clause-next
-cut_out-requires-clause-next g c =
+pub cut_around-requires-clause-next : goal.cut_around-requires-clause-next
+cut_around-requires-clause-next g c =
     let found = rw c.requires.needle at c.in-Some.ensures in
     rw (← c.as_str.ensures.value) (next_boundary _ _ c.as_str.utf8 c.utf8.separator _ _ found.1 found.2.here)
 
@@ -36,7 +36,7 @@ returns-clause-gives g c =
     let found = rw c.requires.needle at c.in-Some.ensures in
     let part_is = rw (← c.as_str.ensures.value) at c.in_ok-rest.ensures.after in
     let rest_is = rw (← c.as_str.ensures.value) at c.in_ok-rest.ensures.before in
-    rw (← c.as_str.ensures.value) (gives_last _ _ c.as_str.utf8 c.utf8.separator _ _ found.1 found.2.here found.2.none_behind _ _ c.requires.some part_is rest_is)
+    rw (← c.as_str.ensures.value) (gives_last _ _ c.as_str.utf8 c.utf8.separator _ _ found.1 found.2.here found.2.none_after _ _ c.requires.some part_is rest_is)
 
 pub returns-clause-shorter : goal.returns-clause-shorter
 returns-clause-shorter g c =

@@ -1,5 +1,5 @@
 use Rattle.std.proofs.Common.{◌≡◌, ◌∙◌, sym, Some}
-use Rattle.bytes_utils.proofs.Words.{step-word, left-shorter}
+use Rattle.bytes_utils.proofs.WordsLemmas.{step-word, left-shorter}
 use Rattle.bytes_utils.proofs.split.words.next_word.Goals as goal
 
 pub returns-in-Ok-clause-step : goal.returns-in-Ok-clause-step

@@ -1,7 +1,7 @@
--- The graphic ASCII in front, which is passed a block at a time, and from there on a search for white space.
+-- The graphic ASCII at the front, passed a block at a time, and from there on a search for white space.
 use Rattle.std.proofs.Common.{rules, ◌≡◌, ◌+◌, ◌∙◌, ap, drop}
 use Rattle.std.proofs.lemmas.List.Sorted.{answers_always}
-use Rattle.bytes_utils.proofs.Words.{graphic_run, run-boundary, EndsWord, EndsWord-from_find, EndsWord-behind_run}
+use Rattle.bytes_utils.proofs.WordsLemmas.{graphic_run, run-boundary, EndsWord, EndsWord-from_find, EndsWord-after_run}
 use Rattle.bytes_utils.proofs.split.words.word_length.Goals as goal
 
 pub range_from-rest-requires : goal.range_from-rest-requires
@@ -12,9 +12,9 @@ ends g c =
     let is_space = g.W.WhiteSpace.is_space in
     let run_is : c.graphic_end-graphic.result ≡ graphic_run c.args.text.now = c.graphic_end-graphic.ensures ∙ ap graphic_run c.as_bytes.ensures.value in
     let from_find = EndsWord-from_find is_space _ _ _ c.range_from-rest.utf8 (answers_always _ _ _ (λ f a r f' k. search rules)) c.find.ensures.cases in
-    let behind : EndsWord is_space (drop (graphic_run c.args.text.now) c.args.text.now) c.unwrap_or-length.result =
+    let following : EndsWord is_space (drop (graphic_run c.args.text.now) c.args.text.now) c.unwrap_or-length.result =
     rw (← run_is, ← c.range_from-rest.ensures.value, c.unwrap_or-length.ensures) from_find in
-    rw run_is (EndsWord-behind_run is_space c.no_graphic.ensures _ _ c.utf8.text behind)
+    rw run_is (EndsWord-after_run is_space c.no_graphic.ensures _ _ c.utf8.text following)
 
 pub returns-clause-boundary : goal.returns-clause-boundary
 returns-clause-boundary g c = (ends g c).boundary

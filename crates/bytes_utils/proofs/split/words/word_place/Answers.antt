@@ -1,8 +1,9 @@
--- Two searches find a word: the first other character, and from there on the first white space.
+-- Two searches find a word: for the first character that isn't white space, and from there on for the first white
+-- space.
 use Rattle.std.proofs.Common.{rules, arith, drop, Some}
 use Rattle.std.proofs.lemmas.List.Sorted.{answers_always}
 use Rattle.std.specs.Str.Pattern.{FindsBy}
-use Rattle.bytes_utils.proofs.Words.{is_other, words-none, EndsWord, word-some, space-before, space-behind, words-first}
+use Rattle.bytes_utils.proofs.WordsLemmas.{is_other, words-none, EndsWord, word-some, space-before, space-following, words-first}
 use Rattle.bytes_utils.proofs.split.words.word_place.Goals as goal
 
 pub returns-in_err-start-clause-word : goal.returns-in_err-start-clause-word
@@ -26,8 +27,8 @@ returns-clause-order g c =
 pub returns-clause-before : goal.returns-clause-before
 returns-clause-before g c = space-before g.W.WhiteSpace.is_space _ c.utf8.text _ _ _ c.in_ok-start.ensures.cases.3 (found g c) (ends g c)
 
-pub returns-clause-behind : goal.returns-clause-behind
-returns-clause-behind g c = space-behind g.W.WhiteSpace.is_space _ c.utf8.text _ _ _ c.in_ok-start.ensures.cases.3 (found g c) (ends g c)
+pub returns-clause-after : goal.returns-clause-after
+returns-clause-after g c = space-following g.W.WhiteSpace.is_space _ c.utf8.text _ _ _ c.in_ok-start.ensures.cases.3 (found g c) (ends g c)
 
 pub returns-clause-word : goal.returns-clause-word
 returns-clause-word g c = words-first g.W.WhiteSpace.is_space _ c.utf8.text _ _ _ c.in_ok-start.ensures.cases.3 (found g c) (ends g c)

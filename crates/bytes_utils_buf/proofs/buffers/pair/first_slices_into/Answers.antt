@@ -1,7 +1,7 @@
 use Rattle.std.proofs.Common.{◌-◌, ◌+◌, ◌≡◌, length, rules, arith}
 use Rattle.std.proofs.lemmas.List.{take-append-le}
 use Rattle.bytes.proofs.Ranges.{take-append_past}
-use Rattle.bytes_utils_buf.proofs.Tables.{FillsTable-same}
+use Rattle.bytes_utils_buf.proofs.SlicesLemmas.{FillsTable-same}
 use Rattle.bytes_utils_buf.proofs.buffers.pair.first_slices_into.Goals as goal
 
 pub returns-then-len-front : goal.returns-then-len-front

@@ -1,5 +1,5 @@
 use Rattle.std.proofs.Common.{◌<◌, length, rules, arith}
-use Rattle.bytes_utils_buf.proofs.Tables.{FillsTable-full, FillsTable-more}
+use Rattle.bytes_utils_buf.proofs.SlicesLemmas.{FillsTable-full, FillsTable-more}
 use Rattle.bytes_utils_buf.proofs.buffers.pair.slices_into.Goals as goal
 
 pub returns-then-filled-dst : goal.returns-then-filled-dst

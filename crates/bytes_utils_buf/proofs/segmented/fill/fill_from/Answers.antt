@@ -3,7 +3,7 @@ use Rattle.std.proofs.lemmas.List.{length-map, take_more}
 use Rattle.std.specs.List.{concat}
 use Rattle.bytes.proofs.Chunks.{concat_push}
 use Rattle.bytes_utils_buf.proofs.Lists.{read_at, concat_split}
-use Rattle.bytes_utils_buf.proofs.Tables.{FillsTable-same, FillsTable-full, FillsTable-more, length-put_mid}
+use Rattle.bytes_utils_buf.proofs.SlicesLemmas.{FillsTable-same, FillsTable-full, FillsTable-more, length-put_mid}
 use Rattle.bytes_utils_buf.proofs.segmented.fill.fill_from.Goals as goal
 
 pub loop-i-preserved : goal.loop-i-preserved

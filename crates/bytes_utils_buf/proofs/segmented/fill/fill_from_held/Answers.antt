@@ -1,6 +1,6 @@
 use Rattle.std.proofs.Common.{◌<◌, ◌≤◌, length, rules, arith}
 use Rattle.bytes_utils_buf.proofs.Lists.{concat-map_parts}
-use Rattle.bytes_utils_buf.proofs.Tables.{FillsTable-same, FillsTable-full, FillsTable-more}
+use Rattle.bytes_utils_buf.proofs.SlicesLemmas.{FillsTable-same, FillsTable-full, FillsTable-more}
 use Rattle.bytes_utils_buf.proofs.segmented.fill.fill_from_held.Goals as goal
 
 pub returns-then-filled-dst : goal.returns-then-filled-dst

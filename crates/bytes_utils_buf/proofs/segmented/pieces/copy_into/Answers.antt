@@ -40,5 +40,5 @@ loop-copied-preserved g c =
     record {
       within = omega (arith, part, same, more);
       inside = omega arith;
-      has = rw (front ∙ ap (λ p. had ++ p) whole) (subst (λ (behind : List (List ℕ)). Has behind wanted all (had ++ piece)) (next_from lists l.place.passed l.place.offset) has);
+      has = rw (front ∙ ap (λ p. had ++ p) whole) (subst (λ (following : List (List ℕ)). Has following wanted all (had ++ piece)) (next_from lists l.place.passed l.place.offset) has);
     }

@@ -30,13 +30,13 @@ loop-rest-preserved g c =
     let all = take (length text) (concat (lists_from c.args.from.passed c.args.from.offset lists)) in
     let rest = l.rest.now in
     let piece = c.piece_at.result.now in
-    let behind = c.in-Some.behind in
+    let following = c.in-Some.following in
     let some : 0 < length rest = search rules in
-    let same : rest ≡ piece ++ behind.now = strip_prefix_is Decides-eqb rest piece (Some behind) c.in-Some.ensures.cases in
-    let more = Matches-more here text all rest piece behind.now l.invariant.matches some c.piece_at.ensures same in
+    let same : rest ≡ piece ++ following.now = strip_prefix_is Decides-eqb rest piece (Some following) c.in-Some.ensures.cases in
+    let more = Matches-more here text all rest piece following.now l.invariant.matches some c.piece_at.ensures same in
     record {
       inside = omega arith;
-      matches = subst (λ (left : List (List ℕ)). Matches left text all behind.now) (next_from lists l.place.passed l.place.offset) more;
+      matches = subst (λ (left : List (List ℕ)). Matches left text all following.now) (next_from lists l.place.passed l.place.offset) more;
     }
 
 pub returns-in_default : goal.returns-in_default

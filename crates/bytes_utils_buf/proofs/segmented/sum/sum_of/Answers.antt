@@ -2,7 +2,7 @@ use Rattle.std.proofs.Common.{◌≡◌, ◌+◌, length, map, take, ap, ◌∙�
 use Rattle.std.proofs.Math.Seq.{take-length}
 use Rattle.std.proofs.lemmas.List.{length-map}
 use Rattle.std.specs.List.{concat}
-use Rattle.bytes_utils_buf.proofs.Lent.{sum_more, length-concat-take_le}
+use Rattle.bytes_utils_buf.proofs.LentLemmas.{sum_more, length-concat-take_le}
 use Rattle.bytes_utils_buf.proofs.segmented.sum.sum_of.Goals as goal
 
 pub loop-buf-preserved : goal.loop-buf-preserved

@@ -1,7 +1,7 @@
 use Rattle.std.proofs.Common.{map, arith, rules}
 use Rattle.std.proofs.lemmas.List.{length-map}
 use Rattle.bytes_utils_buf.proofs.Lists.{length-concat-take_more}
-use Rattle.bytes_utils_buf.proofs.Lent.{Trimmed-from_count}
+use Rattle.bytes_utils_buf.proofs.LentLemmas.{Trimmed-from_count}
 use Rattle.bytes_utils_buf.proofs.segmented.walk.count_empty.Goals as goal
 
 pub loop-tally-preserved : goal.loop-tally-preserved

@@ -1,7 +1,7 @@
 use Rattle.std.proofs.Common.{◌<◌, map, take, drop, set, get_or, replicate, length, [], arith, rules, ap, ◌∙◌, take_at, drop_at}
 use Rattle.std.proofs.lemmas.List.{length-map, length-replicate, map-set, drop_all}
 use Rattle.bytes_utils_buf.specs.Segments.{cut_at, cut_front}
-use Rattle.bytes_utils_buf.proofs.Lists.{cut_behind, get_or-replicated, length-concat-take_more, map_at, set-replicated_more, Skips-from_count}
+use Rattle.bytes_utils_buf.proofs.Lists.{cut_after, get_or-replicated, length-concat-take_more, map_at, set-replicated_more, Skips-from_count}
 use Rattle.bytes_utils_buf.proofs.segmented.walk.skip_lent.Goals as goal
 
 pub loop-size-preserved : goal.loop-size-preserved
@@ -32,7 +32,7 @@ returns-clause-read_out g c =
     let lists = map g.B.Buf.unread c.args.bufs.now in
     let p = c.loop-size.passed in
     let n = c.loop-size.left in
-    let now = c.advance_at.ensures ∙ ap (cut_at p n) c.loop-size.invariant.read_out ∙ cut_behind (drop p lists) p n in
+    let now = c.advance_at.ensures ∙ ap (cut_at p n) c.loop-size.invariant.read_out ∙ cut_after (drop p lists) p n in
     ap (take p) now ∙ take_at (replicate p []) (cut_front n (drop p lists)) p (length-replicate p [])
 
 pub returns-clause-skips : goal.returns-clause-skips
@@ -44,7 +44,7 @@ returns-clause-skips g c =
     let kept = c.loop-size.invariant in
     let size = length-map c.args.bufs.now f in
     let next = λ (h : p < length lists). ap (λ l. length (get_or l p [])) kept.read_out ∙ ap length (get_or-replicated lists p h) in
-    let now = c.advance_at.ensures ∙ ap (cut_at p n) kept.read_out ∙ cut_behind (drop p lists) p n in
+    let now = c.advance_at.ensures ∙ ap (cut_at p n) kept.read_out ∙ cut_after (drop p lists) p n in
     Skips-from_count lists _ p n c.args.cnt (omega (arith, size, kept.within)) kept.left c.requires
     (λ h. omega (arith, next h, c.in_default.ensures.none (omega (arith, h, size, kept.size))))
     (ap (drop p) now ∙ drop_at (replicate p []) (cut_front n (drop p lists)) p (length-replicate p []))

@@ -1,5 +1,5 @@
 use Rattle.std.proofs.Common.{ap, length, arith}
-use Rattle.bytes_utils_run.proofs.Runs.{Skips-lists_of, concat-lists_of}
+use Rattle.bytes_utils_run.proofs.CallsLemmas.{Skips-lists_of, concat-lists_of}
 use Rattle.bytes_utils_run.proofs.calls.read.advance.Goals as goal
 
 pub returns-clause-reply : goal.returns-clause-reply

@@ -1,10 +1,10 @@
 use Rattle.std.proofs.Common.{◌≡◌, ◌∙◌, sym, ap, subst, map, take, take_at, arith}
 use Rattle.std.proofs.lemmas.Result.{IfOk-weaker}
 use Rattle.bytes_utils_run.specs.Calls.{AreSlices}
-use Rattle.bytes_utils_run.proofs.Slices.{AreSlices-table}
+use Rattle.bytes_utils_run.proofs.OddLemmas.{AreSlices-table}
 use Rattle.bytes_utils_run.proofs.calls.show.copies_of_slices.Goals as goal
 
--- the table is handed on as it was filled
+-- the table is passed on as it was filled
 pub returns : goal.returns
 returns g c =
     let table = c.chunks_into-filled.new.dst in

@@ -4,7 +4,7 @@ use Rattle.bytes_utils_run.specs.Calls.{IsCall, IsRun}
 use Rattle.bytes_utils_run.proofs.Replying.{before-none, before-some, replies-all, replies-before}
 use Rattle.bytes_utils_run.proofs.program.answer.replies_to.Goals as goal
 
--- a reply was for want of memory: those before it stand
+-- memory was refused for a reply: those before it are kept
 pub returns-in-Some-clause-ok : goal.returns-in-Some-clause-ok
 returns-in-Some-clause-ok c =
     let run : IsRun (IsCall (λ bytes. bytes)) c.args.calls.items nothing_held c.drive-given.result.given.items c.drive-given.new.buf = search rules in
@@ -18,7 +18,7 @@ returns-in-Some-clause-first c =
     let found = rw c.deref.ensures.value at c.in-Some.ensures in
     record { all = replies; left = c.drive-given.new.buf; run = run; before = rw c.truncate.ensures.items (before-some replies c.in-Some.count (sym found)) }
 
--- none was
+-- memory was refused for no reply
 pub returns-clause-ok : goal.returns-clause-ok
 returns-clause-ok c =
     let run : IsRun (IsCall (λ bytes. bytes)) c.args.calls.items nothing_held c.drive-given.result.given.items c.drive-given.new.buf = search rules in

@@ -1,6 +1,6 @@
 use Rattle.std.proofs.Common.{◌≡◌, ◌∙◌, ◌++◌, ◌∷◌, [], rules}
-use Rattle.bytes_utils.proofs.Steps.{given}
-use Rattle.bytes_utils_run.proofs.CallLines.{HasRead-none, HasRead-more, no-calls-read}
+use Rattle.bytes_utils.proofs.StepLemmas.{given}
+use Rattle.bytes_utils_run.proofs.CallLineLemmas.{HasRead-none, HasRead-more, no-calls-read}
 use Rattle.bytes_utils_run.proofs.program.call_line.calls_of.Goals as goal
 
 pub loop-line-init : goal.loop-line-init

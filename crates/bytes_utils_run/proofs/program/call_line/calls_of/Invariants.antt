@@ -1,4 +1,4 @@
-use Rattle.bytes_utils_run.proofs.CallLines.{HasRead}
+use Rattle.bytes_utils_run.proofs.CallLineLemmas.{HasRead}
 use Rattle.bytes_utils_run.proofs.program.call_line.calls_of.Given as goal
 
 abbrev pub invariant-loop-line : goal.invariant-loop-line

@@ -1,7 +1,7 @@
 use Rattle.std.proofs.Common.{◌∙◌, ap, sym, refl, ◌++◌}
 use Rattle.std.specs.Str.{chars}
-use Rattle.bytes_utils_run.proofs.CallLines.{pushed-place, pushed-is}
-use Rattle.bytes_utils_run.proofs.CommandLine.{chars-push}
+use Rattle.bytes_utils_run.proofs.CallLineLemmas.{pushed-place, pushed-is}
+use Rattle.bytes_utils_run.proofs.CommandLemmas.{chars-push}
 use Rattle.bytes_utils_run.proofs.program.call_line.pushed.Goals as goal
 
 pub returns-in_default-clause-unknown : goal.returns-in_default-clause-unknown
@@ -11,13 +11,13 @@ returns-in_default-clause-unknown c is bytes asked =
 pub slice_from-requires : goal.slice_from-requires
 slice_from-requires c =
     let line = c.args.line.now in
-    let behind = rw c.as_str.ensures.value at c.in-Some.ensures.bytes in
-    rw c.as_str-2.ensures.value ((pushed-place line c.in-Some.text.now behind c.in-Some.ensures.utf8 _ refl).1)
+    let following = rw c.as_str.ensures.value at c.in-Some.ensures.bytes in
+    rw c.as_str-2.ensures.value ((pushed-place line c.in-Some.text.now following c.in-Some.ensures.utf8 _ refl).1)
 
 pub returns-in-Ok-clause-ok : goal.returns-in-Ok-clause-ok
 returns-in-Ok-clause-ok c =
     let line = c.args.line.now in
-    let behind = rw c.as_str.ensures.value at c.in-Some.ensures.bytes in
+    let following = rw c.as_str.ensures.value at c.in-Some.ensures.bytes in
     let value = rw c.as_str.ensures.value at c.in-Some.ensures.value in
     let bytes = c.into_inner.ensures.value ∙ (rw c.as_str-2.ensures.value at c.in-Ok.ensures.ok) in
-    pushed-is line c.in-Some.text.now behind c.in-Some.ensures.utf8 _ _ refl bytes value
+    pushed-is line c.in-Some.text.now following c.in-Some.ensures.utf8 _ _ refl bytes value

@@ -1,7 +1,7 @@
 use Rattle.std.proofs.Common.{subst, sym}
 use Rattle.std.specs.Str.{chars}
 use Rattle.bytes_utils_run.specs.CallLine.{IsNumbered}
-use Rattle.bytes_utils_run.proofs.CommandLine.{chars-advance, chars-copy, chars-chunks}
+use Rattle.bytes_utils_run.proofs.CommandLemmas.{chars-advance, chars-copy, chars-chunks}
 use Rattle.bytes_utils_run.proofs.program.call_line.with_number.Goals as goal
 
 pub returns-in-Some : goal.returns-in-Some

@@ -1,5 +1,5 @@
 use Rattle.std.proofs.Common.{◌∙◌, ◌++◌, ap, sym}
-use Rattle.bytes_utils_run.proofs.CommandLine.{chars-splitn, chars-rsplitn}
+use Rattle.bytes_utils_run.proofs.CommandLemmas.{chars-splitn, chars-rsplitn}
 use Rattle.bytes_utils_run.proofs.program.command.by_limit.Goals as goal
 
 pub returns-in-Some : goal.returns-in-Some

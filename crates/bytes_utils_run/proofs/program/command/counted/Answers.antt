@@ -1,4 +1,4 @@
-use Rattle.bytes_utils_run.proofs.CommandLine.{no-space, counted-found, no-number}
+use Rattle.bytes_utils_run.proofs.CommandLemmas.{no-space, counted-found, no-number}
 use Rattle.bytes_utils_run.proofs.program.command.counted.Goals as goal
 
 pub returns-in_err-digits : goal.returns-in_err-digits

@@ -1,4 +1,4 @@
--- A text without a line feed is its first line, and nothing is behind it.
+-- A text without a line feed is its first line, and nothing follows it.
 use Rattle.std.proofs.Common.{◌≡◌, sym, ap, ◌∙◌, ◌<◌, ℕ, List, [], ◌∷◌, unwrap_or, slice_get, length, arith}
 use Rattle.std.proofs.Math.Seq.{take-length, drop-length}
 use Rattle.std.proofs.lemmas.Str.{chars-nil}
@@ -15,4 +15,4 @@ pub returns-in_default-clause-line : goal.returns-in_default-clause-line
 returns-in_default-clause-line c = ap chars (take-length c.args.input.now) ∙ line-whole c.args.input.now c.in_default.ensures.line
 
 pub returns-in_default-clause-text : goal.returns-in_default-clause-text
-returns-in_default-clause-text c = ap chars (drop-length c.args.input.now) ∙ chars-nil ∙ sym c.in_default.ensures.behind
+returns-in_default-clause-text c = ap chars (drop-length c.args.input.now) ∙ chars-nil ∙ sym c.in_default.ensures.rest_after

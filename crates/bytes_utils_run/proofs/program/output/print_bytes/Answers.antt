@@ -3,7 +3,7 @@ use Rattle.std.proofs.KnownBytes.{Appends-trans}
 use Rattle.bytes_utils_run.proofs.Beginnings.{AppendsBeginning-after, AppendsBeginning-more, OnErr-always, OnErr-map}
 use Rattle.bytes_utils_run.proofs.program.output.print_bytes.Goals as goal
 
--- the length was written, and a beginning of the colon
+-- the length was written, and none or all of the colon
 pub returns-in_err-write_out-2-clause-err : goal.returns-in_err-write_out-2-clause-err
 returns-in_err-write_out-2-clause-err g c =
     let part = c.args.bytes.now in
@@ -13,7 +13,7 @@ returns-in_err-write_out-2-clause-err g c =
     (AppendsBeginning-more _ _ (decimal (length part) ++ codes ":") part
     (AppendsBeginning-after _ _ _ (decimal (length part)) (codes ":") size c.in_err-write_out-2.ensures.err)))
 
--- the length and the colon were written, and a beginning of the part
+-- the length and the colon were written, and first bytes of the part
 pub returns-in_err-write_out-3-clause-err : goal.returns-in_err-write_out-3-clause-err
 returns-in_err-write_out-3-clause-err g c =
     let part = c.args.bytes.now in
@@ -23,7 +23,7 @@ returns-in_err-write_out-3-clause-err g c =
     (AppendsBeginning-more _ _ (decimal (length part) ++ codes ":" ++ part) (codes "\n")
     (AppendsBeginning-after _ _ _ (decimal (length part) ++ codes ":") part head c.in_err-write_out-3.ensures.err))
 
--- all but the line feed was written, and a beginning of that
+-- all but the line feed was written, and none or all of that
 pub returns-clause-err : goal.returns-clause-err
 returns-clause-err g c =
     let part = c.args.bytes.now in

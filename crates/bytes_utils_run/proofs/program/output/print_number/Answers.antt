@@ -2,7 +2,7 @@ use Rattle.bytes_utils_run.proofs.Beginnings.{AppendsBeginning-after, OnErr-map}
 use Rattle.std.proofs.Common.{codes, decimal}
 use Rattle.bytes_utils_run.proofs.program.output.print_number.Goals as goal
 
--- the number was written, and a beginning of the line feed
+-- the number was written, and none or all of the line feed
 pub returns-clause-err : goal.returns-clause-err
 returns-clause-err g c =
     let size = rw (c.as_bytes.ensures.value, c.format.ensures.text) at c.in_ok-write_out.ensures.ok in

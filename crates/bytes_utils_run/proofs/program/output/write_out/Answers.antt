@@ -4,7 +4,7 @@ use Rattle.std.proofs.KnownBytes.{Appends-trans}
 use Rattle.std.specs.Io.KnownBytes.{Appends}
 use Rattle.bytes_utils_run.proofs.program.output.write_out.Goals as goal
 
--- what was written before, and then what this call took, is what is written now
+-- the bytes written before this call and those that it took are the bytes written now
 pub loop-written-preserved : goal.loop-written-preserved
 loop-written-preserved g c =
     let written = c.loop-written.written in

@@ -1,5 +1,5 @@
 use Rattle.std.proofs.Common.{refl}
-use Rattle.bytes_utils.proofs.Walks.{whole-walk}
+use Rattle.bytes_utils.proofs.WalkLemmas.{whole-walk}
 use Rattle.bytes_utils.proofs.split.closure.BytesIter.new.Goals as goal
 
 pub returns-clause-run : goal.returns-clause-run

@@ -1,6 +1,6 @@
 use Rattle.std.proofs.Common.{rules, arith, ◌≡◌, ◌<◌, Some, length}
 use Rattle.std.proofs.lemmas.Bool.Decides.{nat_tests}
-use Rattle.bytes_utils.proofs.KeepingCut.{none_to_come, some_to_come}
+use Rattle.bytes_utils.proofs.KeepingLemmas.{none_to_come, some_to_come}
 use Rattle.bytes_utils.proofs.split.inclusive.SplitInclusiveBytesIterator.next.Goals as goal
 
 pub returns-then-is_empty-clause-steps : goal.returns-then-is_empty-clause-steps

@@ -1,5 +1,5 @@
 use Rattle.std.proofs.Common.{rules, ◌≡◌, ◌<◌, length}
-use Rattle.bytes_utils.proofs.Lines.{lines-none, lines-some}
+use Rattle.bytes_utils.proofs.LinesLemmas.{lines-none, lines-some}
 use Rattle.bytes_utils.proofs.split.lines.LinesBytesIterator.next.Goals as goal
 
 pub returns-then-is_empty-clause-steps : goal.returns-then-is_empty-clause-steps

@@ -1,4 +1,4 @@
--- A text between two characters is text.
+-- The part of a text between two character boundaries is a text.
 use Rattle.std.proofs.lemmas.Str.{IsUtf8-between}
 use Rattle.bytes_utils.proofs.string.slice.StrInner+Bytes.slice.Goals as goal
 

@@ -1,4 +1,4 @@
--- Text may be cut where it begins.
+-- The start of a text is a character boundary.
 use Rattle.std.proofs.Common.{subst, IsUtf8}
 use Rattle.std.proofs.lemmas.Str.{IsCharBoundary-start}
 use Rattle.bytes_utils.proofs.string.slice.StrInner+Bytes.slice_to.Goals as goal

@@ -2,6 +2,6 @@ use Rattle.std.proofs.Common.{◌≡◌, ◌++◌, map, string_bytes}
 use Rattle.std.specs.List.{concat}
 use Rattle.bytes_utils.proofs.string.text.StrInner.extend_strings.Given as goal
 
--- the items so far stand behind the text
+-- the text is the old one and then the items so far
 abbrev pub invariant-loop-s : goal.invariant-loop-s
 invariant-loop-s g l = l.self ≡ l.fn.self ++ concat (map string_bytes l.yielded)

@@ -1,4 +1,4 @@
--- What a format writes into the empty text is the text.
+-- The text is what the format writes into the empty text.
 use Rattle.std.proofs.Common.{refl, ap, ◌∙◌, ◌++◌}
 use Rattle.std.proofs.lemmas.Fmt.{contents_after_writes}
 use Rattle.std.proofs.lemmas.Option.{IfSome_then}

@@ -1,6 +1,6 @@
 use Rattle.std.proofs.Common.{IfOk, IsUtf8, rules}
 use Rattle.serde_json.specs.View.{view}
-use Rattle.bytes_utils.specs.Json.{StandsFor}
+use Rattle.bytes_utils.specs.Json.{Represents}
 use Rattle.bytes_utils.proofs.JsonReading.{reads_text, refuses_other_value, refuses_other_bytes}
 use Rattle.bytes_utils.proofs.string.text.StrInner.from_json.Goals as goal
 
@@ -14,5 +14,5 @@ returns-clause-not_text g c =
 
 pub returns-clause-not_utf8 : goal.returns-clause-not_utf8
 returns-clause-not_utf8 g c =
-    let ok : IfOk c.from_value.result (λ text. StandsFor (view c.in_ok-value.value) text × IsUtf8 text) = search rules in
+    let ok : IfOk c.from_value.result (λ text. Represents (view c.in_ok-value.value) text × IsUtf8 text) = search rules in
     refuses_other_bytes c.args.json.now (view c.in_ok-value.value) c.in_ok-value.ensures.ok c.from_value.result ok c.from_value.ensures.err

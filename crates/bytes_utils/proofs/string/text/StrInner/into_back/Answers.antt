@@ -1,4 +1,4 @@
--- The back of a text, cut between two characters, is text.
+-- The second half of a text that is split between two characters is a text.
 use Rattle.std.proofs.lemmas.Str.{IsUtf8-drop}
 use Rattle.bytes_utils.proofs.string.text.StrInner.into_back.Goals as goal
 

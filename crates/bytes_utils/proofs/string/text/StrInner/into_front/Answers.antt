@@ -1,4 +1,4 @@
--- The front of a text, cut between two characters, is text.
+-- The first half of a text that is split between two characters is a text.
 use Rattle.std.proofs.lemmas.Str.{IsUtf8-take}
 use Rattle.bytes_utils.proofs.string.text.StrInner.into_front.Goals as goal
 

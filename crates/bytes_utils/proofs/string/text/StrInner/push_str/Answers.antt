@@ -1,4 +1,4 @@
--- Text behind text is text.
+-- A text appended to a text gives a text.
 use Rattle.std.proofs.lemmas.Str.{IsUtf8-append}
 use Rattle.bytes_utils.proofs.string.text.StrInner.push_str.Goals as goal
 

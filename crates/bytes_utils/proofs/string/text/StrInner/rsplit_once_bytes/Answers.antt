@@ -2,8 +2,8 @@ use Rattle.std.proofs.Common.{rules, ◌+◌, ◌≤◌, length, Some}
 use Rattle.std.specs.Str.{chars}
 use Rattle.bytes_utils.specs.Occurrence.{Occurs}
 use Rattle.bytes_utils.proofs.PartCut.{end_boundary, next_boundary}
-use Rattle.bytes_utils.proofs.Halves.{found_last, bytes_around, halves_at_last}
-use Rattle.bytes_utils.proofs.Results.{OnErr-always}
+use Rattle.bytes_utils.proofs.HalvesLemmas.{found_last, bytes_around, halves_at_last}
+use Rattle.bytes_utils_buf.proofs.Results.{OnErr-always}
 use Rattle.bytes_utils.proofs.string.text.StrInner.rsplit_once_bytes.Goals as goal
 
 pub overflow_add-at : goal.overflow_add-at
@@ -13,13 +13,13 @@ overflow_add-at g c =
     (next_boundary _ _ c.as_str.utf8 c.utf8.separator _ _ found.at_is found.here).0 in
     search rules
 
-pub cut_out-requires-clause-end : goal.cut_out-requires-clause-end
-cut_out-requires-clause-end g c =
+pub cut_around-requires-clause-end : goal.cut_around-requires-clause-end
+cut_around-requires-clause-end g c =
     let found = found_last _ _ c.as_str.utf8 c.utf8.separator (Some c.in-Some.at) c.in-Some.ensures.last c.in-Some.ensures.empty in
     rw (← c.as_str.ensures.value) (end_boundary _ _ c.as_str.utf8 c.utf8.separator _ _ found.at_is found.here)
 
-pub cut_out-requires-clause-next : goal.cut_out-requires-clause-next
-cut_out-requires-clause-next g c =
+pub cut_around-requires-clause-next : goal.cut_around-requires-clause-next
+cut_around-requires-clause-next g c =
     let found = found_last _ _ c.as_str.utf8 c.utf8.separator (Some c.in-Some.at) c.in-Some.ensures.last c.in-Some.ensures.empty in
     rw (← c.as_str.ensures.value) (next_boundary _ _ c.as_str.utf8 c.utf8.separator _ _ found.at_is found.here)
 
@@ -34,13 +34,13 @@ pub returns-clause-halves : goal.returns-clause-halves
 returns-clause-halves g c =
     let found = found_last _ _ c.as_str.utf8 c.utf8.separator (Some c.in-Some.at) c.in-Some.ensures.last c.in-Some.ensures.empty in
     let before_is = rw (← c.as_str.ensures.value) at c.in_ok-before.ensures.before in
-    let behind_is = rw (← c.as_str.ensures.value) at c.in_ok-before.ensures.after in
+    let after_is = rw (← c.as_str.ensures.value) at c.in_ok-before.ensures.after in
     rw (← c.as_str.ensures.value)
-    (halves_at_last _ _ c.as_str.utf8 c.utf8.separator _ _ found.at_is found.here _ _ before_is behind_is found.none_behind found.at_end)
+    (halves_at_last _ _ c.as_str.utf8 c.utf8.separator _ _ found.at_is found.here _ _ before_is after_is found.none_after found.at_end)
 
 pub returns-clause-bytes : goal.returns-clause-bytes
 returns-clause-bytes g c =
     let found = found_last _ _ c.as_str.utf8 c.utf8.separator (Some c.in-Some.at) c.in-Some.ensures.last c.in-Some.ensures.empty in
     let before_is = rw (← c.as_str.ensures.value) at c.in_ok-before.ensures.before in
-    let behind_is = rw (← c.as_str.ensures.value) at c.in_ok-before.ensures.after in
-    rw (← c.as_str.ensures.value) (bytes_around _ _ c.as_str.utf8 c.utf8.separator _ _ found.at_is found.here _ _ before_is behind_is)
+    let after_is = rw (← c.as_str.ensures.value) at c.in_ok-before.ensures.after in
+    rw (← c.as_str.ensures.value) (bytes_around _ _ c.as_str.utf8 c.utf8.separator _ _ found.at_is found.here _ _ before_is after_is)

@@ -1,4 +1,4 @@
--- Both halves of a text, cut between two characters, are text.
+-- Both halves of a text that is split between two characters are texts.
 use Rattle.std.proofs.lemmas.Str.{IsUtf8-take, IsUtf8-drop}
 use Rattle.bytes_utils.proofs.string.text.StrInner.split_at_bytes.Goals as goal
 

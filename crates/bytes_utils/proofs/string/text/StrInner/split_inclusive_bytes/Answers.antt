@@ -1,4 +1,4 @@
-use Rattle.bytes_utils.proofs.Search.{chars-some}
+use Rattle.bytes_utils.proofs.SearchLemmas.{chars-some}
 use Rattle.bytes_utils.proofs.Inclusive.{has_inclusive_parts}
 use Rattle.bytes_utils.proofs.string.text.StrInner.split_inclusive_bytes.Goals as goal
 

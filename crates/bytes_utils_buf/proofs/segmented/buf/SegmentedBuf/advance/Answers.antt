@@ -1,7 +1,7 @@
 use Rattle.std.proofs.Common.{length, map, arith, ap, ◌∙◌, length-drop}
 use Rattle.std.proofs.lemmas.List.{length-map}
 use Rattle.std.specs.List.{concat}
-use Rattle.bytes_utils_buf.proofs.Ledger.{IsPaid-passing}
+use Rattle.bytes_utils_buf.proofs.TallyLemmas.{IsPaid-passing}
 use Rattle.bytes_utils_buf.proofs.Lists.{NoneEmpty-Skips}
 use Rattle.bytes_utils_buf.proofs.segmented.buf.SegmentedBuf.advance.Goals as goal
 

@@ -25,7 +25,7 @@ returns-then-len-remaining-clause-value g c =
     let start = c.args.range.start in
     let len = c.args.range.end - start in
     let from = c.find_place-from.result in
-    let behind = lists_from from.passed from.offset xs in
+    let following = lists_from from.passed from.offset xs in
     let skips = c.find_place-from.ensures.skips in
     let size = ap (λ q. length (concat q.segments)) c.self.view_is in
     let within : from.passed < length items = omega (arith, Skips-inside xs from.passed from.offset start skips (omega (arith, size, c.requires.within)), length-map items f) in
@@ -35,6 +35,6 @@ returns-then-len-remaining-clause-value g c =
     let count : from.offset + len - from.offset ≡ len = omega arith in
     let same : take len (drop start (concat c.args.self.now.segments)) ≡ take (from.offset + len - from.offset) (drop from.offset (f c.index-segment.result.now))
     = ap (λ q. take len (drop start (concat q.segments))) (sym c.self.view_is) ∙ ap (take len) (sym skips.bytes)
-    ∙ front_alone behind len (omega (arith, ap length front, held, c.remaining.ensures)) ∙ ap (take len) front
+    ∙ front_alone following len (omega (arith, ap length front, held, c.remaining.ensures)) ∙ ap (take len) front
     ∙ ap (λ n. take n (drop from.offset (f c.index-segment.result.now))) (sym count) in
     subst (λ (bytes : List ℕ). IfOk c.part.result (λ copy. copy ≡ bytes)) (sym same) c.part.ensures.value

@@ -1,15 +1,15 @@
 use Rattle.std.proofs.Common.{map, ap, ◌∙◌, arith}
 use Rattle.bytes_utils_buf.specs.Slices.{taken_by}
-use Rattle.bytes_utils_buf.proofs.Ledger.{IsPaid-passing}
+use Rattle.bytes_utils_buf.proofs.TallyLemmas.{IsPaid-passing}
 use Rattle.bytes_utils_buf.proofs.segmented.buf.SegmentedBuf.copy_to_bytes.Goals as goal
 
 pub returns-then-front_holds-clause-paid : goal.returns-then-front_holds-clause-paid
 returns-then-front_holds-clause-paid g c =
-    let new = c.copy_of_front.new.self in
-    let s = c.copy_of_front.ensures in
+    let new = c.take_front.new.self in
+    let s = c.take_front.ensures in
     let counted = c.call.ensures in
     rw (← c.self.view_is)
-    (IsPaid-passing (taken_by c.args.len c.copy_of_front.result) (map g.B.Buf.unread c.self.inside.segments.items) new.segments c.self.inside.tally new.tally s.skips
+    (IsPaid-passing (taken_by c.args.len c.take_front.result) (map g.B.Buf.unread c.self.inside.segments.items) new.segments c.self.inside.tally new.tally s.skips
     (s.given ∙ ap (λ t. t.given) counted)
     (omega (arith, s.calls, ap (λ t. t.calls) counted))
     (omega (arith, s.turns, ap (λ t. t.turns) counted)))

@@ -3,8 +3,8 @@ use Rattle.std.proofs.lemmas.List.{map_push}
 use Rattle.std.proofs.lemmas.Result.{err_from_is_err_and}
 use Rattle.std.specs.List.{concat}
 use Rattle.bytes_utils_buf.specs.Segments.{after_accepting}
-use Rattle.bytes_utils_buf.proofs.Accepting.{with_one, with_one-accepting, concat-accepting}
-use Rattle.bytes_utils_buf.proofs.Ledger.{IsPaid-accepting}
+use Rattle.bytes_utils_buf.proofs.SegmentsLemmas.{with_one, with_one-accepting, concat-accepting}
+use Rattle.bytes_utils_buf.proofs.TallyLemmas.{IsPaid-accepting}
 use Rattle.bytes_utils_buf.proofs.segmented.buf.SegmentedBuf.extend.Goals as goal
 
 pub loop-buf-preserved : goal.loop-buf-preserved

@@ -2,7 +2,7 @@ use Rattle.std.proofs.Common.{◌≡◌, ◌+◌, ◌<◌, ◌≤◌, length, ta
 use Rattle.std.specs.List.{concat}
 use Rattle.bytes_utils_buf.specs.Segments.{front_of}
 use Rattle.bytes_utils_buf.proofs.Lists.{count_unread-Skips_front}
-use Rattle.bytes_utils_buf.proofs.Lent.{Passes-more, copy_more}
+use Rattle.bytes_utils_buf.proofs.LentLemmas.{Passes-more, copy_more}
 use Rattle.bytes_utils_buf.proofs.segmented.copy.Segmented.collect.Goals as goal
 
 pub loop-copy-preserved : goal.loop-copy-preserved

@@ -1,7 +1,7 @@
 use Rattle.std.proofs.Common.{◌+◌, ◌-◌, length, map, ap, ◌∙◌, arith}
 use borrow.Rule.Slice.PartMut.{put_mid}
 use Rattle.bytes_utils_buf.specs.Lent.{lent_at, IsPassedOnce, SkipsLent}
-use Rattle.bytes_utils_buf.proofs.Lent.{take_read_out, place_inside, map-part, IsLent-skip, SkipsLent-part, lists_of-part}
+use Rattle.bytes_utils_buf.proofs.LentLemmas.{take_read_out, place_inside, map-part, IsLent-skip, SkipsLent-part, lists_of-part}
 use Rattle.bytes_utils_buf.proofs.segmented.slice.SegmentedSlice.advance.Goals as goal
 
 pub skip_lent-passed-requires : goal.skip_lent-passed-requires

@@ -1,7 +1,7 @@
 use Rattle.std.proofs.Common.{ap, ◌∙◌, sym}
 use Rattle.std.specs.List.{concat}
-use Rattle.bytes_utils_buf.proofs.Lent.{map-part}
-use Rattle.bytes_utils_buf.proofs.Tables.{FillsTable-same}
+use Rattle.bytes_utils_buf.proofs.LentLemmas.{map-part}
+use Rattle.bytes_utils_buf.proofs.SlicesLemmas.{FillsTable-same}
 use Rattle.bytes_utils_buf.proofs.segmented.slice.SegmentedSlice.chunks_vectored.Goals as goal
 
 pub returns : goal.returns

@@ -1,6 +1,6 @@
 use Rattle.std.proofs.Common.{map, drop, ap, ◌∙◌}
 use Rattle.std.specs.List.{concat}
-use Rattle.bytes_utils_buf.proofs.Lent.{concat-read_out}
+use Rattle.bytes_utils_buf.proofs.LentLemmas.{concat-read_out}
 use Rattle.bytes_utils_buf.proofs.segmented.slice.SegmentedSlice.into_lent.Goals as goal
 
 pub returns-clause-bytes : goal.returns-clause-bytes

@@ -1,7 +1,7 @@
 use Rattle.std.proofs.Common.{rules, length, map, arith, ap, length-drop}
 use Rattle.std.proofs.lemmas.List.{length-map}
 use Rattle.bytes_utils_buf.specs.Lent.{IsPassedOnce, lent_at}
-use Rattle.bytes_utils_buf.proofs.Lent.{IsLent-new}
+use Rattle.bytes_utils_buf.proofs.LentLemmas.{IsLent-new}
 use Rattle.bytes_utils_buf.proofs.segmented.slice.SegmentedSlice.new.Goals as goal
 
 pub invariant_of-result : goal.invariant_of-result

@@ -3,7 +3,7 @@ use Rattle.std.proofs.lemmas.List.{length-map}
 use Rattle.bytes.specs.Unread.{IsChunkOf}
 use Rattle.bytes_utils_buf.specs.Segments.{front_of}
 use Rattle.bytes_utils_buf.proofs.Lists.{read_at, front_of_drop}
-use Rattle.bytes_utils_buf.proofs.Lent.{chunk_of_front}
+use Rattle.bytes_utils_buf.proofs.LentLemmas.{chunk_of_front}
 use Rattle.bytes_utils_buf.proofs.segmented.slice.SegmentedSliceSegmented.front_chunk.Goals as goal
 
 pub returns-then-self-bufs : goal.returns-then-self-bufs

@@ -1,6 +1,6 @@
 use Rattle.std.proofs.Common.{◌≡◌, ◌∙◌, refl, subst, take, arith}
 use Rattle.bytes_utils_buf.specs.Slices.{FillsTable}
-use Rattle.bytes_utils_run.proofs.Slices.{All_one-push, FillsTable-byte, FillsTable-all_bytes}
+use Rattle.bytes_utils_run.proofs.OddLemmas.{All_one-push, FillsTable-byte, FillsTable-all_bytes}
 use Rattle.bytes_utils_run.proofs.odd.drip.DripBufParts.chunks_into.Goals as goal
 
 pub loop-i-preserved : goal.loop-i-preserved

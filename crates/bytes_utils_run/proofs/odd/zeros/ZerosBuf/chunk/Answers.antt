@@ -1,6 +1,6 @@
 use Rattle.std.proofs.Common.{ap, sym, ◌∙◌, take, arith}
 use Rattle.std.proofs.lemmas.List.{take-replicate}
-use Rattle.bytes_utils_run.proofs.Slices.{take_zeros}
+use Rattle.bytes_utils_run.proofs.OddLemmas.{take_zeros}
 use Rattle.bytes_utils_run.proofs.odd.zeros.ZerosBuf.chunk.Goals as goal
 
 pub returns-clause-eight : goal.returns-clause-eight

@@ -1,7 +1,7 @@
 use Rattle.std.proofs.Common.{◌∙◌, ap, refl, subst, arith}
 use Rattle.bytes_utils_buf.specs.Slices.{FillsTable}
 use Rattle.bytes_utils_run.specs.Odd.{pieces}
-use Rattle.bytes_utils_run.proofs.Slices.{FillsTable-none, FillsTable-zeros, FillsTable-all_zeros, pieces-zeros}
+use Rattle.bytes_utils_run.proofs.OddLemmas.{FillsTable-none, FillsTable-zeros, FillsTable-all_zeros, pieces-zeros}
 use Rattle.bytes_utils_run.proofs.odd.zeros.ZerosBufParts.chunks_into.Goals as goal
 
 pub loop-shown-init : goal.loop-shown-init

@@ -1,0 +1,169 @@
+-- The first place of a needle in segments, from the needles that begin in each segment.
+use Rattle.std.proofs.Common.{◌≡◌, ℕ, zero, suc, ◌+◌, ◌-◌, ◌<◌, ◌≤◌, List, [], ◌∷◌, ◌++◌, length, take, drop, get_or, Some, None, ap, ◌∙◌, sym, refl, arith, length-append, length-drop, length-take, append_assoc, append-nil, take-append-drop, take_at, drop_at, ⊎_elim}
+use Rattle.std.proofs.lemmas.Bool.{cases_lt}
+use Rattle.std.proofs.lemmas.List.{drop-append-le, drop_all, drop_more, take_all}
+use Rattle.std.proofs.Math.Seq.{take-append-add}
+use Rattle.std.specs.List.{concat}
+use Rattle.memchr.specs.Find.{FindsNeedle, IsFirst, Nowhere, OccursAt}
+use Rattle.bytes_utils_buf.proofs.Lists.{concat_split}
+use Rattle.bytes_utils.proofs.FrameSearchLemmas.{missed_in_part, occurs_in_all, occurs_in_part}
+
+-- ---- a window that is filled from segments
+
+-- the window so far has these first bytes, and the next ones are in the segments from index i on
+pub record Fills (size : ℕ) (all : List ℕ) (xs : List (List ℕ)) (filled : List ℕ) (i : ℕ) : Type 0 where
+  pub within : length filled ≤ size
+  pub bytes : take size (filled ++ concat (drop i xs)) ≡ take size all
+
+take-append_taken : (n : ℕ) (x ys : List ℕ) → take n (take n x ++ ys) ≡ take n (x ++ ys)
+take-append_taken zero x ys = refl
+take-append_taken (suc n) [] ys = refl
+take-append_taken (suc n) (b ∷ x) ys = ap (λ l. b ∷ l) (take-append_taken n x ys)
+
+pub Fills-first : (size : ℕ) (xs : List (List ℕ)) (piece filled : List ℕ) (i : ℕ) → filled ≡ take size piece → Fills size (piece ++ concat (drop i xs)) xs filled i
+Fills-first size xs piece filled i is =
+    record {
+      within = omega (arith, ap length is, length-take size piece);
+      bytes = ap (λ l. take size (l ++ concat (drop i xs))) is ∙ take-append_taken size piece (concat (drop i xs));
+    }
+
+pub Fills-more : (size : ℕ) (all : List ℕ) (xs : List (List ℕ)) (filled segment next : List ℕ) (i : ℕ) → Fills size all xs filled i → i < length xs
+    → segment ≡ get_or xs i [] → next ≡ filled ++ take (size - length filled) segment → Fills size all xs next (i + 1)
+Fills-more size all xs filled segment next i h inside is same =
+    let n = size - length filled in
+    let rest = concat (drop (i + 1) xs) in
+    let within = h.within in
+    let total : size ≡ length filled + n = omega (arith, within) in
+    let lists : segment ++ rest ≡ concat (drop i xs) = ap (λ l. l ++ rest) is ∙ sym (ap concat (drop_more xs i [] inside)) in
+    record {
+      within = omega (arith, within, ap length same, length-append filled (take n segment), length-take n segment);
+      bytes = ap (λ l. take size (l ++ rest)) same ∙ ap (take size) (append_assoc filled (take n segment) rest)
+          ∙ ap (λ m. take m (filled ++ (take n segment ++ rest))) total ∙ take-append-add filled (take n segment ++ rest) n
+          ∙ ap (λ l. filled ++ l) (take-append_taken n segment rest) ∙ sym (take-append-add filled (segment ++ rest) n)
+          ∙ ap (λ m. take m (filled ++ (segment ++ rest))) (sym total) ∙ ap (λ l. take size (filled ++ l)) lists ∙ h.bytes;
+    }
+
+pub Fills-all : (size : ℕ) (all : List ℕ) (xs : List (List ℕ)) (filled : List ℕ) (i : ℕ) → Fills size all xs filled i → (length filled < size → length xs ≤ i) → filled ≡ take size all
+Fills-all size all xs filled i h end =
+    let within = h.within in
+    ⊎_elim
+    (λ short.
+    let none : filled ++ concat (drop i xs) ≡ filled = ap (λ l. filled ++ concat l) (drop_all i xs (end short)) ∙ append-nil filled in
+    sym (ap (take size) none ∙ take_all size filled within) ∙ h.bytes)
+    (λ full. sym (take_at filled (concat (drop i xs)) size (omega (arith, within, full))) ∙ h.bytes)
+    (cases_lt (length filled) size)
+
+-- ---- a needle that begins in a segment, from place `from` of it on
+
+module _ (p segment following : List ℕ) (from : ℕ) (some : 0 < length p) (inside : from ≤ length segment) where
+  within_all : from ≤ length (segment ++ following)
+  within_all = omega (arith, inside, length-append segment following)
+
+  part : drop from (segment ++ following) ≡ drop from segment ++ following
+  part = drop-append-le from segment following inside
+
+  pub begun_inside : (k at : ℕ) → at ≡ from + k → FindsNeedle (drop from segment) p 0 (Some k) → IsFirst (OccursAt (segment ++ following) p) from (length segment) (Some at)
+  begun_inside k at is found =
+      let fits = found.1.fits in (
+        record {
+          low = omega (arith, is);
+          high = omega (arith, is, fits, some, length-drop from segment);
+          before = λ j low high here.
+              found.0.before (j - from) (omega arith) (omega (arith, high, is))
+              (occurs_in_part (segment ++ following) p (drop from segment) following from within_all part j low (omega (arith, high, is, fits)) here);
+        },
+        rw is (occurs_in_all (segment ++ following) p (drop from segment) following from within_all part k found.1),
+      )
+
+  missed_inside : FindsNeedle (drop from segment) p 0 None → (j : ℕ) → from ≤ j → j + length p ≤ length segment → ¬ OccursAt (segment ++ following) p j
+  missed_inside missed j low fits here =
+      missed_in_part (segment ++ following) p (drop from segment) following from within_all part missed j low (omega (arith, fits, inside, length-drop from segment)) here
+
+  -- The window over the border after the segment: it has, from place `tail` on, the bytes of a needle that begins there.
+  module _ (tail size : ℕ) (window : List ℕ) (low : from ≤ tail) (high : tail ≤ length segment) (reach : from < tail → tail + length p ≤ length segment + 1)
+      (sized : tail + size + 1 ≡ length segment + length p) (is : window ≡ take size (drop tail (segment ++ following))) where
+    tail_within : tail ≤ length (segment ++ following)
+    tail_within = omega (arith, high, length-append segment following)
+
+    split : drop tail (segment ++ following) ≡ window ++ drop size (drop tail (segment ++ following))
+    split = sym (take-append-drop size (drop tail (segment ++ following))) ∙ ap (λ l. l ++ drop size (drop tail (segment ++ following))) (sym is)
+
+    wide : length window ≤ size
+    wide = omega (arith, ap length is, length-take size (drop tail (segment ++ following)))
+
+    before_tail : FindsNeedle (drop from segment) p 0 None → (j : ℕ) → from ≤ j → j < tail → ¬ OccursAt (segment ++ following) p j
+    before_tail missed j from_on below here = missed_inside missed j from_on (omega (arith, below, reach (omega (arith, from_on, below)))) here
+
+    pub begun_across : (k at : ℕ) → at ≡ tail + k → FindsNeedle (drop from segment) p 0 None → FindsNeedle window p 0 (Some k)
+        → IsFirst (OccursAt (segment ++ following) p) from (length segment) (Some at)
+    begun_across k at same missed found =
+        let fits = found.1.fits in (
+          record {
+            low = omega (arith, same, low);
+            high = omega (arith, same, fits, wide, sized);
+            before = λ j from_on below here.
+                ⊎_elim (λ front. before_tail missed j from_on front here)
+                (λ on. found.0.before (j - tail) (omega arith) (omega (arith, below, same, on))
+                (occurs_in_part (segment ++ following) p window (drop size (drop tail (segment ++ following))) tail tail_within split j on (omega (arith, below, same, fits)) here))
+                (cases_lt j tail);
+          },
+          rw same (occurs_in_all (segment ++ following) p window (drop size (drop tail (segment ++ following))) tail tail_within split k found.1),
+        )
+
+    pub missed_begun : FindsNeedle (drop from segment) p 0 None → FindsNeedle window p 0 None → Nowhere (OccursAt (segment ++ following) p) from (length segment)
+    missed_begun missed none j from_on below here =
+        let fits = here.fits in
+        ⊎_elim (λ front. before_tail missed j from_on front here)
+        (λ on. missed_in_part (segment ++ following) p window (drop size (drop tail (segment ++ following))) tail tail_within split none j on
+        (omega (arith, fits, below, sized, tail_within, ap length is, length-take size (drop tail (segment ++ following)), length-drop tail (segment ++ following))) here)
+        (cases_lt j tail)
+
+-- the bytes of such a window
+pub border_bytes : (segment following piece window : List ℕ) (tail room size : ℕ) → tail ≤ length segment → piece ≡ drop tail segment → room ≡ size → window ≡ take room (piece ++ following)
+    → window ≡ take size (drop tail (segment ++ following))
+border_bytes segment following piece window tail room size within from same is =
+    is ∙ ap (λ n. take n (piece ++ following)) same ∙ ap (λ l. take size (l ++ following)) from ∙ ap (take size) (sym (drop-append-le tail segment following within))
+
+-- ---- a segment after those in which the needle does not begin
+
+module _ (all hay p : List ℕ) (start base : ℕ) (within : base ≤ length all) (bytes : drop base all ≡ hay) (none : Nowhere (OccursAt all p) start base) where
+  parts : drop base all ≡ hay ++ []
+  parts = bytes ∙ sym (append-nil hay)
+
+  before_place : (end : ℕ) → Nowhere (OccursAt hay p) (start - base) end → Nowhere (OccursAt all p) start (base + end)
+  before_place end nowhere j low high here =
+      let fits = here.fits in
+      ⊎_elim (λ below. none j low below here)
+      (λ on. nowhere (j - base) (omega (arith, low, on)) (omega (arith, high, on))
+      (occurs_in_part all p hay [] base within parts j on (omega (arith, fits, within, ap length bytes, length-drop base all)) here))
+      (cases_lt j base)
+
+  pub found_begun : (k end at : ℕ) → at ≡ base + k → IsFirst (OccursAt hay p) (start - base) end (Some k) → FindsNeedle all p start (Some at)
+  found_begun k end at is found =
+      let fits = found.1.fits in
+      let low = found.0.low in (
+        record {
+          low = omega (arith, is, low);
+          high = omega (arith, is, fits, within, ap length bytes, length-drop base all);
+          before = rw is (before_place k found.0.before);
+        },
+        rw is (occurs_in_all all p hay [] base within parts k found.1),
+      )
+
+  pub missed_segment : (end : ℕ) → IsFirst (OccursAt hay p) (start - base) end None → Nowhere (OccursAt all p) start (base + end)
+  missed_segment end missed = before_place end missed
+
+pub base_within : (xs : List (List ℕ)) (i base : ℕ) → base ≡ length (concat (take i xs)) → base ≤ length (concat xs)
+base_within xs i base at = omega (arith, at, ap length (concat_split i xs), length-append (concat (take i xs)) (concat (drop i xs)))
+
+-- the bytes from the segment at index i on
+pub segment_bytes : (xs : List (List ℕ)) (segment : List ℕ) (i base : ℕ) → i < length xs → segment ≡ get_or xs i [] → base ≡ length (concat (take i xs))
+    → drop base (concat xs) ≡ segment ++ concat (drop (i + 1) xs)
+segment_bytes xs segment i base inside is at =
+    ap (drop base) (concat_split i xs) ∙ drop_at (concat (take i xs)) (concat (drop i xs)) base (sym at) ∙ ap concat (drop_more xs i [] inside)
+    ∙ ap (λ l. l ++ concat (drop (i + 1) xs)) (sym is)
+
+pub missed_all : (all p : List ℕ) (start : ℕ) → 0 < length p → Nowhere (OccursAt all p) start (length all) → FindsNeedle all p start None
+missed_all all p start some none j low high here =
+    let fits = here.fits in
+    none j low (omega (arith, fits, some)) here

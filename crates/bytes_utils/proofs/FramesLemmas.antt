@@ -1,0 +1,189 @@
+-- Frames from pieces.
+use Rattle.std.proofs.Common.{map, All, IsUtf8, drop-drop, Option, ◌≤◌, ◌≡◌, ℕ, ◌+◌, ◌<◌, List, [], ◌∷◌, ◌++◌, length, take, drop, None, Some, ap, ◌∙◌, sym, refl, subst, arith, append_assoc, append-nil, take-append-drop, ⊎_elim}
+use Rattle.std.proofs.lemmas.Bool.{cases_lt}
+use Rattle.std.proofs.lemmas.List.{append_cancel_left, length-take-le, take_at, drop_at}
+use Rattle.std.proofs.lemmas.List.Elements.{All-nil, All-cons, All-head, All-tail}
+use Rattle.std.proofs.lemmas.Str.{IsUtf8-drop}
+use Rattle.std.specs.Str.{chars}
+use Rattle.std.specs.Option.{IfNone, IfSome}
+use Rattle.memchr.specs.Find.{FindsNeedle}
+use Rattle.memchr.proofs.lemmas.MatchLemmas.{OccursAt-part, OccursAt-split}
+use Rattle.bytes_utils.specs.Occurrence.{Occurs, OccursAt, OccursFirstAt}
+use Rattle.bytes_utils.specs.Parts.{IsCutAtFirst, AreForwardParts}
+use Rattle.bytes_utils.specs.Frames.{TakesFrame, FrameEvent, Pushed, Taken, IsFrameRun, pushed_by, given_by, AreFrames, framed, FramesLaw, FramePartsLaw, PutFramesLaw, SameFramesLaw, AllFramesLaw, TextFramesLaw}
+use Rattle.bytes_utils.proofs.Boundaries.{OccursAt-fits, HasNeedleAt-from_occurs}
+use Rattle.bytes_utils.proofs.OccurrenceLemmas.{OccursFirstAt-append, first_places_same}
+use Rattle.bytes_utils.proofs.Joins.{append_same}
+use Rattle.bytes_utils.proofs.Forward.{AreForwardParts-led, AreForwardParts-last, AreForwardParts-more}
+use Rattle.bytes_utils.proofs.FromEnds.{front-from}
+use Rattle.bytes_utils.proofs.PartLists.{first-from_cut, cut-from_first}
+use Rattle.bytes_utils.proofs.PartCut.{next_boundary, chars_before, chars_after}
+use Rattle.bytes_utils.proofs.SearchLemmas.{chars-some, FindsFirst-from_needle}
+
+-- ---- a frame is taken
+
+module _ (p held : List ℕ) (some : 0 < length p) where
+  pub TakesFrame-found : (at : ℕ) → FindsNeedle held p 0 (Some at) → TakesFrame p held (take at held) (drop (at + length p) held)
+  TakesFrame-found at found =
+      let fits = found.1.fits in
+      let size : length (take at held) ≡ at = length-take-le at held (omega arith) in
+      record {
+        bytes = sym (take-append-drop at held) ∙ ap (λ l. take at held ++ l) (OccursAt-split held p at found.1);
+        first = subst (OccursFirstAt p held) (sym size) (record {
+          here = OccursAt-part held p at found.1;
+          none_before = λ j there.
+              ⊎_elim (λ below. absurd (found.0.before j (omega arith) below (HasNeedleAt-from_occurs p held j some there))) (λ from. from) (cases_lt j at);
+        });
+      }
+
+  lacks_missed : FindsNeedle held p 0 None → ¬ Occurs p held
+  lacks_missed missed occurs =
+      let fits = OccursAt-fits p held occurs.0 some occurs.1 in
+      missed occurs.0 (omega arith) (omega (arith, fits)) (HasNeedleAt-from_occurs p held occurs.0 some occurs.1)
+
+  pub found_frame : (r : Option ℕ) → FindsNeedle held p 0 r → IfSome r (λ len. TakesFrame p held (take len held) (drop (len + length p) held))
+  found_frame None missed = tt
+  found_frame (Some at) found = TakesFrame-found at found
+
+  pub found_within : (r : Option ℕ) → FindsNeedle held p 0 r → IfSome r (λ len. len + length p ≤ length held)
+  found_within None missed = tt
+  found_within (Some at) found = found.1.fits
+
+  pub found_none : (r : Option ℕ) → FindsNeedle held p 0 r → IfNone r (¬ Occurs p held)
+  found_none None missed = lacks_missed missed
+  found_none (Some at) found = tt
+
+-- ---- runs
+
+first_more : (p xs ys : List ℕ) (i : ℕ) → OccursFirstAt p xs i → OccursFirstAt p (xs ++ ys) i
+first_more [] xs ys i first = record { here = refl; none_before = λ j there. omega (arith, first.none_before 0 refl) }
+first_more (x ∷ p) xs ys i first = OccursFirstAt-append (x ∷ p) xs ys i (omega arith) first
+
+TakesFrame-more : (p old frame rest piece : List ℕ) → TakesFrame p old frame rest → TakesFrame p (old ++ piece) frame (rest ++ piece)
+TakesFrame-more p old frame rest piece takes = record {
+  bytes = ap (λ l. l ++ piece) takes.bytes ∙ append_assoc frame (p ++ rest) piece ∙ ap (λ l. frame ++ l) (append_assoc p rest piece);
+  first = first_more p old piece (length frame) takes.first;
+}
+
+pub AreFrames-more : (p bytes : List ℕ) (frames : List (List ℕ)) (rest piece : List ℕ) → AreFrames p bytes frames rest → AreFrames p (bytes ++ piece) frames (rest ++ piece)
+AreFrames-more p bytes [] rest piece are = ap (λ l. l ++ piece) are
+AreFrames-more p bytes (frame ∷ frames) rest piece are =
+    (are.0 ++ piece, TakesFrame-more p bytes frame are.0 piece are.1, AreFrames-more p are.0 frames rest piece are.2)
+
+pub AreFrames-next : (p bytes : List ℕ) (frames : List (List ℕ)) (held frame rest : List ℕ) → AreFrames p bytes frames held → TakesFrame p held frame rest
+    → AreFrames p bytes (frames ++ frame ∷ []) rest
+AreFrames-next p bytes [] held frame rest are takes = (rest, subst (λ l. TakesFrame p l frame rest) (sym are) takes, refl)
+AreFrames-next p bytes (x ∷ frames) held frame rest are takes = (are.0, are.1, AreFrames-next p are.0 frames held frame rest are.2 takes)
+
+AreFrames-run : (p bytes : List ℕ) (frames : List (List ℕ)) (held : List ℕ) (events : List FrameEvent) (end : List ℕ) → AreFrames p bytes frames held → IsFrameRun p held events end
+    → AreFrames p (bytes ++ pushed_by events) (frames ++ given_by events) end
+AreFrames-run p bytes frames held [] end are run = rw (append-nil bytes, append-nil frames) (subst (AreFrames p bytes frames) (sym run) are)
+AreFrames-run p bytes frames held (Pushed piece ∷ events) end are run =
+    rw (← append_assoc bytes piece (pushed_by events)) (AreFrames-run p (bytes ++ piece) frames (held ++ piece) events end (AreFrames-more p bytes frames held piece are) run)
+AreFrames-run p bytes frames held (Taken frame ∷ events) end are run =
+    let later = AreFrames-run p bytes (frames ++ frame ∷ []) run.0 events end (AreFrames-next p bytes frames held frame run.0 are run.1) run.2 in
+    rw (append_assoc frames (frame ∷ []) (given_by events)) at later
+
+pub frames_law : FramesLaw
+frames_law p events end run = AreFrames-run p [] [] [] events end refl run
+
+-- ---- the list of parts
+
+frame_parts : (p bytes : List ℕ) (frames : List (List ℕ)) (rest : List ℕ) → 0 < length p → AreFrames p bytes frames rest → (¬ Occurs p rest)
+    → AreForwardParts bytes p None (frames ++ rest ∷ [])
+frame_parts p bytes [] rest some are lacks = subst (λ l. AreForwardParts l p None (rest ∷ [])) (sym are) (AreForwardParts-last p rest None tt lacks)
+frame_parts p bytes (frame ∷ frames) rest some are lacks =
+    let takes = are.1 in
+    let first = cut-from_first p frame are.0 some (subst (λ l. OccursFirstAt p l (length frame)) takes.bytes takes.first) in
+    subst (λ l. AreForwardParts l p None (frame ∷ (frames ++ rest ∷ []))) (sym takes.bytes)
+    (AreForwardParts-led p frame are.0 None tt first (frames ++ rest ∷ []) (frame_parts p are.0 frames rest some are.2 lacks))
+
+pub frame_parts_law : FramePartsLaw
+frame_parts_law [] bytes frames rest are lacks = absurd (lacks (0, refl))
+frame_parts_law (x ∷ p) bytes frames rest are lacks = frame_parts (x ∷ p) bytes frames rest (omega arith) are lacks
+
+-- ---- frames of a text
+
+-- a frame ends at the first separator, as a search finds it
+TakesFrame-finds : (p old frame rest : List ℕ) → 0 < length p → TakesFrame p old frame rest → FindsNeedle old p 0 (Some (length frame))
+TakesFrame-finds p old frame rest some takes =
+    let fits = OccursAt-fits p old (length frame) some takes.first.here in (
+      record { low = omega arith; high = omega (arith, fits); before = λ j low high here. omega (arith, high, takes.first.none_before j (OccursAt-part old p j here)) },
+      HasNeedleAt-from_occurs p old (length frame) some takes.first.here,
+    )
+
+text_parts : (p text : List ℕ) (frames : List (List ℕ)) (rest : List ℕ) → 0 < length p → IsUtf8 p → IsUtf8 text → AreFrames p text frames rest → (¬ Occurs p rest)
+    → AreForwardParts (chars text) (chars p) None (map chars (frames ++ rest ∷ []))
+text_parts p text [] rest some p_is text_is are lacks =
+    let none = FindsFirst-from_needle text p text_is p_is some None (λ k low high here. lacks (k, subst (λ l. OccursAt p l k) are (OccursAt-part text p k here))) in
+    subst (λ l. AreForwardParts (chars text) (chars p) None (chars l ∷ [])) are (AreForwardParts-last (chars p) (chars text) None tt none)
+text_parts p text (frame ∷ frames) rest some p_is text_is are lacks =
+    let takes = are.1 in
+    let at = length frame in
+    let place = FindsFirst-from_needle text p text_is p_is some (Some at) (TakesFrame-finds p text frame are.0 some takes) in
+    let here = place.2.here in
+    let before : frame ≡ take at text = sym (take_at frame (p ++ are.0) at refl) ∙ ap (take at) (sym takes.bytes) in
+    let following : are.0 ≡ drop (at + length p) text =
+    sym (drop_at p are.0 (length p) refl) ∙ ap (drop (length p)) (sym (drop_at frame (p ++ are.0) at refl)) ∙ drop-drop (length p) at (frame ++ (p ++ are.0))
+    ∙ ap (drop (at + length p)) (sym takes.bytes) in
+    let boundary = next_boundary text p text_is p_is at place.0 place.1 here in
+    let after_is = subst IsUtf8 (sym following) (IsUtf8-drop text (at + length p) text_is boundary) in
+    let later = text_parts p are.0 frames rest some p_is after_is are.2 lacks in
+    let parts = map chars (frames ++ rest ∷ []) in
+    subst (λ part. AreForwardParts (chars text) (chars p) None (part ∷ parts)) (sym (chars_before text p text_is p_is at place.0 place.1 here frame before))
+    (AreForwardParts-more (chars p) (chars text) place.0 (chars-some p p_is some) place.2 None tt parts
+    (subst (λ l. AreForwardParts l (chars p) None parts) (chars_after text p text_is p_is at place.0 place.1 here are.0 following) later))
+
+pub text_frames_law : TextFramesLaw
+text_frames_law [] text frames rest p_is text_is are lacks = absurd (lacks (0, refl))
+text_frames_law (x ∷ p) text frames rest p_is text_is are lacks =
+    front-from (chars text) (chars (x ∷ p)) None (map chars (frames ++ rest ∷ [])) (chars-some (x ∷ p) p_is (omega arith)) tt
+    (text_parts (x ∷ p) text frames rest (omega arith) p_is text_is are lacks)
+
+-- ---- one list of frames
+
+TakesFrame-same : (p bytes f g x y : List ℕ) → TakesFrame p bytes f x → TakesFrame p bytes g y → (f ≡ g) × (x ≡ y)
+TakesFrame-same p bytes f g x y s t =
+    let same = append_same f g (p ++ x) (p ++ y) (first_places_same p bytes (length f) (length g) s.first t.first) (sym s.bytes ∙ t.bytes) in
+    (same.0, append_cancel_left p x y same.1)
+
+pub same_frames_law : SameFramesLaw
+same_frames_law p bytes [] [] x y a b size = (refl, sym a ∙ b)
+same_frames_law p bytes [] (g ∷ ys) x y a b size = absurd (omega (arith, size))
+same_frames_law p bytes (f ∷ xs) [] x y a b size = absurd (omega (arith, size))
+same_frames_law p bytes (f ∷ xs) (g ∷ ys) x y a b size =
+    let same = TakesFrame-same p bytes f g a.0 b.0 a.1 b.1 in
+    let later = same_frames_law p b.0 xs ys x y (subst (λ l. AreFrames p l xs x) same.1 a.2) b.2 (omega (arith, size)) in
+    ((λ i. same.0 i ∷ later.0 i), later.1)
+
+pub all_frames_law : AllFramesLaw
+all_frames_law p bytes [] [] x y a b none_x none_y = (refl, sym a ∙ b)
+all_frames_law p bytes [] (g ∷ ys) x y a b none_x none_y = absurd (none_x (subst (Occurs p) a (length g, b.1.first.here)))
+all_frames_law p bytes (f ∷ xs) [] x y a b none_x none_y = absurd (none_y (subst (Occurs p) b (length f, a.1.first.here)))
+all_frames_law p bytes (f ∷ xs) (g ∷ ys) x y a b none_x none_y =
+    let same = TakesFrame-same p bytes f g a.0 b.0 a.1 b.1 in
+    let later = all_frames_law p b.0 xs ys x y (subst (λ l. AreFrames p l xs x) same.1 a.2) b.2 none_x none_y in
+    ((λ i. same.0 i ∷ later.0 i), later.1)
+
+-- ---- frames that are put together
+
+module _ (p : List ℕ) (some : 0 < length p) where
+  each_cut : (frames : List (List ℕ)) (rest : List ℕ) → AreFrames p (framed p frames rest) frames rest → All (IsCutAtFirst p) frames
+  each_cut [] rest are = All-nil (IsCutAtFirst p)
+  each_cut (frame ∷ frames) rest are =
+      let whole = framed p frames rest in
+      let following : whole ≡ are.0 = append_cancel_left p whole are.0 (append_cancel_left frame (p ++ whole) (p ++ are.0) are.1.bytes) in
+      All-cons (IsCutAtFirst p) frame frames (cut-from_first p frame whole some are.1.first)
+      (each_cut frames rest (subst (λ l. AreFrames p l frames rest) (sym following) are.2))
+
+  cut_each : (frames : List (List ℕ)) (rest : List ℕ) → All (IsCutAtFirst p) frames → AreFrames p (framed p frames rest) frames rest
+  cut_each [] rest cut = refl
+  cut_each (frame ∷ frames) rest cut =
+      let whole = framed p frames rest in (
+        whole,
+        record { bytes = refl; first = first-from_cut p frame whole some (All-head (IsCutAtFirst p) frame frames cut) },
+        cut_each frames rest (All-tail (IsCutAtFirst p) frame frames cut),
+      )
+
+pub put_frames_law : PutFramesLaw
+put_frames_law p frames rest some = (each_cut p some frames rest, cut_each p some frames rest)

@@ -1,0 +1,84 @@
+-- A text split after the first place at which a separator was found in it.
+use Rattle.std.proofs.Common.{◌≡◌, refl, sym, ap, subst, ◌∙◌, ℕ, ◌+◌, ◌<◌, ◌≤◌, List, [], ◌∷◌, Some, None, length, take, drop, arith, IsUtf8, ◌⊎◌}
+use Rattle.std.proofs.Math.Seq.{take-length}
+use Rattle.std.proofs.lemmas.Str.{chars-nil, encodes-chars}
+use Rattle.std.specs.Str.{chars, encode_utf8_all as encodes}
+use Rattle.bytes_utils.specs.Text.{byte_place}
+use Rattle.bytes_utils.specs.Occurrence.{Occurs, OccursFirstAt}
+use Rattle.bytes_utils.specs.Parts.{AreInclusiveParts, EndsAtFirst}
+use Rattle.bytes_utils.specs.Keeping.{Keeping, AreInclusivePartsToCome, CutsAfterNext}
+use Rattle.bytes_utils.specs.Step.{GivesFirst}
+use Rattle.bytes_utils.proofs.SearchLemmas.{chars-some}
+use Rattle.bytes_utils.proofs.Boundaries.{OccursAt-fits}
+use Rattle.bytes_utils.proofs.PartCut.{next_place}
+use Rattle.bytes_utils.proofs.Places.{byte_place-less, chars-take_place, chars-drop_place}
+use Rattle.bytes_utils.proofs.Inclusive.{AreInclusiveParts-none, AreInclusiveParts-more, AreInclusiveParts-last, ends_whole, has_inclusive_parts}
+
+-- all characters take all bytes
+byte_place-all : (text : List ℕ) → IsUtf8 text → byte_place (chars text) (length (chars text)) ≡ length text
+byte_place-all text text_is = ap (λ z. length (encodes z)) (take-length (chars text)) ∙ ap length (encodes-chars text text_is)
+
+-- no part of the empty text is to come
+pub none_to_come : (s : Keeping) (text : List ℕ) → s.rest ≡ Some text → length text ≡ 0 → AreInclusivePartsToCome s []
+none_to_come s [] is none = rw is (rw chars-nil (AreInclusiveParts-none (chars s.separator)))
+none_to_come s (b ∷ bs) is none = cc
+
+-- some part of a text that isn't empty is
+pub some_to_come : (s : Keeping) (text : List ℕ) → s.rest ≡ Some text → IsUtf8 text → 0 < length text → ¬ AreInclusivePartsToCome s []
+some_to_come s text is text_is some none =
+    let of_text = rw is at none in
+    omega (arith, chars-some text text_is some, ap length of_text.joined)
+
+-- a text that isn't empty is given whole if it holds the separator at its end alone or not at all
+pub gives_whole : (text sep : List ℕ) → IsUtf8 text → 0 < length text → EndsAtFirst (chars sep) (chars text) ⊎ (¬ Occurs (chars sep) (chars text))
+    → GivesFirst AreInclusivePartsToCome (record { rest = Some text; separator = sep }) (chars text) (record { rest = None; separator = sep })
+gives_whole text sep text_is some ends = record {
+  some = ([], refl);
+  each = λ others none. rw none (AreInclusiveParts-last (chars sep) (chars text) (chars-some text text_is some) ends);
+}
+
+module _ (text sep : List ℕ) (text_is : IsUtf8 text) (sep_is : IsUtf8 sep) (at : ℕ) (found : (i : ℕ) × (at ≡ byte_place (chars text) i) × OccursFirstAt (chars sep) (chars text) i) (some : 0 < length sep) where
+  long : 0 < length (chars sep)
+  long = chars-some sep sep_is some
+
+  fits : found.0 + length (chars sep) ≤ length (chars text)
+  fits = OccursAt-fits (chars sep) (chars text) found.0 long found.2.here
+
+  place : at + length sep ≡ byte_place (chars text) (found.0 + length (chars sep))
+  place = next_place text sep text_is sep_is at found.0 found.1 found.2.here
+
+  -- characters follow the separator if bytes do
+  less_chars : at + length sep < length text → found.0 + length (chars sep) < length (chars text)
+  less_chars less =
+      let not_all : found.0 + length (chars sep) ≡ length (chars text) → ⊥ = λ e. omega (arith, place, ap (byte_place (chars text)) e, byte_place-all text text_is) in
+      omega (arith, fits)
+
+  all_chars : at + length sep ≡ length text → found.0 + length (chars sep) ≡ length (chars text)
+  all_chars whole =
+      let not_less : found.0 + length (chars sep) < length (chars text) → ⊥ = λ l.
+      omega (arith, place, byte_place-all text text_is, byte_place-less (chars text) (found.0 + length (chars sep)) (length (chars text)) l (omega arith)) in
+      omega (arith, fits)
+
+  pub ends_text : at + length sep ≡ length text → EndsAtFirst (chars sep) (chars text)
+  ends_text whole = ends_whole (chars sep) (chars text) found.0 found.2 (all_chars whole)
+
+  pub cuts_after : at + length sep < length text → CutsAfterNext (record { rest = Some text; separator = sep })
+  cuts_after less =
+      let more = less_chars less in
+      ((found.0, found.2.here), λ ends. omega (arith, ends.none_before found.0 found.2.here))
+
+  pub gives_through : at + length sep < length text → (part rest : List ℕ) → part ≡ take (at + length sep) text → rest ≡ drop (at + length sep) text
+      → GivesFirst AreInclusivePartsToCome (record { rest = Some text; separator = sep }) (chars part) (record { rest = Some rest; separator = sep })
+  gives_through less part rest part_is rest_is =
+      let end = found.0 + length (chars sep) in
+      let part_chars : chars part ≡ take end (chars text) =
+      ap chars (part_is ∙ ap (λ k. take k text) place) ∙ chars-take_place text text_is end in
+      let rest_chars : chars rest ≡ drop end (chars text) =
+      ap chars (rest_is ∙ ap (λ k. drop k text) place) ∙ chars-drop_place text text_is end in
+      record {
+        some = has_inclusive_parts (chars sep) (chars rest) long;
+        each = λ others are.
+            let following = subst (λ z. AreInclusiveParts z (chars sep) others) rest_chars are in
+            subst (λ z. AreInclusiveParts (chars text) (chars sep) (z ∷ others)) (sym part_chars)
+            (AreInclusiveParts-more (chars sep) (chars text) found.0 long found.2 (less_chars less) others following);
+      }

@@ -1,0 +1,219 @@
+-- The first line of a text, from the byte place of its first line feed.
+use Rattle.std.proofs.Common.{◌≡◌, ◌≢◌, refl, sym, ap, subst, ◌∙◌, ℕ, ◌+◌, ◌<◌, ◌≤◌, ◌==◌, ◌&&◌, if◌then◌else◌, List, [], ◌∷◌, ◌++◌, Option, None, Some, true, false, length, take, drop, take-add, take-append-drop, arith, MatchOption, unwrap_or, Bor, nat_eq, Bool, ◌⊎◌, inl, inr, length-append, append_assoc, append-nil, IsUtf8, IsCharBoundary}
+use Rattle.std.proofs.lemmas.List.{length-take-le, take_at, drop_at}
+use Rattle.std.proofs.lemmas.Bool.{ne_eqb, and_left, and_right}
+use Rattle.std.proofs.lemmas.Str.{chars-nil, chars-append, encodes-append, encodes-chars, IsUtf8-take, IsCharBoundary-from_take}
+use Rattle.std.specs.List.{starts_with}
+use Rattle.std.specs.Char.{encode_utf8}
+use Rattle.std.specs.Str.{chars, encode_utf8_all as encodes}
+use Rattle.bytes_utils.specs.Text.{byte_place}
+use Rattle.bytes_utils.specs.Occurrence.{OccursAt, Occurs, OccursFirstAt}
+use Rattle.bytes_utils.specs.Lines.{lines, line_feed, carriage_return, first_led_by, text_after, IsFeedEnd, IsWithoutReturn}
+use Rattle.bytes_utils.proofs.Boundaries.{OccursAt-fits}
+use Rattle.bytes_utils.proofs.OccurrenceLemmas.{cut_whole}
+use Rattle.bytes_utils.proofs.Places.{boundary_at_place, chars-take_place, chars-drop_place}
+
+-- what is left after one carriage return at the end was stripped, or all if there was none
+pub IsWithoutReturn-stripped : (stripped : Option (Bor (List ℕ))) (all line : Bor (List ℕ)) → line ≡ unwrap_or stripped all
+    → MatchOption stripped ((front : List ℕ) → all.now ≢ front ++ carriage_return ∷ []) (λ x. all.now ≡ x.now ++ carriage_return ∷ []) → IsWithoutReturn line.now all.now
+IsWithoutReturn-stripped None all line line_is none = inr (ap (λ z. z.now) (sym line_is), none)
+IsWithoutReturn-stripped (Some x) all line line_is stripped = inl (stripped ∙ ap (λ z. z.now ++ carriage_return ∷ []) (sym line_is))
+
+-- no line feed is among these
+abbrev pub LacksFeed : List ℕ → Type 0
+LacksFeed cs = (front back : List ℕ) → cs ≡ front ++ line_feed ∷ back → ⊥
+
+LacksFeed-tail : (c : ℕ) (cs : List ℕ) → LacksFeed (c ∷ cs) → LacksFeed cs
+LacksFeed-tail c cs lacks front back e = lacks (c ∷ front) back (ap (λ z. c ∷ z) e)
+
+not_feed : (c : ℕ) (cs : List ℕ) → LacksFeed (c ∷ cs) → c ≢ 10
+not_feed c cs lacks e = lacks [] cs (ap (λ z. z ∷ cs) e)
+
+-- these don't begin with a line feed
+abbrev BeginsOtherwise : List ℕ → Type 0
+BeginsOtherwise t = starts_with nat_eq t (line_feed ∷ []) ≡ false
+
+BeginsOtherwise-cons : (c : ℕ) (t : List ℕ) → c ≢ 10 → BeginsOtherwise (c ∷ t)
+BeginsOtherwise-cons c t other = and_left _ _ (ne_eqb 10 c (λ e. other (sym e)))
+
+-- a character that ends no line is the first of the first line
+lines-cons : (c : ℕ) (t : List ℕ) → c ≢ 10 → (c ≢ 13) ⊎ BeginsOtherwise t → lines (c ∷ t) ≡ first_led_by c (lines t)
+lines-cons c t other (inl no_return) = rw (ne_eqb c 10 other, ne_eqb c 13 no_return) refl
+lines-cons c t other (inr no_feed) =
+    let test = and_right (c == 13) (starts_with nat_eq t (line_feed ∷ [])) no_feed in
+    rw (ne_eqb c 10 other, test) refl
+
+-- without a line feed, all is one line
+pub lines-whole : (c : ℕ) (cs : List ℕ) → LacksFeed (c ∷ cs) → lines (c ∷ cs) ≡ (c ∷ cs) ∷ []
+lines-whole c [] lacks = lines-cons c [] (not_feed c [] lacks) (inr refl)
+lines-whole c (d ∷ cs) lacks =
+    let others = LacksFeed-tail c (d ∷ cs) lacks in
+    lines-cons c (d ∷ cs) (not_feed c (d ∷ cs) lacks) (inr (BeginsOtherwise-cons d cs (not_feed d cs others)))
+    ∙ ap (first_led_by c) (lines-whole d cs others)
+
+-- a carriage return right before the line feed isn't part of the line
+pub lines-at_return : (cs t : List ℕ) → LacksFeed cs → lines (cs ++ carriage_return ∷ line_feed ∷ t) ≡ cs ∷ lines t
+lines-at_return [] t lacks = refl
+lines-at_return (c ∷ []) t lacks = lines-cons c (13 ∷ 10 ∷ t) (not_feed c [] lacks) (inr refl)
+lines-at_return (c ∷ d ∷ cs) t lacks =
+    let others = LacksFeed-tail c (d ∷ cs) lacks in
+    lines-cons c (d ∷ cs ++ 13 ∷ 10 ∷ t) (not_feed c (d ∷ cs) lacks) (inr (BeginsOtherwise-cons d (cs ++ 13 ∷ 10 ∷ t) (not_feed d cs others)))
+    ∙ ap (first_led_by c) (lines-at_return (d ∷ cs) t others)
+
+-- any other character before the line feed is
+pub lines-at_feed : (cs t : List ℕ) → LacksFeed cs → ((front : List ℕ) → cs ≡ front ++ carriage_return ∷ [] → ⊥) → lines (cs ++ line_feed ∷ t) ≡ cs ∷ lines t
+lines-at_feed [] t lacks no_return = refl
+lines-at_feed (c ∷ []) t lacks no_return =
+    lines-cons c (10 ∷ t) (not_feed c [] lacks) (inl (λ e. no_return [] (ap (λ z. z ∷ []) e)))
+lines-at_feed (c ∷ d ∷ cs) t lacks no_return =
+    let others = LacksFeed-tail c (d ∷ cs) lacks in
+    lines-cons c (d ∷ cs ++ 10 ∷ t) (not_feed c (d ∷ cs) lacks) (inr (BeginsOtherwise-cons d (cs ++ 10 ∷ t) (not_feed d cs others)))
+    ∙ ap (first_led_by c) (lines-at_feed (d ∷ cs) t others (λ front e. no_return (c ∷ front) (ap (λ z. c ∷ z) e)))
+
+-- the text after the first line feed, and that of a text without one
+text_after-feed : (cs t : List ℕ) → LacksFeed cs → text_after (cs ++ line_feed ∷ t) ≡ t
+text_after-feed [] t lacks = refl
+text_after-feed (c ∷ cs) t lacks = rw (ne_eqb c 10 (not_feed c cs lacks)) (text_after-feed cs t (LacksFeed-tail c cs lacks))
+
+text_after-whole : (cs : List ℕ) → LacksFeed cs → text_after cs ≡ []
+text_after-whole [] lacks = refl
+text_after-whole (c ∷ cs) lacks = rw (ne_eqb c 10 (not_feed c cs lacks)) (text_after-whole cs (LacksFeed-tail c cs lacks))
+
+-- a line feed between two lists occurs at the end of the first
+OccursAt-between : (front back : List ℕ) → OccursAt (line_feed ∷ []) (front ++ line_feed ∷ back) (length front)
+OccursAt-between front back = ap (take 1) (drop_at front (10 ∷ back) (length front) refl)
+
+pub LacksFeed-none : (cs : List ℕ) → (¬ Occurs (line_feed ∷ []) cs) → LacksFeed cs
+LacksFeed-none cs none front back e = none (length front, subst (λ z. OccursAt (line_feed ∷ []) z (length front)) (sym e) (OccursAt-between front back))
+
+-- a line, its line feed, and what is after it
+pub lines-at_end : (line end rest : List ℕ) → (¬ Occurs (line_feed ∷ []) line) → IsFeedEnd line end → lines (line ++ (end ++ rest)) ≡ line ∷ lines rest
+lines-at_end line end rest none (inl returned) = ap (λ z. lines (line ++ (z ++ rest))) returned ∙ lines-at_return line rest (LacksFeed-none line none)
+lines-at_end line end rest none (inr fed) = ap (λ z. lines (line ++ (z ++ rest))) fed.0 ∙ lines-at_feed line rest (LacksFeed-none line none) fed.1
+
+-- a text in which none occurs has nothing after one
+pub text_after-none : (cs : List ℕ) → (¬ Occurs (line_feed ∷ []) cs) → text_after cs ≡ []
+text_after-none cs none = text_after-whole cs (LacksFeed-none cs none)
+
+-- it is its only line
+pub lines-last : (text : List ℕ) → IsUtf8 text → (¬ Occurs (line_feed ∷ []) (chars text)) → 0 < length text → lines (chars text) ≡ chars text ∷ []
+lines-last text text_is none some = only_line (chars text) (encodes-chars text text_is) (LacksFeed-none (chars text) none)
+  where
+    only_line : (cs : List ℕ) → encodes cs ≡ text → LacksFeed cs → lines cs ≡ cs ∷ []
+    only_line [] e lacks = absurd (omega (arith, ap length e, some))
+    only_line (c ∷ cs) e lacks = lines-whole c cs lacks
+
+-- a character makes lines in one of three ways, two of which give at least one
+no_way_is_empty : (ends returns : Bool) (c : ℕ) (ls : List (List ℕ)) → (returns ≡ true → ls ≡ [] → ⊥)
+    → (if ends then [] ∷ ls else if returns then ls else first_led_by c ls) ≡ [] → ⊥
+no_way_is_empty true returns c ls some e = cc
+no_way_is_empty false true c ls some e = some refl e
+no_way_is_empty false false c [] some e = cc
+no_way_is_empty false false c (l ∷ ls) some e = cc
+
+and_false : (a : Bool) → (a && false) ≡ true → ⊥
+and_false true e = cc
+and_false false e = cc
+
+lines-cons_some : (c : ℕ) (t : List ℕ) → lines (c ∷ t) ≡ [] → ⊥
+lines-cons_some c [] e = no_way_is_empty (c == line_feed) (c == carriage_return && false) c [] (λ both _. and_false (c == carriage_return) both) e
+lines-cons_some c (d ∷ t) e =
+    no_way_is_empty (c == line_feed) (c == carriage_return && starts_with nat_eq (d ∷ t) (line_feed ∷ [])) c (lines (d ∷ t)) (λ _ none. lines-cons_some d t none) e
+
+-- a text that isn't empty has a line
+pub lines-some : (text : List ℕ) → IsUtf8 text → 0 < length text → [] ≢ lines (chars text)
+lines-some text text_is some none = has_line (chars text) (encodes-chars text text_is) (sym none)
+  where
+    has_line : (cs : List ℕ) → encodes cs ≡ text → lines cs ≡ [] → ⊥
+    has_line [] e no_line = omega (arith, ap length e, some)
+    has_line (c ∷ cs) e no_line = lines-cons_some c cs no_line
+
+-- an empty text has none
+pub lines-none : (text : List ℕ) → length text ≡ 0 → [] ≡ lines (chars text)
+lines-none [] e = sym (ap lines chars-nil)
+lines-none (b ∷ text) e = absurd (omega (arith, e))
+
+-- a text whose first line feed is at this byte place
+module _ (text : List ℕ) (text_is : IsUtf8 text) (at : ℕ) (found : (i : ℕ) × (at ≡ byte_place (chars text) i) × OccursFirstAt (line_feed ∷ []) (chars text) i) where
+  around : chars text ≡ take found.0 (chars text) ++ line_feed ∷ drop (found.0 + 1) (chars text)
+  around = sym (cut_whole (line_feed ∷ []) (chars text) found.0 found.2.here)
+
+  front_lacks : LacksFeed (take found.0 (chars text))
+  front_lacks front back e =
+      let rest = line_feed ∷ drop (found.0 + 1) (chars text) in
+      let whole : chars text ≡ front ++ line_feed ∷ (back ++ rest) = around ∙ ap (λ z. z ++ rest) e ∙ append_assoc front (line_feed ∷ back) rest in
+      let there = subst (λ z. OccursAt (line_feed ∷ []) z (length front)) (sym whole) (OccursAt-between front (back ++ rest)) in
+      let size = ap length e ∙ length-append front (line_feed ∷ back) in
+      let fits = OccursAt-fits (line_feed ∷ []) (chars text) found.0 (omega arith) found.2.here in
+      let front_size : length (take found.0 (chars text)) ≡ found.0 = length-take-le found.0 (chars text) (omega (arith, fits)) in
+      omega (arith, found.2.none_before (length front) there, size, front_size)
+
+  next_place : at + 1 ≡ byte_place (chars text) (found.0 + 1)
+  unfolding encode_utf8
+  next_place =
+      let front = take found.0 (chars text) in
+      let through : take (found.0 + 1) (chars text) ≡ front ++ line_feed ∷ [] = take-add found.0 1 (chars text) ∙ ap (λ z. front ++ z) found.2.here in
+      let sizes : byte_place (chars text) (found.0 + 1) ≡ byte_place (chars text) found.0 + 1 =
+      ap (λ z. length (encodes z)) through ∙ ap length (encodes-append front (line_feed ∷ [])) ∙ length-append (encodes front) (line_feed ∷ []) in
+      omega (arith, sizes, found.1)
+
+  pub feed-boundary : IsCharBoundary text at
+  feed-boundary = subst (IsCharBoundary text) (sym found.1) (boundary_at_place text text_is found.0)
+
+  pub next-boundary : IsCharBoundary text (at + 1)
+  next-boundary = subst (IsCharBoundary text) (sym next_place) (boundary_at_place text text_is (found.0 + 1))
+
+  front_chars : chars (take at text) ≡ take found.0 (chars text)
+  front_chars = ap (λ k. chars (take k text)) found.1 ∙ chars-take_place text text_is found.0
+
+  rest_chars : chars (drop (at + 1) text) ≡ drop (found.0 + 1) (chars text)
+  rest_chars = ap (λ k. chars (drop k text)) next_place ∙ chars-drop_place text text_is (found.0 + 1)
+
+  around_text : chars text ≡ chars (take at text) ++ line_feed ∷ chars (drop (at + 1) text)
+  around_text = rw (front_chars, rest_chars) around
+
+  line_lacks : LacksFeed (chars (take at text))
+  line_lacks = subst LacksFeed (sym front_chars) front_lacks
+
+  pub text-at : chars (drop (at + 1) text) ≡ text_after (chars text)
+  text-at = sym (ap text_after around_text ∙ text_after-feed (chars (take at text)) (chars (drop (at + 1) text)) line_lacks)
+
+  -- if no carriage return is right before the line feed
+  line-at_feed : ((front : List ℕ) → take at text ≢ front ++ carriage_return ∷ [])
+      → lines (chars text) ≡ chars (take at text) ∷ lines (chars (drop (at + 1) text))
+  unfolding encode_utf8
+  line-at_feed other =
+      let line = chars (take at text) in
+      let line_is : IsUtf8 (take at text) = IsUtf8-take text at text_is feed-boundary in
+      let no_return : (front : List ℕ) → line ≡ front ++ carriage_return ∷ [] → ⊥ = λ front e.
+      other (encodes front) (sym (encodes-chars (take at text) line_is) ∙ ap encodes e ∙ encodes-append front (carriage_return ∷ [])) in
+      ap lines around_text ∙ lines-at_feed line (chars (drop (at + 1) text)) line_lacks no_return
+
+  -- if one is
+  line-at_return : (line : List ℕ) → IsUtf8 line → take at text ≡ line ++ carriage_return ∷ []
+      → lines (chars text) ≡ chars line ∷ lines (chars (drop (at + 1) text))
+  unfolding chars
+  line-at_return line line_is with_return =
+      let t = chars (drop (at + 1) text) in
+      let split : chars (take at text) ≡ chars line ++ carriage_return ∷ [] = ap chars with_return ∙ chars-append line (carriage_return ∷ []) line_is in
+      let whole : chars text ≡ chars line ++ carriage_return ∷ line_feed ∷ t =
+      around_text ∙ ap (λ z. z ++ line_feed ∷ t) split ∙ append_assoc (chars line) (carriage_return ∷ []) (line_feed ∷ t) in
+      let lacks : LacksFeed (chars line) = λ front back e.
+      line_lacks front (back ++ carriage_return ∷ []) (split ∙ ap (λ z. z ++ carriage_return ∷ []) e ∙ append_assoc front (line_feed ∷ back) (carriage_return ∷ [])) in
+      ap lines whole ∙ lines-at_return (chars line) t lacks
+
+  -- the line in the text, if it is the text before the line feed without one carriage return
+  module _ (line : List ℕ) (line_utf8 : IsUtf8 line) (line_is : IsWithoutReturn line (take at text)) where
+    begins : (more : List ℕ) → take at text ≡ line ++ more → (take (length line) text ≡ line) × (length line ≤ length text)
+    begins more e =
+        let whole : text ≡ line ++ (more ++ drop at text) = sym (take-append-drop at text) ∙ ap (λ z. z ++ drop at text) e ∙ append_assoc line more (drop at text) in
+        (ap (take (length line)) whole ∙ take_at line (more ++ drop at text) (length line) refl, omega (arith, ap length whole, length-append line (more ++ drop at text)))
+
+    line_begins : (take (length line) text ≡ line) × (length line ≤ length text)
+    line_begins = elim line_is [ inl e ↦ begins (carriage_return ∷ []) e | inr e ↦ begins [] (e.0 ∙ sym (append-nil line)) ]
+
+    pub line-boundary : IsCharBoundary text (length line)
+    line-boundary = IsCharBoundary-from_take text (length line) text_is line_begins.1 (subst IsUtf8 (sym line_begins.0) line_utf8)
+
+    pub line-at : lines (chars text) ≡ chars (take (length line) text) ∷ lines (chars (drop (at + 1) text))
+    line-at = rw line_begins.0 (elim line_is [ inl e ↦ line-at_return line line_utf8 e | inr e ↦ subst (λ z. lines (chars text) ≡ chars z ∷ lines (chars (drop (at + 1) text))) e.0 (line-at_feed e.1) ])

@@ -1,0 +1,107 @@
+-- What a search for bytes says of characters, by the law of boundaries.
+use Rattle.std.proofs.Common.{◌≡◌, ◌↔◌, refl, sym, ap, subst, ℕ, ◌<◌, ◌≤◌, List, [], ◌∷◌, Option, None, Some, length, arith, IsUtf8}
+use Rattle.std.proofs.lemmas.Str.{encodes-chars, chars-nil}
+use Rattle.std.specs.Str.{chars, encode_utf8_all as encodes}
+use Rattle.memchr.specs.Find.{OccursAt as HasNeedleAt, FindsNeedle, FindsLastNeedle}
+use Rattle.memchr.proofs.lemmas.MatchLemmas.{OccursAt-part}
+use Rattle.bytes_utils.specs.Text.{byte_place}
+use Rattle.bytes_utils.specs.Occurrence.{OccursAt, FindsFirst, FindsLast}
+use Rattle.bytes_utils.proofs.Boundaries.{OccursAt-fits, HasNeedleAt-from_occurs, boundaries_law}
+use Rattle.bytes_utils.proofs.Places.{AreCharacters-chars, byte_place-less}
+
+-- a separator with bytes has characters
+pub chars-some : (text : List ℕ) → IsUtf8 text → 0 < length text → 0 < length (chars text)
+chars-some text text_is some = some_chars (chars text) (ap length (encodes-chars text text_is))
+  where
+    some_chars : (cs : List ℕ) → length (encodes cs) ≡ length text → 0 < length cs
+    some_chars [] e = absurd (omega (arith, e, some))
+    some_chars (c ∷ cs) e = omega arith
+
+module _ (text sep : List ℕ) (text_is : IsUtf8 text) (sep_is : IsUtf8 sep) (some : 0 < length sep) where
+  long : 0 < length (chars sep)
+  long = chars-some sep sep_is some
+
+  pub law : (k : ℕ) → OccursAt (encodes (chars sep)) (encodes (chars text)) k ↔ ((i : ℕ) × (k ≡ byte_place (chars text) i) × OccursAt (chars sep) (chars text) i)
+  law k = boundaries_law (chars sep) (chars text) k long (AreCharacters-chars sep sep_is) (AreCharacters-chars text text_is)
+
+  -- an occurrence in bytes is one in characters
+  pub in_chars : (k : ℕ) → HasNeedleAt text sep k → (i : ℕ) × (k ≡ byte_place (chars text) i) × OccursAt (chars sep) (chars text) i
+  in_chars k here =
+      (law k).0 (subst (λ z. OccursAt z (encodes (chars text)) k) (sym (encodes-chars sep sep_is))
+      (subst (λ z. OccursAt sep z k) (sym (encodes-chars text text_is)) (OccursAt-part text sep k here)))
+
+  -- and conversely
+  in_bytes : (i : ℕ) → OccursAt (chars sep) (chars text) i → HasNeedleAt text sep (byte_place (chars text) i)
+  in_bytes i here =
+      HasNeedleAt-from_occurs sep text (byte_place (chars text) i) some
+      (subst (λ z. OccursAt z text (byte_place (chars text) i)) (encodes-chars sep sep_is)
+      (subst (λ z. OccursAt (encodes (chars sep)) z (byte_place (chars text) i)) (encodes-chars text text_is)
+      ((law (byte_place (chars text) i)).1 (i, refl, here))))
+
+  pub FindsFirst-from_needle : (r : Option ℕ) → FindsNeedle text sep 0 r → FindsFirst (chars sep) (chars text) r
+  FindsFirst-from_needle None nowhere = λ occurs.
+      let here = in_bytes occurs.0 occurs.1 in
+      let fits = here.fits in
+      nowhere (byte_place (chars text) occurs.0) (omega arith) (omega arith) here
+  FindsFirst-from_needle (Some k) found =
+      let here = in_chars k found.1 in (
+        here.0,
+        here.1,
+        record {
+          here = here.2;
+          none_before = λ j there.
+              let occurs = in_bytes j there in
+              let not_before : byte_place (chars text) j < k → ⊥ = λ l. found.0.before _ (omega arith) l occurs in
+              let fits = OccursAt-fits _ _ here.0 long here.2 in
+              let not_below : j < here.0 → ⊥ = λ l. not_before (omega (arith, here.1, byte_place-less (chars text) j here.0 l (omega arith))) in
+              omega arith;
+        },
+      )
+
+  pub FindsLast-from_needle : (r : Option ℕ) → FindsLastNeedle text sep r → FindsLast (chars sep) (chars text) r
+  FindsLast-from_needle None nowhere = λ occurs.
+      let here = in_bytes occurs.0 occurs.1 in
+      let fits = here.fits in
+      nowhere (byte_place (chars text) occurs.0) (omega arith) (omega arith) here
+  FindsLast-from_needle (Some k) found =
+      let here = in_chars k found.1 in (
+        here.0,
+        here.1,
+        record {
+          here = here.2;
+          none_after = λ j there.
+              let occurs = in_bytes j there in
+              let occurs_fits = occurs.fits in
+              let not_after : k < byte_place (chars text) j → ⊥ = λ l. found.0.after _ (omega (arith, l)) (omega (arith, occurs_fits)) occurs in
+              let fits = OccursAt-fits _ _ j long there in
+              let not_above : here.0 < j → ⊥ = λ l. not_after (omega (arith, here.1, byte_place-less (chars text) here.0 j l (omega (arith, fits)))) in
+              omega (arith, not_above);
+        },
+      )
+
+-- the empty separator occurs everywhere, first at the start
+needle-empty : (text : List ℕ) (k : ℕ) → k ≤ length text → HasNeedleAt text [] k
+needle-empty text k within = record {
+  fits = omega (arith, within);
+  reads = λ j inside. absurd (omega (arith, inside));
+}
+
+FindsFirst-empty : (text : List ℕ) (r : Option ℕ) → FindsNeedle text [] 0 r → FindsFirst (chars []) (chars text) r
+FindsFirst-empty text None nowhere = absurd (nowhere 0 (omega arith) (omega arith) (needle-empty text 0 (omega arith)))
+FindsFirst-empty text (Some k) found =
+    let at_start : 0 < k → ⊥ = λ following. found.0.before 0 (omega arith) following (needle-empty text 0 (omega arith)) in
+    rw chars-nil (0, omega (arith, at_start), record { here = refl; none_before = λ j there. omega arith })
+
+-- what is found first, by any separator
+pub FindsFirst-from_any : (text sep : List ℕ) → IsUtf8 text → IsUtf8 sep → (r : Option ℕ) → FindsNeedle text sep 0 r → FindsFirst (chars sep) (chars text) r
+FindsFirst-from_any text [] text_is sep_is r found = FindsFirst-empty text r found
+FindsFirst-from_any text (b ∷ sep) text_is sep_is r found = FindsFirst-from_needle text (b ∷ sep) text_is sep_is (omega arith) r found
+
+-- the empty separator is found last at the end
+pub FindsLastNeedle-empty : (text sep : List ℕ) → length sep ≡ 0 → (r : Option ℕ) → FindsLastNeedle text sep r → r ≡ Some (length text)
+FindsLastNeedle-empty text (b ∷ sep) none r found = absurd (omega (arith, none))
+FindsLastNeedle-empty text [] none None nowhere = absurd (nowhere (length text) (omega arith) (omega arith) (needle-empty text (length text) (omega arith)))
+FindsLastNeedle-empty text [] none (Some k) found =
+    let high = found.0.high in
+    let at_end : k < length text → ⊥ = λ before. found.0.after (length text) (omega (arith, before)) (omega arith) (needle-empty text (length text) (omega arith)) in
+    ap Some (omega (arith, high, at_end))

@@ -1,0 +1,198 @@
+-- Lines from pieces.
+use Rattle.std.proofs.Common.{map, IsUtf8, ◌≡◌, ℕ, zero, suc, ◌+◌, ◌<◌, List, [], ◌∷◌, ◌++◌, length, drop, None, inl, inr, ap, ◌∙◌, sym, refl, subst, arith, length-append, append_assoc, append-nil, get_or}
+use Rattle.std.proofs.Math.Seq.{get_or-append_seam}
+use Rattle.std.proofs.lemmas.List.{append_cancel_left, take_at, drop_at}
+use Rattle.std.proofs.lemmas.List.Elements.{All-nil, All-cons}
+use Rattle.std.proofs.lemmas.Str.{chars-nil, chars-append, chars-IsAscii, encodes-append, encodes-chars, IsUtf8-from_ascii, IsUtf8-take, IsUtf8-drop, IsCharBoundary-before_ascii, IsCharBoundary-after_ascii}
+use Rattle.std.specs.Str.{IsAscii, chars, encode_utf8_all as encodes}
+use Rattle.std.specs.Char.{encode_utf8}
+use Rattle.memchr.proofs.lemmas.MatchLemmas.{OccursAt-part}
+use Rattle.bytes_utils.specs.Occurrence.{Occurs, OccursAt}
+use Rattle.bytes_utils.specs.Lines.{lines, line_feed, carriage_return, IsFeedEnd, IsWithoutReturn}
+use Rattle.bytes_utils.specs.Frames.{TakesFrame, FrameEvent, Pushed, Taken, pushed_by, given_by}
+use Rattle.bytes_utils.specs.StreamLines.{TakesLine, IsLineRun, AreFirstLines, LineRunLaw, FirstLinesLaw, last_line, TextLinesLaw, SameLinesLaw}
+use Rattle.bytes_utils.proofs.Boundaries.{OccursAt-fits}
+use Rattle.bytes_utils.proofs.OccurrenceLemmas.{OccursAt-append}
+use Rattle.bytes_utils.proofs.Joins.{append_same}
+use Rattle.bytes_utils.proofs.LinesLemmas.{lines-at_end, lines-last}
+use Rattle.bytes_utils.proofs.SearchLemmas.{FindsFirst-from_needle}
+
+-- ---- a line is taken
+
+front_lacks : (line more : List ℕ) → (¬ Occurs (line_feed ∷ []) (line ++ more)) → ¬ Occurs (line_feed ∷ []) line
+front_lacks line more lacks occurs = lacks (occurs.0, OccursAt-append (line_feed ∷ []) line more occurs.0 (omega arith) occurs.1)
+
+frame_lacks : (old frame rest : List ℕ) → TakesFrame (line_feed ∷ []) old frame rest → ¬ Occurs (line_feed ∷ []) frame
+frame_lacks old frame rest takes occurs =
+    let fits = OccursAt-fits (line_feed ∷ []) frame occurs.0 (omega arith) occurs.1 in
+    let there = OccursAt-append (line_feed ∷ []) frame (line_feed ∷ rest) occurs.0 (omega arith) occurs.1 in
+    omega (arith, fits, takes.first.none_before occurs.0 (subst (λ l. OccursAt (line_feed ∷ []) l occurs.0) (sym takes.bytes) there))
+
+-- the bytes before the first line feed, without one carriage return
+pub TakesLine-framed : (old frame line rest : List ℕ) → TakesFrame (line_feed ∷ []) old frame rest → IsWithoutReturn line frame → TakesLine old line rest
+TakesLine-framed old frame line rest takes (inl returned) = record {
+  end = carriage_return ∷ line_feed ∷ [];
+  bytes = takes.bytes ∙ ap (λ l. l ++ line_feed ∷ rest) returned ∙ append_assoc line (carriage_return ∷ []) (line_feed ∷ rest);
+  ends = inl refl;
+  lacks = front_lacks line (carriage_return ∷ []) (subst (λ l. ¬ Occurs (line_feed ∷ []) l) returned (frame_lacks old frame rest takes));
+}
+TakesLine-framed old frame line rest takes (inr whole) = record {
+  end = line_feed ∷ [];
+  bytes = takes.bytes ∙ ap (λ l. l ++ line_feed ∷ rest) whole.0;
+  ends = inr (refl, λ front e. whole.1 front (whole.0 ∙ e));
+  lacks = subst (λ l. ¬ Occurs (line_feed ∷ []) l) whole.0 (frame_lacks old frame rest takes);
+}
+
+-- ---- runs
+
+TakesLine-more : (old line rest piece : List ℕ) → TakesLine old line rest → TakesLine (old ++ piece) line (rest ++ piece)
+TakesLine-more old line rest piece takes = record {
+  end = takes.end;
+  bytes = ap (λ l. l ++ piece) takes.bytes ∙ append_assoc line (takes.end ++ rest) piece ∙ ap (λ l. line ++ l) (append_assoc takes.end rest piece);
+  ends = takes.ends;
+  lacks = takes.lacks;
+}
+
+AreFirstLines-more : (bytes : List ℕ) (given : List (List ℕ)) (rest piece : List ℕ) → AreFirstLines bytes given rest → AreFirstLines (bytes ++ piece) given (rest ++ piece)
+AreFirstLines-more bytes [] rest piece are = ap (λ l. l ++ piece) are
+AreFirstLines-more bytes (line ∷ given) rest piece are =
+    (are.0 ++ piece, TakesLine-more bytes line are.0 piece are.1, AreFirstLines-more are.0 given rest piece are.2)
+
+AreFirstLines-next : (bytes : List ℕ) (given : List (List ℕ)) (held line rest : List ℕ) → AreFirstLines bytes given held → TakesLine held line rest → AreFirstLines bytes (given ++ line ∷ []) rest
+AreFirstLines-next bytes [] held line rest are takes = (rest, subst (λ l. TakesLine l line rest) (sym are) takes, refl)
+AreFirstLines-next bytes (x ∷ given) held line rest are takes = (are.0, are.1, AreFirstLines-next are.0 given held line rest are.2 takes)
+
+AreFirstLines-run : (bytes : List ℕ) (given : List (List ℕ)) (held : List ℕ) (events : List FrameEvent) (end : List ℕ) → AreFirstLines bytes given held → IsLineRun held events end
+    → AreFirstLines (bytes ++ pushed_by events) (given ++ given_by events) end
+AreFirstLines-run bytes given held [] end are run = rw (append-nil bytes, append-nil given) (subst (AreFirstLines bytes given) (sym run) are)
+AreFirstLines-run bytes given held (Pushed piece ∷ events) end are run =
+    rw (← append_assoc bytes piece (pushed_by events)) (AreFirstLines-run (bytes ++ piece) given (held ++ piece) events end (AreFirstLines-more bytes given held piece are) run)
+AreFirstLines-run bytes given held (Taken line ∷ events) end are run =
+    let later = AreFirstLines-run bytes (given ++ line ∷ []) run.0 events end (AreFirstLines-next bytes given held line run.0 are run.1) run.2 in
+    rw (append_assoc given (line ∷ []) (given_by events)) at later
+
+pub line_run_law : LineRunLaw
+line_run_law events end run = AreFirstLines-run [] [] [] events end refl run
+
+-- ---- the lines of the bytes
+
+pub first_lines_law : FirstLinesLaw
+first_lines_law bytes [] rest are = ap lines are
+first_lines_law bytes (line ∷ given) rest are =
+    let takes = are.1 in
+    ap lines takes.bytes ∙ lines-at_end line takes.end are.0 takes.lacks takes.ends ∙ ap (λ ls. line ∷ ls) (first_lines_law are.0 given rest are.2)
+
+-- ---- the lines of a text
+
+one_ascii : (c : ℕ) → c < 128 → IsAscii (c ∷ [])
+one_ascii c ascii zero = ascii
+one_ascii c ascii (suc i) = omega arith
+
+-- a text is split before an ASCII character and after it
+module _ (xs : List ℕ) (c : ℕ) (ys : List ℕ) (ascii : c < 128) (whole_is : IsUtf8 (xs ++ c ∷ ys)) where
+  here : get_or (xs ++ c ∷ ys) (length xs) 0 < 128
+  here = omega (arith, ascii, get_or-append_seam xs c ys 0)
+
+  within : length xs < length (xs ++ c ∷ ys)
+  within = omega (arith, length-append xs (c ∷ ys))
+
+  before_utf8 : IsUtf8 xs
+  before_utf8 = subst IsUtf8 (take_at xs (c ∷ ys) (length xs) refl)
+      (IsUtf8-take (xs ++ c ∷ ys) (length xs) whole_is (IsCharBoundary-before_ascii (xs ++ c ∷ ys) (length xs) within here))
+
+  after_utf8 : IsUtf8 ys
+  after_utf8 = subst IsUtf8 (ap (drop (length xs + 1)) (sym (append_assoc xs (c ∷ []) ys)) ∙ drop_at (xs ++ c ∷ []) ys (length xs + 1) (omega (arith, length-append xs (c ∷ []))))
+      (IsUtf8-drop (xs ++ c ∷ ys) (length xs + 1) whole_is (IsCharBoundary-after_ascii (xs ++ c ∷ ys) (length xs) whole_is within here))
+
+  chars-around : chars (xs ++ c ∷ ys) ≡ chars xs ++ c ∷ chars ys
+  chars-around = chars-append xs (c ∷ ys) before_utf8
+      ∙ ap (λ cs. chars xs ++ cs) (chars-append (c ∷ []) ys (IsUtf8-from_ascii (c ∷ []) (one_ascii c ascii)) ∙ ap (λ cs. cs ++ chars ys) (chars-IsAscii (c ∷ []) (one_ascii c ascii)))
+
+-- the end of a line is ASCII
+line_cut : (line end rest : List ℕ) → IsFeedEnd line end → IsUtf8 (line ++ (end ++ rest)) → IsUtf8 line × IsUtf8 rest × (chars (line ++ (end ++ rest)) ≡ chars line ++ (end ++ chars rest))
+line_cut line end rest (inl returned) is =
+    let whole_is : IsUtf8 (line ++ 13 ∷ 10 ∷ rest) = subst (λ e. IsUtf8 (line ++ (e ++ rest))) returned is in
+    let fed : IsUtf8 (10 ∷ rest) = after_utf8 line 13 (10 ∷ rest) (omega arith) whole_is in (
+      before_utf8 line 13 (10 ∷ rest) (omega arith) whole_is,
+      after_utf8 [] 10 rest (omega arith) fed,
+      subst (λ e. chars (line ++ (e ++ rest)) ≡ chars line ++ (e ++ chars rest)) (sym returned)
+          (chars-around line 13 (10 ∷ rest) (omega arith) whole_is ∙ ap (λ cs. chars line ++ 13 ∷ cs) (chars-around [] 10 rest (omega arith) fed ∙ ap (λ cs. cs ++ 10 ∷ chars rest) chars-nil)),
+    )
+line_cut line end rest (inr fed) is =
+    let whole_is : IsUtf8 (line ++ 10 ∷ rest) = subst (λ e. IsUtf8 (line ++ (e ++ rest))) fed.0 is in (
+      before_utf8 line 10 rest (omega arith) whole_is,
+      after_utf8 line 10 rest (omega arith) whole_is,
+      subst (λ e. chars (line ++ (e ++ rest)) ≡ chars line ++ (e ++ chars rest)) (sym fed.0) (chars-around line 10 rest (omega arith) whole_is),
+    )
+
+-- the characters contain no line feed
+chars-lack : (text : List ℕ) → IsUtf8 text → (¬ Occurs (line_feed ∷ []) text) → ¬ Occurs (line_feed ∷ []) (chars text)
+chars-lack text is lacks =
+    let ascii : IsAscii (10 ∷ []) = one_ascii 10 (omega arith) in
+    let feed_is : IsUtf8 (10 ∷ []) = IsUtf8-from_ascii (10 ∷ []) ascii in
+    let feed_chars : chars (10 ∷ []) ≡ 10 ∷ [] = chars-IsAscii (10 ∷ []) ascii in
+    subst (λ l. ¬ Occurs l (chars text)) feed_chars
+    (FindsFirst-from_needle text (10 ∷ []) is feed_is (omega arith) None (λ k low high here. lacks (k, OccursAt-part text (10 ∷ []) k here)))
+
+-- the end of the line, by characters
+chars-end : (line end : List ℕ) → IsUtf8 line → IsFeedEnd line end → IsFeedEnd (chars line) end
+unfolding encode_utf8
+chars-end line end is (inl returned) = inl returned
+chars-end line end is (inr fed) =
+    inr (fed.0, λ front e. fed.1 (encodes front) (sym (encodes-chars line is) ∙ ap encodes e ∙ encodes-append front (carriage_return ∷ [])))
+
+text_line : (text line rest : List ℕ) → IsUtf8 text → TakesLine text line rest → IsUtf8 line × IsUtf8 rest × (lines (chars text) ≡ chars line ∷ lines (chars rest))
+text_line text line rest is takes =
+    let cut = line_cut line takes.end rest takes.ends (subst IsUtf8 takes.bytes is) in (
+      cut.0,
+      cut.1,
+      ap (λ t. lines (chars t)) takes.bytes ∙ ap lines cut.2 ∙ lines-at_end (chars line) takes.end (chars rest) (chars-lack line cut.0 takes.lacks) (chars-end line takes.end cut.0 takes.ends),
+    )
+
+lines-rest : (rest : List ℕ) → IsUtf8 rest → (¬ Occurs (line_feed ∷ []) rest) → lines (chars rest) ≡ map chars (last_line rest)
+lines-rest [] is lacks = ap lines chars-nil
+lines-rest (c ∷ t) is lacks = lines-last (c ∷ t) is (chars-lack (c ∷ t) is lacks) (omega arith)
+
+pub text_lines_law : TextLinesLaw
+text_lines_law text [] rest is are =
+    let rest_is = subst IsUtf8 are is in
+    record {
+      given_utf8 = All-nil IsUtf8;
+      rest_utf8 = rest_is;
+      lines_are = ap (λ t. lines (chars t)) are;
+      all = λ lacks. ap (λ t. lines (chars t)) are ∙ lines-rest rest rest_is lacks;
+    }
+text_lines_law text (line ∷ given) rest is are =
+    let one = text_line text line are.0 is are.1 in
+    let later = text_lines_law are.0 given rest one.1 are.2 in
+    record {
+      given_utf8 = All-cons IsUtf8 line given one.0 later.given_utf8;
+      rest_utf8 = later.rest_utf8;
+      lines_are = one.2 ∙ ap (λ ls. chars line ∷ ls) later.lines_are;
+      all = λ lacks. one.2 ∙ ap (λ ls. chars line ∷ ls) (later.all lacks);
+    }
+
+-- ---- one list of lines
+
+TakesLine-same : (old line x y : List ℕ) → TakesLine old line x → TakesLine old line y → x ≡ y
+TakesLine-same old line x y s t = same s.end t.end s.ends t.ends (append_cancel_left line (s.end ++ x) (t.end ++ y) (sym s.bytes ∙ t.bytes))
+  where
+    same : (d e : List ℕ) → IsFeedEnd line d → IsFeedEnd line e → d ++ x ≡ e ++ y → x ≡ y
+    same d e (inl a) (inl b) whole = append_cancel_left (13 ∷ 10 ∷ []) x y (ap (λ l. l ++ x) (sym a) ∙ whole ∙ ap (λ l. l ++ y) b)
+    same d e (inr a) (inr b) whole = append_cancel_left (10 ∷ []) x y (ap (λ l. l ++ x) (sym a.0) ∙ whole ∙ ap (λ l. l ++ y) b.0)
+    same d e (inl a) (inr b) whole =
+        let both : 13 ∷ 10 ∷ x ≡ 10 ∷ y = ap (λ l. l ++ x) (sym a) ∙ whole ∙ ap (λ l. l ++ y) b.0 in
+        absurd (omega (arith, ap (λ l. get_or l 0 0) both))
+    same d e (inr a) (inl b) whole =
+        let both : 10 ∷ x ≡ 13 ∷ 10 ∷ y = ap (λ l. l ++ x) (sym a.0) ∙ whole ∙ ap (λ l. l ++ y) b in
+        absurd (omega (arith, ap (λ l. get_or l 0 0) both))
+
+rest_same : (bytes : List ℕ) (given : List (List ℕ)) (x y : List ℕ) → AreFirstLines bytes given x → AreFirstLines bytes given y → x ≡ y
+rest_same bytes [] x y a b = sym a ∙ b
+rest_same bytes (line ∷ given) x y a b =
+    rest_same b.0 given x y (subst (λ l. AreFirstLines l given x) (TakesLine-same bytes line a.0 b.0 a.1 b.1) a.2) b.2
+
+pub same_lines_law : SameLinesLaw
+same_lines_law bytes xs ys x y a b size =
+    let same = (append_same xs ys (lines x) (lines y) size (sym (first_lines_law bytes xs x a) ∙ first_lines_law bytes ys y b)).0 in
+    (same, rest_same bytes xs x y a (subst (λ ls. AreFirstLines bytes ls y) (sym same) b))

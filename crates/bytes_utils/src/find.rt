@@ -1,0 +1,168 @@
+//! A search for a needle in the bytes of many segments.
+ghost use Rattle.std.specs.Prelude.{◌≡◌, ◌+◌, ◌-◌, ◌*◌, ◌<◌, ◌≤◌, [], ◌++◌, length, min, take, drop, slice_index_or, IsOk, IfOk, IfErr};
+ghost use Rattle.std.specs.List.{concat};
+ghost use Rattle.memchr.specs.Find.{FindsNeedle, IsFirst, OccursAt};
+
+#[cfg(test)]
+mod tests;
+
+use bytes::Buf;
+use bytes_utils_buf::Reason;
+use bytes_utils_buf::contiguous::ContiguousBuf;
+use bytes_utils_buf::segmented::SegmentedBuf;
+use memchr::memmem::Finder;
+use std::alloc::Global;
+
+/// A needle of at most this many bytes asks for no memory.
+const SHORT: usize = 16;
+
+/// Returns the byte place of the first occurrence of `needle`, also across segments, as
+/// `memmem::find` of the joined bytes. Fails with `OutOfMemory` if memory is refused, never for a
+/// needle of at most 16 bytes.
+///
+/// ```text
+/// body.push(first)?;                        // a `Bytes` of `GET / HTTP/1.1\r`
+/// body.push(second)?;                       // one of `\nHost`
+/// find(&body, alloc, b"\r\n")?              // `Some(14)`
+/// find_from(&body, alloc, 15, b"\r\n")?     // `None`
+/// ```
+pub fn find<B: ContiguousBuf + Drop>(
+    buf: &SegmentedBuf<B>,
+    alloc: Global,
+    needle: &[u8],
+) -> Result<Option<usize>, Reason>
+    ensures found { IfOk result (λ at. FindsNeedle (concat buf.now.segments) needle.now 0 at) }
+    ensures reason { IfErr result (λ reason. reason ≡ Reason.OutOfMemory) }
+    ensures short { length needle.now ≤ 16 → IsOk result }
+{
+    find_from(buf, alloc, 0, needle)
+}
+
+/// As `find`, from place `start` on. An empty needle is found at `start`, unless that is past the
+/// end of the bytes. A needle of more than 16 bytes asks for a block of twice its length. Segments
+/// before `start` are skipped.
+pub fn find_from<B: ContiguousBuf + Drop>(
+    buf: &SegmentedBuf<B>,
+    alloc: Global,
+    start: usize,
+    needle: &[u8],
+) -> Result<Option<usize>, Reason>
+    ensures found { IfOk result (λ at. FindsNeedle (concat buf.now.segments) needle.now start at) }
+    ensures reason { IfErr result (λ reason. reason ≡ Reason.OutOfMemory) }
+    ensures short { length needle.now ≤ 16 → IsOk result }
+{
+    if needle.len() <= SHORT {
+        return Ok(find_short(buf, start, needle));
+    }
+    let mut window = vec![in alloc; 0; 2 * needle.len()]?;
+    Ok(find_by(buf, start, needle, &mut window))
+}
+
+/// As `find_from`, without memory. Requires that `needle` has at most 16 bytes (test:
+/// `needle.len()`).
+pub fn find_short<B: ContiguousBuf + Drop>(
+    buf: &SegmentedBuf<B>,
+    start: usize,
+    needle: &[u8],
+) -> Option<usize>
+    requires { length needle.now ≤ 16 }
+    ensures { FindsNeedle (concat buf.now.segments) needle.now start result }
+{
+    find_by(buf, start, needle, &mut [0; 2 * SHORT])
+}
+
+/// As `find_from`, with a window for the bytes on both sides of a border between segments.
+fn find_by<B: ContiguousBuf + Drop>(
+    buf: &SegmentedBuf<B>,
+    start: usize,
+    needle: &[u8],
+    window: &mut [u8],
+) -> Option<usize>
+    requires room { 2 * length needle.now ≤ length window.old }
+    ensures { FindsNeedle (concat buf.now.segments) needle.now start result }
+{
+    let remaining = buf.remaining();
+    if needle.is_empty() {
+        return (start <= remaining).then_some(start);
+    }
+    let finder = Finder::new(needle);
+    let mut base = 0;
+    for place in 0..buf.segments() {
+        let segment = buf.segment(place)?;
+        let from = start.saturating_sub(base);
+        if let Some(at) = find_starting_in(&finder, segment, buf, place + 1, from, window) {
+            return Some(base + at);
+        }
+        base += segment.len();
+    }
+    None
+}
+
+/// The first place from `from` on at which the needle begins in `segment`. It may end in the
+/// segments from index `next` on.
+#[inline]
+fn find_starting_in<B: ContiguousBuf + Drop>(
+    finder: &Finder,
+    segment: &[u8],
+    buf: &SegmentedBuf<B>,
+    next: usize,
+    from: usize,
+    window: &mut [u8],
+) -> Option<usize>
+    requires some { 0 < length finder.now }
+    requires room { 2 * length finder.now ≤ length window.old }
+    ensures { IsFirst (OccursAt (segment.now ++ concat (drop next buf.now.segments)) finder.now)
+        from (length segment.now) result }
+{
+    if from >= segment.len() {
+        return None;
+    }
+    if let Some(at) = finder.find(&segment[from..]) {
+        return Some(from + at);
+    }
+    let most = finder.needle().len() - 1;
+    let tail = from.max(segment.len().saturating_sub(most));
+    let window = &mut window[..segment.len() - tail + most];
+    let count = fill_window(window, &segment[tail..], buf, next);
+    let at = finder.find(&window[..count])?;
+    Some(tail + at)
+}
+
+/// Copies the first bytes of `piece` and of the segments from index `next` on, until the window is
+/// full. Returns the number of bytes.
+fn fill_window<B: ContiguousBuf + Drop>(
+    window: &mut [u8],
+    piece: &[u8],
+    buf: &SegmentedBuf<B>,
+    next: usize,
+) -> usize
+    ensures within { result ≤ length window.old }
+    ensures bytes { take result window.new ≡ take (length window.old)
+        (piece.now ++ concat (drop next buf.now.segments)) }
+{
+    let mut filled = copy_to_window(window, 0, piece);
+    for i in next..buf.segments() {
+        if filled == window.len() {
+            break;
+        }
+        let Some(segment) = buf.segment(i) else {
+            break;
+        };
+        filled = copy_to_window(window, filled, segment);
+    }
+    filled
+}
+
+/// Copies the first bytes of `piece` into the window at `at`, until the window is full. Returns the
+/// place at which they end.
+#[inline]
+fn copy_to_window(window: &mut [u8], at: usize, piece: &[u8]) -> usize
+    requires { at ≤ length window.old }
+    ensures end { result ≡ at + min (length piece.now) (length window.old - at) }
+    ensures bytes { take result window.new
+        ≡ take at window.old ++ take (length window.old - at) piece.now }
+{
+    let count = piece.len().min(window.len() - at);
+    window[at..at + count].copy_from_slice(&piece[..count]);
+    at + count
+}

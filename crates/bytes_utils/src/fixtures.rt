@@ -1,0 +1,97 @@
+//! Texts, readers and assertions that many tests use.
+ghost use Rattle.std.specs.Iterator.{IsFinite};
+
+pub(crate) mod readers;
+pub(crate) mod refusals;
+pub(crate) mod refusing;
+
+use crate::string::{Storage, StrInner};
+use crate::{Reason, Str, StrMut};
+use bytes::{Bytes, BytesMut};
+use std::alloc::{AllocError, Global};
+use std::process::Abort;
+use std::test::Fail;
+
+/// The text in shared bytes of its own.
+pub(crate) fn shared(alloc: Global, text: &str) -> Result<Str, Fail> {
+    let bytes = Bytes::copy_from_slice(alloc, text.as_bytes())?;
+    Ok(Str::from_inner(bytes)?)
+}
+
+/// The text in bytes of its own that may grow.
+pub(crate) fn growing(alloc: Global, text: &str) -> Result<StrMut, Fail> {
+    let bytes = BytesMut::copy_from_slice(alloc, text.as_bytes())?;
+    Ok(StrMut::from_inner(bytes)?)
+}
+
+/// The items, each with the comma that ends it.
+pub(crate) fn strings(alloc: Global, items: &str) -> Result<Vec<String>, AllocError> {
+    let mut strings = Vec::new(alloc);
+    for item in items.split_inclusive(',') {
+        strings.push(String::from_str(alloc, item)?)?;
+    }
+    Ok(strings)
+}
+
+/// Asserts that the text is the expected one.
+pub(crate) fn assert_text(rt: &impl Abort, text: &str, want: &str) {
+    assert_eq!(rt; text, want);
+}
+
+/// Asserts that the expected parts come and then the end, or the first of them, one refusal, and
+/// then the end. Returns the number of parts, and the reason of the refusal.
+pub(crate) fn taken<'t, S, P, W>(
+    rt: &impl Abort,
+    parts: &mut P,
+    wanted: W,
+) -> (usize, Option<Reason>)
+where
+    S: Storage,
+    P: Iterator<Item = Result<StrInner<S>, Reason>> + Drop,
+    W: Iterator<Item = &'t str> + Drop,
+    requires parts { P.can_next parts.old }
+    requires wanted { W.can_next wanted × IsFinite (W.remaining wanted) }
+{
+    let mut count = 0_usize;
+    for want in wanted {
+        match parts.next() {
+            Some(Ok(part)) => assert_eq!(rt; part.as_str(), want),
+            Some(Err(reason)) => {
+                assert!(rt; parts.next().is_none(), "an item after the refusal");
+                return (count, Some(reason));
+            }
+            None => assert!(rt; false, "a part is missing"),
+        }
+        count = count.saturating_add(1);
+    }
+    assert!(rt; parts.next().is_none(), "more parts than are wanted");
+    (count, None)
+}
+
+/// Asserts that the parts have ended, also at each further call.
+pub(crate) fn assert_end<P: Iterator>(rt: &impl Abort, mut parts: P)
+where
+    P: Drop,
+    P::Item: Drop,
+    requires { (s : P) → P.can_next s }
+{
+    assert!(rt; parts.next().is_none() && parts.next().is_none() && parts.next().is_none());
+}
+
+/// As `taken`. Then the parts have ended, also at each further call.
+pub(crate) fn taken_to_end<'t, S, P, W>(
+    rt: &impl Abort,
+    mut parts: P,
+    wanted: W,
+) -> (usize, Option<Reason>)
+where
+    S: Storage,
+    P: Iterator<Item = Result<StrInner<S>, Reason>> + Drop,
+    W: Iterator<Item = &'t str> + Drop,
+    requires can { (s : P) → P.can_next s }
+    requires wanted { W.can_next wanted × IsFinite (W.remaining wanted) }
+{
+    let answer = taken(rt, &mut parts, wanted);
+    assert_end(rt, parts);
+    answer
+}

@@ -1,0 +1,82 @@
+//! Why no frame was read.
+ghost use Rattle.std.specs.Prelude.{◌≡◌, ◌++◌, IfErr, OnOk, OnErr};
+ghost use Rattle.bytes_utils.specs.ReadError.{IsDue, back_bytes, error_text};
+ghost use Rattle.bytes_utils.specs.declared.frame.read.error.ReadError.TheVariants.{Refused as RefusedError};
+
+use crate::frame::Frames;
+use crate::{Reason, Refused};
+use bytes::{Bytes, BytesMut};
+use std::error::Error;
+use std::{fmt, io};
+
+/// Why no frame was read. No byte is lost: what was read is in the reader of frames or in the
+/// error.
+#[derive(Debug, Drop)]
+pub enum ReadError {
+    /// The reader's own error, which is not an interruption.
+    Io(io::Error),
+    /// No frame ended within 65,536 reads.
+    TooManyReads,
+    /// Memory was refused, before a read or for the frame.
+    Refused(Reason),
+    /// Memory was refused after a read. The bytes read are in this block.
+    Unshared(BytesMut),
+    /// `Frames::push` refused the bytes of a read, which come back.
+    Unpushed(Refused<Bytes>),
+}
+
+impl ReadError {
+    /// Pushes the bytes in the error into `frames`, so that a frame can be read again. Fails if
+    /// they are refused; then `frames` has not changed, and they are in the new error.
+    pub fn put_back(self, frames: &mut Frames) -> Result<(), ReadError>
+        ensures ok { OnOk result (frames.new.held ≡ frames.old.held ++ back_bytes self) }
+        ensures err { OnErr result (frames.new ≡ frames.old) }
+        ensures back { IfErr result (λ e. back_bytes e ≡ back_bytes self) }
+        ensures due { IfErr result (IsDue frames.new.separator frames.new.held) }
+        ensures separator { frames.new.separator ≡ frames.old.separator }
+    {
+        match self {
+            ReadError::Io(_) | ReadError::TooManyReads | ReadError::Refused(_) => Ok(()),
+            ReadError::Unshared(block) => match block.freeze() {
+                Ok(piece) => push(frames, piece),
+                Err(failed) => Err(ReadError::Unshared(failed.value)),
+            },
+            ReadError::Unpushed(refused) => push(frames, refused.back),
+        }
+    }
+}
+
+/// Pushes a piece that was read.
+pub(super) fn push(frames: &mut Frames, piece: Bytes) -> Result<(), ReadError>
+    ensures ok { OnOk result (frames.new.held ≡ frames.old.held ++ piece) }
+    ensures err { OnErr result (frames.new ≡ frames.old) }
+    ensures back { IfErr result (λ e. back_bytes e ≡ piece) }
+    ensures due { IfErr result (IsDue frames.new.separator frames.new.held) }
+    ensures separator { frames.new.separator ≡ frames.old.separator }
+{
+    frames.push(piece).map_err(ReadError::Unpushed)
+}
+
+impl From<Reason> for ReadError {
+    ghost from_gives = { λ reason error. error ≡ RefusedError reason };
+
+    fn from(reason: Reason) -> ReadError {
+        ReadError::Refused(reason)
+    }
+}
+
+impl fmt::Display for ReadError {
+    ghost output = { error_text };
+
+    fn fmt<W: fmt::Write>(&self, f: &mut fmt::Formatter<W>) -> fmt::Result {
+        match self {
+            ReadError::Io(error) => fmt::Display::fmt(error, f),
+            ReadError::TooManyReads => f.write_str("too many reads"),
+            ReadError::Refused(reason) => fmt::Display::fmt(reason, f),
+            ReadError::Unshared(_) => fmt::Display::fmt(&Reason::OutOfMemory, f),
+            ReadError::Unpushed(refused) => fmt::Display::fmt(refused, f),
+        }
+    }
+}
+
+impl Error for ReadError {}

@@ -1,0 +1,6 @@
+//! What no clause covers: that calls succeed with ample memory, printed text, and worked cases.
+mod frames;
+mod limited;
+mod lines;
+mod memory;
+mod search;

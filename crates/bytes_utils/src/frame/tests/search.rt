@@ -1,0 +1,154 @@
+//! How often the search for frames reads a piece: once, and once more after each frame that ends in
+//! it, however long the frames are and whenever they are asked for.
+ghost use Rattle.std.specs.Prelude.{◌<◌, length};
+
+use crate::SegmentedBuf;
+use crate::contiguous::ContiguousBuf;
+use crate::frame::search::{SearchState, find};
+use bytes::{Buf, Bytes};
+use memchr::memmem::Finder;
+use std::alloc::Global;
+use std::cell::Cell;
+use std::marker::Model;
+use std::process::Abort;
+use std::test::Fail;
+
+/// Bytes that count how often they are read.
+#[derive(Drop)]
+struct Watched<'c> {
+    bytes: Bytes,
+    looks: &'c Cell<usize>,
+}
+
+impl<'c> Buf for Watched<'c> {
+    ghost unread = { λ w. w.bytes };
+
+    fn remaining(&self) -> usize {
+        self.bytes.remaining()
+    }
+
+    fn chunk(&self) -> &[u8] {
+        self.bytes.chunk()
+    }
+
+    fn advance(&mut self, cnt: usize) {
+        self.bytes.advance(cnt);
+    }
+}
+
+impl<'c> ContiguousBuf for Watched<'c> {
+    fn as_contiguous(&self) -> &[u8] {
+        self.looks.set(self.looks.get().saturating_add(1));
+        self.bytes.as_slice()
+    }
+}
+
+/// A stream whose frames are searched for and dropped.
+#[derive(Drop)]
+struct Stream<'c> {
+    finder: Finder<'c>,
+    pieces: SegmentedBuf<Watched<'c>>,
+    progress: SearchState,
+}
+
+impl<'c> Model for Stream<'c> {
+    ghost use Rattle.std.specs.Prelude.{◌≡◌, ◌^◌, ◌<◌, ℕ, List, length};
+    ghost use Rattle.std.specs.List.{concat};
+    ghost use Rattle.bytes_utils.specs.FrameSearch.{SearchedPieces};
+
+    ghost Value = { List ℕ };
+
+    ghost view = { λ s. concat s.pieces.segments };
+
+    ghost invariant = { λ s. (0 < length s.finder) × (length (concat s.pieces.segments) < 2 ^ 64)
+        × SearchedPieces s.finder s.pieces.segments s.progress };
+}
+
+impl<'c> Stream<'c> {
+    fn new(alloc: Global, separator: &'c [u8]) -> Stream<'c>
+        requires { 0 < length separator.now }
+    {
+        Stream {
+            finder: Finder::new(separator),
+            pieces: SegmentedBuf::new(alloc),
+            progress: SearchState::new(alloc),
+        }
+    }
+
+    /// Pushes a piece.
+    fn push<R: Abort>(&mut self, rt: &R, piece: Watched<'c>) -> Result<(), Fail> {
+        assert!(rt; self.pieces.fits(piece.bytes.len()));
+        Ok(self.pieces.push(piece).ok().ok_or("refused")?)
+    }
+
+    /// Drops the next frame. Returns whether its end has come.
+    fn pass(&mut self) -> Result<bool, Fail> {
+        let Some(len) = find(&self.finder, &self.pieces, &mut self.progress)? else {
+            return Ok(false);
+        };
+        self.pieces.advance(len + self.finder.needle().len());
+        self.progress.restart();
+        Ok(true)
+    }
+
+    /// Drops all frames whose end has come. Returns their number.
+    fn pass_all(&mut self) -> Result<usize, Fail> {
+        for count in 0..=self.pieces.remaining() {
+            if !self.pass()? {
+                return Ok(count);
+            }
+        }
+        Err("more frames than bytes")?
+    }
+}
+
+/// Asserts how many frames a hundred rounds of the pieces have, and how often these are read, if
+/// frames are asked for after each piece or at the end. The pieces have a `|` between them.
+fn assert_looks<R: Abort>(
+    rt: &R,
+    alloc: Global,
+    separator: &str,
+    pieces: &'static str,
+    frames: usize,
+    looks: usize,
+) -> Result<(), Fail> {
+    assert!(rt; !separator.is_empty());
+    for each in [false, true] {
+        let looked = Cell::new(0);
+        let mut stream = Stream::new(alloc, separator.as_bytes());
+        let mut passed = 0_usize;
+        for _ in 0..100 {
+            for piece in pieces.split('|') {
+                let bytes = Bytes::from_static(piece.as_bytes());
+                stream.push(
+                    rt,
+                    Watched {
+                        bytes,
+                        looks: &looked,
+                    },
+                )?;
+                if each {
+                    passed = passed.saturating_add(stream.pass_all()?);
+                }
+            }
+        }
+        passed = passed.saturating_add(stream.pass_all()?);
+        assert_eq!(rt; passed, frames);
+        assert_eq!(rt; looked.get(), looks);
+    }
+    Ok(())
+}
+
+#[test]
+fn looks_at_each_piece_once(rt: HostRuntime) -> Result<(), Fail> {
+    let alloc = rt.alloc();
+
+    // no frame ends, or each ends with a piece
+    assert_looks(&rt, alloc, "-", "a|b|c|d", 0, 400)?;
+    assert_looks(&rt, alloc, "-", "a|b|c-", 100, 300)?;
+    assert_looks(&rt, alloc, "-+-+", "-|+|-|+", 100, 400)?;
+
+    // a frame ends within the third piece, or three within each
+    assert_looks(&rt, alloc, "\r\n", "ab|c\r|\nd|e\r\n", 200, 500)?;
+    assert_looks(&rt, alloc, "-", "a-b-c-d", 300, 400)
+}

@@ -1,0 +1,171 @@
+//! The splitters compared with the methods of `str` of the same names, which borrow their parts,
+//! over the texts of the worked cases and all short texts of a few letters.
+use crate::fixtures::{assert_text, shared};
+use crate::split::tests::ways::{
+    Lines, RSplit, RSplitN, Split, SplitAsciiWhitespace, SplitInclusive, SplitN, SplitWhitespace,
+    StrWay,
+};
+use std::alloc::{AllocError, Global};
+use std::process::Abort;
+use std::test::Fail;
+
+/// Texts of worked cases, with a bar between them.
+const NAMED: &str =
+    "a,b,,c|a,b,c|αβα|ββαβ|😈😉|ababa|abcdef|αβγδεζ| a\u{b}b\t😈 |a\r\n\nb\n|a\rb\r\n| |\
+                     😈 | \t\n\r\u{c} |a  b|α\u{3000}β\u{a0}|\r\n\r\n|a\n\r\n\r";
+
+/// The number of these texts.
+const NAMED_TEXTS: u32 = 18;
+
+/// The number of these and of all texts of at most five of the letters.
+const TEXTS: u32 = NAMED_TEXTS + 37_449;
+
+/// The number of these and of all texts of at most four of the letters.
+pub(super) const SHORT_TEXTS: u32 = NAMED_TEXTS + 4_681;
+
+/// Separators, line ends, white space, and characters of one to four bytes.
+fn letter(number: u32) -> char {
+    match number {
+        0 => 'a',
+        1 => 'b',
+        2 => ',',
+        3 => '\n',
+        4 => '\r',
+        5 => 'β',
+        6 => '😈',
+        _ => '\u{3000}',
+    }
+}
+
+/// Returns the text with this number among all texts of the letters, shorter ones first.
+fn counted(alloc: Global, number: u32) -> Result<String, AllocError> {
+    let mut text = String::new(alloc);
+    let mut left = number;
+    for _ in 0..5 {
+        if left == 0 {
+            break;
+        }
+        left -= 1;
+        text.push(letter(left % 8))?;
+        left /= 8;
+    }
+    Ok(text)
+}
+
+/// Returns the text with this number: a named one, or else a counted one.
+pub(super) fn numbered(alloc: Global, number: u32) -> Result<String, AllocError> {
+    match number.checked_sub(NAMED_TEXTS) {
+        Some(number) => counted(alloc, number),
+        None => String::from_str(alloc, NAMED.split('|').nth(number as usize).unwrap_or("")),
+    }
+}
+
+/// Returns the separators that texts are split by.
+pub(super) fn separators() -> [&'static str; 6] {
+    ["", "a", "aa", "aba", ",", "β"]
+}
+
+/// Returns some counted texts, with their numbers.
+fn counted_texts() -> [(u32, &'static str); 6] {
+    [
+        (0, ""),
+        (1, "a"),
+        (8, "\u{3000}"),
+        (9, "aa"),
+        (73, "aaa"),
+        (585, "aaaa"),
+    ]
+}
+
+#[test]
+fn texts_are_counted(rt: HostRuntime) -> Result<(), Fail> {
+    assert!(rt; NAMED.split('|').count() == NAMED_TEXTS as usize);
+    for (number, want) in counted_texts() {
+        assert_text(&rt, counted(rt.alloc(), number)?.as_str(), want);
+    }
+    let last = numbered(rt.alloc(), TEXTS - 1)?;
+    assert_text(
+        &rt,
+        last.as_str(),
+        "\u{3000}\u{3000}\u{3000}\u{3000}\u{3000}",
+    );
+    Ok(())
+}
+
+/// Asserts that the parts of the first `texts` texts, by each separator, are those that `str`
+/// gives.
+fn assert_as_str<W: StrWay, R: Abort>(
+    rt: &R,
+    alloc: Global,
+    texts: u32,
+    most: usize,
+    separators: &[&str],
+) -> Result<(), Fail> {
+    for number in 0..texts {
+        let text = numbered(alloc, number)?;
+        assert_each_as_str::<W, R>(rt, alloc, text.as_str(), most, separators)?;
+    }
+    Ok(())
+}
+
+/// Asserts the same of one text.
+fn assert_each_as_str<W: StrWay, R: Abort>(
+    rt: &R,
+    alloc: Global,
+    text: &str,
+    most: usize,
+    separators: &[&str],
+) -> Result<(), Fail> {
+    for separator in separators {
+        let answer = W::beside(rt, shared(alloc, text)?, most, separator, text);
+        assert!(rt; answer.1.is_none());
+    }
+    Ok(())
+}
+
+#[test]
+fn split(rt: HostRuntime) -> Result<(), Fail> {
+    assert_as_str::<Split, HostRuntime>(&rt, rt.alloc(), SHORT_TEXTS, 0, &separators())
+}
+
+#[test]
+fn rsplit(rt: HostRuntime) -> Result<(), Fail> {
+    assert_as_str::<RSplit, HostRuntime>(&rt, rt.alloc(), SHORT_TEXTS, 0, &separators())
+}
+
+#[test]
+fn split_n(rt: HostRuntime) -> Result<(), Fail> {
+    for most in 0..5 {
+        assert_as_str::<SplitN, HostRuntime>(&rt, rt.alloc(), SHORT_TEXTS, most, &separators())?;
+    }
+    Ok(())
+}
+
+#[test]
+fn rsplit_n(rt: HostRuntime) -> Result<(), Fail> {
+    for most in 0..5 {
+        assert_as_str::<RSplitN, HostRuntime>(&rt, rt.alloc(), SHORT_TEXTS, most, &separators())?;
+    }
+    Ok(())
+}
+
+#[test]
+fn split_inclusive(rt: HostRuntime) -> Result<(), Fail> {
+    let separators = ["a", "aa", "aba", ",", "β"];
+    assert_as_str::<SplitInclusive, HostRuntime>(&rt, rt.alloc(), SHORT_TEXTS, 0, &separators)
+}
+
+#[test]
+fn lines(rt: HostRuntime) -> Result<(), Fail> {
+    assert_as_str::<Lines, HostRuntime>(&rt, rt.alloc(), TEXTS, 0, &[""])
+}
+
+#[test]
+fn split_whitespace(rt: HostRuntime) -> Result<(), Fail> {
+    assert_as_str::<SplitWhitespace, HostRuntime>(&rt, rt.alloc(), TEXTS, 0, &[""])
+}
+
+#[test]
+fn split_ascii_whitespace(rt: HostRuntime) -> Result<(), Fail> {
+    assert_as_str::<SplitAsciiWhitespace, HostRuntime>(&rt, rt.alloc(), TEXTS, 0, &[""])
+}

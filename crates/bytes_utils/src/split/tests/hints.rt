@@ -1,0 +1,71 @@
+//! What `size_hint` of each splitter promises: at each point of a run, bounds on the items to come.
+ghost use Rattle.std.specs.Prelude.{◌≤◌};
+
+use crate::fixtures::shared;
+use crate::string::{BytesIter, Direction};
+use std::process::Abort;
+use std::test::Fail;
+
+/// Asserts that the number of items to come, `left`, is within the bounds.
+fn assert_hint<P: Iterator>(rt: &impl Abort, parts: &P, left: usize) {
+    let (least, most) = parts.size_hint();
+    assert!(rt;
+        least <= left && most.is_none_or(|most| left <= most),
+        "{left} to come"
+    );
+}
+
+/// Asserts the bounds at each point of a run of `count` items, and at its end.
+fn assert_hints<P>(rt: &impl Abort, mut parts: P, count: usize)
+where
+    P: Iterator + Drop,
+    P::Item: Drop,
+    requires { P.can_next parts }
+{
+    for given in 0..count {
+        assert_hint(rt, &parts, count - given);
+        assert!(rt; parts.next().is_some(), "{given} given");
+    }
+    assert_hint(rt, &parts, 0);
+    assert!(rt; parts.next().is_none(), "more than {count}");
+}
+
+#[test]
+fn separated(rt: HostRuntime) -> Result<(), Fail> {
+    let alloc = rt.alloc();
+    assert_hints(&rt, shared(alloc, "a,b,c")?.split_bytes(","), 3);
+    assert_hints(&rt, shared(alloc, "a,b,c")?.rsplitn_bytes(2, ","), 2);
+    assert_hints(&rt, shared(alloc, "a,b,")?.split_inclusive_bytes(","), 2);
+    Ok(())
+}
+
+#[test]
+fn lines(rt: HostRuntime) -> Result<(), Fail> {
+    assert_hints(&rt, shared(rt.alloc(), "one\ntwo\n")?.lines_bytes(), 2);
+    Ok(())
+}
+
+#[test]
+fn words(rt: HostRuntime) -> Result<(), Fail> {
+    assert_hints(
+        &rt,
+        shared(rt.alloc(), " one two ")?.split_whitespace_bytes(),
+        2,
+    );
+    assert_hints(
+        &rt,
+        shared(rt.alloc(), " one two ")?.split_ascii_whitespace_bytes(),
+        2,
+    );
+    Ok(())
+}
+
+#[test]
+fn by_a_closure(rt: HostRuntime) -> Result<(), Fail> {
+    let text = shared(rt.alloc(), "a,b,")?;
+    let fields = BytesIter::new(text, Direction::Forward, |s: &str| {
+        s.find(',').map(|at| (at, at + 1))
+    });
+    assert_hints(&rt, fields, 3);
+    Ok(())
+}

@@ -1,0 +1,134 @@
+//! How often a storage is split: once for each cut of a run, and never again after a refusal.
+ghost use Rattle.std.specs.Prelude.{◌≤◌, length};
+
+use crate::split::tests::closure::Fields;
+use crate::split::tests::ways::{
+    Lines, RSplit, RSplitN, Split, SplitAsciiWhitespace, SplitInclusive, SplitN, SplitWhitespace,
+    StrWay,
+};
+use crate::string::{Storage, StrInner};
+use crate::{Reason, Refused};
+use bytes::BytesMut;
+use std::alloc::Global;
+use std::cell::Cell;
+use std::process::Abort;
+use std::test::Fail;
+
+/// The number of splits that the pieces of a storage were asked for, and how many are granted.
+#[derive(Drop)]
+struct Splits {
+    asked: Cell<usize>,
+    granted: usize,
+}
+
+impl Splits {
+    /// Counts one more split and returns whether it is granted.
+    fn ask(&self) -> bool {
+        let asked = self.asked.get().saturating_add(1);
+        self.asked.set(asked);
+        asked <= self.granted
+    }
+}
+
+/// Bytes whose splits are counted. `into_front` and `into_back` count as no split.
+#[derive(Drop)]
+struct Counted<'c> {
+    bytes: BytesMut,
+    splits: &'c Splits,
+}
+
+impl<'c> Storage for Counted<'c> {
+    type Creator = Counted<'c>;
+
+    ghost stored = { λ s. s.bytes.items };
+
+    ghost created = { λ c. c.bytes.items };
+
+    /// Without bytes there are no splits to count.
+    fn empty(_alloc: Global) -> Result<Self, Reason> {
+        Err(Reason::OutOfMemory)
+    }
+
+    fn as_bytes(&self) -> &[u8] {
+        self.bytes.as_slice()
+    }
+
+    fn from_creator(creator: Counted<'c>) -> Result<Self, Refused<Counted<'c>>> {
+        Ok(creator)
+    }
+
+    fn split_at(mut self, at: usize) -> Result<(Self, Self), Refused<Self>> {
+        let reason = Reason::OutOfMemory;
+        if !self.splits.ask() {
+            return Err(Refused { reason, back: self });
+        }
+        match self.bytes.split_to(at) {
+            Ok(bytes) => {
+                let splits = self.splits;
+                Ok((Counted { bytes, splits }, self))
+            }
+            Err(_) => Err(Refused { reason, back: self }),
+        }
+    }
+
+    fn into_front(mut self, at: usize) -> Result<Self, Refused<Self>> {
+        self.bytes.truncate(at);
+        Ok(self)
+    }
+
+    fn into_back(mut self, at: usize) -> Result<Self, Refused<Self>> {
+        self.bytes.advance(at);
+        Ok(self)
+    }
+}
+
+/// Asserts the number of splits that a run over the text asks for: `cuts` if all are granted, and
+/// none after a refused one. The limit, for a way that has one, is two parts.
+fn assert_splits<W: StrWay, R: Abort>(
+    rt: &R,
+    alloc: Global,
+    text: &str,
+    separator: &str,
+    cuts: usize,
+) -> Result<(), Fail> {
+    for granted in 0..4 {
+        let asked = Cell::new(0);
+        let splits = Splits { asked, granted };
+        let bytes = BytesMut::copy_from_slice(alloc, text.as_bytes())?;
+        let counted = StrInner::from_inner(Counted {
+            bytes,
+            splits: &splits,
+        });
+        let counted = counted.ok().ok_or("not UTF-8")?;
+        let (_, refused) = W::beside(rt, counted, 2, separator, text);
+        assert_eq!(rt; refused.is_some(), granted < cuts);
+        assert_eq!(rt; splits.asked.get(), cuts.min(granted + 1));
+    }
+    Ok(())
+}
+
+#[test]
+fn separated(rt: HostRuntime) -> Result<(), Fail> {
+    let alloc = rt.alloc();
+    assert_splits::<Split, HostRuntime>(&rt, alloc, "a,b,c", ",", 2)?;
+    assert_splits::<RSplit, HostRuntime>(&rt, alloc, "a,b,c", ",", 2)?;
+    assert_splits::<SplitN, HostRuntime>(&rt, alloc, "a,b,c", ",", 1)?;
+    assert_splits::<RSplitN, HostRuntime>(&rt, alloc, "a,b,c", ",", 1)?;
+    assert_splits::<Fields, HostRuntime>(&rt, alloc, "a,b,c", ",", 2)
+}
+
+#[test]
+fn characters(rt: HostRuntime) -> Result<(), Fail> {
+    assert_splits::<Split, HostRuntime>(&rt, rt.alloc(), "αβ", "", 3)?;
+    assert_splits::<RSplit, HostRuntime>(&rt, rt.alloc(), "αβ", "", 3)
+}
+
+/// A part that reaches to the end of the text needs no split.
+#[test]
+fn pieces(rt: HostRuntime) -> Result<(), Fail> {
+    let alloc = rt.alloc();
+    assert_splits::<SplitInclusive, HostRuntime>(&rt, alloc, "a,b,", ",", 1)?;
+    assert_splits::<SplitWhitespace, HostRuntime>(&rt, alloc, " a b", "", 1)?;
+    assert_splits::<SplitAsciiWhitespace, HostRuntime>(&rt, alloc, " a b", "", 1)?;
+    assert_splits::<Lines, HostRuntime>(&rt, alloc, "a\nb\n", "", 2)
+}

@@ -1,0 +1,9 @@
+//! The result and the effect of each call if a request for memory is refused, each call in a test
+//! of its own. A run with one refused request ends well, whichever request it is, and prints which
+//! call was refused.
+mod append;
+mod freeze;
+mod make;
+mod pieces;
+mod serialize;
+mod traits;

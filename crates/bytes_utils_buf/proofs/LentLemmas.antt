@@ -1,0 +1,185 @@
+-- Borrowed buffers, of which the first ones are read to their end.
+use Rattle.std.proofs.Common.{◌≡◌, ℕ, ◌+◌, ◌-◌, ◌<◌, ◌≤◌, List, [], ◌∷◌, ◌++◌, zero, suc, length, take, drop, map, get_or, set, replicate, ap, ◌∙◌, sym, refl, arith, drop_at, take_at, length-append, length-drop, append-nil, append_assoc}
+use Rattle.std.proofs.lemmas.List.{length-map, length-replicate, map-append, take-map, drop-map, take_rest, drop_all, take-append-drop, take-append-le, take-take, replicate-append-replicate}
+use Rattle.std.proofs.Math.Seq.{take-add}
+use Rattle.std.specs.List.{concat}
+use borrow.Rule.Slice.PartMut.{put_mid}
+use Rattle.bytes_utils_buf.specs.Lent.{Lent, lists_of, lent_at, IsPassedOnce, Passes, SkipsLent, IsLent}
+use Rattle.bytes.specs.Unread.{IsChunkOf}
+use Rattle.bytes_utils_buf.specs.Segments.{cut_front, front_of, FrontUnread, Skips}
+use Rattle.bytes_utils_buf.specs.Tally.{Tallied}
+use Rattle.bytes_utils_buf.proofs.Lists.{length-concat-take_more, read_at, concat_split, cut_front-none, Skips-from_count, Skips-more}
+
+-- ---- emptied lists
+
+pub drop_read_out : (p : ℕ) (xs : List (List ℕ)) → drop p (replicate p [] ++ xs) ≡ xs
+drop_read_out p xs = drop_at (replicate p []) xs p (length-replicate p [])
+
+-- the bytes of all lists are the bytes to read
+pub concat-read_out : (place : ℕ) (segments : List (List ℕ)) → concat (replicate place [] ++ segments) ≡ concat segments
+concat-read_out zero segments = refl
+concat-read_out (suc place) segments = concat-read_out place segments
+
+-- the first k of these lists are empty
+pub take_read_out : (k : ℕ) (now : List (List ℕ)) → now ≡ replicate k [] ++ drop k now → take k now ≡ replicate k []
+take_read_out k now e = ap (take k) e ∙ take_at (replicate k []) (drop k now) k (length-replicate k [])
+
+pub place_inside : {X : Type 0} (f : X → List ℕ) (xs : List X) (k : ℕ) → map f xs ≡ replicate k [] ++ drop k (map f xs) → k ≤ length xs
+place_inside f xs k e =
+    omega (arith, ap length e, length-append (replicate {A = List ℕ} k []) (drop k (map f xs)), length-replicate {A = List ℕ} k [], length-map xs f)
+
+-- the buffers from place k on were written, and p more at their front are empty
+pub more_read_out : (k p : ℕ) (now part : List (List ℕ)) → take k now ≡ replicate k [] → take p part ≡ replicate p []
+    → take k now ++ part ≡ replicate (k + p) [] ++ drop p part
+more_read_out k p now part before following =
+    ap (λ l. l ++ part) before
+    ∙ ap (λ l. replicate k [] ++ l) (sym (take-append-drop p part) ∙ ap (λ l. l ++ drop p part) following)
+    ∙ sym (append_assoc (replicate k []) (replicate p []) (drop p part))
+    ∙ ap (λ l. l ++ drop p part) (replicate-append-replicate k p [])
+
+pub map-put_mid : {X : Type 0} (f : X → List ℕ) (xs ys : List X) (a : ℕ) → a ≤ length xs
+    → map f (put_mid a (length xs - a) xs ys) ≡ take a (map f xs) ++ map f ys
+map-put_mid f xs ys a h =
+    let none : drop (length xs - a) (drop a xs) ≡ [] = drop_all (length xs - a) (drop a xs) (omega (arith, length-drop a xs)) in
+    ap (λ l. map f (take a xs ++ (ys ++ l))) none ∙ ap (λ l. map f (take a xs ++ l)) (append-nil ys)
+    ∙ map-append f (take a xs) ys ∙ ap (λ l. l ++ map f ys) (sym (take-map f a xs))
+
+-- ---- the invariant of every value is kept
+
+-- a call that skips n bytes, and takes one turn for each passed buffer
+pub IsLent-skip : (n remaining : ℕ) (now next : List (List ℕ)) (old new : Lent) → IsLent now remaining old → SkipsLent n old new
+    → next ≡ lists_of new → IsPassedOnce new → IsLent next (remaining - n) new
+IsLent-skip n remaining now next old new is skips lists passed =
+    record {
+      lists = lists;
+      sum = omega (arith, is.sum, ap length skips.segments.bytes, length-drop n (concat old.segments));
+      reading = record {
+        read = is.reading.read + n;
+        skips = rw skips.handed_in (Skips-more is.reading.read n old.handed_in old.segments new.segments is.reading.skips skips.segments);
+        place = omega (arith, is.reading.place, skips.place, ap length skips.handed_in);
+      };
+      passed = passed;
+    }
+
+-- the unread lists of the buffers from place k on
+pub map-part : {X : Type 0} (f : X → List ℕ) (xs : List X) (k : ℕ) → map f (take (length xs - k) (drop k xs)) ≡ drop k (map f xs)
+map-part f xs k = ap (map f) (take_rest xs k) ∙ sym (drop-map f k xs)
+
+-- of the buffers from place k on, p more became empty
+pub SkipsLent-part : {X : Type 0} (f : X → List ℕ) (xs ys : List X) (n k p : ℕ) (handed_in : List (List ℕ)) (old new : Tallied) (name : ℕ) → k ≤ length xs
+    → take k (map f xs) ≡ replicate k []
+    → (let part = take (length xs - k) (drop k xs) in
+    p ≤ length part → length ys ≡ length part → take p (map f ys) ≡ replicate p [] → Skips n (map f part) (drop p (map f ys))
+    → SkipsLent n (lent_at k handed_in (map f xs) old name) (lent_at (k + p) handed_in (map f (put_mid k (length xs - k) xs ys)) new name))
+SkipsLent-part f xs ys n k p handed_in old new name in_all before inside size out skips =
+    let lists = map-put_mid f xs ys k in_all ∙ more_read_out k p (map f xs) (map f ys) before out in
+    let following = ap (drop (k + p)) lists ∙ drop_read_out (k + p) (drop p (map f ys)) in
+    let part = map-part f xs k in
+    record {
+      segments = rw (following, ← part) skips;
+      place = omega (arith, ap length following, length-drop p (map f ys), length-map ys f, length-map (take (length xs - k) (drop k xs)) f, ap length part, inside, size);
+      handed_in = refl;
+      name = refl;
+    }
+
+-- the passed buffers are still empty
+pub lists_of-part : {X : Type 0} (f : X → List ℕ) (xs ys : List X) (k p : ℕ) (handed_in : List (List ℕ)) (new : Tallied) (name : ℕ) → k ≤ length xs
+    → take k (map f xs) ≡ replicate k [] → take p (map f ys) ≡ replicate p []
+    → (let table = map f (put_mid k (length xs - k) xs ys) in table ≡ lists_of (lent_at (k + p) handed_in table new name))
+lists_of-part f xs ys k p handed_in new name in_all before out =
+    let lists = map-put_mid f xs ys k in_all ∙ more_read_out k p (map f xs) (map f ys) before out in
+    let following = ap (drop (k + p)) lists ∙ drop_read_out (k + p) (drop p (map f ys)) in
+    lists ∙ ap (λ l. replicate (k + p) [] ++ l) (sym following)
+
+-- one skip after another
+pub Passes-more : (n m : ℕ) (old mid new : Lent) → Passes n old mid → Passes m mid new → Passes (n + m) old new
+Passes-more n m old mid new s t =
+    record {
+      skips = record {
+        segments = Skips-more n m old.segments mid.segments new.segments s.skips.segments t.skips.segments;
+        place = t.skips.place ∙ s.skips.place;
+        handed_in = t.skips.handed_in ∙ s.skips.handed_in;
+        name = t.skips.name ∙ s.skips.name;
+      };
+      given = t.given ∙ s.given;
+      dropped = t.dropped ∙ s.dropped;
+      turns = t.turns ∙ s.turns;
+    }
+
+-- ---- sums of lengths
+
+-- a sum so far, plus one more buffer
+pub sum_more : {X : Type 0} (f : X → List ℕ) (xs : List X) (i : ℕ) (x : X) (sum size : ℕ) → i < length xs → x ≡ get_or xs i x
+    → sum ≡ length (concat (take i (map f xs))) → size ≡ length (f x) → sum + size ≡ length (concat (take (i + 1) (map f xs)))
+sum_more f xs i x sum size inside is so_far long =
+    omega (arith, so_far, long, length-concat-take_more (map f xs) i (omega (arith, inside, length-map xs f)), ap length (read_at f xs i x inside is))
+
+pub length-concat-take_le : (i : ℕ) (xs : List (List ℕ)) → length (concat (take i xs)) ≤ length (concat xs)
+length-concat-take_le i xs = omega (arith, ap length (concat_split i xs), length-append (concat (take i xs)) (concat (drop i xs)))
+
+-- ---- empty lists at the front are passed
+
+-- lists that have no bytes together are empty
+none_before : (p : ℕ) (now : List (List ℕ)) → p ≤ length now → length (concat (take p now)) ≡ 0 → now ≡ replicate p [] ++ drop p now
+none_before zero now inside none = refl
+none_before (suc p) [] inside none = absurd (omega arith)
+none_before (suc p) ([] ∷ now) inside none = ap (λ l. [] ∷ l) (none_before p now (omega arith) none)
+none_before (suc p) ((b ∷ s) ∷ now) inside none = absurd (omega (arith, length-append (b ∷ s) (concat (take p now))))
+
+-- what a loop that counts the empty lists at the front has found
+pub record Trimmed (p : ℕ) (now : List (List ℕ)) : Type 0 where
+  pub before : now ≡ replicate p [] ++ drop p now
+  pub skips : Skips 0 now (drop p now)
+
+pub Trimmed-from_count : (now : List (List ℕ)) (p n : ℕ) → p ≤ length now → length (concat (take p now)) + n ≡ 0
+    → (p < length now → n < length (get_or now p [])) → Trimmed p now
+Trimmed-from_count now p n inside none next =
+    let zero_left : n ≡ 0 = omega (arith, none) in
+    record {
+      before = none_before p now inside (omega (arith, none));
+      skips = Skips-from_count now (drop p now) p n 0 inside none (omega arith) next
+          (cut_front-none (drop p now) ∙ ap (λ m. cut_front m (drop p now)) (sym zero_left));
+    }
+
+-- a new value
+pub IsLent-new : (p remaining : ℕ) (now handed_in : List (List ℕ)) (tally : Tallied) (name : ℕ) → p ≤ length now
+    → now ≡ replicate p [] ++ drop p now → Skips 0 now (drop p now) → handed_in ≡ now → remaining ≡ length (concat now)
+    → IsPassedOnce (lent_at p handed_in now tally name) → IsLent now remaining (lent_at p handed_in now tally name)
+IsLent-new p remaining now handed_in tally name within before skips same sum passed =
+    record {
+      lists = before;
+      sum = omega (arith, sum, ap length skips.bytes);
+      reading = record {
+        read = 0;
+        skips = rw same skips;
+        place = omega (arith, within, length-drop p now, ap length same);
+      };
+      passed = passed;
+    }
+
+-- ---- the first list
+
+-- a chunk of the first list is a chunk of all
+pub chunk_of_front : (chunk : List ℕ) (segments : List (List ℕ)) → 0 < length segments → FrontUnread segments → IsChunkOf chunk (front_of segments)
+    → IsChunkOf chunk (concat segments)
+chunk_of_front chunk [] some front is = absurd (omega arith)
+chunk_of_front chunk (s ∷ segments) some front is =
+    record {
+      front = take-append-le (length chunk) s (concat segments) is.fits ∙ is.front;
+      fits = omega (arith, is.fits, length-append s (concat segments));
+      some = λ _. is.some (front some);
+    }
+
+-- the first of these buffers loses n bytes
+pub map-cut_first : {X : Type 0} (f : X → List ℕ) (xs : List X) (item new : X) (n : ℕ) → 0 < length xs → f new ≡ drop n (f (get_or xs 0 item))
+    → map f (set xs 0 new) ≡ cut_front n (map f xs)
+map-cut_first f [] item new n some lost = absurd (omega arith)
+map-cut_first f (x ∷ xs) item new n some lost = ap (λ s. s ∷ map f xs) lost
+
+-- a copy so far, plus the first bytes of a chunk
+pub copy_more : (taken count : ℕ) (all rest copy chunk : List ℕ) → copy ≡ take taken all → rest ≡ drop taken all → IsChunkOf chunk rest
+    → count ≤ length chunk → copy ++ take count chunk ≡ take (taken + count) all
+copy_more taken count all rest copy chunk so_far left is fits =
+    ap (λ l. l ++ take count chunk) so_far
+    ∙ ap (λ l. take taken all ++ l) (ap (take count) (sym is.front) ∙ take-take count (length chunk) rest fits ∙ ap (take count) left)
+    ∙ sym (take-add taken count all)

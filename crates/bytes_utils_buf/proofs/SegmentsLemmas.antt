@@ -1,0 +1,36 @@
+-- Accepted buffers, and what pays for them.
+use Rattle.std.proofs.Common.{◌≡◌, ℕ, ◌+◌, ◌-◌, List, [], ◌∷◌, ◌++◌, length, arith, ap, ◌∙◌, length-append}
+use Rattle.std.proofs.lemmas.List.{length_push}
+use Rattle.std.specs.List.{concat}
+use Rattle.bytes_utils_buf.specs.Segments.{Held, count_unread, without_empty, after_accepting}
+use Rattle.bytes_utils_buf.proofs.Lists.{accepted_more, concat-accepted, length-without_empty, without_empty-append}
+
+-- one buffer, accepted without a counted call
+abbrev pub with_one : Held → List ℕ → Held
+with_one held y =
+    record {
+      segments = held.segments ++ without_empty (y ∷ []);
+      tally = record {
+        given = held.tally.given + 1;
+        dropped = held.tally.dropped + (1 - count_unread (y ∷ []));
+        calls = held.tally.calls;
+        turns = held.tally.turns;
+      };
+    }
+
+-- a call that has accepted some buffers accepts one more
+pub with_one-accepting : (held : Held) (ys : List (List ℕ)) (y : List ℕ) → with_one (after_accepting held ys) y ≡ after_accepting held (ys ++ y ∷ [])
+with_one-accepting held ys y =
+    let given : held.tally.given + length ys + 1 ≡ held.tally.given + length (ys ++ y ∷ []) = omega (arith, length_push ys y) in
+    let more : count_unread (ys ++ y ∷ []) ≡ count_unread ys + count_unread (y ∷ []) =
+    ap length (without_empty-append ys (y ∷ [])) ∙ length-append (without_empty ys) (without_empty (y ∷ [])) in
+    let dropped : held.tally.dropped + (length ys - count_unread ys) + (1 - count_unread (y ∷ [])) ≡ held.tally.dropped + (length (ys ++ y ∷ []) - count_unread (ys ++ y ∷ [])) =
+    omega (arith, more, length_push ys y, length-without_empty ys, length-without_empty (y ∷ [])) in
+    (λ i. record {
+      segments = accepted_more held.segments ys y i;
+      tally = record { given = given i; dropped = dropped i; calls = held.tally.calls + 1; turns = held.tally.turns };
+    })
+
+-- the bytes to read are followed by those of the accepted lists
+pub concat-accepting : (held : Held) (ys : List (List ℕ)) → concat (after_accepting held ys).segments ≡ concat held.segments ++ concat ys
+concat-accepting held ys = concat-accepted held.segments ys

@@ -1,0 +1,82 @@
+-- Tables of slices, filled from the front.
+use Rattle.std.proofs.Common.{◌≡◌, ℕ, ◌+◌, ◌-◌, ◌<◌, ◌≤◌, List, [], ◌∷◌, ◌++◌, length, take, drop, ap, ◌∙◌, sym, refl, arith, append_assoc, append-nil, length-append, drop_at, length-drop, set, take-add, take_at, length-take-le, Bor}
+use Rattle.std.proofs.lemmas.List.{drop_all, take_rest, drop-append-le, drop-drop}
+use borrow.Rule.Slice.PartMut.{put_mid}
+use Rattle.std.proofs.lemmas.List.Elements.{All-cons, All-nil, All-append, All-same}
+use Rattle.bytes_utils_buf.specs.Slices.{joined, FillsTable}
+use Rattle.bytes_utils_buf.proofs.Lists.{drop-append_past}
+
+-- one slice in the first place of a table
+pub FillsTable-first : (dst : List (Bor (List ℕ))) (x : Bor (List ℕ)) (all : List ℕ) → 0 < length dst → x.now ≡ all → 0 < length all
+    → FillsTable 1 dst (set dst 0 x) all
+FillsTable-first [] x all room is some = absurd (omega arith)
+FillsTable-first (d ∷ ds) x all room is some =
+    let bytes : joined (take 1 (set (d ∷ ds) 0 x)) ≡ all = append-nil x.now ∙ is in
+    record {
+      count = omega arith;
+      some = All-cons (λ s. 0 < length s.now) x [] (omega (arith, ap length is)) (All-nil (λ s. 0 < length s.now));
+      front = ap (λ l. l ++ drop (length l) all) bytes ∙ ap (λ l. all ++ l) (drop_all (length all) all (omega arith)) ∙ append-nil all;
+      whole = λ _. bytes;
+      tail = refl;
+    }
+
+-- the slice has all bytes
+pub joined-first : (dst : List (Bor (List ℕ))) (x : Bor (List ℕ)) (all : List ℕ) → 0 < length dst → x.now ≡ all → joined (take 1 (set dst 0 x)) ≡ all
+joined-first [] x all room is = absurd (omega arith)
+joined-first (d ∷ ds) x all room is = append-nil x.now ∙ is
+
+joined-append : (xs ys : List (Bor (List ℕ))) → joined (xs ++ ys) ≡ joined xs ++ joined ys
+joined-append [] ys = refl
+joined-append (x ∷ xs) ys = ap (λ l. x.now ++ l) (joined-append xs ys) ∙ sym (append_assoc x.now (joined xs) (joined ys))
+
+pub FillsTable-same : (n : ℕ) (old new : List (Bor (List ℕ))) (xs ys : List ℕ) → ys ≡ xs → FillsTable n old new xs → FillsTable n old new ys
+FillsTable-same n old new xs ys e h = rw e h
+
+-- a full table stays filled, whatever bytes follow
+pub FillsTable-full : (n : ℕ) (old new : List (Bor (List ℕ))) (xs ys : List ℕ) → length old ≤ n → FillsTable n old new xs → FillsTable n old new (xs ++ ys)
+FillsTable-full n old new xs ys full h =
+    let j = joined (take n new) in
+    let fits : length j ≤ length xs = omega (arith, ap length h.front, length-append j (drop (length j) xs)) in
+    record {
+      count = h.count;
+      some = h.some;
+      front = ap (λ l. j ++ l) (drop-append-le (length j) xs ys fits) ∙ sym (append_assoc j (drop (length j) xs) ys) ∙ ap (λ l. l ++ ys) h.front;
+      whole = λ less. absurd (omega (arith, less, full));
+      tail = h.tail;
+    }
+
+-- the next buffer fills the rest of the table
+pub FillsTable-more : (n k : ℕ) (old mid new : List (Bor (List ℕ))) (xs ys : List ℕ) → n < length old → length mid ≡ length old
+    → length new ≡ length mid - n → FillsTable n old mid xs → FillsTable k (take (length mid - n) (drop n mid)) new ys
+    → FillsTable (n + k) old (put_mid n (length mid - n) mid new) (xs ++ ys)
+FillsTable-more n k old mid new xs ys room same size a b =
+    let P = λ (s : Bor (List ℕ)). 0 < length s.now in
+    let rest = take_rest mid n in
+    let left = length-drop n mid in
+    let table = put_mid n (length mid - n) mid new in
+    let none : drop (length mid - n) (drop n mid) ≡ [] = drop_all (length mid - n) (drop n mid) (omega (arith, left)) in
+    let plain : table ≡ take n mid ++ new = ap (λ l. take n mid ++ (new ++ l)) none ∙ ap (λ l. take n mid ++ l) (append-nil new) in
+    let front_size = length-take-le n mid (omega (arith, same, room)) in
+    let following : drop n table ≡ new = ap (drop n) plain ∙ drop_at (take n mid) new n front_size in
+    let before : take n table ≡ take n mid = ap (take n) plain ∙ take_at (take n mid) new n front_size in
+    let taken : take (n + k) table ≡ take n mid ++ take k new = take-add n k table ∙ (λ i. before i ++ take k (following i)) in
+    let j = joined (take k new) in
+    let bytes : joined (take (n + k) table) ≡ xs ++ j = ap joined taken ∙ joined-append (take n mid) (take k new) ∙ ap (λ l. l ++ j) (a.whole room) in
+    record {
+      count = omega (arith, b.count, ap length rest, left, same, room);
+      some = All-same P _ _ taken (All-append P (take n mid) (take k new) a.some b.some);
+      front = ap (λ l. l ++ drop (length l) (xs ++ ys)) bytes
+          ∙ ap (λ l. (xs ++ j) ++ l) (drop-append_past xs ys (length j) (length (xs ++ j)) (length-append xs j))
+          ∙ append_assoc xs j (drop (length j) ys) ∙ ap (λ l. xs ++ l) b.front;
+      whole = λ less. bytes ∙ ap (λ l. xs ++ l) (b.whole (omega (arith, less, ap length rest, left, same)));
+      tail = sym (drop-drop k n table) ∙ ap (drop k) following ∙ b.tail ∙ ap (drop k) (rest ∙ a.tail) ∙ drop-drop k n old;
+    }
+
+pub length-put_mid : {X : Type 0} (xs ys : List X) (n : ℕ) → n ≤ length xs → length ys ≡ length xs - n → length (put_mid n (length xs - n) xs ys) ≡ length xs
+length-put_mid xs ys n h size =
+    let post = drop (length xs - n) (drop n xs) in
+    omega (arith, h, size, length-append (take n xs) (ys ++ post), length-append ys post, length-take-le n xs h, length-drop (length xs - n) (drop n xs), length-drop n xs)
+
+pub joined-push : (xs : List (Bor (List ℕ))) (x : Bor (List ℕ)) → joined (xs ++ x ∷ []) ≡ joined xs ++ x.now
+joined-push [] x = append-nil x.now
+joined-push (y ∷ xs) x = ap (λ l. y.now ++ l) (joined-push xs x) ∙ sym (append_assoc y.now (joined xs) x.now)

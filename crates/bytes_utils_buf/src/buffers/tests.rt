@@ -1,0 +1,183 @@
+//! The buffers of std and of the crate `bytes` as segments.
+mod memory;
+
+use crate::contiguous::ContiguousBuf;
+use crate::fixtures::odd::{Asked, Zeros};
+use crate::fixtures::{JOINED, assert_bytes, assert_fills, hands_out, hold, take_out};
+use crate::parts::{BufParts, copy_out_of};
+use bytes::{Buf, Bytes, BytesMut, BytesQueue};
+use std::alloc::{AllocError, Global};
+use std::collections::VecDeque;
+use std::io::Cursor;
+use std::process::Abort;
+use std::test::Fail;
+
+#[test]
+fn bytes_mut(rt: HostRuntime) -> Result<(), Fail> {
+    let mut buf = BytesMut::copy_from_slice(rt.alloc(), JOINED.as_bytes())?;
+    assert_bytes(&rt, buf.as_contiguous(), JOINED);
+    hands_out(&rt, rt.alloc(), &mut buf, &[JOINED])
+}
+
+#[test]
+fn boxed(rt: HostRuntime) -> Result<(), Fail> {
+    let mut buf = Box::new(rt.alloc(), Asked::of(JOINED))?;
+    assert_bytes(&rt, buf.as_contiguous(), JOINED);
+    hands_out(&rt, rt.alloc(), &mut buf, &[JOINED])
+}
+
+#[test]
+fn borrowed(rt: HostRuntime) -> Result<(), Fail> {
+    let mut asked = Asked::of(JOINED);
+    let mut buf = &mut asked;
+    assert_bytes(&rt, buf.as_contiguous(), JOINED);
+    hands_out(&rt, rt.alloc(), &mut buf, &[JOINED])?;
+    assert_eq!(rt; asked.bytes.len(), 0);
+    Ok(())
+}
+
+// A cursor past its end has nothing to read.
+#[test]
+fn cursor(rt: HostRuntime) -> Result<(), Fail> {
+    let mut buf = Cursor::new(b"> Hello World".as_slice());
+    buf.set_position(2);
+    assert_bytes(&rt, buf.as_contiguous(), JOINED);
+    hands_out(&rt, rt.alloc(), &mut buf, &[JOINED])?;
+    buf.set_position(100);
+    assert_fills(&rt, &buf, 10, &[]);
+    Ok(())
+}
+
+#[test]
+fn take(rt: HostRuntime) -> Result<(), Fail> {
+    let mut buf = b"Hello World, and more".as_slice().take(11);
+    assert_bytes(&rt, buf.as_contiguous(), JOINED);
+    hands_out(&rt, rt.alloc(), &mut buf, &[JOINED])?;
+    assert_bytes(&rt, buf.into_inner(), ", and more");
+    Ok(())
+}
+
+// All bytes if there are fewer than the limit, and none if the limit is 0.
+#[test]
+fn take_more_and_none(rt: HostRuntime) -> Result<(), Fail> {
+    hands_out(&rt, rt.alloc(), &mut JOINED.as_bytes().take(100), &[JOINED])?;
+    let mut none = JOINED.as_bytes().take(0);
+    assert_fills(&rt, &none, 10, &[]);
+    assert!(rt; take_out(&rt, rt.alloc(), &mut none, 0)?.is_empty());
+    Ok(())
+}
+
+#[test]
+fn chain(rt: HostRuntime) -> Result<(), Fail> {
+    let tail = Bytes::from_static(b"World, and more").take(5);
+    let mut buf = Asked::of("Hello ").chain(tail);
+    hands_out(&rt, rt.alloc(), &mut buf, &["Hello ", "World"])
+}
+
+#[test]
+fn chain_of_one(rt: HostRuntime) -> Result<(), Fail> {
+    let mut back = Bytes::new().chain(Bytes::from_static(JOINED.as_bytes()));
+    hands_out(&rt, rt.alloc(), &mut back, &[JOINED])?;
+    let mut front = Bytes::from_static(JOINED.as_bytes()).chain(Bytes::new());
+    hands_out(&rt, rt.alloc(), &mut front, &[JOINED])
+}
+
+/// A deque of `JOINED` whose bytes lie in two slices.
+pub(super) fn wrapped(alloc: Global) -> Result<VecDeque<u8>, AllocError> {
+    let mut deque = VecDeque::with_capacity(alloc, 16)?;
+    for byte in b" World".as_slice() {
+        deque.push_back(*byte)?;
+    }
+    for byte in b"olleH".as_slice() {
+        deque.push_front(*byte)?;
+    }
+    Ok(deque)
+}
+
+#[test]
+fn deque(rt: HostRuntime) -> Result<(), Fail> {
+    let mut deque = wrapped(rt.alloc())?;
+    hands_out(&rt, rt.alloc(), &mut deque, &["Hello", " World"])
+}
+
+#[test]
+fn queue(rt: HostRuntime) -> Result<(), Fail> {
+    let mut queue = BytesQueue::new(rt.alloc());
+    for chunk in ["Hello", " ", "World"] {
+        queue.push(Bytes::from_static(chunk.as_bytes()))?;
+    }
+    hands_out(&rt, rt.alloc(), &mut queue, &["Hello", " ", "World"])
+}
+
+// A `SegmentedBuf` of chains, each of a `Bytes` and a `Take`, has `BufParts` too.
+#[test]
+fn nested(rt: HostRuntime) -> Result<(), Fail> {
+    let tail = Bytes::from_static(b"World!").take(5);
+    let chain = Bytes::from_static(b"Hello ").chain(tail);
+    let mut row = hold(&rt, rt.alloc(), chain)?;
+    hands_out(&rt, rt.alloc(), &mut row, &["Hello ", "World"])
+}
+
+#[test]
+fn any_buffer(rt: HostRuntime) -> Result<(), Fail> {
+    let mut zeros = Zeros { left: 20 };
+    let copy = copy_out_of(&mut zeros, rt.alloc(), 19)?;
+    assert!(rt; copy.len() == 19 && copy.as_slice().iter().all(|byte| *byte == 0));
+    assert_eq!(rt; zeros.left, 1);
+    Ok(())
+}
+
+// The bytes that are taken out and those that are left share their block, and so do a prefix and a
+// part.
+fn shares<B: BufParts + ContiguousBuf>(
+    rt: &impl Abort,
+    alloc: Global,
+    buf: &mut B,
+) -> Result<(), Fail> {
+    assert!(rt; buf.remaining() >= 6);
+    let (first, part) = (buf.prefix(alloc, 5)?, buf.part(alloc, 1..5)?);
+    assert!(rt; !first.is_unique() && !part.is_unique());
+    assert_bytes(rt, part.as_slice(), "ello");
+    let copy = take_out(rt, alloc, buf, 5)?;
+    drop((first, part));
+    assert!(rt; !copy.is_unique());
+    Ok(())
+}
+
+fn shared(alloc: Global) -> Result<Bytes, Fail> {
+    Ok(Bytes::copy_from_slice(alloc, JOINED.as_bytes())?)
+}
+
+#[test]
+fn boxes_and_borrowed_ones_share(rt: HostRuntime) -> Result<(), Fail> {
+    let alloc = rt.alloc();
+    shares(&rt, alloc, &mut Box::new(alloc, shared(alloc)?)?)?;
+    shares(&rt, alloc, &mut &mut shared(alloc)?)
+}
+
+#[test]
+fn limited_ones_share(rt: HostRuntime) -> Result<(), Fail> {
+    shares(&rt, rt.alloc(), &mut shared(rt.alloc())?.take(8))
+}
+
+// Bytes that are all in one of the two are shared.
+#[test]
+fn chains_share(rt: HostRuntime) -> Result<(), Fail> {
+    let mut buf = shared(rt.alloc())?.chain(shared(rt.alloc())?);
+    let first = take_out(&rt, rt.alloc(), &mut buf, 5)?;
+    let across = take_out(&rt, rt.alloc(), &mut buf, 8)?;
+    let last = take_out(&rt, rt.alloc(), &mut buf, 5)?;
+    assert!(rt; !first.is_unique() && across.is_unique() && !last.is_unique());
+    Ok(())
+}
+
+#[test]
+fn grown_ones_and_queues_share(rt: HostRuntime) -> Result<(), Fail> {
+    let mut grown = BytesMut::copy_from_slice(rt.alloc(), JOINED.as_bytes())?;
+    let copy = take_out(&rt, rt.alloc(), &mut grown, 5)?;
+    let mut queue = BytesQueue::new(rt.alloc());
+    queue.push(shared(rt.alloc())?)?;
+    let chunk = take_out(&rt, rt.alloc(), &mut queue, 5)?;
+    assert!(rt; !copy.is_unique() && !chunk.is_unique());
+    Ok(())
+}

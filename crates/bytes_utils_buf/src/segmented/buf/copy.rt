@@ -1,0 +1,99 @@
+//! Copies of the bytes, and tables of slices.
+ghost use Rattle.std.specs.Prelude.{◌≡◌, ◌+◌, ◌<◌, ◌≤◌, length, map, take, drop, IfOk, IfErr, ◌⊎◌};
+ghost use Rattle.std.specs.List.{concat};
+ghost use Rattle.bytes_utils_buf.specs.Copies.{CountsCopy};
+ghost use Rattle.bytes_utils_buf.specs.Slices.{taken_by, FillsTable};
+ghost use Rattle.bytes_utils_buf.specs.Segments.{front_of, Skips};
+ghost use Rattle.bytes_utils_buf.specs.Tally.{IsPaid, lined_up};
+
+use super::SegmentedBuf;
+use super::front::{front_holds, take_from_front};
+use crate::parts::{BufParts, CopyRefused};
+use crate::segmented::copy::{Segmented, bytes_taken};
+use crate::segmented::fill::fill_from_held;
+use crate::segmented::walk::skip_held;
+use bytes::Bytes;
+use std::alloc::Global;
+
+impl<B: BufParts + Drop> SegmentedBuf<B> {
+    /// Takes the first `len` bytes out. If the first segment has them all, its own `copy_out`
+    /// returns them: a `Bytes` shares them. Otherwise they are copied. Requires that `len` is at
+    /// most `remaining()` (test: `remaining`). Fails with `CopyRefused` if memory is refused; then
+    /// `taken` bytes are lost: none or all across segments, or as many as that `copy_out` took. To
+    /// lose none of a `ContiguousBuf`, call `peek_bytes` and then `advance`.
+    pub fn copy_to_bytes(&mut self, alloc: Global, len: usize) -> Result<Bytes, CopyRefused>
+        requires { len ≤ length (concat self.old.segments) }
+        ensures value { IfOk result (λ copy. copy ≡ take len (concat self.old.segments)) }
+        ensures taken { taken_by len result ≤ len }
+        ensures skips { Skips (taken_by len result) self.old.segments self.new.segments }
+        ensures bytes { concat self.new.segments
+            ≡ drop (taken_by len result) (concat self.old.segments) }
+
+        // If the first segment alone is asked, a refusal took what that segment's own took. Across
+        // segments it took nothing or all.
+        ensures lost { len ≤ length (front_of self.old.segments) → 0 < length self.old.segments
+            → IfErr result (λ e. B.loses len e.taken) }
+        ensures refused { length (front_of self.old.segments) < len
+            → IfErr result (λ e. (e.taken ≡ 0) ⊎ (e.taken ≡ len)) }
+        ensures counts { CountsCopy len (taken_by len result) self.old.segments self.old.tally
+            self.new.segments self.new.tally }
+        ensures paid { IsPaid self.old.segments self.old.tally self.new.segments self.new.tally }
+    {
+        self.tally.call();
+        if front_holds(&self.segments, len) {
+            self.take_front(alloc, len)
+        } else {
+            self.collect(alloc, len)
+        }
+    }
+
+    /// Fills the first places of `dst` with slices of the unread bytes, and returns how many places
+    /// it filled. It asks the segments in order. A nested one gives its own slices.
+    pub fn chunks_vectored<'s>(&'s self, dst: &mut [&'s [u8]]) -> usize
+        ensures { FillsTable result dst.old dst.new (concat self.now.segments) }
+    {
+        fill_from_held(&self.segments, dst)
+    }
+
+    fn take_front(&mut self, alloc: Global, len: usize) -> Result<Bytes, CopyRefused>
+        requires some { 0 < length self.old.segments }
+        requires holds { len ≤ length (front_of self.old.segments) }
+        ensures value { IfOk result (λ copy. copy ≡ take len (concat self.old.segments)) }
+        ensures taken { taken_by len result ≤ len }
+        ensures lost { IfErr result (λ e. B.loses len e.taken) }
+        ensures skips { Skips (taken_by len result) self.old.segments self.new.segments }
+        ensures given { self.new.tally.given ≡ self.old.tally.given }
+        ensures dropped { self.new.tally.dropped ≡ self.old.tally.dropped }
+        ensures calls { self.new.tally.calls ≡ self.old.tally.calls }
+        ensures turns { lined_up self.new.segments self.new.tally
+            ≡ lined_up self.old.segments self.old.tally }
+    {
+        let copy = take_from_front(&mut self.segments, alloc, len);
+        skip_held(&mut self.segments, &mut self.tally, 0);
+        self.remaining -= bytes_taken(&copy, len);
+        copy
+    }
+}
+
+impl<B: BufParts + Drop> BufParts for SegmentedBuf<B> {
+    // Nothing or all across segments, or what the first segment's own refusal may have taken.
+    ghost loses = { λ len taken. (taken ≡ 0) ⊎ (taken ≡ len) ⊎ B.loses len taken };
+
+    fn copy_out(&mut self, alloc: Global, len: usize) -> Result<Bytes, CopyRefused>
+        requires { len ≤ length (concat self.old.segments) }
+        ensures value { IfOk result (λ copy. copy ≡ take len (concat self.old.segments)) }
+        ensures taken { taken_by len result ≤ len }
+        ensures skips { Skips (taken_by len result) self.old.segments self.new.segments }
+        ensures rest { concat self.new.segments
+            ≡ drop (taken_by len result) (concat self.old.segments) }
+        ensures lost { IfErr result (λ e. (e.taken ≡ 0) ⊎ (e.taken ≡ len) ⊎ B.loses len e.taken) }
+        ensures counts { CountsCopy len (taken_by len result) self.old.segments self.old.tally
+            self.new.segments self.new.tally }
+    {
+        self.copy_to_bytes(alloc, len)
+    }
+
+    fn chunks_into<'s>(&'s self, dst: &mut [&'s [u8]]) -> usize {
+        self.chunks_vectored(dst)
+    }
+}

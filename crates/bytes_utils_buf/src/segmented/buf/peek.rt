@@ -1,0 +1,43 @@
+//! Peeking at the bytes.
+ghost use Rattle.std.specs.Prelude.{◌≡◌, ◌++◌, length, min, take, drop, IsTrue, ◌↔◌};
+ghost use Rattle.std.specs.List.{concat, slice_get};
+ghost use Rattle.std.specs.Option.{option_map};
+
+use super::SegmentedBuf;
+use crate::contiguous::ContiguousBuf;
+use crate::segmented::pieces::{copy_into, starts_with};
+use crate::segmented::place::FRONT;
+
+impl<B: ContiguousBuf + Drop> SegmentedBuf<B> {
+    /// Returns the bytes of the segment at index `place`, from 0 at the front, if there is one.
+    pub fn segment(&self, place: usize) -> Option<&[u8]>
+        ensures { option_map (λ bytes. bytes.now) result ≡ slice_get self.now.segments place }
+    {
+        Some(self.segments.get(place)?.as_contiguous())
+    }
+
+    /// Copies the first bytes into `dst`, as many as fit, and returns how many. They stay here too.
+    pub fn peek(&self, dst: &mut [u8]) -> usize
+        ensures count { result ≡ min (length dst.old) (length (concat self.now.segments)) }
+        ensures bytes { dst.new ≡ take result (concat self.now.segments) ++ drop result dst.old }
+    {
+        let count = dst.len().min(self.remaining);
+        copy_into(&self.segments, &mut dst[..count]);
+        count
+    }
+
+    /// Returns whether the unread bytes start with `prefix`.
+    pub fn starts_with(&self, prefix: &[u8]) -> bool
+        ensures { IsTrue result
+            ↔ (take (length prefix.now) (concat self.now.segments) ≡ prefix.now) }
+    {
+        prefix.len() <= self.remaining && starts_with(&self.segments, FRONT, prefix)
+    }
+
+    /// Returns whether the unread bytes are `bytes`.
+    pub fn eq_bytes(&self, bytes: &[u8]) -> bool
+        ensures { IsTrue result ↔ (concat self.now.segments ≡ bytes.now) }
+    {
+        self.remaining == bytes.len() && self.starts_with(bytes)
+    }
+}

@@ -1,0 +1,135 @@
+//! Copies of the bytes of borrowed buffers, and tables of their slices.
+ghost use Rattle.std.specs.Prelude.{◌≡◌, ◌+◌, ◌<◌, ◌≤◌, [], length, map, take, drop, replicate, IsTrue, ◌↔◌, IfOk, IfErr, ◌⊎◌};
+ghost use Rattle.std.specs.List.{concat};
+ghost use Rattle.bytes_utils_buf.specs.Copies.{CountsCopy};
+ghost use Rattle.bytes_utils_buf.specs.Lent.{SkipsLent};
+ghost use Rattle.bytes_utils_buf.specs.Slices.{taken_by, FillsTable};
+ghost use Rattle.bytes_utils_buf.specs.Segments.{front_of, Skips};
+ghost use Rattle.bytes_utils_buf.specs.Tally.{IsPaid, lined_up};
+
+use super::SegmentedSlice;
+use crate::parts::{BufParts, CopyRefused};
+use crate::segmented::copy::{Segmented, bytes_taken};
+use crate::segmented::fill::fill_from;
+use crate::segmented::tally::Tally;
+use crate::segmented::walk::count_empty;
+use bytes::{Buf, Bytes};
+use std::alloc::Global;
+
+impl<B: BufParts> SegmentedSlice<'_, B> {
+    /// Takes the first `len` bytes out. If the first buffer has them all, its own `copy_out`
+    /// returns them: a `Bytes` shares them. Otherwise they are copied. Requires that `len` is at
+    /// most `remaining()` (test: `remaining`). Fails with `CopyRefused` if memory is refused; then
+    /// `taken` bytes are lost: none or all across buffers, or as many as that `copy_out` took.
+    pub fn copy_to_bytes(&mut self, alloc: Global, len: usize) -> Result<Bytes, CopyRefused>
+        requires { len ≤ length (concat self.old.segments) }
+        ensures value { IfOk result (λ copy. copy ≡ take len (concat self.old.segments)) }
+        ensures taken { taken_by len result ≤ len }
+        ensures skips { SkipsLent (taken_by len result) self.old self.new }
+        ensures bytes { concat self.new.segments
+            ≡ drop (taken_by len result) (concat self.old.segments) }
+
+        // If the first buffer alone is asked, a refusal took what that buffer's own took. Across
+        // buffers it took nothing or all.
+        ensures lost { len ≤ length (front_of self.old.segments) → 0 < length self.old.segments
+            → IfErr result (λ e. B.loses len e.taken) }
+        ensures refused { length (front_of self.old.segments) < len
+            → IfErr result (λ e. (e.taken ≡ 0) ⊎ (e.taken ≡ len)) }
+        ensures counts { CountsCopy len (taken_by len result) self.old.segments self.old.tally
+            self.new.segments self.new.tally }
+        ensures paid { IsPaid self.old.segments self.old.tally self.new.segments self.new.tally }
+    {
+        self.tally.call();
+        if self.front_holds(len) {
+            self.take_front(alloc, len)
+        } else {
+            self.collect(alloc, len)
+        }
+    }
+
+    /// Fills the first places of `dst` with slices of the unread bytes, and returns how many places
+    /// it filled. It asks the buffers in order. A nested one gives its own slices.
+    pub fn chunks_vectored<'s>(&'s self, dst: &mut [&'s [u8]]) -> usize
+        ensures { FillsTable result dst.old dst.new (concat self.now.segments) }
+    {
+        let bufs = &*self.bufs;
+        fill_from(&bufs[self.place..], dst)
+    }
+
+    fn front_holds(&self, len: usize) -> bool
+        ensures { IsTrue result
+            ↔ ((0 < length self.now.segments) × (len ≤ length (front_of self.now.segments))) }
+    {
+        let bufs = &*self.bufs;
+        self.place < bufs.len() && len <= bufs[self.place].remaining()
+    }
+
+    fn take_front(&mut self, alloc: Global, len: usize) -> Result<Bytes, CopyRefused>
+        requires some { 0 < length self.old.segments }
+        requires holds { len ≤ length (front_of self.old.segments) }
+        ensures value { IfOk result (λ copy. copy ≡ take len (concat self.old.segments)) }
+        ensures taken { taken_by len result ≤ len }
+        ensures lost { IfErr result (λ e. B.loses len e.taken) }
+        ensures skips { SkipsLent (taken_by len result) self.old self.new }
+        ensures given { self.new.tally.given ≡ self.old.tally.given }
+        ensures dropped { self.new.tally.dropped ≡ self.old.tally.dropped }
+        ensures calls { self.new.tally.calls ≡ self.old.tally.calls }
+        ensures turns { lined_up self.new.segments self.new.tally
+            ≡ lined_up self.old.segments self.old.tally }
+    {
+        let place = self.place;
+        let bufs = &mut *self.bufs;
+        let (passed, copy) = take_from_first(&mut bufs[place..], &mut self.tally, alloc, len);
+        self.place += passed;
+        self.remaining -= bytes_taken(&copy, len);
+        copy
+    }
+}
+
+/// Copies `len` bytes out of the first of these buffers alone, and then counts the empty ones at
+/// the front.
+fn take_from_first<B: BufParts>(
+    bufs: &mut [B],
+    tally: &mut Tally,
+    alloc: Global,
+    len: usize,
+) -> (usize, Result<Bytes, CopyRefused>)
+    requires some { 0 < length bufs.old }
+    requires holds { len ≤ length (front_of (map B.unread bufs.old)) }
+    ensures value { IfOk result.1 (λ copy. copy ≡ take len (concat (map B.unread bufs.old))) }
+    ensures taken { taken_by len result.1 ≤ len }
+    ensures lost { IfErr result.1 (λ e. B.loses len e.taken) }
+    ensures passed { result.0 ≤ length bufs.old }
+    ensures read_out { take result.0 (map B.unread bufs.new) ≡ replicate result.0 [] }
+    ensures skips { Skips (taken_by len result.1) (map B.unread bufs.old)
+        (drop result.0 (map B.unread bufs.new)) }
+    ensures turns { tally.new ≡ record tally.old { turns = tally.old.turns + result.0 } }
+{
+    let copy = bufs[0].copy_out(alloc, len);
+    let empty = count_empty(bufs, tally);
+    (empty, copy)
+}
+
+/// By `copy_to_bytes` and `chunks_vectored`.
+impl<B: BufParts> BufParts for SegmentedSlice<'_, B> {
+    // Nothing or all across buffers, or what the first buffer's own refusal may have taken.
+    ghost loses = { λ len taken. (taken ≡ 0) ⊎ (taken ≡ len) ⊎ B.loses len taken };
+
+    fn copy_out(&mut self, alloc: Global, len: usize) -> Result<Bytes, CopyRefused>
+        requires { len ≤ length (concat self.old.segments) }
+        ensures value { IfOk result (λ copy. copy ≡ take len (concat self.old.segments)) }
+        ensures taken { taken_by len result ≤ len }
+        ensures skips { SkipsLent (taken_by len result) self.old self.new }
+        ensures rest { concat self.new.segments
+            ≡ drop (taken_by len result) (concat self.old.segments) }
+        ensures lost { IfErr result (λ e. (e.taken ≡ 0) ⊎ (e.taken ≡ len) ⊎ B.loses len e.taken) }
+        ensures counts { CountsCopy len (taken_by len result) self.old.segments self.old.tally
+            self.new.segments self.new.tally }
+    {
+        self.copy_to_bytes(alloc, len)
+    }
+
+    fn chunks_into<'s>(&'s self, dst: &mut [&'s [u8]]) -> usize {
+        self.chunks_vectored(dst)
+    }
+}

@@ -1,0 +1,103 @@
+//! What becomes of buffers that are passed, read to the end, or empty.
+use crate::fixtures::odd::Asked;
+use crate::fixtures::{hold, lend, shared, skip, take_out};
+use bytes::{Buf, Bytes};
+use std::alloc::{AllocError, Global};
+use std::process::Abort;
+use std::test::Fail;
+
+// Buffers that can be distinguished: each starts with a thousand looks more than the one before.
+fn numbered(alloc: Global, texts: &[&'static str]) -> Result<Vec<Asked>, AllocError> {
+    let mut bufs = Vec::with_capacity(alloc, texts.len())?;
+    for (place, text) in texts.iter().enumerate() {
+        let asked = Asked::of(text);
+        asked.looks.set(place.saturating_mul(1000));
+        bufs.push(asked)?;
+    }
+    Ok(bufs)
+}
+
+fn assert_in_order(rt: &impl Abort, bufs: &[Asked]) {
+    for place in 0..bufs.len() {
+        assert!(rt; bufs[place].looks.get() / 1000 == place);
+    }
+}
+
+/// Buffers, how many bytes are skipped, and how many are copied after that.
+type Row = (&'static [&'static str], usize, usize);
+
+const ROWS: &[Row] = &[
+    (&["a", "b", "c", "d"], 3, 0),
+    (&["a", "b", "c", "d"], 1, 3),
+    (&["", "", "c", "d"], 0, 1),
+    (&["a", "", "c", "d"], 0, 1),
+];
+
+fn come_back(rt: &impl Abort, alloc: Global, row: &Row) -> Result<(), Fail> {
+    let mut bufs = numbered(alloc, row.0)?;
+    let mut all = lend(rt, &mut bufs);
+    skip(rt, &mut all, row.1);
+    let _ = take_out(rt, alloc, &mut all, row.2)?;
+    assert_in_order(rt, all.into_lent());
+    Ok(())
+}
+
+#[test]
+fn lent_come_back_in_their_order(rt: HostRuntime) -> Result<(), Fail> {
+    for row in ROWS {
+        come_back(&rt, rt.alloc(), row)?;
+    }
+    Ok(())
+}
+
+#[test]
+fn passed_segments_are_dropped(rt: HostRuntime) -> Result<(), Fail> {
+    let (bytes, other) = shared(rt.alloc())?;
+    let mut held = hold(&rt, rt.alloc(), bytes)?;
+    skip(&rt, &mut held, 10);
+    assert!(rt; !other.is_unique());
+    skip(&rt, &mut held, 1);
+    assert!(rt; other.is_unique());
+    Ok(())
+}
+
+// A buffer that is read to its end, and another that owns the storage alone once the first is
+// dropped.
+fn read_out(rt: &impl Abort, alloc: Global) -> Result<(Bytes, Bytes), Fail> {
+    let (mut bytes, other) = shared(alloc)?;
+    let len = bytes.remaining();
+    skip(rt, &mut bytes, len);
+    assert!(rt; !other.is_unique());
+    Ok((bytes, other))
+}
+
+#[test]
+fn empty_segments_are_dropped(rt: HostRuntime) -> Result<(), Fail> {
+    let (empty, other) = read_out(&rt, rt.alloc())?;
+    let held = hold(&rt, rt.alloc(), empty)?;
+    assert!(rt; held.segments() == 0 && other.is_unique());
+    Ok(())
+}
+
+// Passes a whole segment.
+fn passes<B: Buf + Drop>(rt: &impl Abort, alloc: Global, buf: B) -> Result<(), Fail> {
+    let mut held = hold(rt, alloc, buf)?;
+    let len = held.remaining();
+    skip(rt, &mut held, len);
+    Ok(())
+}
+
+fn assert_not_advanced(rt: &impl Abort, bufs: &[Asked]) {
+    for buf in bufs {
+        assert!(rt; buf.advanced == 0 && buf.bytes.len() == 2);
+    }
+}
+
+// The segment is dropped unread: the buffers that it borrowed still have all of their bytes.
+#[test]
+fn passed_segments_are_not_advanced(rt: HostRuntime) -> Result<(), Fail> {
+    let mut bufs = numbered(rt.alloc(), &["ab", "cd"])?;
+    passes(&rt, rt.alloc(), lend(&rt, &mut bufs))?;
+    assert_not_advanced(&rt, &bufs);
+    Ok(())
+}

@@ -1,0 +1,148 @@
+//! Many buffers written in few calls.
+ghost use Rattle.std.specs.Prelude.{◌≡◌, ◌+◌, ◌<◌, ◌≤◌, [], length, take, IsTrue, OnOk, OnErr};
+ghost use Rattle.std.specs.Io.KnownBytes.{Appends};
+ghost use Rattle.bytes_utils_buf.specs.Slices.{joined};
+ghost use Rattle.bytes_utils_buf.specs.Write.{WritesCounted, WritesFront};
+
+#[cfg(test)]
+mod tests;
+
+use crate::parts::BufParts;
+use bytes::Buf;
+use std::io::{self, ErrorKind, Write};
+
+/// The most slices of a buffer that are written before their bytes are removed from it.
+const MOST_SLICES: usize = 1_024;
+
+/// The most bytes of small slices that one call writes.
+const BLOCK_LEN: usize = 16_384;
+
+/// The length from which a slice is written by a call of its own, without a copy.
+const LARGE_LEN: usize = 4_096;
+
+/// Writes `bytes`, and adds the number of bytes written to `written`.
+fn write_bytes<W: Write>(writer: &mut W, bytes: &[u8], written: &mut usize) -> io::Result<()>
+    requires { written.old + length bytes.now ≤ usize.MAX }
+    ensures front { WritesCounted (W.contents writer.old) (W.contents writer.new)
+        written.old written.new bytes.now }
+    ensures ok { OnOk result (written.new ≡ written.old + length bytes.now) }
+    ensures err { OnErr result (written.new < written.old + length bytes.now) }
+{
+    let mut rest = bytes;
+    while !rest.is_empty() {
+        let count = writer.write(rest)?;
+        if count == 0 {
+            return Err(io::Error::from(ErrorKind::WriteZero));
+        }
+        *written += count;
+        rest = &rest[count..];
+    }
+    Ok(())
+}
+
+/// Whether a slice is small, and has at most `room` bytes.
+fn is_gathered(slice: &[u8], room: usize) -> bool
+    ensures { IsTrue result → length slice.now ≤ room }
+{
+    slice.len() < LARGE_LEN && slice.len() <= room
+}
+
+/// Copies the first small slices into the block, as many as fit whole. Returns how many slices they
+/// are, and how many bytes they have.
+fn gather(slices: &[&[u8]], block: &mut [u8]) -> (usize, usize)
+    ensures slices { result.0 ≤ length slices.now }
+    ensures room { result.1 ≤ length block.old }
+    ensures bytes { take result.1 block.new ≡ joined (take result.0 slices.now) }
+{
+    let mut gathered = 0;
+    let mut filled = 0;
+    while gathered < slices.len() && is_gathered(slices[gathered], block.len() - filled) {
+        let slice = slices[gathered];
+        block[filled..filled + slice.len()].copy_from_slice(slice);
+        filled += slice.len();
+        gathered += 1;
+    }
+    (gathered, filled)
+}
+
+/// Returns how many slices to write next, and their bytes: small slices, copied into the block, or
+/// one large slice as it is.
+fn front_of<'b, 's: 'b>(slices: &[&'s [u8]], block: &'b mut [u8]) -> (usize, &'b [u8])
+    requires { 0 < length slices.now }
+    ensures some { 0 < result.0 }
+    ensures slices { result.0 ≤ length slices.now }
+    ensures bytes { result.1.now ≡ joined (take result.0 slices.now) }
+{
+    let (gathered, filled) = gather(slices, block);
+    if gathered == 0 {
+        return (1, slices[0]);
+    }
+    (gathered, &block[..filled])
+}
+
+/// Writes `slices`, and adds the number of bytes written to `written`.
+fn write_slices<W: Write>(writer: &mut W, slices: &[&[u8]], written: &mut usize) -> io::Result<()>
+    requires { written.old + length (joined slices.now) ≤ usize.MAX }
+    ensures front { WritesCounted (W.contents writer.old) (W.contents writer.new)
+        written.old written.new (joined slices.now) }
+    ensures ok { OnOk result (written.new ≡ written.old + length (joined slices.now)) }
+    ensures err { OnErr result (written.new < written.old + length (joined slices.now)) }
+{
+    let mut block = [0; BLOCK_LEN];
+    let mut place = 0;
+    while place < slices.len() {
+        let (count, bytes) = front_of(&slices[place..], &mut block);
+        write_bytes(writer, bytes, written)?;
+        place += count;
+    }
+    Ok(())
+}
+
+/// Writes the first slices of a buffer. Returns how many bytes were written, and any error.
+fn write_front<W: Write, B: BufParts>(writer: &mut W, buf: &B) -> (usize, io::Result<()>)
+    ensures bound { result.0 ≤ length (B.unread buf.now) }
+    ensures bytes { Appends (W.contents writer.old) (W.contents writer.new)
+        (take result.0 (B.unread buf.now)) }
+    ensures some { OnOk result.1 (0 < length (B.unread buf.now) → 0 < result.0) }
+    ensures err { OnErr result.1 (result.0 < length (B.unread buf.now)) }
+{
+    let mut table: [&[u8]; MOST_SLICES] = [b""; MOST_SLICES];
+    let filled = buf.chunks_into(&mut table);
+    // The number of unread bytes fits `usize`.
+    let _most = buf.remaining();
+    let mut written = 0;
+    let result = write_slices(writer, &table[..filled], &mut written);
+    (written, result)
+}
+
+/// Writes all unread bytes of `buf`, such as a `SegmentedBuf` or a `SegmentedSlice` of borrowed
+/// buffers, and removes them from it:
+///
+/// ```text
+/// let mut parts = [b"Hello".as_slice(), b" ", b"World"];
+/// write_all_of(&mut out, &mut SegmentedSlice::new(&mut parts))?; // if `total` isn't `None`
+/// ```
+///
+/// Slices of less than 4,096 bytes that follow one another are copied into a block of 16 KiB on the
+/// stack, and one call writes up to 1,024 of them. Each larger slice is written by a call of its
+/// own, without a copy.
+///
+/// A short write is continued. Fails with the writer's own error, after which it makes no further
+/// write, or with `WriteZero` if a write took nothing. Then `buf` has the bytes that were not
+/// written, at least one.
+pub fn write_all_of<W: Write, B: BufParts>(writer: &mut W, buf: &mut B) -> io::Result<()>
+    ensures front { WritesFront (W.contents writer.old) (W.contents writer.new)
+        (B.unread buf.old) (B.unread buf.new) }
+    ensures ok { OnOk result (Appends (W.contents writer.old) (W.contents writer.new)
+        (B.unread buf.old)) }
+    ensures empty { OnOk result (B.unread buf.new ≡ []) }
+    ensures err { OnErr result (0 < length (B.unread buf.new)) }
+    ensures kept { B.kept buf.new ≡ B.kept buf.old }
+{
+    while buf.has_remaining() {
+        let (written, result) = write_front(writer, buf);
+        buf.advance(written);
+        result?;
+    }
+    Ok(())
+}

@@ -1,0 +1,171 @@
+//! Borrowed buffers, written as a whole and in part, and the number of calls.
+use crate::fixtures::slow_writer::SlowWriter;
+use crate::segmented::SegmentedSlice;
+use crate::write::write_all_of;
+use bytes::Buf;
+use std::alloc::Global;
+use std::io::ErrorKind;
+use std::process::Abort;
+use std::test::Fail;
+
+/// The most bytes that a writer takes a call, the call at which it fails, how many bytes are
+/// written until then, by how many calls, and the error.
+type Row = (usize, usize, usize, usize, Option<ErrorKind>);
+
+/// Writes borrowed buffers by such a writer. Asserts how many of the bytes are written, by how many
+/// calls, that the others are left, and the error. If a call was interrupted, a second try writes
+/// what was left.
+fn assert_writes(
+    rt: &impl Abort,
+    alloc: Global,
+    lent: &mut [&[u8]],
+    whole: &[u8],
+    (most, fails_at, written, calls, error): Row,
+) {
+    assert!(rt; SegmentedSlice::total(lent) == Some(whole.len()) && written <= whole.len());
+    let mut writer = SlowWriter::new(Vec::new(alloc), most, fails_at);
+    let mut all = SegmentedSlice::new(lent);
+    let result = write_all_of(&mut writer, &mut all);
+    assert!(rt;
+        writer.held() == &whole[..written]
+            && all.remaining() == whole.len() - written
+            && writer.calls() == calls
+            && result.err().map(|reported| reported.kind()) == error,
+        "{most}, {fails_at}"
+    );
+    if error == Some(ErrorKind::Interrupted) && most > 0 {
+        assert!(rt; write_all_of(&mut writer, &mut all).is_ok() && writer.held() == whole);
+    }
+}
+
+// A writer that takes three bytes a call takes part of the block three times, and stops in the
+// third of the buffers. One call takes all of them, and no call follows it.
+const ROWS: &[Row] = &[
+    (1, 0, 12, 12, None),
+    (3, 0, 12, 4, None),
+    (100, 2, 12, 1, None),
+    (0, 0, 0, 1, Some(ErrorKind::WriteZero)),
+    (0, 1, 0, 1, Some(ErrorKind::Interrupted)),
+    (100, 1, 0, 1, Some(ErrorKind::Interrupted)),
+    (2, 2, 2, 2, Some(ErrorKind::Interrupted)),
+    (3, 4, 9, 4, Some(ErrorKind::Interrupted)),
+];
+
+#[test]
+fn lent_buffers(rt: HostRuntime) {
+    for row in ROWS {
+        let mut lent: [&[u8]; 4] = [b"Gr\xc3", b"", b"\xbc\xc3\x9fe ", b"alle"];
+        let whole = "Grüße alle".as_bytes();
+        assert_writes(&rt, rt.alloc(), &mut lent, whole, *row);
+    }
+}
+
+/// `len` bytes, of which no two in a row are the same.
+fn whole(alloc: Global, len: usize) -> Result<Vec<u8>, Fail> {
+    let mut bytes = Vec::new(alloc);
+    for i in 0..len {
+        bytes.push((i % 251) as u8)?;
+    }
+    Ok(bytes)
+}
+
+/// Cuts the bytes into buffers of these lengths, in turn.
+fn cut<'s>(alloc: Global, bytes: &'s [u8], lengths: &[usize]) -> Result<Vec<&'s [u8]>, Fail> {
+    let mut pieces = Vec::new(alloc);
+    let mut rest = bytes;
+    for i in 0..bytes.len() {
+        if rest.is_empty() || lengths.is_empty() {
+            break;
+        }
+        let (piece, following) = rest.split_at(lengths[i % lengths.len()].min(rest.len()));
+        pieces.push(piece)?;
+        rest = following;
+    }
+    Ok(pieces)
+}
+
+/// The lengths of the buffers in turn, the length of all of them, and what writing them gives.
+type Case = (&'static [usize], usize, Row);
+
+const ALL: usize = usize::MAX;
+
+// One call writes up to 1,024 small buffers, in blocks of whole buffers and at most 16,384 bytes. A
+// buffer of 4,096 bytes or more is written by a call of its own.
+const CALLS: &[Case] = &[
+    (&[16], 16_000, (ALL, 0, 16_000, 1, None)),
+    (&[16], 16_384, (ALL, 0, 16_384, 1, None)),
+    (&[16], 16_385, (ALL, 0, 16_385, 2, None)),
+    (&[1], 2_049, (ALL, 0, 2_049, 3, None)),
+    (&[4_095], 16_380, (ALL, 0, 16_380, 1, None)),
+    (&[4_095], 16_384, (ALL, 0, 16_384, 1, None)),
+    (&[4_095], 16_385, (ALL, 0, 16_385, 2, None)),
+    (&[4_096], 16_384, (ALL, 0, 16_384, 4, None)),
+    (&[16_384], 32_768, (ALL, 0, 32_768, 2, None)),
+    (&[16_385], 32_770, (ALL, 0, 32_770, 2, None)),
+    (&[1, 4_096, 1, 1], 8_196, (ALL, 0, 8_196, 4, None)),
+];
+
+#[test]
+fn calls(rt: HostRuntime) -> Result<(), Fail> {
+    for (lengths, len, row) in CALLS {
+        let whole = whole(rt.alloc(), *len)?;
+        let mut lent = cut(rt.alloc(), &whole, lengths)?;
+        assert_writes(&rt, rt.alloc(), &mut lent, &whole, *row);
+    }
+    Ok(())
+}
+
+// What a short write leaves of a block is written by itself: 16,000 bytes by four calls, and then
+// the other 4,000.
+const SHORT: &[Case] = &[
+    (&[16], 64, (1, 0, 64, 64, None)),
+    (&[1_000], 20_000, (5_000, 0, 20_000, 5, None)),
+    (&[5_000], 10_000, (3_000, 0, 10_000, 4, None)),
+    (
+        &[1_000],
+        20_000,
+        (5_000, 2, 5_000, 2, Some(ErrorKind::Interrupted)),
+    ),
+    (
+        &[1_000],
+        20_000,
+        (5_000, 4, 15_000, 4, Some(ErrorKind::Interrupted)),
+    ),
+    (
+        &[1_000],
+        20_000,
+        (5_000, 5, 16_000, 5, Some(ErrorKind::Interrupted)),
+    ),
+    (
+        &[16, 5_000],
+        10_032,
+        (ALL, 1, 0, 1, Some(ErrorKind::Interrupted)),
+    ),
+    (
+        &[16, 5_000],
+        10_032,
+        (ALL, 2, 16, 2, Some(ErrorKind::Interrupted)),
+    ),
+    (
+        &[16, 5_000],
+        10_032,
+        (ALL, 3, 5_016, 3, Some(ErrorKind::Interrupted)),
+    ),
+    (
+        &[16, 5_000],
+        10_032,
+        (3_000, 3, 3_016, 3, Some(ErrorKind::Interrupted)),
+    ),
+    (&[1_000], 20_000, (0, 0, 0, 1, Some(ErrorKind::WriteZero))),
+    (&[5_000], 20_000, (0, 0, 0, 1, Some(ErrorKind::WriteZero))),
+];
+
+#[test]
+fn short_writes(rt: HostRuntime) -> Result<(), Fail> {
+    for (lengths, len, row) in SHORT {
+        let whole = whole(rt.alloc(), *len)?;
+        let mut lent = cut(rt.alloc(), &whole, lengths)?;
+        assert_writes(&rt, rt.alloc(), &mut lent, &whole, *row);
+    }
+    Ok(())
+}

@@ -1,0 +1,89 @@
+-- Call lines read one after the other.
+use Rattle.std.proofs.Common.{◌≡◌, refl, sym, ap, subst, ◌∙◌, ℕ, ◌-◌, List, [], ◌∷◌, ◌++◌, length, length-append, drop, codes, IsUtf8, IsCharBoundary, Option, Some, append_assoc, arith}
+use Rattle.std.proofs.lemmas.Str.{IsCharBoundary-at_seam, encodes-chars}
+use Rattle.std.specs.Str.{chars}
+use Rattle.bytes_utils.specs.Lines.{AreLinesToCome, lines}
+use Rattle.bytes_utils.specs.Step.{GivesFirst}
+use Rattle.bytes_utils_run.specs.CallLine.{AreCallLines, IsCallLine}
+use Rattle.bytes_utils_run.proofs.CommandLemmas.{chars-push}
+use Rattle.bytes_utils_run.specs.declared.calls.Call.{Call}
+use Rattle.bytes_utils_run.specs.declared.calls.Call.TheVariants.{Push, Segments, Read}
+use Rattle.bytes_utils_run.specs.declared.calls.ReadCall.TheVariants.{Remaining, Chunk, Advance, CopyOut, Chunks}
+
+-- one more line asks for one more call
+AreCallLines-push : (calls : List (Call (List ℕ))) (lines : List (List ℕ)) (call : Call (List ℕ)) (line : List ℕ)
+    → AreCallLines calls lines → IsCallLine call line → AreCallLines (calls ++ call ∷ []) (lines ++ line ∷ [])
+AreCallLines-push [] [] call line are is = (is, tt)
+AreCallLines-push [] (other ∷ lines) call line are is = absurd are
+AreCallLines-push (other ∷ calls) [] call line are is = absurd are
+AreCallLines-push (other ∷ calls) (first ∷ lines) call line are is = (are.0, AreCallLines-push calls lines call line are.1 is)
+
+-- if one line asks for no call, the lines are not all call lines
+no-call : (calls : List (Call (List ℕ))) (lines : List (List ℕ)) (line : List ℕ) (more : List (List ℕ)) → ((call : Call (List ℕ)) → ¬ IsCallLine call line)
+    → ¬ AreCallLines calls (lines ++ line ∷ more)
+no-call [] [] line more none are = are
+no-call [] (other ∷ lines) line more none are = are
+no-call (call ∷ calls) [] line more none are = none call are.0
+no-call (call ∷ calls) (other ∷ lines) line more none are = no-call calls lines line more none are.1
+
+-- a line that asks for none of the kinds of calls asks for no call
+pub no-kind : (line : List ℕ)
+    → (¬ IsCallLine Segments line) × (¬ IsCallLine (Read Remaining) line) × (¬ IsCallLine (Read Chunk) line)
+    → ((n : ℕ) → (¬ IsCallLine (Read (Advance n)) line) × (¬ IsCallLine (Read (CopyOut n)) line) × (¬ IsCallLine (Read (Chunks n)) line))
+    → ((bytes : List ℕ) → ¬ IsCallLine (Push bytes) line)
+    → (call : Call (List ℕ)) → ¬ IsCallLine call line
+no-kind line plain numbered pushed (Push bytes) = pushed bytes
+no-kind line plain numbered pushed Segments = plain.0
+no-kind line plain numbered pushed (Read Remaining) = plain.1
+no-kind line plain numbered pushed (Read Chunk) = plain.2
+no-kind line plain numbered pushed (Read (Advance n)) = (numbered n).0
+no-kind line plain numbered pushed (Read (CopyOut n)) = (numbered n).1
+no-kind line plain numbered pushed (Read (Chunks n)) = (numbered n).2
+
+-- What follows the word of a call that pushes.
+module _ (line text : List ℕ) (following : line ≡ codes "push " ++ text) (text_is : IsUtf8 text) where
+  -- its place
+  pub pushed-place : (at : ℕ) → at ≡ length line - length text → (at ≡ 5) × IsCharBoundary line at
+  pushed-place at is =
+      let five : at ≡ 5 = omega (arith, is, ap length following, length-append (codes "push ") text) in
+      (five, subst (IsCharBoundary line) (sym five) (IsCharBoundary-at_seam line (codes "push ") text following text_is))
+
+  -- its bytes are pushed
+  pub pushed-is : (bytes : List ℕ) (at : ℕ) → at ≡ length line - length text → bytes ≡ drop at line → chars line ≡ chars (codes "push ") ++ chars text
+      → IsCallLine (Push bytes) (chars line)
+  pushed-is bytes at place is e =
+      let same : bytes ≡ text = is ∙ ap (λ k. drop k line) (pushed-place at place).0 ∙ ap (drop 5) following in
+      (chars text, same ∙ sym (encodes-chars text text_is), e ∙ ap (λ z. z ++ chars text) chars-push)
+
+-- The calls read so far: the first lines of the text ask for them, and its other lines are to come in the splitter's state.
+pub record HasRead (text : List ℕ) (calls : List (Call (List ℕ))) (state : Option (List ℕ)) : Type 0 where
+  pub read : List (List ℕ)
+  pub asked : AreCallLines calls read
+  pub some : (more : List (List ℕ)) × AreLinesToCome state more
+  pub each : (more : List (List ℕ)) → AreLinesToCome state more → lines (chars text) ≡ read ++ more
+
+-- no call yet
+pub HasRead-none : (text : List ℕ) (calls : List (Call (List ℕ))) (state : Option (List ℕ)) → calls ≡ [] → state ≡ Some text → HasRead text calls state
+HasRead-none text calls state none is = record {
+  read = [];
+  asked = subst (λ cs. AreCallLines cs []) (sym none) tt;
+  some = (lines (chars text), subst (λ rest. AreLinesToCome rest (lines (chars text))) (sym is) refl);
+  each = λ more come. sym (subst (λ rest. AreLinesToCome rest more) is come);
+}
+
+-- one more call
+pub HasRead-more : (text : List ℕ) (calls new : List (Call (List ℕ))) (state next : Option (List ℕ)) (call : Call (List ℕ)) (line : List ℕ)
+    → HasRead text calls state → GivesFirst AreLinesToCome state line next → IsCallLine call line → new ≡ calls ++ call ∷ [] → HasRead text new next
+HasRead-more text calls new state next call line old gives is pushed = record {
+  read = old.read ++ line ∷ [];
+  asked = subst (λ cs. AreCallLines cs (old.read ++ line ∷ [])) (sym pushed) (AreCallLines-push calls old.read call line old.asked is);
+  some = gives.some;
+  each = λ more come. old.each (line ∷ more) (gives.each more come) ∙ sym (append_assoc old.read (line ∷ []) more);
+}
+
+-- if the next line asks for no call, the lines of the text are not all call lines
+pub no-calls-read : (text : List ℕ) (calls : List (Call (List ℕ))) (state next : Option (List ℕ)) (line : List ℕ)
+    → HasRead text calls state → GivesFirst AreLinesToCome state line next → ((call : Call (List ℕ)) → ¬ IsCallLine call line)
+    → (all : List (Call (List ℕ))) → ¬ AreCallLines all (lines (chars text))
+no-calls-read text calls state next line old gives none all are =
+    no-call all old.read line gives.some.0 none (subst (AreCallLines all) (old.each (line ∷ gives.some.0) (gives.each gives.some.0 gives.some.1)) are)

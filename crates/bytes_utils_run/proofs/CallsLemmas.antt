@@ -1,0 +1,51 @@
+-- Runs of calls, and the lists of buffers that aren't segmented.
+use Rattle.std.proofs.Common.{◌≡◌, ℕ, List, [], ◌∷◌, ◌++◌, length, length-drop, drop, refl, sym, ap, subst, ◌∙◌, arith, append-nil}
+use Rattle.std.specs.List.{concat}
+use Rattle.bytes_utils_buf.specs.Segments.{Skips}
+use Rattle.bytes_utils_buf.proofs.Lists.{concat-without_empty}
+use Rattle.bytes_utils_run.specs.Calls.{IsRun, lists_of}
+use Rattle.bytes_utils_run.specs.declared.calls.Reply.{Reply}
+
+-- the lists of a buffer, joined, are its unread bytes
+pub concat-lists_of : (unread : List ℕ) → concat (lists_of unread) ≡ unread
+concat-lists_of unread = concat-without_empty (unread ∷ []) ∙ append-nil unread
+
+-- dropping the first n bytes skips n bytes
+pub Skips-lists_of : (n : ℕ) (old new : List ℕ) → new ≡ drop n old → Skips n (lists_of old) (lists_of new)
+Skips-lists_of n [] [] is = record {
+  passed = 0;
+  cut = 0;
+  within = omega arith;
+  rest = refl;
+  bytes = is;
+  front = λ none. absurd (omega arith);
+}
+Skips-lists_of n [] (b ∷ new) is = absurd (omega (arith, ap length is, length-drop {A = ℕ} n []))
+Skips-lists_of n (b ∷ old) [] is = record {
+  passed = 1;
+  cut = 0;
+  within = omega arith;
+  rest = refl;
+  bytes = is ∙ ap (drop n) (sym (append-nil (b ∷ old)));
+  front = λ none. absurd (omega arith);
+}
+Skips-lists_of n (b ∷ old) (c ∷ new) is = record {
+  passed = 0;
+  cut = n;
+  within = omega arith;
+  rest = ap (λ list. list ∷ []) is;
+  bytes = append-nil (c ∷ new) ∙ is ∙ ap (drop n) (sym (append-nil (b ∷ old)));
+  front = λ some. omega arith;
+}
+
+-- one more call
+pub IsRun-push : {C S : Type 0} (Is : C → S → Reply → S → Type 0) (calls : List C) (old : S) (replies : List Reply) (mid : S) (call : C) (reply : Reply) (new : S)
+    (after : List Reply) → after ≡ replies ++ reply ∷ [] → IsRun Is calls old replies mid → Is call mid reply new → IsRun Is (calls ++ call ∷ []) old after new
+IsRun-push {C} {S} Is calls old replies mid call reply new after is run one =
+    subst (λ all. IsRun Is (calls ++ call ∷ []) old all new) (sym is) (pushed calls old replies run)
+  where
+    pushed : (calls : List C) (old : S) (replies : List Reply) → IsRun Is calls old replies mid → IsRun Is (calls ++ call ∷ []) old (replies ++ reply ∷ []) new
+    pushed [] old [] run = (new, subst (λ state. Is call state reply new) run one, refl)
+    pushed [] old (r ∷ replies) run = absurd run
+    pushed (c ∷ calls) old [] run = absurd run
+    pushed (c ∷ calls) old (r ∷ replies) run = (run.0, run.1, pushed calls run.0 replies run.2)

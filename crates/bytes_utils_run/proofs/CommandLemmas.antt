@@ -1,0 +1,226 @@
+-- Commands read from a line, in bytes and in characters.
+use Rattle.std.proofs.Common.{◌≡◌, ◌≢◌, refl, sym, ap, subst, ◌∙◌, ℕ, suc, ◌+◌, ◌<◌, List, [], ◌∷◌, ◌++◌, Bool, true, false, Option, None, Some, MatchOption, Bor, length, take, drop, take-append-drop, length-append, get_or, codes, arith, IsUtf8, IsCharBoundary}
+use Rattle.std.proofs.lemmas.Fmt.{IsAscii-from_digits}
+use Rattle.std.proofs.lemmas.List.{append_cancel_left, drop_at}
+use Rattle.std.proofs.lemmas.Str.{chars-append, encodes-chars, encodes-append, encodes-IsAscii, chars-IsAscii, IsUtf8-take, IsUtf8-drop, IsUtf8-append, IsCharBoundary-at_seam}
+use Rattle.std.specs.Option.{IfSome}
+use Rattle.std.specs.Str.Parse.{AllDigits}
+use Rattle.std.specs.Bool.{MatchBool}
+use Rattle.std.specs.Str.{bytes_eq}
+use Rattle.std.proofs.lemmas.Slice.Eq.{bytes_eq-Decides}
+use Rattle.std.specs.Str.Pattern.{LacksTextAt, FindsText, FindsTextPrefix}
+use Rattle.std.specs.Str.{chars, encode_utf8_all as encodes}
+use Rattle.std.specs.Char.{encode_utf8, digit_value}
+use Rattle.bytes_utils_run.specs.CallLine.{IsNumbered}
+use Rattle.bytes_utils_run.specs.Command.{IsCommand, IsCounted, IsCountedAfter}
+use Rattle.bytes_utils_run.specs.Cutting.{Cutting, ByWords, ByAsciiWords, ByLines, FromFront, FromBack, Keeping, IsAllowed, cutting}
+use Rattle.bytes_utils_run.specs.declared.cut.How.{How}
+use Rattle.bytes_utils_run.specs.Number.{IsNumber}
+
+-- what follows the word in the bytes follows it in the characters
+pub chars-following : (word line rest : List ℕ) (n : ℕ) → IsUtf8 word → line ≡ word ++ drop n line → rest ≡ drop n line → chars line ≡ chars word ++ chars rest
+chars-following word line rest n word_is begins rest_is = ap chars (begins ∙ ap (λ z. word ++ z) (sym rest_is)) ∙ chars-append word rest word_is
+
+-- a line whose characters begin with the word has bytes that begin with it
+pub lacks-word : (word line rest : List ℕ) → IsUtf8 word → IsUtf8 line → LacksTextAt word line 0 → chars line ≡ chars word ++ rest → ⊥
+lacks-word word line rest word_is line_is lacks e =
+    lacks (encodes rest)
+    (sym (encodes-chars line line_is) ∙ ap encodes e ∙ encodes-append (chars word) rest ∙ ap (λ z. z ++ encodes rest) (encodes-chars word word_is))
+
+-- texts of the same characters have the same bytes
+pub same-bytes : (line word : List ℕ) → IsUtf8 line → IsUtf8 word → chars line ≡ chars word → line ≡ word
+same-bytes line word line_is word_is e = sym (encodes-chars line line_is) ∙ ap encodes e ∙ encodes-chars word word_is
+
+-- what a comparison of bytes says about the characters
+pub reports-word : (line word : List ℕ) → IsUtf8 line → IsUtf8 word → (r : Bool) → r ≡ bytes_eq line word → MatchBool r (chars line ≡ chars word) (chars line ≢ chars word)
+reports-word line word line_is word_is true e = ap chars ((bytes_eq-Decides line word).0 (sym e))
+reports-word line word line_is word_is false e = λ same. absurd_bool (e ∙ (bytes_eq-Decides line word).1 (same-bytes line word line_is word_is same))
+  where
+    absurd_bool : false ≡ true → ⊥
+    absurd_bool f = cc
+
+-- the characters of the words of commands
+pub chars-words : chars (codes "words") ≡ codes "words"
+unfolding chars
+chars-words = refl
+
+pub chars-ascii : chars (codes "ascii") ≡ codes "ascii"
+unfolding chars
+chars-ascii = refl
+
+pub chars-lines : chars (codes "lines") ≡ codes "lines"
+unfolding chars
+chars-lines = refl
+
+pub chars-split : chars (codes "split ") ≡ codes "split "
+unfolding chars
+chars-split = refl
+
+pub chars-rsplit : chars (codes "rsplit ") ≡ codes "rsplit "
+unfolding chars
+chars-rsplit = refl
+
+pub chars-inclusive : chars (codes "inclusive ") ≡ codes "inclusive "
+unfolding chars
+chars-inclusive = refl
+
+pub chars-splitn : chars (codes "splitn ") ≡ codes "splitn "
+unfolding chars
+chars-splitn = refl
+
+pub chars-rsplitn : chars (codes "rsplitn ") ≡ codes "rsplitn "
+unfolding chars
+chars-rsplitn = refl
+
+pub chars-buf : chars (codes "buf") ≡ codes "buf"
+unfolding chars
+chars-buf = refl
+
+pub chars-segments : chars (codes "segments") ≡ codes "segments"
+unfolding chars
+chars-segments = refl
+
+pub chars-remaining : chars (codes "remaining") ≡ codes "remaining"
+unfolding chars
+chars-remaining = refl
+
+pub chars-chunk : chars (codes "chunk") ≡ codes "chunk"
+unfolding chars
+chars-chunk = refl
+
+pub chars-push : chars (codes "push ") ≡ codes "push "
+unfolding chars
+chars-push = refl
+
+pub chars-advance : chars (codes "advance ") ≡ codes "advance "
+unfolding chars
+chars-advance = refl
+
+pub chars-copy : chars (codes "copy ") ≡ codes "copy "
+unfolding chars
+chars-copy = refl
+
+pub chars-chunks : chars (codes "chunks ") ≡ codes "chunks "
+unfolding chars
+chars-chunks = refl
+
+space-bytes : encodes (codes " ") ≡ codes " "
+unfolding encode_utf8
+space-bytes = refl
+
+space-chars : chars (codes " ") ≡ codes " "
+unfolding chars
+space-chars = refl
+
+space-utf8 : IsUtf8 (codes " ")
+unfolding encode_utf8
+space-utf8 = (codes " ", (refl, refl))
+
+-- digits before a space, in the bytes
+counted-bytes : (text digits rest : List ℕ) → IsUtf8 text → AllDigits 10 digits → chars text ≡ digits ++ (codes " " ++ rest) → text ≡ digits ++ (codes " " ++ encodes rest)
+counted-bytes text digits rest text_is all e =
+    sym (encodes-chars text text_is) ∙ ap encodes e ∙ encodes-append digits (codes " " ++ rest)
+    ∙ (λ k. encodes-IsAscii digits (IsAscii-from_digits digits all) k ++ encodes-append (codes " ") rest k) ∙ ap (λ z. digits ++ (z ++ encodes rest)) space-bytes
+
+-- if `front` holds no space and a space follows it, it is the digits before the space
+front-is-digits : (front back digits rest : List ℕ) → ((k : ℕ) → k < length front → (more : List ℕ) → drop k (front ++ (codes " " ++ back)) ≢ codes " " ++ more) → AllDigits 10 digits
+    → front ++ (codes " " ++ back) ≡ digits ++ (codes " " ++ rest) → front ≡ digits
+front-is-digits [] back [] rest lacks all e = refl
+front-is-digits [] back (d ∷ digits) rest lacks all e =
+    let is_space : 32 ≡ d = ap (λ z. get_or z 0 0) e in
+    let value : digit_value 32 < 10 = subst (λ z. digit_value z < 10) (sym is_space) all.0 in
+    absurd (omega (arith, value))
+front-is-digits (x ∷ front) back [] rest lacks all e = absurd (lacks 0 (omega arith) rest e)
+front-is-digits (x ∷ front) back (d ∷ digits) rest lacks all e =
+    let head : x ≡ d = ap (λ z. get_or z 0 0) e in
+    let tail : front ++ (codes " " ++ back) ≡ digits ++ (codes " " ++ rest) = ap (drop 1) e in
+    let more = front-is-digits front back digits rest (λ k l others f. lacks (suc k) (omega (arith, l)) others f) all.1 tail in
+    (λ k. head k ∷ more k)
+
+-- what `strip_prefix` gives, in characters
+pub following-is : (line word : List ℕ) → IsUtf8 line → IsUtf8 word → (r : Option (Bor (List ℕ)))
+    → MatchOption r (FindsTextPrefix word line None) (λ x. (n : ℕ) × FindsTextPrefix word line (Some n) × (x.now ≡ drop n line) × (length x.now + n ≡ length line))
+    → MatchOption r ((rest : List ℕ) → chars line ≢ chars word ++ rest) (λ x. chars line ≡ chars word ++ chars x.now)
+following-is line word line_is word_is None lacks = λ rest. lacks-word word line rest word_is line_is lacks
+following-is line word line_is word_is (Some x) strip = chars-following word line x.now strip.0 word_is strip.1.1 strip.2
+
+pub following-utf8 : (line word : List ℕ) → IsUtf8 line → (r : Option (Bor (List ℕ)))
+    → MatchOption r (FindsTextPrefix word line None) (λ x. (n : ℕ) × FindsTextPrefix word line (Some n) × (x.now ≡ drop n line) × (length x.now + n ≡ length line))
+    → IfSome r (λ x. IsUtf8 x.now)
+following-utf8 line word line_is None lacks = tt
+following-utf8 line word line_is (Some x) strip =
+    subst IsUtf8 (sym (strip.2 ∙ ap (λ k. drop k line) strip.1.0)) (IsUtf8-drop line (length word) line_is strip.1.2)
+
+-- a text without a space has no number before a space
+pub no-space : (text : List ℕ) → IsUtf8 text → FindsText (codes " ") text None → (most : ℕ) (rest : List ℕ) → ¬ IsCounted (chars text) most rest
+no-space text text_is lacks most rest is =
+    let whole = counted-bytes text is.0 rest text_is is.1.digits.1 is.2 in
+    lacks (length is.0) (omega (arith, ap length whole, length-append is.0 (codes " " ++ encodes rest))) (encodes rest)
+    (ap (drop (length is.0)) whole ∙ drop_at is.0 (codes " " ++ encodes rest) (length is.0) refl)
+
+-- A text split around its first space.
+module _ (text front back : List ℕ) (text_is : IsUtf8 text) (i j : ℕ) (finds : FindsText (codes " ") text (Some (i, j)))
+    (front_is : front ≡ take i text) (back_is : back ≡ drop j text) (size : length front ≡ i) where
+  whole : text ≡ front ++ (codes " " ++ back)
+  whole = sym (take-append-drop i text) ∙ (λ k. sym front_is k ++ finds.1.split k) ∙ ap (λ z. front ++ (codes " " ++ z)) (sym back_is)
+
+  front_utf8 : IsUtf8 front
+  front_utf8 =
+      let following : IsUtf8 back = subst IsUtf8 (sym back_is) (IsUtf8-drop text j text_is (subst (IsCharBoundary text) (sym finds.1.ends) finds.1.after)) in
+      let seam : IsCharBoundary text (length front) = IsCharBoundary-at_seam text front (codes " " ++ back) whole (IsUtf8-append (codes " ") back space-utf8 following) in
+      subst IsUtf8 (sym (front_is ∙ ap (λ k. take k text) (sym size))) (IsUtf8-take text (length front) text_is seam)
+
+  pub counted-found : (n : ℕ) → IsNumber (chars front) n → IsCounted (chars text) n (chars back)
+  counted-found n is = (
+    chars front,
+    is,
+    ap chars whole ∙ chars-append front (codes " " ++ back) front_utf8
+        ∙ ap (λ z. chars front ++ z) (chars-append (codes " ") back space-utf8 ∙ ap (λ z. z ++ chars back) space-chars),
+  )
+
+  pub no-number : ((n : ℕ) → ¬ IsNumber (chars front) n) → (most : ℕ) (rest : List ℕ) → ¬ IsCounted (chars text) most rest
+  no-number none most rest is =
+      let all = is.1.digits.1 in
+      let bytes = counted-bytes text is.0 rest text_is all is.2 in
+      let lacks = (λ (k : ℕ) (l : k < length front) (more : List ℕ) (e : drop k (front ++ (codes " " ++ back)) ≡ codes " " ++ more).
+      finds.0 k (omega (arith, l, size)) more (ap (drop k) whole ∙ e)) in
+      let same : front ≡ is.0 = front-is-digits front back is.0 (encodes rest) lacks all (sym whole ∙ bytes) in
+      none most (subst (λ z. IsNumber z most) (sym (ap chars same ∙ chars-IsAscii is.0 (IsAscii-from_digits is.0 all))) is.1)
+
+-- a number and a space after a word, if the text after the word begins with them
+pub counted-following-is : (line word text : List ℕ) → chars line ≡ chars word ++ chars text → (r : Option (ℕ × Bor (List ℕ)))
+    → MatchOption r ((most : ℕ) (rest : List ℕ) → ¬ IsCounted (chars text) most rest) (λ found. IsCounted (chars text) found.0 (chars found.1.now))
+    → MatchOption r ((most : ℕ) (rest : List ℕ) → ¬ IsCountedAfter (chars word) (chars line) most rest)
+    (λ found. IsCountedAfter (chars word) (chars line) found.0 (chars found.1.now))
+counted-following-is line word text e None none = λ most rest is.
+    none most rest (subst (λ z. IsCounted z most rest) (append_cancel_left (chars word) is.0 (chars text) (sym is.2 ∙ e)) is.1)
+counted-following-is line word text e (Some found) is = (chars text, is, e)
+
+no-way : (line : List ℕ) → (line ≢ codes "words") × (line ≢ codes "ascii") × (line ≢ codes "lines")
+    → ((p : List ℕ) → (¬ IsCommand (FromFront p None) line) × (¬ IsCommand (FromBack p None) line) × (¬ IsCommand (Keeping p) line))
+    → ((p : List ℕ) (most : ℕ) → (¬ IsCommand (FromFront p (Some most)) line) × (¬ IsCommand (FromBack p (Some most)) line))
+    → (way : Cutting) → ¬ IsCommand way line
+no-way line plain separator limit ByWords = plain.0
+no-way line plain separator limit ByAsciiWords = plain.1
+no-way line plain separator limit ByLines = plain.2
+no-way line plain separator limit (FromFront p None) = (separator p).0
+no-way line plain separator limit (FromFront p (Some most)) = (limit p most).0
+no-way line plain separator limit (FromBack p None) = (separator p).1
+no-way line plain separator limit (FromBack p (Some most)) = (limit p most).1
+no-way line plain separator limit (Keeping p) = (separator p).2
+
+-- a line that is none of the first commands is one of the others, or no command
+pub how-is : (line : List ℕ) → (line ≢ codes "words") × (line ≢ codes "ascii") × (line ≢ codes "lines")
+    → ((p : List ℕ) → (¬ IsCommand (FromFront p None) line) × (¬ IsCommand (FromBack p None) line) × (¬ IsCommand (Keeping p) line))
+    → (r : Option How) → MatchOption r ((p : List ℕ) (most : ℕ) → (¬ IsCommand (FromFront p (Some most)) line) × (¬ IsCommand (FromBack p (Some most)) line))
+    (λ how. IsAllowed how × IsCommand (cutting how) line)
+    → MatchOption r ((way : Cutting) → ¬ IsCommand way line) (λ how. IsAllowed how × IsCommand (cutting how) line)
+how-is line plain separator None limit = no-way line plain separator limit
+how-is line plain separator (Some how) is = is
+
+-- a number after a word, if the rest of the line is a number
+pub numbered-is : (line word rest : List ℕ) → chars line ≡ chars word ++ chars rest → (r : Option ℕ)
+    → MatchOption r ((n : ℕ) → ¬ IsNumber (chars rest) n) (λ n. IsNumber (chars rest) n)
+    → MatchOption r ((n : ℕ) → ¬ IsNumbered (chars word) n (chars line)) (λ n. IsNumbered (chars word) n (chars line))
+numbered-is line word rest e None none = λ n is. none n (subst (λ z. IsNumber z n) (append_cancel_left (chars word) is.0 (chars rest) (sym is.2 ∙ e)) is.1)
+numbered-is line word rest e (Some n) is = (chars rest, is, e)

@@ -1,0 +1,61 @@
+-- Headers, line by line.
+use Rattle.std.proofs.Common.{◌≡◌, refl, sym, ap, subst, ◌∙◌, ℕ, ◌+◌, ◌<◌, List, [], ◌∷◌, ◌++◌, Option, Some, Result, IfOk, MatchOption, length, arith}
+use Rattle.std.specs.Option.{option_transpose, option_zip}
+use Rattle.std.proofs.lemmas.Str.{chars-nil}
+use Rattle.std.specs.Str.{chars}
+use Rattle.bytes_utils.proofs.StepLemmas.{two_steps}
+use Rattle.bytes_utils.proofs.ToCome.{one_of_lines}
+use Rattle.bytes_utils.specs.Lines.{AreLinesToCome}
+use Rattle.bytes_utils.specs.Occurrence.{Occurs}
+use Rattle.bytes_utils.specs.Splitting.{Splitting, AreForwardPartsToCome, all_of}
+use Rattle.bytes_utils.specs.Step.{GivesFirst, IsStep}
+use Rattle.bytes_utils.specs.Segments.{front_of}
+use Rattle.bytes_utils_run.specs.Headers.{AreHeaders, BeginWith, IsHeader, LacksSeparator, colon}
+
+-- a line's first two parts, if there are two, are its name and its value; without a second part the line holds no separator
+pub header-reported : {E : Type 0} (cuts : Splitting → Type 0) (refuses : E → Type 0) (line : List ℕ) (a b : Option (Result (List ℕ) E)) {s : Splitting} (t u : Splitting)
+    → s ≡ all_of line colon (Some 2) → IsStep AreForwardPartsToCome cuts refuses s a t → IsStep AreForwardPartsToCome cuts refuses t b u
+    → IfOk (option_transpose a) (λ name. IfOk (option_transpose b) (λ value. MatchOption (option_zip name value) (¬ Occurs colon (chars line)) (IsHeader (chars line))))
+unfolding chars
+header-reported cuts refuses line a b t u is first second = two_steps cuts refuses line colon a b t u (omega arith) is first second
+
+no_chars : (line : List ℕ) → length line ≡ 0 → chars line ≡ []
+no_chars [] none = chars-nil
+no_chars (b ∷ line) none = absurd (omega arith)
+
+-- these headers were found, and these lines are to come
+pub record SoFar (all : List (List ℕ)) (headers : List (List ℕ × List ℕ)) (s : Option (List ℕ)) : Type 0 where
+  pub others : List (List ℕ)
+  pub coming : AreLinesToCome s others
+  pub begin : BeginWith all headers others
+
+BeginWith-push : (all : List (List ℕ)) (headers : List (List ℕ × List ℕ)) (line : List ℕ) (others : List (List ℕ)) (header : List ℕ × List ℕ)
+    → BeginWith all headers (line ∷ others) → IsHeader line header → BeginWith all (headers ++ (header ∷ [])) others
+BeginWith-push all [] line others header h is = (line, others, h, is, refl)
+BeginWith-push all (first ∷ headers) line others header h is = (h.0, h.1, h.2, h.3, BeginWith-push h.1 headers line others header h.4 is)
+
+module _ {all : List (List ℕ)} {headers : List (List ℕ × List ℕ)} {s t : Option (List ℕ)} (h : SoFar all headers s) (line : List ℕ) (first : GivesFirst AreLinesToCome s (chars line) t) where
+  next : h.others ≡ chars line ∷ first.some.0
+  next = one_of_lines s h.others (chars line ∷ first.some.0) h.coming (first.each first.some.0 first.some.1)
+
+  pub SoFar-empty : length line ≡ 0 → AreHeaders all headers
+  SoFar-empty none = (h.others, h.begin, ap front_of next ∙ no_chars line none)
+
+  pub SoFar-more : {new : List (List ℕ × List ℕ)} (header : List ℕ × List ℕ) → IsHeader (chars line) header → new ≡ headers ++ (header ∷ []) → SoFar all new t
+  SoFar-more header is new_is = record {
+    others = first.some.0;
+    coming = first.some.1;
+    begin = subst (λ hs. BeginWith all hs first.some.0) (sym new_is)
+        (BeginWith-push all headers (chars line) first.some.0 header (subst (BeginWith all headers) next h.begin) is);
+  }
+
+  pub SoFar-lacks : (number : ℕ) → number ≡ length headers + 1 → 0 < length (chars line) → ¬ Occurs colon (chars line) → LacksSeparator all number
+  SoFar-lacks number number_is some none = record {
+    headers = headers;
+    line = chars line;
+    others = first.some.0;
+    begin = subst (BeginWith all headers) next h.begin;
+    number_is = number_is;
+    some = some;
+    none = none;
+  }

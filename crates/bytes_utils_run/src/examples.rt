@@ -1,0 +1,12 @@
+//! Examples of code over the library, to copy. Each does one thing and has a contract.
+
+pub mod fields;
+pub mod files;
+pub mod headers;
+pub mod inbox;
+pub mod paths;
+pub mod records;
+pub mod requests;
+#[cfg(test)]
+mod tests;
+pub mod tokens;

@@ -1,0 +1,116 @@
+//! Printing parts, replies, and the slices in a reply.
+ghost use Rattle.std.specs.Prelude.{ℕ, List, OnOk, OnErr, IfOk, IsOkUnless, map, length, ◌++◌};
+ghost use Rattle.std.specs.Io.KnownBytes.{Appends};
+ghost use Rattle.std.specs.List.{concat};
+ghost use Rattle.std.specs.Str.{chars};
+ghost use Rattle.bytes_utils.specs.Outcome.{Outcome};
+ghost use Rattle.bytes_utils_run.specs.Coming.{AreToCome};
+ghost use Rattle.bytes_utils_run.specs.Moves.{AppendsBeginning};
+ghost use Rattle.bytes_utils_run.specs.Printed.{printed as printed_bytes, printed_number, printed_part, printed_reply};
+
+use crate::Reply;
+use crate::program::Fault;
+use crate::program::output::{print_bytes, print_number, write_out};
+use crate::splitter::AnySplitter;
+use bytes_utils::Reason;
+use bytes_utils::string::{Storage, StrInner};
+use std::io::Write;
+
+/// A value that the program prints.
+pub(super) trait Printable {
+    // The printed bytes.
+    ghost printed: { Self → List ℕ };
+
+    /// Prints this value.
+    fn print<W: Write>(&self, writer: &mut W) -> Result<(), Fault>
+        ensures ok { OnOk result
+            (Appends (W.contents writer.old) (W.contents writer.new) (Self.printed self.now)) }
+        ensures err { OnErr result (AppendsBeginning (W.contents writer.old) (W.contents writer.new)
+            (Self.printed self.now)) }
+        ensures fault { IsOkUnless result Fault.Io };
+}
+
+impl<S: Storage> Printable for StrInner<S> {
+    ghost printed = { λ part. printed_part (chars part) };
+
+    fn print<W: Write>(&self, writer: &mut W) -> Result<(), Fault> {
+        print_bytes(writer, self.as_str().as_bytes())
+    }
+}
+
+impl Printable for Vec<u8> {
+    ghost printed = { λ bytes. printed_bytes bytes.items };
+
+    fn print<W: Write>(&self, writer: &mut W) -> Result<(), Fault> {
+        print_bytes(writer, self)
+    }
+}
+
+impl Printable for Reply {
+    ghost printed = { printed_reply };
+
+    /// Prints nothing for a reply that memory was refused for.
+    fn print<W: Write>(&self, writer: &mut W) -> Result<(), Fault> {
+        match self {
+            Reply::Done => write_out(writer, b"ok\n"),
+            Reply::PastEnd => write_out(writer, b"past end\n"),
+            Reply::TooLong => write_out(writer, b"too long\n"),
+            Reply::NoMemory | Reply::CopyStopped(_) => Ok(()),
+            Reply::Number(number) => print_number(writer, *number),
+            Reply::Piece(piece) => print_bytes(writer, piece),
+            Reply::Shown(chunk) => print_bytes(writer, chunk),
+            Reply::Slices(slices) => print_slices(writer, slices),
+        }
+    }
+}
+
+/// Prints the number of slices, and then each slice.
+fn print_slices<W: Write>(writer: &mut W, slices: &[Vec<u8>]) -> Result<(), Fault>
+    ensures ok { OnOk result (Appends (W.contents writer.old) (W.contents writer.new)
+        (printed_number (length slices.now) ++ concat (map (λ slice. printed_bytes slice.items) slices.now))) }
+    ensures err { OnErr result (AppendsBeginning (W.contents writer.old) (W.contents writer.new)
+        (printed_number (length slices.now) ++ concat (map (λ slice. printed_bytes slice.items) slices.now))) }
+    ensures fault { IsOkUnless result Fault.Io }
+{
+    print_number(writer, slices.len())?;
+    print_all(writer, slices)
+}
+
+/// Prints entries in order.
+pub(super) fn print_all<E: Printable, W: Write>(writer: &mut W, entries: &[E]) -> Result<(), Fault>
+    ensures ok { OnOk result (Appends (W.contents writer.old) (W.contents writer.new)
+        (concat (map E.printed entries.now))) }
+    ensures err { OnErr result (AppendsBeginning (W.contents writer.old) (W.contents writer.new)
+        (concat (map E.printed entries.now))) }
+    ensures fault { IsOkUnless result Fault.Io }
+{
+    for entry in entries {
+        entry.print(writer)?;
+    }
+    Ok(())
+}
+
+/// Prints the parts that a splitter gives, each as soon as it is split off. Returns the reason if a
+/// split is refused.
+pub(super) fn print_parts<S: Storage, W: Write>(
+    writer: &mut W,
+    splitter: &mut AnySplitter<'_, S>,
+) -> Result<Option<Reason>, Fault>
+    requires { (parts : List (List ℕ)) × AreToCome splitter.now parts }
+    ensures ok { IfOk result (λ refused. (parts : List (List ℕ))
+        × Outcome (AreToCome splitter.old) parts refused
+        × Appends (W.contents writer.old) (W.contents writer.new)
+        (concat (map printed_part parts))) }
+    ensures err { OnErr result ((parts : List (List ℕ)) × AreToCome splitter.old parts
+        × AppendsBeginning (W.contents writer.old) (W.contents writer.new)
+        (concat (map printed_part parts))) }
+    ensures fault { IsOkUnless result Fault.Io }
+{
+    for item in splitter {
+        match item {
+            Ok(part) => part.print(writer)?,
+            Err(reason) => return Ok(Some(reason)),
+        }
+    }
+    Ok(None)
+}
