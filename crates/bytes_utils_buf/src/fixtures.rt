@@ -221,7 +221,7 @@ fn assert_table(rt: &impl Abort, table: &[&[u8]], slices: &[&'static str]) {
     }
 }
 
-// A buffer of `JOINED` shows these slices, and all of it can be taken out.
+/// Asserts that a buffer of `JOINED` shows these slices, and gives all of its bytes.
 pub(crate) fn hands_out<B: BufParts>(
     rt: &impl Abort,
     alloc: Global,

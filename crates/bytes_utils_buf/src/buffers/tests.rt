@@ -1,9 +1,9 @@
-//! The buffers of std and of the crate `bytes` as segments.
+//! The buffers of the kit's `bytes` as parts of a row. `memory/buffers` has copies of each of them.
 mod memory;
 
 use crate::contiguous::ContiguousBuf;
 use crate::fixtures::odd::{Asked, Zeros};
-use crate::fixtures::{JOINED, assert_bytes, assert_fills, hands_out, hold, take_out};
+use crate::fixtures::{JOINED, assert_bytes, assert_fills, hands_out, take_out};
 use crate::parts::{BufParts, copy_out_of};
 use bytes::{Buf, Bytes, BytesMut, BytesQueue};
 use std::alloc::{AllocError, Global};
@@ -14,9 +14,10 @@ use std::test::Fail;
 
 #[test]
 fn bytes_mut(rt: HostRuntime) -> Result<(), Fail> {
-    let mut buf = BytesMut::copy_from_slice(rt.alloc(), JOINED.as_bytes())?;
+    let buf = BytesMut::copy_from_slice(rt.alloc(), JOINED.as_bytes())?;
     assert_bytes(&rt, buf.as_contiguous(), JOINED);
-    hands_out(&rt, rt.alloc(), &mut buf, &[JOINED])
+    assert_fills(&rt, &buf, 10, &[JOINED]);
+    Ok(())
 }
 
 #[test]
@@ -36,50 +37,25 @@ fn borrowed(rt: HostRuntime) -> Result<(), Fail> {
     Ok(())
 }
 
-// A cursor past its end has nothing to read.
 #[test]
-fn cursor(rt: HostRuntime) -> Result<(), Fail> {
+fn cursor(rt: HostRuntime) {
     let mut buf = Cursor::new(b"> Hello World".as_slice());
     buf.set_position(2);
     assert_bytes(&rt, buf.as_contiguous(), JOINED);
-    hands_out(&rt, rt.alloc(), &mut buf, &[JOINED])?;
-    buf.set_position(100);
-    assert_fills(&rt, &buf, 10, &[]);
-    Ok(())
+    assert_fills(&rt, &buf, 10, &[JOINED]);
 }
 
 #[test]
-fn take(rt: HostRuntime) -> Result<(), Fail> {
-    let mut buf = b"Hello World, and more".as_slice().take(11);
+fn take(rt: HostRuntime) {
+    let buf = b"Hello World, and more".as_slice().take(11);
     assert_bytes(&rt, buf.as_contiguous(), JOINED);
-    hands_out(&rt, rt.alloc(), &mut buf, &[JOINED])?;
-    assert_bytes(&rt, buf.into_inner(), ", and more");
-    Ok(())
-}
-
-// All bytes if there are fewer than the limit, and none if the limit is 0.
-#[test]
-fn take_more_and_none(rt: HostRuntime) -> Result<(), Fail> {
-    hands_out(&rt, rt.alloc(), &mut JOINED.as_bytes().take(100), &[JOINED])?;
-    let mut none = JOINED.as_bytes().take(0);
-    assert_fills(&rt, &none, 10, &[]);
-    assert!(rt; take_out(&rt, rt.alloc(), &mut none, 0)?.is_empty());
-    Ok(())
+    assert_fills(&rt, &buf, 10, &[JOINED]);
 }
 
 #[test]
-fn chain(rt: HostRuntime) -> Result<(), Fail> {
-    let tail = Bytes::from_static(b"World, and more").take(5);
-    let mut buf = Asked::of("Hello ").chain(tail);
-    hands_out(&rt, rt.alloc(), &mut buf, &["Hello ", "World"])
-}
-
-#[test]
-fn chain_of_one(rt: HostRuntime) -> Result<(), Fail> {
-    let mut back = Bytes::new().chain(Bytes::from_static(JOINED.as_bytes()));
-    hands_out(&rt, rt.alloc(), &mut back, &[JOINED])?;
-    let mut front = Bytes::from_static(JOINED.as_bytes()).chain(Bytes::new());
-    hands_out(&rt, rt.alloc(), &mut front, &[JOINED])
+fn chain(rt: HostRuntime) {
+    let buf = b"Hello ".as_slice().chain(b"World".as_slice());
+    assert_fills(&rt, &buf, 10, &["Hello ", "World"]);
 }
 
 /// A deque of `JOINED` whose bytes lie in two slices.
@@ -96,26 +72,17 @@ pub(super) fn wrapped(alloc: Global) -> Result<VecDeque<u8>, AllocError> {
 
 #[test]
 fn deque(rt: HostRuntime) -> Result<(), Fail> {
-    let mut deque = wrapped(rt.alloc())?;
-    hands_out(&rt, rt.alloc(), &mut deque, &["Hello", " World"])
+    assert_fills(&rt, &wrapped(rt.alloc())?, 10, &["Hello", " World"]);
+    Ok(())
 }
 
 #[test]
 fn queue(rt: HostRuntime) -> Result<(), Fail> {
     let mut queue = BytesQueue::new(rt.alloc());
-    for chunk in ["Hello", " ", "World"] {
-        queue.push(Bytes::from_static(chunk.as_bytes()))?;
-    }
-    hands_out(&rt, rt.alloc(), &mut queue, &["Hello", " ", "World"])
-}
-
-// A `SegmentedBuf` of chains, each of a `Bytes` and a `Take`, has `BufParts` too.
-#[test]
-fn nested(rt: HostRuntime) -> Result<(), Fail> {
-    let tail = Bytes::from_static(b"World!").take(5);
-    let chain = Bytes::from_static(b"Hello ").chain(tail);
-    let mut row = hold(&rt, rt.alloc(), chain)?;
-    hands_out(&rt, rt.alloc(), &mut row, &["Hello ", "World"])
+    queue.push(Bytes::from_static(b"Hello"))?;
+    queue.push(Bytes::from_static(b" World"))?;
+    assert_fills(&rt, &queue, 10, &["Hello", " World"]);
+    Ok(())
 }
 
 #[test]
@@ -127,9 +94,8 @@ fn any_buffer(rt: HostRuntime) -> Result<(), Fail> {
     Ok(())
 }
 
-// The bytes that are taken out and those that are left share their block, and so do a prefix and a
-// part.
-fn shares<B: BufParts + ContiguousBuf>(
+/// What is taken out and what is left share their block, and so do the first bytes and a part.
+pub(super) fn shares<B: BufParts + ContiguousBuf>(
     rt: &impl Abort,
     alloc: Global,
     buf: &mut B,

@@ -92,25 +92,31 @@ fn four(alloc: Global) -> Option<SegmentedBuf<Bytes>> {
     SegmentedBuf::from_vec(alloc, bufs).ok()
 }
 
+/// Asserts the replies of borrowed buffers.
+fn assert_lent_reads<B: BufParts>(
+    rt: &impl Abort,
+    alloc: Global,
+    bufs: &mut [B],
+    rows: &[Row],
+) -> Result<(), Fail> {
+    assert!(rt; SegmentedSlice::total(bufs).is_some());
+    assert_reads(rt, alloc, &mut SegmentedSlice::new(bufs), rows)
+}
+
+const NESTED: &[Row] = &[
+    (ReadCall::Remaining, Want::Number(22)),
+    (ReadCall::CopyOut(12), Want::Piece("Hello WorldH")),
+    (ReadCall::Chunk, Want::Shown("ello")),
+    (ReadCall::Advance(11), Want::PastEnd),
+    (ReadCall::Advance(10), Want::Done),
+    (ReadCall::Chunk, Want::Shown("")),
+    (ReadCall::Remaining, Want::Number(0)),
+];
+
 #[test]
 fn reads_nested_buffers(rt: HostRuntime) -> Result<(), Fail> {
-    let mut bufs = Vec::new(rt.alloc());
-    for _ in 0..2 {
-        bufs.push(four(rt.alloc()).ok_or("out of memory")?)?;
-    }
-    assert!(rt; SegmentedSlice::total(&bufs).is_some());
-    assert_reads(
-        &rt,
-        rt.alloc(),
-        &mut SegmentedSlice::new(&mut bufs),
-        &[
-            (ReadCall::Remaining, Want::Number(22)),
-            (ReadCall::CopyOut(12), Want::Piece("Hello WorldH")),
-            (ReadCall::Chunk, Want::Shown("ello")),
-            (ReadCall::Advance(11), Want::PastEnd),
-            (ReadCall::Advance(10), Want::Done),
-            (ReadCall::Chunk, Want::Shown("")),
-            (ReadCall::Remaining, Want::Number(0)),
-        ],
-    )
+    let first = four(rt.alloc()).ok_or("out of memory")?;
+    let second = four(rt.alloc()).ok_or("out of memory")?;
+    let mut both = vec![in rt.alloc(); first, second]?;
+    assert_lent_reads(&rt, rt.alloc(), &mut both, NESTED)
 }

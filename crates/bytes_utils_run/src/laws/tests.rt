@@ -12,12 +12,6 @@ const ROWS: &[Row<'static>] = &[
     // mirrored, the parts keep their order and each is reversed
     ("β,αβ,γ", How::RSplitN(2, "β,"), "γ|β,α|"),
     ("γ,βα,β", How::SplitN(2, ",β"), "γ|α,β|"),
-    // both ways give the same parts if the separator doesn't overlap itself
-    ("abcab", How::Split("ab"), "|c||"),
-    ("abcab", How::RSplit("ab"), "|c||"),
-    // the rest that a limit leaves is in the order of the text
-    ("a,b,c", How::RSplitN(1, ","), "a,b,c|"),
-    ("a,b,c", How::RSplitN(4, ","), "c|b|a|"),
 ];
 
 #[test]
@@ -42,7 +36,6 @@ type Joined = (&'static [&'static str], &'static str, &'static str);
 const JOINED: &[Joined] = &[
     (&["a", "", "β"], ",", "a||β|"),
     (&["a-", "b"], "--", "a|-b|"),
-    (&[], ",", "|"),
 ];
 
 #[test]

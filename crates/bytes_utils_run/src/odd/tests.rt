@@ -3,4 +3,3 @@
 mod counts;
 mod memory;
 mod storages;
-mod walks;

@@ -65,35 +65,25 @@ pub(super) fn separators() -> [&'static str; 6] {
     ["", "a", "aa", "aba", ",", "β"]
 }
 
-/// Returns some counted texts, with their numbers.
-fn counted_texts() -> [(u32, &'static str); 6] {
-    [
-        (0, ""),
-        (1, "a"),
-        (8, "\u{3000}"),
-        (9, "aa"),
-        (73, "aaa"),
-        (585, "aaaa"),
-    ]
+fn assert_numbered(rt: &impl Abort, alloc: Global, number: u32, want: &str) -> Result<(), Fail> {
+    assert_text(rt, numbered(alloc, number)?.as_str(), want);
+    Ok(())
 }
 
 #[test]
 fn texts_are_counted(rt: HostRuntime) -> Result<(), Fail> {
     assert!(rt; NAMED.split('|').count() == NAMED_TEXTS as usize);
-    for (number, want) in counted_texts() {
-        assert_text(&rt, counted(rt.alloc(), number)?.as_str(), want);
-    }
-    let last = numbered(rt.alloc(), TEXTS - 1)?;
-    assert_text(
+    assert_numbered(&rt, rt.alloc(), NAMED_TEXTS, "")?;
+    assert_numbered(&rt, rt.alloc(), NAMED_TEXTS + 73, "aaa")?;
+    assert_numbered(
         &rt,
-        last.as_str(),
+        rt.alloc(),
+        TEXTS - 1,
         "\u{3000}\u{3000}\u{3000}\u{3000}\u{3000}",
-    );
-    Ok(())
+    )
 }
 
-/// Asserts that the parts of the first `texts` texts, by each separator, are those that `str`
-/// gives.
+/// Asserts that the parts of the first `texts` texts, by each separator, are those that `str` borrows.
 fn assert_as_str<W: StrWay, R: Abort>(
     rt: &R,
     alloc: Global,

@@ -1,12 +1,12 @@
-//! What `size_hint` of each splitter promises: at each point of a run, bounds on the items to come.
+//! What `size_hint` of a splitter promises: at each point of a run, bounds on the items to come. No splitter
+//! has one of its own.
 ghost use Rattle.std.specs.Prelude.{◌≤◌};
 
 use crate::fixtures::shared;
-use crate::string::{BytesIter, Direction};
 use std::process::Abort;
 use std::test::Fail;
 
-/// Asserts that the number of items to come, `left`, is within the bounds.
+/// Asserts that the bounds allow `left` more items.
 fn assert_hint<P: Iterator>(rt: &impl Abort, parts: &P, left: usize) {
     let (least, most) = parts.size_hint();
     assert!(rt;
@@ -32,40 +32,12 @@ where
 
 #[test]
 fn separated(rt: HostRuntime) -> Result<(), Fail> {
-    let alloc = rt.alloc();
-    assert_hints(&rt, shared(alloc, "a,b,c")?.split_bytes(","), 3);
-    assert_hints(&rt, shared(alloc, "a,b,c")?.rsplitn_bytes(2, ","), 2);
-    assert_hints(&rt, shared(alloc, "a,b,")?.split_inclusive_bytes(","), 2);
+    assert_hints(&rt, shared(rt.alloc(), "a,b,c")?.split_bytes(","), 3);
     Ok(())
 }
 
 #[test]
 fn lines(rt: HostRuntime) -> Result<(), Fail> {
     assert_hints(&rt, shared(rt.alloc(), "one\ntwo\n")?.lines_bytes(), 2);
-    Ok(())
-}
-
-#[test]
-fn words(rt: HostRuntime) -> Result<(), Fail> {
-    assert_hints(
-        &rt,
-        shared(rt.alloc(), " one two ")?.split_whitespace_bytes(),
-        2,
-    );
-    assert_hints(
-        &rt,
-        shared(rt.alloc(), " one two ")?.split_ascii_whitespace_bytes(),
-        2,
-    );
-    Ok(())
-}
-
-#[test]
-fn by_a_closure(rt: HostRuntime) -> Result<(), Fail> {
-    let text = shared(rt.alloc(), "a,b,")?;
-    let fields = BytesIter::new(text, Direction::Forward, |s: &str| {
-        s.find(',').map(|at| (at, at + 1))
-    });
-    assert_hints(&rt, fields, 3);
     Ok(())
 }

@@ -82,12 +82,24 @@ fn try_from_refuses(rt: HostRuntime) -> Result<(), Fail> {
     assert_refused(&rt, rt.alloc(), StrMut::try_from(bytes))
 }
 
+/// Asserts that the text was refused, and what its error writes.
+fn assert_refused_as<S: Storage + Debug>(
+    rt: &impl Abort,
+    alloc: Global,
+    made: Result<StrInner<S>, Utf8Error<S>>,
+    text: &str,
+) -> Result<(), Fail> {
+    match made {
+        Ok(_) => Err(Fail::from("made")),
+        Err(error) => assert_says(rt, alloc, &error, text),
+    }
+}
+
 #[test]
 fn a_cut_character_is_incomplete(rt: HostRuntime) -> Result<(), Fail> {
     let made = Str::from_inner(Bytes::from_static(&[97, 0xE2, 0x82]));
-    let error = made.err().ok_or("made")?;
     let text = "incomplete utf-8 byte sequence from index 1";
-    assert_says(&rt, rt.alloc(), &error, text)
+    assert_refused_as(&rt, rt.alloc(), made, text)
 }
 
 #[test]

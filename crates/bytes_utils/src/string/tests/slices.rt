@@ -13,16 +13,6 @@ fn slice_empty(rt: HostRuntime) -> Result<(), Fail> {
     Ok(())
 }
 
-/// A text that may grow does so without changing its copy.
-#[test]
-fn clones_apart(rt: HostRuntime) -> Result<(), Fail> {
-    let mut text = growing(rt.alloc(), "aβ")?;
-    let copy = text.try_clone()?;
-    text.push('!')?;
-    assert!(rt; copy.eq_str("aβ") && text.eq_str("aβ!"));
-    Ok(())
-}
-
 #[test]
 fn case_letters(rt: HostRuntime) -> Result<(), Fail> {
     let mut text = growing(rt.alloc(), "aβz")?;

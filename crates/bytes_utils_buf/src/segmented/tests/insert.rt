@@ -1,8 +1,9 @@
-//! Buffers that are appended to a `SegmentedBuf`.
+//! Buffers that a `SegmentedBuf` accepts, and those that it refuses.
 use crate::fixtures::odd::Zeros;
 use crate::fixtures::{
-    FOUR, Shown, assert_shows, bytes_of, collect, extend, gather, gives, held, hold, put, skip,
+    FOUR, Shown, assert_shows, bytes_of, collect, extend, gather, gives, hold, put, skip,
 };
+use crate::parts::BufParts;
 use crate::segmented::SegmentedBuf;
 use crate::{Reason, Refused};
 use bytes::{Buf, Bytes};
@@ -21,16 +22,26 @@ const ADVANCED: &[(usize, Shown)] = &[
 ];
 
 // An empty buffer changes nothing at any time.
+fn skips_and_accepts<B: Buf + Drop>(
+    rt: &impl Abort,
+    buf: &mut SegmentedBuf<B>,
+    (cnt, shown): (usize, Shown),
+    empty: B,
+) -> Result<(), Fail> {
+    skip(rt, buf, cnt);
+    put(rt, buf, empty)?;
+    assert_shows(rt, buf, shown);
+    Ok(())
+}
+
 #[test]
 fn push_and_advance(rt: HostRuntime) -> Result<(), Fail> {
     let mut buf: SegmentedBuf<Bytes> = SegmentedBuf::new(rt.alloc());
     for text in &FOUR {
         put(&rt, &mut buf, Bytes::from_static(text.as_bytes()))?;
     }
-    for (cnt, shown) in ADVANCED {
-        skip(&rt, &mut buf, *cnt);
-        put(&rt, &mut buf, Bytes::new())?;
-        assert_shows(&rt, &buf, *shown);
+    for row in ADVANCED {
+        skips_and_accepts(&rt, &mut buf, *row, Bytes::new())?;
     }
     Ok(())
 }
@@ -42,12 +53,24 @@ const COPIED: &[(&str, &str, Shown)] = &[
     ("", "loW", (4, 1, "orld")),
 ];
 
+fn accepts_and_gives<B: BufParts + Drop>(
+    rt: &impl Abort,
+    alloc: Global,
+    buf: &mut SegmentedBuf<B>,
+    more: B,
+    piece: &str,
+) -> Result<(), Fail> {
+    put(rt, buf, more)?;
+    gives(rt, alloc, buf, piece)?;
+    Ok(())
+}
+
 #[test]
 fn push_and_copy(rt: HostRuntime) -> Result<(), Fail> {
     let mut buf = SegmentedBuf::new(rt.alloc());
     for (text, piece, shown) in COPIED {
-        put(&rt, &mut buf, Bytes::from_static(text.as_bytes()))?;
-        gives(&rt, rt.alloc(), &mut buf, piece)?;
+        let more = Bytes::from_static(text.as_bytes());
+        accepts_and_gives(&rt, rt.alloc(), &mut buf, more, piece)?;
         assert_shows(&rt, &buf, *shown);
     }
     Ok(())
@@ -58,30 +81,57 @@ fn holds_none<B: Buf + Drop>(rt: &impl Abort, buf: SegmentedBuf<B>) {
     assert!(rt; buf.into_inner().is_empty());
 }
 
+fn gathers_none<B: Buf + Drop>(rt: &impl Abort, alloc: Global, empty: Vec<B>) -> Result<(), Fail> {
+    holds_none(rt, gather(alloc, empty)?);
+    Ok(())
+}
+
+fn collects_none<B: Buf + Drop>(rt: &impl Abort, alloc: Global, empty: Vec<B>) -> Result<(), Fail> {
+    holds_none(rt, collect(alloc, empty)?);
+    Ok(())
+}
+
 #[test]
 fn empty_bufs(rt: HostRuntime) -> Result<(), Fail> {
-    holds_none(&rt, held(rt.alloc(), &[])?);
-    holds_none(&rt, held(rt.alloc(), &["", ""])?);
-    holds_none(&rt, collect(rt.alloc(), bytes_of(rt.alloc(), &["", ""])?)?);
+    let alloc = rt.alloc();
+    gathers_none(&rt, alloc, bytes_of(alloc, &[])?)?;
+    gathers_none(&rt, alloc, bytes_of(alloc, &["", ""])?)?;
+    collects_none(&rt, alloc, bytes_of(alloc, &["", ""])?)
+}
+
+// An empty buffer is pushed, and others follow.
+fn accepts_none<B: Buf + Drop>(
+    rt: &impl Abort,
+    alloc: Global,
+    first: B,
+    others: Vec<B>,
+) -> Result<(), Fail> {
+    let mut buf = hold(rt, alloc, first)?;
+    extend(&mut buf, others)?;
+    holds_none(rt, buf);
     Ok(())
 }
 
 #[test]
 fn empty_bufs_after_an_empty_one(rt: HostRuntime) -> Result<(), Fail> {
-    let mut buf = hold(&rt, rt.alloc(), Bytes::new())?;
-    extend(&mut buf, bytes_of(rt.alloc(), &["", ""])?)?;
-    holds_none(&rt, buf);
-    Ok(())
+    let others = bytes_of(rt.alloc(), &["", ""])?;
+    accepts_none(&rt, rt.alloc(), Bytes::new(), others)
 }
+
+/// The number of buffers in `mostly_empty`.
+const MANY: usize = 10_002;
 
 // `x`, ten thousand empty buffers, and `y`.
 fn mostly_empty(alloc: Global) -> Result<Vec<Bytes>, AllocError> {
-    let mut bufs: Vec<Bytes> = Vec::with_capacity(alloc, 10_002)?;
-    bufs.push(Bytes::from_static(b"x"))?;
-    for _ in 0..10_000 {
-        bufs.push(Bytes::new())?;
+    let mut bufs = Vec::with_capacity(alloc, MANY)?;
+    for place in 0..MANY {
+        let text = match place {
+            0 => "x",
+            10_001 => "y",
+            _ => "",
+        };
+        bufs.push(Bytes::from_static(text.as_bytes()))?;
     }
-    bufs.push(Bytes::from_static(b"y"))?;
     Ok(bufs)
 }
 
@@ -102,56 +152,80 @@ fn zeros(alloc: Global, counts: &[usize]) -> Result<Vec<Zeros>, AllocError> {
     Ok(bufs)
 }
 
-// Returns the item that is not accepted. The items after it stay in the iterator.
-fn refused_of<B: Buf + Drop>(
-    buf: &mut SegmentedBuf<B>,
-    items: &mut IntoIter<B, Global>,
-) -> Result<Refused<B>, Fail> {
-    Ok(buf.extend(items.by_ref()).err().ok_or("accepted")?)
-}
-
-#[test]
-fn too_long(rt: HostRuntime) -> Result<(), Fail> {
-    let mut buf = gather(rt.alloc(), zeros(rt.alloc(), &[usize::MAX])?)?;
+// A buffer of the greatest length accepts no bytes, and refuses one byte.
+fn refuses_a_byte<B: Buf + Drop>(
+    rt: &impl Abort,
+    mut buf: SegmentedBuf<B>,
+    more: Vec<B>,
+) -> Result<(), Fail> {
     assert!(rt; buf.fits(0) && !buf.fits(1));
-    let mut items = zeros(rt.alloc(), &[0, 1])?.into_iter();
-    let refused = refused_of(&mut buf, &mut items)?;
-    assert!(rt; refused.reason == Reason::TooLong && refused.back.left == 1);
+    let refused = buf.extend(more.into_iter()).err().ok_or("accepted")?;
+    assert!(rt; refused.reason == Reason::TooLong && refused.back.remaining() == 1);
     assert!(rt; buf.segments() == 1 && buf.remaining() == usize::MAX);
     Ok(())
 }
 
 #[test]
-fn too_long_conversions(rt: HostRuntime) -> Result<(), Fail> {
-    let both = VecDeque::from_vec(zeros(rt.alloc(), &[usize::MAX, 1])?);
+fn too_long(rt: HostRuntime) -> Result<(), Fail> {
+    let longest = gather(rt.alloc(), zeros(rt.alloc(), &[usize::MAX])?)?;
+    refuses_a_byte(&rt, longest, zeros(rt.alloc(), &[0, 1])?)
+}
+
+fn refuses_both<B: Buf + Drop>(rt: &impl Abort, both: VecDeque<B>) -> Result<(), Fail> {
     let refused = SegmentedBuf::from_deque(both).err().ok_or("accepted")?;
     assert!(rt; refused.reason == Reason::TooLong && refused.back.len() == 2);
     Ok(())
 }
 
-// The item of one byte was refused, and the item of two bytes after it stays.
-fn assert_stays(
+#[test]
+fn too_long_conversions(rt: HostRuntime) -> Result<(), Fail> {
+    refuses_both(
+        &rt,
+        VecDeque::from_vec(zeros(rt.alloc(), &[usize::MAX, 1])?),
+    )
+}
+
+// The item of one byte is refused, and the one of two bytes stays with the iterator.
+fn assert_stays<T: Drop, B: Buf + Drop>(
     rt: &impl Abort,
-    refused: Refused<Zeros>,
-    items: &mut IntoIter<Zeros, Global>,
+    answer: Result<T, Refused<B>>,
+    items: &mut IntoIter<B, Global>,
 ) -> Result<(), Fail> {
-    let next = items.next().ok_or("gone")?;
-    assert!(rt; refused.back.left == 1 && next.left == 2);
+    let refused = answer.err().ok_or("accepted")?;
+    let next = items.next().ok_or("no item is left")?;
+    assert!(rt; refused.back.remaining() == 1 && next.remaining() == 2);
     Ok(())
+}
+
+/// The lengths of these items. The third one doesn't fit after the second.
+const LENGTHS: &[usize] = &[0, usize::MAX, 1, 2];
+
+fn extends_in_part<B: Buf + Drop>(
+    rt: &impl Abort,
+    alloc: Global,
+    bufs: Vec<B>,
+) -> Result<(), Fail> {
+    let mut items = bufs.into_iter();
+    let answer = SegmentedBuf::new(alloc).extend(items.by_ref());
+    assert_stays(rt, answer, &mut items)
 }
 
 #[test]
 fn items_after_a_refused_one_stay(rt: HostRuntime) -> Result<(), Fail> {
-    let mut items = zeros(rt.alloc(), &[0, usize::MAX, 1, 2])?.into_iter();
-    let refused = refused_of(&mut SegmentedBuf::new(rt.alloc()), &mut items)?;
-    assert_stays(&rt, refused, &mut items)
+    extends_in_part(&rt, rt.alloc(), zeros(rt.alloc(), LENGTHS)?)
+}
+
+fn collects_in_part<B: Buf + Drop>(
+    rt: &impl Abort,
+    alloc: Global,
+    bufs: Vec<B>,
+) -> Result<(), Fail> {
+    let mut items = bufs.into_iter();
+    let answer = SegmentedBuf::from_iter(alloc, items.by_ref());
+    assert_stays(rt, answer, &mut items)
 }
 
 #[test]
 fn items_after_the_first_refused_one_stay(rt: HostRuntime) -> Result<(), Fail> {
-    let mut items = zeros(rt.alloc(), &[0, usize::MAX, 1, 2])?.into_iter();
-    let refused = SegmentedBuf::from_iter(rt.alloc(), items.by_ref())
-        .err()
-        .ok_or("accepted")?;
-    assert_stays(&rt, refused, &mut items)
+    collects_in_part(&rt, rt.alloc(), zeros(rt.alloc(), LENGTHS)?)
 }

@@ -1,6 +1,7 @@
 //! What becomes of buffers that are passed, read to the end, or empty.
 use crate::fixtures::odd::Asked;
 use crate::fixtures::{hold, lend, shared, skip, take_out};
+use crate::parts::{BufParts, CopyRefused};
 use bytes::{Buf, Bytes};
 use std::alloc::{AllocError, Global};
 use std::process::Abort;
@@ -33,19 +34,23 @@ const ROWS: &[Row] = &[
     (&["a", "", "c", "d"], 0, 1),
 ];
 
-fn come_back(rt: &impl Abort, alloc: Global, row: &Row) -> Result<(), Fail> {
-    let mut bufs = numbered(alloc, row.0)?;
-    let mut all = lend(rt, &mut bufs);
+fn come_back<'a, B: BufParts>(
+    rt: &impl Abort,
+    alloc: Global,
+    bufs: &'a mut [B],
+    row: &Row,
+) -> Result<&'a mut [B], CopyRefused> {
+    let mut all = lend(rt, bufs);
     skip(rt, &mut all, row.1);
     let _ = take_out(rt, alloc, &mut all, row.2)?;
-    assert_in_order(rt, all.into_lent());
-    Ok(())
+    Ok(all.into_lent())
 }
 
 #[test]
 fn lent_come_back_in_their_order(rt: HostRuntime) -> Result<(), Fail> {
     for row in ROWS {
-        come_back(&rt, rt.alloc(), row)?;
+        let mut bufs = numbered(rt.alloc(), row.0)?;
+        assert_in_order(&rt, come_back(&rt, rt.alloc(), &mut bufs, row)?);
     }
     Ok(())
 }

@@ -26,8 +26,8 @@ pub(super) fn drain_into_queue(
     buf.drain_into_queue(queue)
 }
 
-/// Moves the chunks of a queue in, and back out.
-pub(super) fn come_and_go(
+/// The chunks of a queue are moved in, and back to it.
+fn come_and_go(
     rt: &impl Abort,
     buf: &mut SegmentedBuf<Bytes>,
     queue: &mut BytesQueue,

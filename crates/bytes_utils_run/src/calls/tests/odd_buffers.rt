@@ -4,6 +4,9 @@ use crate::ReadCall;
 use crate::odd::{Drip, Zeros};
 use bytes::Bytes;
 use bytes_utils::SegmentedBuf;
+use bytes_utils::parts::BufParts;
+use std::alloc::Global;
+use std::process::Abort;
 use std::test::Fail;
 
 /// Eight zero bytes, as a chunk shows them.
@@ -39,6 +42,17 @@ fn a_drip_is_copied(rt: HostRuntime) -> Result<(), Fail> {
     assert_reads(&rt, rt.alloc(), &mut drip("abc"), COPIED)
 }
 
+/// Asserts the replies of held buffers.
+fn assert_held_reads<B: BufParts + Drop>(
+    rt: &impl Abort,
+    alloc: Global,
+    bufs: Vec<B>,
+    rows: &[Row],
+) -> Result<(), Fail> {
+    let mut all = SegmentedBuf::from_vec(alloc, bufs).ok().ok_or("too long")?;
+    assert_reads(rt, alloc, &mut all, rows)
+}
+
 const HELD: &[Row] = &[
     (ReadCall::Chunk, Want::Shown("a")),
     (ReadCall::Chunks(2), Want::Slices(&["a", "b"])),
@@ -49,6 +63,5 @@ const HELD: &[Row] = &[
 #[test]
 fn drips_are_held(rt: HostRuntime) -> Result<(), Fail> {
     let drips = vec![in rt.alloc(); drip("ab"), drip("c")]?;
-    let mut all = SegmentedBuf::from_vec(rt.alloc(), drips)?;
-    assert_reads(&rt, rt.alloc(), &mut all, HELD)
+    assert_held_reads(&rt, rt.alloc(), drips, HELD)
 }

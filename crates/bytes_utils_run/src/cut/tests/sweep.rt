@@ -7,7 +7,7 @@ use crate::odd::RefuseAfter;
 use crate::splitter::AnySplitter;
 use crate::{How, Parts, cut_all};
 use bytes_utils::Reason;
-use bytes_utils::string::StrInner;
+use bytes_utils::string::{Storage, StrInner};
 use std::alloc::Global;
 use std::process::Abort;
 use std::test::Fail;
@@ -15,21 +15,18 @@ use std::test::Fail;
 /// More splits than any run below makes.
 const MANY: usize = 64;
 
-/// Returns the next item, also after the last. If a loop called `next` itself, it would be measured
-/// by the items that are left.
-fn next_of(
-    splitter: &mut AnySplitter<'_, RefuseAfter>,
-) -> Option<Result<StrInner<RefuseAfter>, Reason>> {
+/// The next item, also after the last. A loop that called `next` itself would be measured by the
+/// items that are left.
+fn next_of<S: Storage>(splitter: &mut AnySplitter<'_, S>) -> Option<Result<StrInner<S>, Reason>> {
     splitter.next()
 }
 
-/// Asserts that the splitter gives all of these parts, or a proper beginning of them and then one
-/// refusal, and nothing after that. Returns whether it gave all.
-fn is_whole(
-    rt: &impl Abort,
-    mut splitter: AnySplitter<'_, RefuseAfter>,
-    ample: &Parts<RefuseAfter>,
-) -> bool {
+/// Asserts that the text's splitter gives all of these parts, or some of the first ones and then one
+/// refusal, and from then on nothing. Returns whether it gave all.
+fn is_whole<S: Storage>(rt: &impl Abort, text: StrInner<S>, how: How<'_>, ample: &Parts<S>) -> bool
+    requires { IsAllowed how }
+{
+    let mut splitter = AnySplitter::new(text, how);
     let mut is_whole = true;
     for want in &ample.given {
         match next_of(&mut splitter) {
@@ -48,8 +45,8 @@ fn is_whole(
     is_whole
 }
 
-/// Returns the least number of splits that gives all of these parts. Asserts that each smaller
-/// number gives a proper beginning of them.
+/// The number of splits that it takes to cut the text into these parts. Each smaller number gives some
+/// of the first ones.
 fn needed(
     rt: &impl Abort,
     alloc: Global,
@@ -60,24 +57,30 @@ fn needed(
     requires { IsAllowed how }
 {
     for granted in 0..MANY {
-        let splitter = AnySplitter::new(granting(alloc, text, granted)?, how);
-        if is_whole(rt, splitter, ample) {
+        if is_whole(rt, granting(alloc, text, granted)?, how, ample) {
             return Ok(granted);
         }
     }
     panic!(rt; "{text:?}, {how:?}")
 }
 
-/// Asserts that each number of splits that is too small gives a beginning of the parts that enough
-/// splits give. Only a text that is its own only part needs no split.
+/// Whether the one part is the whole text. Asserts that no part was refused.
+fn is_uncut<S: Storage>(rt: &impl Abort, ample: &Parts<S>, text: &str) -> bool {
+    assert!(rt; ample.refused.is_none());
+    ample.given.len() == 1 && ample.given[0].as_str() == text
+}
+
+/// Asserts that each number of splits that is too small gives some of the first parts, and that only a
+/// text that stays uncut needs no split.
 fn sweep(rt: &impl Abort, alloc: Global, text: &str, how: How<'_>) -> Result<(), Fail>
     requires { IsAllowed how }
 {
     let ample = cut_all(alloc, granting(alloc, text, usize::MAX)?, how);
-    assert!(rt; ample.refused.is_none());
-    let is_uncut = ample.given.len() == 1 && ample.given[0].as_str() == text;
     let splits = needed(rt, alloc, text, how, &ample)?;
-    assert!(rt; (splits == 0) == is_uncut, "{text:?}, {how:?}");
+    assert!(rt;
+        (splits == 0) == is_uncut(rt, &ample, text),
+        "{text:?}, {how:?}"
+    );
     Ok(())
 }
 

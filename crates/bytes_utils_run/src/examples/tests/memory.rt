@@ -1,5 +1,5 @@
-//! The examples if a request for memory is refused. With enough memory none is refused. A run in
-//! which one is refused prints a line for it.
+//! What holds after a request for memory is refused. With ample memory none is: a run that refuses one
+//! prints a line for it.
 use crate::examples::fields::fields_of;
 use crate::examples::headers::headers;
 use crate::examples::inbox::Inbox;
@@ -8,11 +8,12 @@ use crate::examples::records::{RecordError, Records};
 use crate::examples::requests::Requests;
 use crate::examples::tokens::tokens;
 use bytes::Bytes;
-use bytes_utils::{Reason, Str};
+use bytes_utils::{Reason, SegmentedBuf, Str};
+use std::alloc::Global;
 use std::process::Abort;
 use std::test::Fail;
 
-/// Pushes a piece. If memory is refused, the piece comes back, and a second push succeeds.
+/// Pushes a piece. If memory is refused, the piece comes back, and is pushed again.
 fn push(rt: &(impl Abort + Print), inbox: &mut Inbox, piece: &'static [u8]) -> Result<(), Fail> {
     if let Err(refused) = inbox.push(Bytes::from_static(piece)) {
         println!(rt; "refused Inbox::push")?;
@@ -21,80 +22,136 @@ fn push(rt: &(impl Abort + Print), inbox: &mut Inbox, piece: &'static [u8]) -> R
     Ok(())
 }
 
-// A refusal loses nothing, so the body comes out once there is memory.
+/// The next body. If memory is refused, reports it and calls again.
+fn body_of(
+    rt: &(impl Abort + Print),
+    alloc: Global,
+    inbox: &mut Inbox,
+) -> Result<Option<Bytes>, Fail> {
+    match inbox.next_body(alloc) {
+        Ok(body) => Ok(body),
+        Err(reason) => {
+            println!(rt; "refused Inbox::next_body")?;
+            assert_eq!(rt; reason, Reason::OutOfMemory);
+            Ok(inbox.next_body(alloc)?)
+        }
+    }
+}
+
+// A refusal loses nothing, so the body comes once there is memory.
 #[test]
 fn body_of_two_pieces(rt: HostRuntime) -> Result<(), Fail> {
-    let alloc = rt.alloc();
-    let mut inbox = Inbox::new(alloc);
+    let mut inbox = Inbox::new(rt.alloc());
     push(&rt, &mut inbox, b"\0\0\0\x05He")?;
     push(&rt, &mut inbox, b"llo")?;
-    let mut body = inbox.next_body(alloc);
-    if let Err(reason) = &body {
-        println!(rt; "refused Inbox::next_body")?;
-        assert_eq!(rt; *reason, Reason::OutOfMemory);
-        body = inbox.next_body(alloc);
-    }
-    assert!(rt; body?.is_some_and(|body| body.as_slice() == b"Hello".as_slice()));
+    let body = body_of(&rt, rt.alloc(), &mut inbox)?.ok_or("no body")?;
+    assert!(rt; body.as_slice() == b"Hello".as_slice());
     Ok(())
 }
 
-// A refusal loses no record.
+/// As `push`, of records.
+fn push_of_records(
+    rt: &(impl Abort + Print),
+    records: &mut Records,
+    piece: &'static [u8],
+) -> Result<(), Fail> {
+    if let Err(refused) = records.push(Bytes::from_static(piece)) {
+        println!(rt; "refused Records::push")?;
+        assert!(rt; refused.back.as_slice() == piece && records.push(refused.back).is_ok());
+    }
+    Ok(())
+}
+
+/// The next record. If memory is refused, reports it and calls again.
+fn record_of(
+    rt: &(impl Abort + Print),
+    alloc: Global,
+    records: &mut Records,
+) -> Result<Option<Str>, Fail> {
+    let mut record = records.next_record(alloc);
+    if let Err(RecordError::OutOfMemory) = &record {
+        println!(rt; "refused Records::next_record")?;
+        record = records.next_record(alloc);
+    }
+    Ok(record.ok().ok_or("refused again")?)
+}
+
+// Neither does one of a record.
 #[test]
 fn record_of_two_pieces(rt: HostRuntime) -> Result<(), Fail> {
-    let alloc = rt.alloc();
-    let Ok(mut records) = Records::new(alloc, 9) else {
+    let Ok(mut records) = Records::new(rt.alloc(), 9) else {
         println!(rt; "refused Records::new")?;
         return Ok(());
     };
-    for piece in [b"He".as_slice(), b"llo\r\n\r\n"] {
-        if let Err(refused) = records.push(Bytes::from_static(piece)) {
-            println!(rt; "refused Records::push")?;
-            assert!(rt; refused.back.as_slice() == piece && records.push(refused.back).is_ok());
+    push_of_records(&rt, &mut records, b"He")?;
+    push_of_records(&rt, &mut records, b"llo\r\n\r\n")?;
+    let record = record_of(&rt, rt.alloc(), &mut records)?.ok_or("no record")?;
+    assert!(rt; record.as_str() == "Hello");
+    Ok(())
+}
+
+/// As `push`, of requests.
+fn push_of_requests(
+    rt: &(impl Abort + Print),
+    requests: &mut Requests,
+    piece: &'static [u8],
+) -> Result<(), Fail> {
+    if let Err(refused) = requests.push(Bytes::from_static(piece)) {
+        println!(rt; "refused Requests::push")?;
+        assert!(rt; refused.back.as_slice() == piece && requests.push(refused.back).is_ok());
+    }
+    Ok(())
+}
+
+/// The next head. If memory is refused, reports it and calls again.
+fn head_of(
+    rt: &(impl Abort + Print),
+    alloc: Global,
+    requests: &mut Requests,
+) -> Result<Option<Bytes>, Fail> {
+    match requests.next_head(alloc) {
+        Ok(head) => Ok(head),
+        Err(reason) => {
+            println!(rt; "refused Requests::next_head")?;
+            assert_eq!(rt; reason, Reason::OutOfMemory);
+            Ok(requests.next_head(alloc)?)
         }
     }
-    let mut record = records.next_record(alloc);
-    if let Err(error) = &record {
-        println!(rt; "refused Records::next_record")?;
-        assert!(rt; matches!(error, RecordError::OutOfMemory));
-        record = records.next_record(alloc);
+}
+
+/// As `head_of`, of a body of five bytes.
+fn five_of(
+    rt: &(impl Abort + Print),
+    alloc: Global,
+    requests: &mut Requests,
+) -> Result<Option<SegmentedBuf<Bytes>>, Fail> {
+    match requests.next_body(alloc, 5) {
+        Ok(body) => Ok(body),
+        Err(reason) => {
+            println!(rt; "refused Requests::next_body")?;
+            assert_eq!(rt; reason, Reason::OutOfMemory);
+            Ok(requests.next_body(alloc, 5)?)
+        }
     }
-    assert!(rt; matches!(&record, Ok(Some(text)) if text.as_str() == "Hello"));
-    Ok(())
 }
 
 // A refusal loses neither a head nor a body.
 #[test]
 fn request_of_two_pieces(rt: HostRuntime) -> Result<(), Fail> {
-    let alloc = rt.alloc();
-    let Ok(mut requests) = Requests::new(alloc) else {
+    let Ok(mut requests) = Requests::new(rt.alloc()) else {
         println!(rt; "refused Requests::new")?;
         return Ok(());
     };
-    for piece in [b"He".as_slice(), b"llo\r\n\r\nWorld"] {
-        if let Err(refused) = requests.push(Bytes::from_static(piece)) {
-            println!(rt; "refused Requests::push")?;
-            assert!(rt; refused.back.as_slice() == piece && requests.push(refused.back).is_ok());
-        }
-    }
-    let mut head = requests.next_head(alloc);
-    if let Err(reason) = &head {
-        println!(rt; "refused Requests::next_head")?;
-        assert_eq!(rt; *reason, Reason::OutOfMemory);
-        head = requests.next_head(alloc);
-    }
-    assert!(rt; head?.is_some_and(|head| head.as_slice() == b"Hello".as_slice()));
-    let mut body = requests.next_body(alloc, 5);
-    if let Err(reason) = &body {
-        println!(rt; "refused Requests::next_body")?;
-        assert_eq!(rt; *reason, Reason::OutOfMemory);
-        body = requests.next_body(alloc, 5);
-    }
-    assert!(rt; body?.is_some_and(|body| body.segments() == 1));
+    push_of_requests(&rt, &mut requests, b"He")?;
+    push_of_requests(&rt, &mut requests, b"llo\r\n\r\nWorld")?;
+    let head = head_of(&rt, rt.alloc(), &mut requests)?.ok_or("no head")?;
+    assert!(rt; head.as_slice() == b"Hello".as_slice());
+    let body = five_of(&rt, rt.alloc(), &mut requests)?.ok_or("no body")?;
+    assert!(rt; body.segments() == 1);
     Ok(())
 }
 
-/// Checks two reads of the same text. If memory was refused to one of them, this prints a line, and
-/// the other one has to be a success.
+/// Asserts that one of two readings of a text succeeds. If memory is refused to the other, reports it.
 fn assert_reads<T: Drop>(
     rt: &(impl Abort + Print),
     name: &str,

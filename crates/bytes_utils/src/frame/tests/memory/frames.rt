@@ -1,39 +1,19 @@
-//! Frames from pieces. A refused call changes nothing, so the same call made again succeeds.
+//! Frames out of pieces.
+use crate::fixtures::refusals::readers::{
+    PIECES, assert_frame, assert_pushes, assert_segments, holding,
+};
 use crate::fixtures::refusals::report;
 use crate::frame::Frames;
-use bytes::Bytes;
-use bytes_utils_buf::Refused;
+use crate::segmented::SegmentedBuf;
+use bytes::{Buf, Bytes};
 use std::alloc::Global;
 use std::io::Print;
 use std::process::Abort;
 use std::test::Fail;
 
-/// A reader that holds a frame and its separator in two pieces, the separator in both, or `None` if
-/// memory for it was refused.
+/// A reader that holds the pieces, or `None` if memory is refused.
 fn prepared(alloc: Global) -> Option<Frames> {
-    let mut frames = Frames::new(alloc, b"-\n").ok()?;
-    frames.push(Bytes::from_static(b"ab-")).ok()?;
-    frames.push(Bytes::from_static(b"\nc")).ok()?;
-    Some(frames)
-}
-
-/// Asserts that the reader is at its end, with one byte left.
-fn assert_end<R: Abort>(rt: &R, alloc: Global, frames: &mut Frames) -> Result<(), Fail> {
-    assert!(rt; frames.next_frame(alloc)?.is_none());
-    assert_eq!(rt; frames.remaining(), 1);
-    Ok(())
-}
-
-/// Prints that the call was refused, and asserts that all bytes are still there.
-fn report_refused<R: Abort + Print>(
-    rt: &R,
-    call: &str,
-    reason: crate::Reason,
-    frames: &Frames,
-) -> Result<(), Fail> {
-    report(rt, call, reason)?;
-    assert_eq!(rt; frames.remaining(), 5);
-    Ok(())
+    holding(Frames::new(alloc, b"-\n").ok()?, PIECES)
 }
 
 #[test]
@@ -47,73 +27,51 @@ fn new(rt: HostRuntime) -> Result<(), Fail> {
 
 #[test]
 fn push(rt: HostRuntime) -> Result<(), Fail> {
-    let Ok(mut frames) = Frames::new(rt.alloc(), b"-") else {
-        return Ok(());
-    };
-    let mut piece = Bytes::from_static(b"a-b");
-    for _ in 0..2 {
-        let Err(Refused { reason, back }) = frames.push(piece) else {
-            assert_eq!(&rt; frames.remaining(), 3);
-            return Ok(());
-        };
-        report(&rt, "Frames::push", reason)?;
-        assert!(&rt; frames.remaining() == 0 && back.as_slice() == b"a-b".as_slice());
-        piece = back;
+    match Frames::new(rt.alloc(), b"-") {
+        Ok(frames) => assert_pushes(&rt, "Frames::push", frames),
+        Err(_) => Ok(()),
     }
-    Err("refused twice")?
 }
 
 #[test]
 fn next_frame(rt: HostRuntime) -> Result<(), Fail> {
-    let alloc = rt.alloc();
-    let Some(mut frames) = prepared(alloc) else {
-        return Ok(());
-    };
-    for _ in 0..2 {
-        match frames.next_frame(alloc) {
-            Ok(frame) => {
-                assert!(&rt; frame.ok_or("a frame is missing")?.as_slice() == b"ab".as_slice());
-                return assert_end(&rt, alloc, &mut frames);
-            }
-            Err(reason) => report_refused(&rt, "Frames::next_frame", reason, &frames)?,
-        }
+    match prepared(rt.alloc()) {
+        Some(frames) => assert_frame(&rt, rt.alloc(), "Frames::next_frame", frames),
+        None => Ok(()),
     }
-    Err("refused twice")?
 }
 
 #[test]
 fn next_frame_segments(rt: HostRuntime) -> Result<(), Fail> {
-    let alloc = rt.alloc();
-    let Some(mut frames) = prepared(alloc) else {
-        return Ok(());
-    };
-    for _ in 0..2 {
-        match frames.next_frame_segments(alloc) {
-            Ok(frame) => {
-                assert_eq!(&rt; frame.ok_or("a frame is missing")?.segments(), 1);
-                return assert_end(&rt, alloc, &mut frames);
-            }
-            Err(reason) => report_refused(&rt, "Frames::next_frame_segments", reason, &frames)?,
+    match prepared(rt.alloc()) {
+        Some(frames) => assert_segments(&rt, rt.alloc(), "Frames::next_frame_segments", frames),
+        None => Ok(()),
+    }
+}
+
+/// The first four bytes. If memory is refused, reports it and calls again.
+fn front_of<R: Abort + Print>(
+    rt: &R,
+    alloc: Global,
+    frames: &mut Frames,
+) -> Result<SegmentedBuf<Bytes>, Fail> {
+    assert!(rt; frames.remaining() == 5);
+    match frames.split_to(alloc, 4) {
+        Ok(front) => Ok(front),
+        Err(reason) => {
+            report(rt, "Frames::split_to", reason)?;
+            assert!(rt; frames.remaining() == 5);
+            Ok(frames.split_to(alloc, 4)?)
         }
     }
-    Err("refused twice")?
 }
 
 #[test]
 fn split_to(rt: HostRuntime) -> Result<(), Fail> {
-    let alloc = rt.alloc();
-    let Some(mut frames) = prepared(alloc) else {
-        return Ok(());
-    };
-    for _ in 0..2 {
-        assert!(&rt; frames.remaining() >= 4);
-        match frames.split_to(alloc, 4) {
-            Ok(front) => {
-                assert_eq!(&rt; front.segments(), 2);
-                return assert_end(&rt, alloc, &mut frames);
-            }
-            Err(reason) => report_refused(&rt, "Frames::split_to", reason, &frames)?,
-        }
+    if let Some(mut frames) = prepared(rt.alloc()) {
+        let front = front_of(&rt, rt.alloc(), &mut frames)?;
+        assert!(&rt; front.eq_bytes(b"ab-\n"));
+        assert!(&rt; frames.finish().chunk() == b"c".as_slice());
     }
-    Err("refused twice")?
+    Ok(())
 }

@@ -1,40 +1,15 @@
-//! Frames with a limit on their length. If no frame is skipped, a refused call changes nothing, so
-//! the same call made again succeeds.
+//! Frames of at most `limit` bytes.
+use crate::fixtures::refusals::readers::{
+    PIECES, assert_frame, assert_pushes, assert_segments, holding,
+};
 use crate::fixtures::refusals::report;
 use crate::frame::LimitedFrames;
-use bytes::Bytes;
-use bytes_utils_buf::Refused;
 use std::alloc::Global;
-use std::io::Print;
-use std::process::Abort;
 use std::test::Fail;
 
-/// A reader that holds a frame as long as its limit and a separator in two pieces, the separator in
-/// both, or `None` if memory for it was refused.
+/// A reader that holds the pieces of a frame as long as its limit, or `None` if memory is refused.
 fn prepared(alloc: Global) -> Option<LimitedFrames> {
-    let mut frames = LimitedFrames::new(alloc, b"-\n", 2).ok()?;
-    frames.push(Bytes::from_static(b"ab-")).ok()?;
-    frames.push(Bytes::from_static(b"\nc")).ok()?;
-    Some(frames)
-}
-
-/// Asserts that the reader is at its end, with one byte left.
-fn assert_end<R: Abort>(rt: &R, alloc: Global, frames: &mut LimitedFrames) -> Result<(), Fail> {
-    assert!(rt; frames.next_frame(alloc)?.is_none());
-    assert_eq!(rt; frames.remaining(), 1);
-    Ok(())
-}
-
-/// Prints that the call was refused, and asserts that all bytes are still there.
-fn report_refused<R: Abort + Print>(
-    rt: &R,
-    call: &str,
-    reason: crate::Reason,
-    frames: &LimitedFrames,
-) -> Result<(), Fail> {
-    report(rt, call, reason)?;
-    assert_eq!(rt; frames.remaining(), 5);
-    Ok(())
+    holding(LimitedFrames::new(alloc, b"-\n", 2).ok()?, PIECES)
 }
 
 #[test]
@@ -48,59 +23,29 @@ fn new(rt: HostRuntime) -> Result<(), Fail> {
 
 #[test]
 fn push(rt: HostRuntime) -> Result<(), Fail> {
-    let Ok(mut frames) = LimitedFrames::new(rt.alloc(), b"-", 1) else {
-        return Ok(());
-    };
-    let mut piece = Bytes::from_static(b"a-b");
-    for _ in 0..2 {
-        let Err(Refused { reason, back }) = frames.push(piece) else {
-            assert_eq!(&rt; frames.remaining(), 3);
-            return Ok(());
-        };
-        report(&rt, "LimitedFrames::push", reason)?;
-        assert!(&rt; frames.remaining() == 0 && back.as_slice() == b"a-b".as_slice());
-        piece = back;
+    match LimitedFrames::new(rt.alloc(), b"-", 1) {
+        Ok(frames) => assert_pushes(&rt, "LimitedFrames::push", frames),
+        Err(_) => Ok(()),
     }
-    Err("refused twice")?
 }
 
 #[test]
 fn next_frame(rt: HostRuntime) -> Result<(), Fail> {
-    let alloc = rt.alloc();
-    let Some(mut frames) = prepared(alloc) else {
-        return Ok(());
-    };
-    for _ in 0..2 {
-        match frames.next_frame(alloc) {
-            Ok(frame) => {
-                assert!(&rt; frame.ok_or("a frame is missing")?.as_slice() == b"ab".as_slice());
-                return assert_end(&rt, alloc, &mut frames);
-            }
-            Err(reason) => report_refused(&rt, "LimitedFrames::next_frame", reason, &frames)?,
-        }
+    match prepared(rt.alloc()) {
+        Some(frames) => assert_frame(&rt, rt.alloc(), "LimitedFrames::next_frame", frames),
+        None => Ok(()),
     }
-    Err("refused twice")?
 }
 
 #[test]
 fn next_frame_segments(rt: HostRuntime) -> Result<(), Fail> {
-    let alloc = rt.alloc();
-    let Some(mut frames) = prepared(alloc) else {
-        return Ok(());
-    };
-    for _ in 0..2 {
-        match frames.next_frame_segments(alloc) {
-            Ok(frame) => {
-                assert_eq!(&rt; frame.ok_or("a frame is missing")?.segments(), 1);
-                return assert_end(&rt, alloc, &mut frames);
-            }
-            Err(reason) => report_refused(
-                &rt,
-                "LimitedFrames::next_frame_segments",
-                reason,
-                &frames,
-            )?,
-        }
+    match prepared(rt.alloc()) {
+        Some(frames) => assert_segments(
+            &rt,
+            rt.alloc(),
+            "LimitedFrames::next_frame_segments",
+            frames,
+        ),
+        None => Ok(()),
     }
-    Err("refused twice")?
 }

@@ -1,10 +1,8 @@
-//! Texts copied, collected and extended by std's traits.
-ghost use Rattle.std.specs.Prelude.{◌≡◌};
-
+//! Texts that std's traits copy, collect and extend.
 use crate::fixtures::refusals::{given, items};
 use crate::fixtures::{assert_text, strings};
 use crate::{Reason, Str, StrMut};
-use std::alloc::AllocError;
+use std::alloc::{AllocError, Global};
 use std::convert::AsStr;
 use std::io::Print;
 use std::process::Abort;
@@ -26,16 +24,14 @@ fn is_refused<T: AsStr + Drop, R: Abort + Print>(
     }
 }
 
-/// Asserts what the call returns, at the second try if the first is refused.
-fn assert_gives<T: AsStr + Drop, R: Abort + Print, F: Fn() -> Result<T, AllocError>>(
+/// Asserts the text that a call made. If it was refused, asserts the text that the same call made next.
+fn assert_made<T: AsStr + Drop, R: Abort + Print>(
     rt: &R,
     call: &str,
-    make: F,
-) -> Result<(), Fail>
-    requires { F.IsAlwaysCallable make }
-{
-    if is_refused(rt, call, make())? {
-        assert!(rt; !is_refused(rt, call, make())?);
+    (first, second): (Result<T, AllocError>, Result<T, AllocError>),
+) -> Result<(), Fail> {
+    if is_refused(rt, call, first)? {
+        assert!(rt; !is_refused(rt, call, second)?);
     }
     Ok(())
 }
@@ -56,67 +52,77 @@ fn clone_growing(rt: HostRuntime) -> Result<(), Fail> {
     let Ok(text) = StrMut::from_str(rt.alloc(), items()) else {
         return Ok(());
     };
-    assert_gives(&rt, "StrMut::clone", || text.clone())
+    assert_made(&rt, "StrMut::clone", (text.clone(), text.clone()))
+}
+
+fn shared_chars(alloc: Global) -> Result<Str, AllocError> {
+    items().chars().collect(alloc)
 }
 
 #[test]
 fn shared_of_chars(rt: HostRuntime) -> Result<(), Fail> {
-    let alloc = rt.alloc();
-    assert_gives(
-        &rt,
-        "Str::from_iter of char",
-        || items().chars().collect::<Str>(alloc),
-    )
+    let made = (shared_chars(rt.alloc()), shared_chars(rt.alloc()));
+    assert_made(&rt, "Str::from_iter of char", made)
+}
+
+fn growing_chars(alloc: Global) -> Result<StrMut, AllocError> {
+    items().chars().collect(alloc)
 }
 
 #[test]
 fn growing_of_chars(rt: HostRuntime) -> Result<(), Fail> {
-    let alloc = rt.alloc();
-    assert_gives(
-        &rt,
-        "StrMut::from_iter of char",
-        || items().chars().collect::<StrMut>(alloc),
-    )
+    let made = (growing_chars(rt.alloc()), growing_chars(rt.alloc()));
+    assert_made(&rt, "StrMut::from_iter of char", made)
+}
+
+fn shared_strs(alloc: Global) -> Result<Str, AllocError> {
+    items().split_inclusive(',').collect(alloc)
 }
 
 #[test]
 fn shared_of_strs(rt: HostRuntime) -> Result<(), Fail> {
-    let alloc = rt.alloc();
-    let make = || items().split_inclusive(',').collect::<Str>(alloc);
-    assert_gives(&rt, "Str::from_iter of &str", make)
+    let made = (shared_strs(rt.alloc()), shared_strs(rt.alloc()));
+    assert_made(&rt, "Str::from_iter of &str", made)
+}
+
+fn growing_strs(alloc: Global) -> Result<StrMut, AllocError> {
+    items().split_inclusive(',').collect(alloc)
 }
 
 #[test]
 fn growing_of_strs(rt: HostRuntime) -> Result<(), Fail> {
-    let alloc = rt.alloc();
-    let make = || items().split_inclusive(',').collect::<StrMut>(alloc);
-    assert_gives(&rt, "StrMut::from_iter of &str", make)
+    let made = (growing_strs(rt.alloc()), growing_strs(rt.alloc()));
+    assert_made(&rt, "StrMut::from_iter of &str", made)
+}
+
+/// What `collect` made of the strings, or `None` if these were refused.
+fn shared_strings(alloc: Global) -> Option<Result<Str, AllocError>> {
+    let parts = strings(alloc, items()).ok()?;
+    Some(parts.into_iter().collect(alloc))
 }
 
 #[test]
 fn shared_of_strings(rt: HostRuntime) -> Result<(), Fail> {
-    let (alloc, call) = (rt.alloc(), "Str::from_iter of String");
-    let Ok(parts) = strings(alloc, items()) else {
+    let (Some(first), Some(second)) = (shared_strings(rt.alloc()), shared_strings(rt.alloc()))
+    else {
         return Ok(());
     };
-    if is_refused(&rt, call, parts.into_iter().collect::<Str>(alloc))? {
-        let parts = strings(alloc, items())?;
-        assert!(rt; !is_refused(&rt, call, parts.into_iter().collect::<Str>(alloc))?);
-    }
-    Ok(())
+    assert_made(&rt, "Str::from_iter of String", (first, second))
+}
+
+/// As `shared_strings`, in bytes that may grow.
+fn growing_strings(alloc: Global) -> Option<Result<StrMut, AllocError>> {
+    let parts = strings(alloc, items()).ok()?;
+    Some(parts.into_iter().collect(alloc))
 }
 
 #[test]
 fn growing_of_strings(rt: HostRuntime) -> Result<(), Fail> {
-    let (alloc, call) = (rt.alloc(), "StrMut::from_iter of String");
-    let Ok(parts) = strings(alloc, items()) else {
+    let (Some(first), Some(second)) = (growing_strings(rt.alloc()), growing_strings(rt.alloc()))
+    else {
         return Ok(());
     };
-    if is_refused(&rt, call, parts.into_iter().collect::<StrMut>(alloc))? {
-        let parts = strings(alloc, items())?;
-        assert!(rt; !is_refused(&rt, call, parts.into_iter().collect::<StrMut>(alloc))?);
-    }
-    Ok(())
+    assert_made(&rt, "StrMut::from_iter of String", (first, second))
 }
 
 /// Asserts that either all items were appended, or those before a refused one; then the text can

@@ -192,19 +192,3 @@ fn append(rt: HostRuntime) -> Result<(), Fail> {
     let mut buf = gather(rt.alloc(), front)?;
     appends(&rt, &mut buf, gather(rt.alloc(), following)?)
 }
-
-// Zero bytes need no memory, so these are never refused.
-#[test]
-fn no_memory_needed_by_no_bytes(rt: HostRuntime) -> Result<(), Fail> {
-    let Ok(letters) = letters(rt.alloc()) else {
-        return Ok(());
-    };
-    let mut buf = gather(rt.alloc(), letters)?;
-    assert_holds(&rt, &buf.prefix(rt.alloc(), 0)?, 0);
-    assert_holds(&rt, &buf.split_to(rt.alloc(), 0)?, 0);
-    assert!(rt; buf.peek_bytes(rt.alloc(), 0)?.is_empty());
-    buf.prepend(Bytes::new())?;
-    buf.append(SegmentedBuf::new(rt.alloc()))?;
-    assert_holds(&rt, &buf, 6);
-    Ok(())
-}

@@ -3,7 +3,7 @@ use super::{LETTERS, assert_holds, letters};
 use crate::fixtures::refusals::report;
 use crate::fixtures::{assert_fills, gather};
 use crate::segmented::SegmentedBuf;
-use crate::segmented::tests::queue::{append_queue, come_and_go, drain_into_queue};
+use crate::segmented::tests::queue::{append_queue, drain_into_queue};
 use bytes::{Buf, Bytes, BytesQueue};
 use std::alloc::Global;
 use std::process::Abort;
@@ -72,15 +72,5 @@ fn drain_letters(rt: HostRuntime) -> Result<(), Fail> {
     drains(&rt, &mut buf, &mut queue)?;
     assert_holds(&rt, &buf, 0);
     assert!(rt; queue.len() == 6 && queue.chunk() == b"a".as_slice());
-    Ok(())
-}
-
-// Zero chunks need no memory, so these are never refused.
-#[test]
-fn no_memory_needed_by_no_chunks(rt: HostRuntime) -> Result<(), Fail> {
-    let mut buf = SegmentedBuf::new(rt.alloc());
-    let mut queue = BytesQueue::new(rt.alloc());
-    come_and_go(&rt, &mut buf, &mut queue)?;
-    assert!(rt; buf.segments() == 0 && queue.is_empty());
     Ok(())
 }

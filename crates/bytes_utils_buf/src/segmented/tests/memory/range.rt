@@ -2,7 +2,7 @@
 use super::{assert_holds, letters};
 use crate::Reason;
 use crate::fixtures::refusals::report_refused;
-use crate::fixtures::{assert_bytes, gather};
+use crate::fixtures::{assert_bytes, assert_fills, gather};
 use crate::segmented::SegmentedBuf;
 use bytes::{Buf, Bytes};
 use std::alloc::Global;
@@ -66,19 +66,19 @@ fn slice(rt: HostRuntime) -> Result<(), Fail> {
     Ok(())
 }
 
-// What comes after the six letters. They all stay if it is refused.
+// What comes after four of the six letters. All stay if it is refused.
 fn splits(
     rt: &(impl Abort + Print),
     alloc: Global,
     buf: &mut SegmentedBuf<Bytes>,
 ) -> Result<SegmentedBuf<Bytes>, Fail> {
     assert!(rt; buf.remaining() >= 6);
-    match buf.split_off(alloc, 6) {
+    match buf.split_off(alloc, 4) {
         Ok(rest) => Ok(rest),
         Err(reason) => {
             report(rt, "SegmentedBuf::split_off", reason)?;
             assert_holds(rt, buf, 6);
-            Ok(buf.split_off(alloc, 6)?)
+            Ok(buf.split_off(alloc, 4)?)
         }
     }
 }
@@ -87,8 +87,8 @@ fn splits(
 fn split_off(rt: HostRuntime) -> Result<(), Fail> {
     if let Ok(letters) = letters(rt.alloc()) {
         let mut buf = gather(rt.alloc(), letters)?;
-        assert_holds(&rt, &splits(&rt, rt.alloc(), &mut buf)?, 0);
-        assert_holds(&rt, &buf, 6);
+        assert_fills(&rt, &splits(&rt, rt.alloc(), &mut buf)?, 10, &["e", "f"]);
+        assert_holds(&rt, &buf, 4);
     }
     Ok(())
 }
