@@ -4,7 +4,7 @@ use Rattle.std.proofs.Common.{◌≡◌, refl, sym, ap, subst, ◌∙◌, ℕ, �
 use Rattle.std.proofs.lemmas.List.{reverse-append, reverse-reverse, length-reverse, map-append, drop_at, drop-drop}
 use Rattle.bytes_utils.specs.Halves.{AreHalvesAtLast}
 use Rattle.bytes_utils.specs.Occurrence.{Occurs, OccursFirstAt, OccursLastAt}
-use Rattle.bytes_utils.specs.Parts.{IsCutAtFirst, OfLast, AreForwardParts, AreBackwardParts, ArePartsFromFront, ArePartsFromBack}
+use Rattle.bytes_utils.specs.Parts.{IsCutAtFirst, OfLast, AreForwardParts, ArePartsFromFront, ArePartsFromBack}
 use Rattle.bytes_utils.specs.Splitting.{LeavesMore, one_less}
 use Rattle.bytes_utils.proofs.Backward.{AreBackwardParts-last, AreBackwardParts-rest}
 use Rattle.bytes_utils.proofs.Forward.{AreForwardParts-led}

@@ -88,13 +88,7 @@ impl Frames {
         ensures too_long { IfErr result (λ e. (e.reason ≡ Reason.TooLong)
             ↔ (2 ^ 64 ≤ length self.old.held + length e.back)) }
     {
-        if !self.pieces.fits(piece.len()) {
-            return Err(Refused {
-                reason: Reason::TooLong,
-                back: piece,
-            });
-        }
-        self.pieces.push(piece)
+        self.pieces.try_push(piece)
     }
 
     /// Returns the number of held bytes: those pushed and not yet taken.

@@ -5,8 +5,8 @@ ghost use Rattle.bytes_utils_run.specs.Calls.{CountsRead, IsCall, IsRead};
 use super::show::{chunk, slices};
 use super::{Call, ReadCall, Reply};
 use bytes::Buf;
-use bytes_utils::SegmentedBuf;
 use bytes_utils::parts::BufParts;
+use bytes_utils::{Reason, SegmentedBuf};
 use std::alloc::Global;
 
 /// Makes this call and returns its reply.
@@ -29,12 +29,12 @@ fn push<B: Buf + Drop>(buf: &mut SegmentedBuf<B>, part: B) -> Reply
     ensures reply { IsCall B.unread (Call.Push part) buf.old result buf.new }
     ensures paid { IsPaid buf.old.segments buf.old.tally buf.new.segments buf.new.tally }
 {
-    if !buf.fits(part.remaining()) {
-        return Reply::TooLong;
-    }
-    match buf.push(part) {
+    match buf.try_push(part) {
         Ok(()) => Reply::Done,
-        Err(_) => Reply::NoMemory,
+        Err(refused) => match refused.reason {
+            Reason::TooLong => Reply::TooLong,
+            Reason::OutOfMemory => Reply::NoMemory,
+        },
     }
 }
 

@@ -45,13 +45,7 @@ impl Inbox {
             (λ e. (e.reason ≡ Reason.TooLong) ↔ (2 ^ 64 ≤ length self.old + length piece)) }
         ensures empty { piece ≡ [] → IsOk result }
     {
-        if !self.got.fits(piece.len()) {
-            return Err(Refused {
-                reason: Reason::TooLong,
-                back: piece,
-            });
-        }
-        self.got.push(piece)
+        self.got.try_push(piece)
     }
 
     /// Takes out the first body, or returns `None` until all of it has arrived. Fails with

@@ -1,7 +1,7 @@
 //! The laws on texts, tested by `cut_all`.
 use super::{
-    agree, come_back, limits, mirror, texts_come_back, unique_backward, unique_forward,
-    unique_inclusive,
+    agree, come_back, limits, mirror, once_as_borrowed, texts_come_back, unique_backward,
+    unique_forward, unique_inclusive,
 };
 use crate::How;
 use crate::cut::tests::{Row, assert_cut};
@@ -22,6 +22,7 @@ fn parts_are_as_the_laws_say(rt: HostRuntime) -> Result<(), Fail> {
     mirror::<char>();
     agree::<char>();
     limits::<char>();
+    once_as_borrowed();
     for row in ROWS {
         assert_cut(&rt, rt.alloc(), *row)?;
     }

@@ -36,6 +36,37 @@ impl<B: Buf + Drop> SegmentedBuf<B> {
         Ok(())
     }
 
+    /// Appends `buf` as `push` does, and tests `fits` itself. An empty buffer is dropped, and never
+    /// refused. Fails with `TooLong` if the sum of the lengths exceeds `usize::MAX`, or with
+    /// `OutOfMemory` if memory is refused; then nothing has changed, and `buf` comes back.
+    #[inline(always)]
+    pub fn try_push(&mut self, buf: B) -> Result<(), Refused<B>>
+        ensures ok { OnOk result (self.new ≡ after_accepting self.old (B.unread buf ∷ [])) }
+        ensures bytes { OnOk result
+            (concat self.new.segments ≡ concat self.old.segments ++ B.unread buf) }
+        ensures err { OnErr result (self.new ≡ self.old) }
+        ensures back { IfErr result (λ e. e.back ≡ buf) }
+
+        // An accepted buffer fits. A refusal is for the length exactly if the sum passes `usize`, and
+        // for memory exactly if it doesn't.
+        ensures fits { OnOk result
+            (length (concat self.old.segments) + length (B.unread buf) < 2 ^ 64) }
+        ensures too_long { IfErr result (λ e. (e.reason ≡ Reason.TooLong)
+            ↔ (2 ^ 64 ≤ length (concat self.old.segments) + length (B.unread buf))) }
+        ensures memory { IfErr result (λ e. (e.reason ≡ Reason.OutOfMemory)
+            ↔ (length (concat self.old.segments) + length (B.unread buf) < 2 ^ 64)) }
+        ensures empty { B.unread buf ≡ [] → IsOk result }
+        ensures paid { IsPaid self.old.segments self.old.tally self.new.segments self.new.tally }
+    {
+        if !self.fits(buf.remaining()) {
+            return Err(Refused {
+                reason: Reason::TooLong,
+                back: buf,
+            });
+        }
+        self.push(buf)
+    }
+
     /// Appends the items of `iter`, and drops empty ones. Requires that `iter` ends, and that its
     /// `next` may be called. Fails at the first item with which the sum exceeds `usize::MAX`
     /// (`TooLong`) or for which memory is refused (`OutOfMemory`). That item comes back, those

@@ -165,6 +165,35 @@ fn refuses_a_byte<B: Buf + Drop>(
     Ok(())
 }
 
+/// The length of the buffer that is pushed, whether it is accepted, and the bytes that are unread then.
+const TRIED: &[(usize, Result<(), Reason>, usize)] = &[
+    (5, Ok(()), 5),
+    (usize::MAX - 4, Err(Reason::TooLong), 5),
+    (0, Ok(()), 5),
+    (usize::MAX - 5, Ok(()), usize::MAX),
+    (1, Err(Reason::TooLong), usize::MAX),
+    (0, Ok(()), usize::MAX),
+];
+
+// Pushes a buffer of `left` bytes. If it is refused, it comes back.
+fn tries(rt: &impl Abort, buf: &mut SegmentedBuf<Zeros>, left: usize) -> Result<(), Reason> {
+    let Err(refused) = buf.try_push(Zeros { left }) else {
+        return Ok(());
+    };
+    assert!(rt; refused.back.left == left);
+    Err(refused.reason)
+}
+
+#[test]
+fn try_push(rt: HostRuntime) {
+    let mut buf = SegmentedBuf::new(rt.alloc());
+    for &(left, tried, remaining) in TRIED {
+        assert!(rt; tries(&rt, &mut buf, left) == tried);
+        assert!(rt; buf.remaining() == remaining);
+    }
+    assert!(rt; buf.segments() == 2);
+}
+
 #[test]
 fn too_long(rt: HostRuntime) -> Result<(), Fail> {
     let longest = gather(rt.alloc(), zeros(rt.alloc(), &[usize::MAX])?)?;

@@ -66,6 +66,19 @@ fn pushes(
     Ok(())
 }
 
+fn tries_to_push(
+    rt: &(impl Abort + Print),
+    buf: &mut SegmentedBuf<Bytes>,
+    letter: Bytes,
+) -> Result<(), Fail> {
+    let held = buf.segments();
+    if let Err(refused) = buf.try_push(letter) {
+        report_refused(rt, "SegmentedBuf::try_push")?;
+        pushes_again(rt, buf, refused, held)?;
+    }
+    Ok(())
+}
+
 #[test]
 fn push(rt: HostRuntime) -> Result<(), Fail> {
     let Ok(letters) = letters(rt.alloc()) else {
@@ -74,6 +87,19 @@ fn push(rt: HostRuntime) -> Result<(), Fail> {
     let mut buf = SegmentedBuf::new(rt.alloc());
     for letter in letters {
         pushes(&rt, &mut buf, letter)?;
+    }
+    assert_holds(&rt, &buf, 6);
+    Ok(())
+}
+
+#[test]
+fn try_push(rt: HostRuntime) -> Result<(), Fail> {
+    let Ok(letters) = letters(rt.alloc()) else {
+        return Ok(());
+    };
+    let mut buf = SegmentedBuf::new(rt.alloc());
+    for letter in letters {
+        tries_to_push(&rt, &mut buf, letter)?;
     }
     assert_holds(&rt, &buf, 6);
     Ok(())

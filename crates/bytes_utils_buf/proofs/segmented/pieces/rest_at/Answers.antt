@@ -1,4 +1,4 @@
-use Rattle.std.proofs.Common.{◌≡◌, ◌≤◌, length, map, drop, get_or, [], arith, ap, ◌∙◌, sym}
+use Rattle.std.proofs.Common.{length, map, drop, arith, ap, ◌∙◌, sym}
 use Rattle.std.proofs.lemmas.List.{take_rest}
 use Rattle.bytes_utils_buf.proofs.Lists.{read_at, front_of_drop}
 use Rattle.bytes_utils_buf.proofs.Pieces.{front_from}

@@ -1,4 +1,4 @@
-use Rattle.std.proofs.Common.{◌≡◌, ◌<◌, ◌≤◌, ◌+◌, ◌-◌, ◌++◌, List, ℕ, [], ◌∷◌, length, map, take, drop, min, get_or, slice_range, arith, rules, ap, ◌∙◌, sym, subst, length-drop}
+use Rattle.std.proofs.Common.{◌≡◌, ◌<◌, ◌+◌, ◌-◌, ◌++◌, List, ℕ, [], ◌∷◌, length, map, take, drop, min, arith, rules, ap, ◌∙◌, sym, subst, length-drop}
 use Rattle.std.proofs.lemmas.List.{length-map}
 use Rattle.bytes_utils_buf.specs.Segments.{front_of, lists_from, take_bytes}
 use Rattle.bytes_utils_buf.proofs.Lists.{read_at, front_of_drop}

@@ -1,4 +1,4 @@
-use Rattle.std.proofs.Common.{◌≡◌, ◌<◌, ◌≤◌, map, length, take, arith, ap, refl, rules}
+use Rattle.std.proofs.Common.{map, arith, refl}
 use Rattle.std.proofs.lemmas.List.{length-map}
 use Rattle.bytes_utils_buf.proofs.Lists.{length-concat-take_more, Skips-from_count}
 use Rattle.bytes_utils_buf.proofs.Pieces.{IsInside-found}

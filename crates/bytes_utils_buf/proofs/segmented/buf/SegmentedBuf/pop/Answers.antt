@@ -1,4 +1,4 @@
-use Rattle.std.proofs.Common.{arith, ap, ◌∙◌, ◌<◌, length, map, length-append}
+use Rattle.std.proofs.Common.{arith, ap, ◌<◌, length, map, length-append}
 use Rattle.std.proofs.lemmas.List.Elements.{All-rest}
 use Rattle.std.specs.List.{concat}
 use Rattle.bytes_utils_buf.proofs.segmented.buf.SegmentedBuf.pop.Goals as goal

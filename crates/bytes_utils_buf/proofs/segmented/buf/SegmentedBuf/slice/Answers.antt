@@ -1,4 +1,4 @@
-use Rattle.std.proofs.Common.{◌≡◌, ◌<◌, ◌-◌, length, map, take, drop, arith, ap, ◌∙◌, sym, length-take-le, length-drop}
+use Rattle.std.proofs.Common.{◌<◌, ◌-◌, length, map, take, drop, arith, ap, ◌∙◌, sym, length-take-le, length-drop}
 use Rattle.std.proofs.lemmas.List.{map-id}
 use Rattle.std.proofs.lemmas.List.Elements.{All-same}
 use Rattle.std.specs.List.{concat}
