@@ -7,9 +7,8 @@ import re
 from collections import namedtuple
 from pathlib import Path
 
-from kit import CRATES, ROOT, blocks, files_of
+from kit import CRATES, EXAMPLES, ROOT, files_of
 
-PAGES = {"service": "docs/SERVICE.md", "chat": "docs/CHAT.md"}
 # what a proof file says where an edit only took a name away
 LOST_NAME = re.compile(r"\./proofs/.*(has no field|is not in scope|has no `|was not admitted|which was rejected)")
 # a program's files are texts by their paths, and its folder is that of its edits; a pair is an old text and a new one
@@ -18,12 +17,9 @@ Edit = namedtuple("Edit", "program name file functions test pairs")
 
 
 def program_of(name):
-    """A crate, or the program of a page."""
-    if name in CRATES:
-        return Program(name, CRATES[name], files_of(name), f"crates/{name}")
-    files = blocks(PAGES[name])
-    uses = files["crates.txt"].partition(":")[2].split()
-    return Program(name, ["std", *uses], files, f"examples/{name}")
+    """A crate or an example."""
+    folder = f"crates/{name}" if name in CRATES else f"examples/{name}"
+    return Program(name, (CRATES | EXAMPLES)[name], files_of(folder), folder)
 
 
 def edits_of(program, kind):

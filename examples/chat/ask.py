@@ -1,4 +1,4 @@
-"""What is said to the chat, over sockets, and what it has to answer."""
+"""Talks with the chat over sockets, and compares each answer with the right one."""
 import contextlib, os, socket, time
 
 
@@ -16,7 +16,7 @@ class Caller:
             yield line
 
     def answer(self, *pieces):
-        """What comes back, as far as the chat goes, where these pieces are sent one after another, and then the end."""
+        """What comes back until the chat ends the connection, after these pieces and then the end of the input."""
         got = []
         with self.called() as line, contextlib.suppress(ConnectionError):
             for piece in pieces:
@@ -27,7 +27,7 @@ class Caller:
         return b"".join(got)
 
     def expect_wherever_cut(self, what, sent, wanted):
-        """The same answers, wherever what is sent is cut in two, and where it comes byte by byte."""
+        """The same answers, wherever what is sent is cut in two, and also if it comes byte by byte."""
         cut = all(self.answer(sent[:at], sent[at:]) == wanted for at in range(1, len(sent)))
         single = self.answer(*(sent[at : at + 1] for at in range(len(sent)))) == wanted
         self.judge(what, cut and single)
@@ -47,7 +47,7 @@ def lines(judge, room, at, chat):
     caller.judge("a line that isn't UTF-8 ends the chat", caller.answer(b"one\n\xff\nthree\n") in (b"3\n", b""))
     with caller.called() as cut:
         cut.sendall(b"half of a")
-    caller.judge("a chat behind one that broke off", caller.answer(b"next\n") == b"4\n")
+    caller.judge("a chat after one that broke off", caller.answer(b"next\n") == b"4\n")
 
 
 def frames(judge, room, at, chat):

@@ -1,8 +1,8 @@
-"""What is asked of the service, by curl, which has to be there, and what it has to answer."""
+"""Asks the service by curl, which has to be installed, and compares each answer with the right one."""
 import csv, io, os, re, socket, subprocess
 
 BODY = 50_000_000
-# what the service holds at most: the longest body that it takes, and this much beside it
+# what the service may have held after all these requests: its longest body, and this much more
 LIMIT, BESIDE = 64 << 20, 128 << 20
 
 
@@ -13,10 +13,10 @@ class Client:
         self.judge, self.room, self.at = judge, room, at
 
     def curl(self, path, *words, given=b""):
-        """What curl writes when it asks for the path: the answer, and behind it a line with the status."""
+        """What curl writes if it asks for the path: the answer, and after it a line with the status."""
         how = {"stdin": subprocess.PIPE, "stdout": subprocess.PIPE, "stderr": subprocess.PIPE, "cwd": self.room}
-        asks = ["curl", "-sv", "--max-time", "60", "-X", "POST", "-w", "\n%{http_code}", *words, f"http://{self.at}{path}"]
-        it = subprocess.Popen(asks, **how)
+        words = ["-sv", "--max-time", "60", "-X", "POST", "-w", "\n%{http_code}", *words, f"http://{self.at}{path}"]
+        it = subprocess.Popen(["curl", *words], **how)
         return it if given is None else it.communicate(given)
 
     def expect(self, what, path, wanted, *words, given=b"", seen=b""):
@@ -46,14 +46,15 @@ def counts(client):
     text = "".join(f"wörd{i}" + (" ", "\t ", "\r\n", "\n\n")[i % 4] for i in range(500_000)).encode()
     for path, flag in ("/words", "-w"), ("/lines", "-l"):
         told = subprocess.run(["wc", flag], input=text, capture_output=True, env={**os.environ, "LC_ALL": "C.UTF-8"})
-        client.expect(f"{path} as wc {flag} tells", path, told.stdout.split()[0] + b"\n\n200", *chunked, given=text)
+        client.expect(f"{path} as wc {flag} has it", path, told.stdout.split()[0] + b"\n\n200", *chunked, given=text)
     client.expect("lines, the last without a line feed", "/lines", b"2\n\n200", "--data-binary", "one\ntwo")
     client.expect("words of an empty body", "/words", b"0\n\n200", "--data-binary", "")
     client.expect("lines of an empty body", "/lines", b"0\n\n200", "--data-binary", "")
-    client.expect("words between white space of any kind", "/words", b"3\n\n200", *chunked, given="a\u3000b\u2028c".encode())
+    spaced = "a\u3000b\u2028c".encode()
+    client.expect("words between white space of any kind", "/words", b"3\n\n200", *chunked, given=spaced)
     twice = ["--data-binary", "@-", f"http://{client.at}/words"]
-    again = b"Re-using existing connection"
-    client.expect("what isn't UTF-8, twice on one connection", "/words", b"\n400\n400", *twice, given=b"a \xff b", seen=again)
+    again, wrong = b"Re-using existing connection", b"a \xff b"
+    client.expect("no UTF-8, twice on one connection", "/words", b"\n400\n400", *twice, given=wrong, seen=again)
     client.expect("a character that breaks off", "/lines", b"\n400", *chunked, given="aé".encode()[:-1])
 
 
@@ -61,7 +62,8 @@ def parts(client):
     chunked = ["-T", "-", "-H", "Expect:"]
     rows = io.StringIO()
     csv.writer(rows).writerows([f"é{i}", "a,b" * (i % 3), "two\nlines"][: 1 + i % 3] for i in range(50_000))
-    client.expect("records of one to three fields", "/records", b"50000\n\n200", *chunked, given=rows.getvalue().encode())
+    text = rows.getvalue().encode()
+    client.expect("records of one to three fields", "/records", b"50000\n\n200", *chunked, given=text)
     client.expect("records of no text", "/records", b"2\n\n200", "--data-binary", "@-", given=b"\xff,1\r\n\"\n\",2")
     client.expect("records of an empty body", "/records", b"0\n\n200", "--data-binary", "")
     head = "GET /a?b=é HTTP/1.1\r\nHost: h\r\n\r\nGET /other".encode()
@@ -75,14 +77,14 @@ def heads(client):
 
     head = b"POST /a?b=c HTTP/1.1\r\nHost: h\r\nAccept:*/*\r\nhost:  two words \t\r\nEmpty:\r\n\r\nbody: \xff"
     shown = b"POST\n/a?b=c\nHost: h\nAccept: */*\nhost: two words\nEmpty: \n\n200"
-    expect("a head of several fields, and bytes behind it", head, shown)
+    expect("a head of several fields, and bytes after it", head, shown)
     expect("a value beyond ASCII", "GET /é HTTP/1.0\nName: ä ö\n\n".encode(), "GET\n/é\nName: ä ö\n\n200".encode())
     expect("a head without fields", b"\r\nGET / HTTP/1.1\r\n\r\n", b"GET\n/\n\n200")
     cut = {client.curl("/head", "--data-binary", "@-", given=head[:at])[0] for at in range(head.index(b"body"))}
     client.judge("a head that breaks off anywhere", cut == {b"\n400"})
     lines = [f"F{i}: {i}" for i in range(65)]
     most, more = ("\r\n".join(["PUT * HTTP/1.1", *it, "", ""]).encode() for it in (lines[:64], lines))
-    expect("as many fields as are taken", most, "\n".join(["PUT", "*", *lines[:64], "", "200"]).encode())
+    expect("the most fields", most, "\n".join(["PUT", "*", *lines[:64], "", "200"]).encode())
     expect("one field more", more, b"\n400")
     for path in "/head", "/target":
         expect(f"{path}, a value that isn't UTF-8", b"GET / HTTP/1.1\r\nName: \xff\r\n\r\n", b"\n400", path)
@@ -93,7 +95,7 @@ def connections(client):
     host, _, port = client.at.rpartition(":")
     with socket.create_connection((host, int(port)), 60) as cut:
         cut.sendall(b"POST /echo HTTP/1.1\r\nHost: h\r\nContent-Length: 1000\r\n\r\nfirst bytes")
-    client.expect("a request behind one that was cut", "/echo", b"next\n200", "--data-binary", "next")
+    client.expect("a request after one that was cut", "/echo", b"next\n200", "--data-binary", "next")
     given = {f"answer{i}": os.urandom(100_000) for i in range(64)}
     asking = [client.curl("/echo", "--data-binary", "@-", "-H", "Expect:", "-o", it, given=None) for it in given]
     for it, text in zip(asking, given.values()):
