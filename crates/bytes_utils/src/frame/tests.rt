@@ -3,4 +3,5 @@ mod frames;
 mod limited;
 mod lines;
 mod memory;
+mod readers;
 mod search;

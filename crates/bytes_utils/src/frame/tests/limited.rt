@@ -1,17 +1,29 @@
 //! Frames of at most `limit` bytes: a worked case.
 use crate::Reason;
 use crate::frame::LimitedFrames;
+use crate::frame::tests::readers::{Holds, ReadsFrames};
 use bytes::{Buf, Bytes};
+use std::alloc::Global;
 use std::process::Abort;
 use std::test::Fail;
+
+/// Asserts that a frame of three bytes is too long, and that no other one comes.
+fn assert_too_long<F: Holds + ReadsFrames>(
+    rt: &impl Abort,
+    alloc: Global,
+    reader: &mut F,
+) -> Result<(), Fail> {
+    reader.put(Bytes::from_static(b"abc-d"))?;
+    assert!(rt; reader.frame(alloc).err() == Some(Reason::TooLong));
+    assert!(rt; reader.frame(alloc)?.is_none());
+    Ok(())
+}
 
 /// A frame that is too long is reported in its place, and the rest is what is left.
 #[test]
 fn a_frame_that_is_too_long(rt: HostRuntime) -> Result<(), Fail> {
     let mut frames = LimitedFrames::new(rt.alloc(), b"-", 2)?;
-    frames.push(Bytes::from_static(b"abc-d"))?;
-    assert_eq!(rt; frames.next_frame(rt.alloc()).err(), Some(Reason::TooLong));
-    assert!(rt; frames.next_frame(rt.alloc())?.is_none());
+    assert_too_long(&rt, rt.alloc(), &mut frames)?;
     assert!(rt; frames.finish().chunk() == b"d".as_slice());
     Ok(())
 }

@@ -4,3 +4,4 @@
 mod frames;
 mod limited;
 mod lines;
+mod readers;

@@ -1,9 +1,9 @@
 //! Frames out of pieces.
-use crate::fixtures::refusals::readers::{
-    PIECES, assert_frame, assert_pushes, assert_segments, holding,
-};
 use crate::fixtures::refusals::report;
 use crate::frame::Frames;
+use crate::frame::tests::memory::readers::{
+    PIECES, assert_frame, assert_pushes, assert_segments, holding,
+};
 use crate::segmented::SegmentedBuf;
 use bytes::{Buf, Bytes};
 use std::alloc::Global;

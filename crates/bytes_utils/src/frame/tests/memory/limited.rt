@@ -1,9 +1,9 @@
 //! Frames of at most `limit` bytes.
-use crate::fixtures::refusals::readers::{
-    PIECES, assert_frame, assert_pushes, assert_segments, holding,
-};
 use crate::fixtures::refusals::report;
 use crate::frame::LimitedFrames;
+use crate::frame::tests::memory::readers::{
+    PIECES, assert_frame, assert_pushes, assert_segments, holding,
+};
 use std::alloc::Global;
 use std::test::Fail;
 

@@ -1,8 +1,8 @@
 //! Lines out of pieces. A refused call leaves all as it was, so a second call returns what the first
 //! one should have.
 use crate::Str;
-use crate::fixtures::refusals::readers::{assert_pushes, holding};
 use crate::fixtures::refusals::report;
+use crate::frame::tests::memory::readers::{assert_pushes, holding};
 use crate::frame::{LineError, Lines};
 use std::alloc::Global;
 use std::io::Print;

@@ -1,6 +1,7 @@
 //! Calls that return a piece or a copy of a text.
 use crate::fixtures::assert_text;
 use crate::fixtures::refusals::{given, report, two_characters};
+use crate::string::tests::slices::is_given;
 use crate::string::{Storage, StrInner};
 use crate::{Reason, Str, StrMut};
 use bytes::Bytes;
@@ -87,14 +88,6 @@ fn split_built(rt: HostRuntime) -> Result<(), Fail> {
     }
     assert_text(&rt, text.as_str(), "");
     Ok(())
-}
-
-/// Whether the piece of the text was returned.
-fn is_given(piece: Result<Str, Reason>, want: &str) -> bool {
-    match piece {
-        Ok(piece) => piece.eq_str(want),
-        Err(_) => false,
-    }
 }
 
 /// These take no memory: a piece of shared bytes is one more owner of them.
