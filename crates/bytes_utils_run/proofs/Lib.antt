@@ -30,6 +30,9 @@ pub mod BorrowedWords
 pub mod Separators
 pub mod TokensLemmas
 pub mod HeadersLemmas
+pub mod HeaderReports
+pub mod HeadReports
+pub mod HeadLines
 pub mod PathsLemmas
 pub mod FilesLemmas
 pub mod FieldsLemmas

@@ -14,7 +14,7 @@ mod output;
 mod print;
 #[cfg(test)]
 mod tests;
-pub(crate) mod word;
+mod word;
 
 use answer::{Answer, answer_to};
 use bytes::Bytes;

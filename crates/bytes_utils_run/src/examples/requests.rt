@@ -1,22 +1,33 @@
-//! Requests of a stream: lines up to an empty one, and a body as long as one of them reports.
-ghost use Rattle.std.specs.Prelude.{◌≡◌, ℕ, ◌+◌, ◌^◌, ◌<◌, ◌≤◌, ◌↔◌, [], ◌++◌, length, IfOk, IfErr, IfSome, IfNone, OnOk, OnErr};
-ghost use Rattle.std.specs.List.{concat};
+//! Requests of a stream: lines before an empty one, and a body as long as these lines report.
+//!
+//! An example of framing, and no HTTP parser: a server takes `hyper`.
+ghost use Rattle.std.specs.Prelude.{◌≡◌, ◌≢◌, ℕ, ◌+◌, ◌^◌, ◌<◌, ◌≤◌, ◌↔◌, List, [], ◌++◌, length, IfOk, IfErr, IfSome, IfNone, OnOk, OnErr, IsSomeAnd, MatchOption};
+ghost use Rattle.std.specs.List.{concat, prefix_len, suffix_len};
+ghost use Rattle.std.specs.Option.{option_or};
 ghost use Rattle.bytes_utils.specs.Frames.{TakesFrame};
 ghost use Rattle.bytes_utils.specs.Occurrence.{Occurs};
-ghost use Rattle.bytes_utils_run.specs.Requests.{HasValue, IsFirstLine, ReportsLength, ReportsNumber, head_end, length_field, line_end};
+ghost use Rattle.bytes_utils_run.specs.Requests.{IsHeader, ReportError, ReportLength, Reports, WriteNumber, head_end, header_lines, is_blank, is_name_byte, trimmed};
 
-use crate::program::word::number;
 use bytes::Bytes;
 use bytes_utils::frame::Frames;
 use bytes_utils::{Reason, Refused, SegmentedBuf};
-use memchr::memmem;
 use std::alloc::Global;
 use std::marker::Model;
 use std::str;
 
-/// The head reports a length that is no number, or no `usize`.
+/// Why the length of a body isn't known.
 #[derive(Clone, Copy, Debug, Eq, PartialEq)]
-pub struct LengthError;
+pub enum LengthError {
+    /// A line isn't a header: it has no colon, or its name is empty or has a space. A folded line
+    /// is one of these.
+    NotAHeader,
+    /// A `Content-Length` isn't a number, or the number isn't a `usize`.
+    NotANumber,
+    /// Two `Content-Length` differ.
+    Unequal,
+    /// A `Transfer-Encoding` frames the body, in a way that isn't known here.
+    UnknownFraming,
+}
 
 /// A stream that comes in pieces, and the requests in it: a head, an empty line, and a body.
 ///
@@ -42,7 +53,7 @@ impl Model for Requests {
 }
 
 impl Requests {
-    /// A reader into which nothing came.
+    /// A reader that holds no bytes.
     pub fn new(alloc: Global) -> Result<Requests, Reason>
         ensures ok { IfOk result (λ requests. requests ≡ []) }
         ensures reason { IfErr result (λ reason. reason ≡ Reason.OutOfMemory) }
@@ -52,7 +63,7 @@ impl Requests {
         })
     }
 
-    /// Takes a piece in, without a copy.
+    /// Appends a piece, without a copy.
     pub fn push(&mut self, piece: Bytes) -> Result<(), Refused<Bytes>>
         ensures ok { OnOk result (self.new ≡ self.old ++ piece) }
         ensures err { OnErr result (self.new ≡ self.old) }
@@ -63,7 +74,7 @@ impl Requests {
         self.frames.push(piece)
     }
 
-    /// Hands out the head in front of the next empty line, or `None` while that is to come.
+    /// Returns the head before the next empty line, or `None` while that line is to come.
     pub fn next_head(&mut self, alloc: Global) -> Result<Option<Bytes>, Reason>
         ensures head { IfOk result
             (λ next. IfSome next (λ head. TakesFrame head_end self.old head self.new)) }
@@ -75,7 +86,7 @@ impl Requests {
         self.frames.next_frame(alloc)
     }
 
-    /// Hands out a body of `len` bytes, in the pieces in which it came, or `None` while some of it
+    /// Returns a body of `len` bytes, in the pieces in which it came, or `None` while some of it
     /// is to come.
     pub fn next_body(
         &mut self,
@@ -98,41 +109,121 @@ impl Requests {
     }
 }
 
-/// How many bytes the body behind a head has: what its first `Content-Length` reports, which isn't in
-/// its first line, or none.
+/// The number of bytes of the body after a head: the number that each `Content-Length` reports, or
+/// 0 if there is none. The error is that of the first line at fault.
 pub fn body_len(head: &[u8]) -> Result<usize, LengthError>
-    ensures ok { IfOk result (ReportsLength head.now) }
-    ensures err { IfErr result
-        (λ _. (value : _) × HasValue head.now value × ((n : ℕ) → ¬ ReportsNumber value n)) }
+    ensures ok { (len : ℕ)
+        → (result ≡ Ok len) ↔ ReportLength (header_lines head.now) len }
+    ensures err { (error : LengthError)
+        → (result ≡ Err error) ↔ ReportError (header_lines head.now) error }
 {
-    let Some((_, following)) = cut(head, b"\r\nContent-Length: ") else {
-        return Ok(0);
-    };
-    let Ok(value) = str::from_utf8(first_line(following)) else {
-        return Err(LengthError);
-    };
-    number(value).ok_or(LengthError)
+    let mut known = None;
+    for line in head.split(|byte| *byte == b'\n').skip(1) {
+        known = agreed(known, reported_len(line)?)?;
+    }
+    Ok(known.unwrap_or(0))
 }
 
-/// The first line, without its end.
-fn first_line(bytes: &[u8]) -> &[u8]
-    ensures { IsFirstLine bytes.now result.now }
+/// The length that is known or reported, if any, or an error if the two differ.
+fn agreed(known: Option<usize>, reported: Option<usize>) -> Result<Option<usize>, LengthError>
+    ensures ok { IfOk result (λ agreed. (agreed ≡ option_or known reported)
+        × IfSome known (λ one. IfSome reported (λ other. one ≡ other))) }
+    ensures err { IfErr result (λ error. (error ≡ LengthError.Unequal)
+        × IsSomeAnd known (λ one. IsSomeAnd reported (λ other. one ≢ other))) }
 {
-    match cut(bytes, b"\r\n") {
-        Some((line, _)) => line,
-        None => bytes,
+    match (known, reported) {
+        (Some(one), Some(other)) if one != other => Err(LengthError::Unequal),
+        _ => Ok(known.or(reported)),
     }
 }
 
-/// What stands in front of the first separator, and what behind it.
-fn cut<'a>(bytes: &'a [u8], separator: &[u8]) -> Option<(&'a [u8], &'a [u8])>
-    requires { 0 < length separator.now }
-    ensures some { IfSome result
-        (λ parts. TakesFrame separator.now bytes.now parts.0.now parts.1.now) }
-    ensures none { IfNone result (¬ Occurs separator.now bytes.now) }
+/// The length that a line reports, if any.
+fn reported_len(line: &[u8]) -> Result<Option<usize>, LengthError>
+    ensures { Reports line.now result }
 {
-    match memmem::find(bytes, separator) {
-        Some(at) => Some((&bytes[..at], &bytes[at + separator.len()..])),
-        None => None,
+    let (name, value) = header_of(line).ok_or(LengthError::NotAHeader)?;
+    if name.eq_ignore_ascii_case(b"Transfer-Encoding") {
+        return Err(LengthError::UnknownFraming);
     }
+    if !name.eq_ignore_ascii_case(b"Content-Length") {
+        return Ok(None);
+    }
+    let len = number(trimmed(value)).ok_or(LengthError::NotANumber)?;
+    Ok(Some(len))
+}
+
+/// The name and the value of a header, or `None` if the line isn't a header.
+fn header_of(line: &[u8]) -> Option<(&[u8], &[u8])>
+    ensures some { IfSome result (λ parts. IsHeader line.now parts.0.now parts.1.now) }
+    ensures none { IfNone result ((name value : List ℕ) → ¬ IsHeader line.now name value) }
+{
+    let (name, rest) = line.split_at(name_len(line));
+    let (colon, value) = rest.split_first()?;
+    if name.is_empty() || *colon != b':' {
+        return None;
+    }
+    Some((name, value))
+}
+
+/// The number of bytes at the beginning that a name may have.
+fn name_len(line: &[u8]) -> usize
+    ensures bound { result ≤ length line.now }
+    ensures count { result ≡ prefix_len is_name_byte line.now }
+{
+    line.iter().take_while(|byte| is_name_byte(**byte)).count()
+}
+
+/// Whether a name may have the byte.
+fn is_name_byte(byte: u8) -> bool
+    ensures { result ≡ is_name_byte byte }
+{
+    byte.is_ascii_graphic() && byte != b':'
+}
+
+/// Whether the byte is a space, a tab or a carriage return.
+fn is_blank(byte: u8) -> bool
+    ensures { result ≡ is_blank byte }
+{
+    matches!(byte, b' ' | b'\t' | b'\r')
+}
+
+/// A value without the blanks at both ends.
+fn trimmed(value: &[u8]) -> &[u8]
+    ensures { result.now ≡ trimmed value.now }
+{
+    let value = &value[leading_blanks(value)..];
+    &value[..value.len() - trailing_blanks(value)]
+}
+
+/// The number of blanks at the beginning.
+fn leading_blanks(value: &[u8]) -> usize
+    ensures bound { result ≤ length value.now }
+    ensures count { result ≡ prefix_len is_blank value.now }
+{
+    value.iter().take_while(|byte| is_blank(**byte)).count()
+}
+
+/// The number of blanks at the end.
+fn trailing_blanks(value: &[u8]) -> usize
+    ensures bound { result ≤ length value.now }
+    ensures count { result ≡ suffix_len is_blank value.now }
+{
+    value
+        .iter()
+        .rev()
+        .take_while(|byte| is_blank(**byte))
+        .count()
+}
+
+/// The number that the bytes write, if they are digits alone.
+fn number(digits: &[u8]) -> Option<usize>
+    ensures { MatchOption result ((n : ℕ) → ¬ WriteNumber digits.now n)
+        (λ n. WriteNumber digits.now n) }
+{
+    let text = str::from_utf8(digits).ok()?;
+    // A plus sign isn't a digit, but `parse` accepts it.
+    if text.starts_with('+') {
+        return None;
+    }
+    text.parse().ok()
 }

@@ -8,7 +8,7 @@ ghost use Rattle.bytes_utils_run.specs.Number.{IsNumber};
 const MOST_DIGITS: usize = 20;
 
 /// Reads a decimal number without a sign, if the text is one.
-pub(crate) fn number(text: &str) -> Option<usize>
+pub(super) fn number(text: &str) -> Option<usize>
     ensures { MatchOption result ((n : ℕ) → ¬ IsNumber (chars text.now) n)
         (λ n. IsNumber (chars text.now) n) }
 {
