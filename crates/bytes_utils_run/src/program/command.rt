@@ -1,5 +1,5 @@
 //! The command line of an input.
-ghost use Rattle.std.specs.Prelude.{◌≡◌, ◌≤◌, ℕ, List, MatchOption, None, Some, codes, take, drop, IsCharBoundary};
+ghost use Rattle.std.specs.Prelude.{◌≡◌, ◌≢◌, ◌≤◌, ℕ, List, MatchOption, None, Some, codes, take, drop, IsCharBoundary};
 ghost use Rattle.std.specs.Str.{chars};
 ghost use Rattle.bytes_utils.specs.Lines.{text_after};
 ghost use Rattle.bytes_utils_run.specs.Answer.{IsReadFrom};
