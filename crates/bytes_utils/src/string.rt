@@ -3,10 +3,10 @@
 mod borrow;
 mod build;
 mod byte_str;
+mod clone;
 mod collect;
 mod compare;
 mod convert;
-mod copies;
 mod extend;
 mod format;
 mod freeze;

@@ -15,7 +15,7 @@ use Rattle.bytes_utils.proofs.WordsLemmas.{is_other, words-none, words-after_spa
 use Rattle.bytes_utils_run.specs.Borrowed.{GivesParts}
 use Rattle.bytes_utils_run.proofs.BorrowedRuns.{GivesParts-from_steps}
 use Rattle.bytes_utils_run.proofs.TextBeginnings.{following, between}
-use Rattle.bytes_utils_run.proofs.WordRuns.{NonePass-spaces}
+use Rattle.bytes_utils_run.proofs.WordRunsLemmas.{NonePass-spaces}
 
 module _ (is_space : ℕ → Bool) where
   -- what follows a word ends it

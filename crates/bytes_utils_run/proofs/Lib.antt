@@ -21,8 +21,8 @@ pub mod BorrowedClosure
 pub mod BorrowedLimits
 pub mod BorrowedKeeping
 pub mod BorrowedLines
-pub mod WordRuns
-pub mod LineEnds
+pub mod WordRunsLemmas
+pub mod LineEndsLemmas
 pub mod OwnedAsBorrowed
 pub mod OnceAsBorrowed
 pub mod BorrowedHalves

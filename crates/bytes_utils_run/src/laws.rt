@@ -18,7 +18,8 @@ ghost use Rattle.bytes_utils.specs.Parts.{ArePartsFromFront, ArePartsFromBack};
 ghost use Rattle.bytes_utils.specs.Splitting.{AreForwardPartsToCome, AreBackwardPartsToCome};
 ghost use Rattle.bytes_utils.specs.Words.{AreWordsToCome};
 ghost use Rattle.bytes_utils_run.specs.Borrowed.{OwnedAsBorrowedLaw, OnceAsBorrowedLaw};
-ghost use Rattle.bytes_utils_run.specs.Readings.{WordsLaw, LinesLaw};
+ghost use Rattle.bytes_utils_run.specs.LineEnds.{LinesLaw};
+ghost use Rattle.bytes_utils_run.specs.WordRuns.{WordsLaw};
 
 pub mod borrowed;
 #[cfg(test)]

@@ -1,4 +1,4 @@
-use Rattle.bytes_utils_run.proofs.WordRuns.{words_law}
+use Rattle.bytes_utils_run.proofs.WordRunsLemmas.{words_law}
 use Rattle.bytes_utils_run.proofs.laws.words_are_runs.Goals as goal
 
 pub returns : goal.returns

@@ -6,7 +6,7 @@ use Rattle.std.specs.Str.{NonePass}
 use Rattle.bytes_utils.specs.Lines.{first_led_by}
 use Rattle.bytes_utils.specs.Words.{words, ends_word}
 use Rattle.bytes_utils.proofs.WordsLemmas.{is_other, words-after_space, words-of_space, words-run}
-use Rattle.bytes_utils_run.specs.Readings.{AreRuns, WordsLaw}
+use Rattle.bytes_utils_run.specs.WordRuns.{AreRuns, WordsLaw}
 
 module _ (is_space : ℕ → Bool) where
   abbrev Passes : ℕ → Type 0

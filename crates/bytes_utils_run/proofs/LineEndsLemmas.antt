@@ -5,7 +5,7 @@ use Rattle.std.specs.List.{starts_with}
 use Rattle.bytes_utils.specs.Lines.{lines, line_feed, carriage_return, first_led_by}
 use Rattle.bytes_utils.specs.Occurrence.{OccursAt, Occurs}
 use Rattle.bytes_utils.proofs.LinesLemmas.{LacksFeed, LacksFeed-none, lines-whole, lines-at_end}
-use Rattle.bytes_utils_run.specs.Readings.{IsLineEnd, AreEndedLines, LinesLaw}
+use Rattle.bytes_utils_run.specs.LineEnds.{IsLineEnd, AreEndedLines, LinesLaw}
 
 -- no line feed occurs in it
 abbrev NoFeed : List ℕ → Type 0

@@ -1,0 +1,16 @@
+-- A second definition of the words of a text: where they are in it, and what is between them.
+use Rattle.std.specs.Prelude.{◌≡◌, ◌↔◌, ℕ, ◌<◌, Bool, true, List, [], ◌∷◌, ◌++◌, length}
+use Rattle.std.specs.List.{AllPass}
+use Rattle.std.specs.Str.{NonePass}
+use Rattle.bytes_utils.specs.Words.{words, ends_word}
+
+-- These are the maximal runs of characters of t that aren't white space, in order. Before each run is white space or nothing. A run is not
+-- empty and holds no white space. After it is white space or the end of t. After the last run is white space or nothing.
+abbrev pub AreRuns : (ℕ → Bool) → List ℕ → List (List ℕ) → Type 0
+AreRuns is_space t [] = AllPass is_space t
+AreRuns is_space t (run ∷ runs) = (gap : List ℕ) × (rest : List ℕ) × (t ≡ gap ++ (run ++ rest)) × AllPass is_space gap
+    × (0 < length run) × NonePass is_space run × (ends_word is_space rest ≡ true) × AreRuns is_space rest runs
+
+-- the words of a text are its maximal runs, and no other list is
+abbrev pub WordsLaw : Type 0
+WordsLaw = (is_space : ℕ → Bool) (t : List ℕ) (parts : List (List ℕ)) → (parts ≡ words is_space t) ↔ AreRuns is_space t parts
