@@ -138,17 +138,17 @@ front-is-digits (x ∷ front) back (d ∷ digits) rest lacks all e =
     (λ k. head k ∷ more k)
 
 -- what `strip_prefix` gives, in characters
-pub following-is : (line word : List ℕ) → IsUtf8 line → IsUtf8 word → (r : Option (Bor (List ℕ)))
+pub rest_after-is : (line word : List ℕ) → IsUtf8 line → IsUtf8 word → (r : Option (Bor (List ℕ)))
     → MatchOption r (FindsTextPrefix word line None) (λ x. (n : ℕ) × FindsTextPrefix word line (Some n) × (x.now ≡ drop n line) × (length x.now + n ≡ length line))
     → MatchOption r ((rest : List ℕ) → chars line ≢ chars word ++ rest) (λ x. chars line ≡ chars word ++ chars x.now)
-following-is line word line_is word_is None lacks = λ rest. lacks-word word line rest word_is line_is lacks
-following-is line word line_is word_is (Some x) strip = chars-following word line x.now strip.0 word_is strip.1.1 strip.2
+rest_after-is line word line_is word_is None lacks = λ rest. lacks-word word line rest word_is line_is lacks
+rest_after-is line word line_is word_is (Some x) strip = chars-following word line x.now strip.0 word_is strip.1.1 strip.2
 
-pub following-utf8 : (line word : List ℕ) → IsUtf8 line → (r : Option (Bor (List ℕ)))
+pub rest_after-utf8 : (line word : List ℕ) → IsUtf8 line → (r : Option (Bor (List ℕ)))
     → MatchOption r (FindsTextPrefix word line None) (λ x. (n : ℕ) × FindsTextPrefix word line (Some n) × (x.now ≡ drop n line) × (length x.now + n ≡ length line))
     → IfSome r (λ x. IsUtf8 x.now)
-following-utf8 line word line_is None lacks = tt
-following-utf8 line word line_is (Some x) strip =
+rest_after-utf8 line word line_is None lacks = tt
+rest_after-utf8 line word line_is (Some x) strip =
     subst IsUtf8 (sym (strip.2 ∙ ap (λ k. drop k line) strip.1.0)) (IsUtf8-drop line (length word) line_is strip.1.2)
 
 -- a text without a space has no number before a space
@@ -188,13 +188,13 @@ module _ (text front back : List ℕ) (text_is : IsUtf8 text) (i j : ℕ) (finds
       none most (subst (λ z. IsNumber z most) (sym (ap chars same ∙ chars-IsAscii is.0 (IsAscii-from_digits is.0 all))) is.1)
 
 -- a number and a space after a word, if the text after the word begins with them
-pub counted-following-is : (line word text : List ℕ) → chars line ≡ chars word ++ chars text → (r : Option (ℕ × Bor (List ℕ)))
+pub counted-rest_after-is : (line word text : List ℕ) → chars line ≡ chars word ++ chars text → (r : Option (ℕ × Bor (List ℕ)))
     → MatchOption r ((most : ℕ) (rest : List ℕ) → ¬ IsCounted (chars text) most rest) (λ found. IsCounted (chars text) found.0 (chars found.1.now))
     → MatchOption r ((most : ℕ) (rest : List ℕ) → ¬ IsCountedAfter (chars word) (chars line) most rest)
     (λ found. IsCountedAfter (chars word) (chars line) found.0 (chars found.1.now))
-counted-following-is line word text e None none = λ most rest is.
+counted-rest_after-is line word text e None none = λ most rest is.
     none most rest (subst (λ z. IsCounted z most rest) (append_cancel_left (chars word) is.0 (chars text) (sym is.2 ∙ e)) is.1)
-counted-following-is line word text e (Some found) is = (chars text, is, e)
+counted-rest_after-is line word text e (Some found) is = (chars text, is, e)
 
 no-way : (line : List ℕ) → (line ≢ codes "words") × (line ≢ codes "ascii") × (line ≢ codes "lines")
     → ((p : List ℕ) → (¬ IsCommand (FromFront p None) line) × (¬ IsCommand (FromBack p None) line) × (¬ IsCommand (Keeping p) line))
@@ -210,13 +210,13 @@ no-way line plain separator limit (FromBack p (Some most)) = (limit p most).1
 no-way line plain separator limit (Keeping p) = (separator p).2
 
 -- a line that is none of the first commands is one of the others, or no command
-pub how-is : (line : List ℕ) → (line ≢ codes "words") × (line ≢ codes "ascii") × (line ≢ codes "lines")
+pub split_mode-is : (line : List ℕ) → (line ≢ codes "words") × (line ≢ codes "ascii") × (line ≢ codes "lines")
     → ((p : List ℕ) → (¬ IsCommand (FromFront p None) line) × (¬ IsCommand (FromBack p None) line) × (¬ IsCommand (Keeping p) line))
     → (r : Option How) → MatchOption r ((p : List ℕ) (most : ℕ) → (¬ IsCommand (FromFront p (Some most)) line) × (¬ IsCommand (FromBack p (Some most)) line))
     (λ how. IsAllowed how × IsCommand (cutting how) line)
     → MatchOption r ((way : Cutting) → ¬ IsCommand way line) (λ how. IsAllowed how × IsCommand (cutting how) line)
-how-is line plain separator None limit = no-way line plain separator limit
-how-is line plain separator (Some how) is = is
+split_mode-is line plain separator None limit = no-way line plain separator limit
+split_mode-is line plain separator (Some how) is = is
 
 -- a number after a word, if the rest of the line is a number
 pub numbered-is : (line word rest : List ℕ) → chars line ≡ chars word ++ chars rest → (r : Option ℕ)

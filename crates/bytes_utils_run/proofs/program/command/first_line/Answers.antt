@@ -15,4 +15,4 @@ pub returns-in_default-clause-line : goal.returns-in_default-clause-line
 returns-in_default-clause-line c = ap chars (take-length c.args.input.now) ∙ line-whole c.args.input.now c.in_default.ensures.line
 
 pub returns-in_default-clause-text : goal.returns-in_default-clause-text
-returns-in_default-clause-text c = ap chars (drop-length c.args.input.now) ∙ chars-nil ∙ sym c.in_default.ensures.rest_after
+returns-in_default-clause-text c = ap chars (drop-length c.args.input.now) ∙ chars-nil ∙ sym c.in_default.ensures.after
