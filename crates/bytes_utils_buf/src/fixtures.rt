@@ -4,6 +4,7 @@ pub(crate) mod refusals;
 pub(crate) mod slow_writer;
 
 use crate::Refused;
+use crate::contiguous::ContiguousBuf;
 use crate::parts::{BufParts, CopyRefused};
 use crate::segmented::{SegmentedBuf, SegmentedSlice};
 use bytes::{Buf, Bytes};
@@ -234,5 +235,21 @@ pub(crate) fn hands_out<B: BufParts>(
         assert_bytes(rt, copy.as_slice(), piece);
     }
     assert_fills(rt, buf, 10, &[]);
+    Ok(())
+}
+
+/// What is taken out and what is left share their block, and so do the first bytes and a part.
+pub(crate) fn shares<B: BufParts + ContiguousBuf>(
+    rt: &impl Abort,
+    alloc: Global,
+    buf: &mut B,
+) -> Result<(), Fail> {
+    assert!(rt; buf.remaining() >= 6);
+    let (first, part) = (buf.prefix(alloc, 5)?, buf.part(alloc, 1..5)?);
+    assert!(rt; !first.is_unique() && !part.is_unique());
+    assert_bytes(rt, part.as_slice(), "ello");
+    let copy = take_out(rt, alloc, buf, 5)?;
+    drop((first, part));
+    assert!(rt; !copy.is_unique());
     Ok(())
 }

@@ -1,9 +1,9 @@
-//! The buffers of the kit's `bytes` as parts of a row. `memory/buffers` has copies of each of them.
+//! The buffers of the kit's `bytes` as parts of a row.
 mod memory;
 
 use crate::contiguous::ContiguousBuf;
 use crate::fixtures::odd::{Asked, Zeros};
-use crate::fixtures::{JOINED, assert_bytes, assert_fills, hands_out, take_out};
+use crate::fixtures::{JOINED, assert_bytes, assert_fills, hands_out, shares, take_out};
 use crate::parts::{BufParts, copy_out_of};
 use bytes::{Buf, Bytes, BytesMut, BytesQueue};
 use std::alloc::{AllocError, Global};
@@ -91,22 +91,6 @@ fn any_buffer(rt: HostRuntime) -> Result<(), Fail> {
     let copy = copy_out_of(&mut zeros, rt.alloc(), 19)?;
     assert!(rt; copy.len() == 19 && copy.as_slice().iter().all(|byte| *byte == 0));
     assert_eq!(rt; zeros.left, 1);
-    Ok(())
-}
-
-/// What is taken out and what is left share their block, and so do the first bytes and a part.
-pub(super) fn shares<B: BufParts + ContiguousBuf>(
-    rt: &impl Abort,
-    alloc: Global,
-    buf: &mut B,
-) -> Result<(), Fail> {
-    assert!(rt; buf.remaining() >= 6);
-    let (first, part) = (buf.prefix(alloc, 5)?, buf.part(alloc, 1..5)?);
-    assert!(rt; !first.is_unique() && !part.is_unique());
-    assert_bytes(rt, part.as_slice(), "ello");
-    let copy = take_out(rt, alloc, buf, 5)?;
-    drop((first, part));
-    assert!(rt; !copy.is_unique());
     Ok(())
 }
 

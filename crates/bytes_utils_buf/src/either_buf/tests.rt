@@ -1,8 +1,7 @@
 //! Segments of two types.
 use crate::EitherBuf;
-use crate::buffers::tests::{hands_out, shares};
 use crate::contiguous::ContiguousBuf;
-use crate::fixtures::{JOINED, assert_bytes, gather, hands_out};
+use crate::fixtures::{JOINED, assert_bytes, gather, hands_out, shares};
 use bytes::Bytes;
 use std::alloc::Global;
 use std::test::Fail;
