@@ -54,7 +54,8 @@ fn take(rt: HostRuntime) {
 
 #[test]
 fn chain(rt: HostRuntime) {
-    let buf = b"Hello ".as_slice().chain(b"World".as_slice());
+    let tail = Bytes::from_static(b"World");
+    let buf = Bytes::from_static(b"Hello ").chain(tail);
     assert_fills(&rt, &buf, 10, &["Hello ", "World"]);
 }
 
