@@ -65,11 +65,11 @@ def goals_in(said):
     found, notes = {}, []
     errors = [" ".join(it.split()) for it in re.findall(r"^\./proofs/\S+: error: .*(?:\n  .*)?", said, re.M)]
     for line in said.split("\n"):
-        told = re.match(r"(?:fn|impl) \w+::(\S+): (.*)", line)
+        named = re.match(r"(?:fn|impl) \w+::(\S+): (.*)", line)
         if re.match(r"note: \S+\.rt:\d+:\d+: ", line):
             notes.append(line.removeprefix("note: "))
-        elif told:
-            name, verdict = told.groups()
+        elif named:
+            name, verdict = named.groups()
             own = [it for it in errors if it.startswith(f"./proofs/{name.replace('::', '/')}/")] + notes
             waits = re.match(r"not proved; it waits|no proof: it calls", verdict)
             found[name] = [] if verdict.startswith("proved") else own or ([] if waits else [verdict])

@@ -75,9 +75,9 @@ def rust(bench, original=""):
 
 
 def judge(cases):
-    """Counts the cases, each its name, what was told and what is right; the last line is 'N passed, M failed'. Ends with the status."""
-    wrong = [(name, told, right) for name, told, right in cases if told != right]
-    for name, told, right in wrong:
-        print(f"{name}: {told}, where {right} is right")
+    """Counts the cases, each its name, what was reported and what is right; the last line is 'N passed, M failed'. Ends with the status."""
+    wrong = [(name, reported, right) for name, reported, right in cases if reported != right]
+    for name, reported, right in wrong:
+        print(f"{name}: {reported}, where {right} is right")
     print(f"{len(cases) - len(wrong)} passed, {len(wrong)} failed")
     sys.exit(1 if wrong or not cases else 0)

@@ -1,4 +1,4 @@
-"""Asks the service by curl, which has to be installed, and compares each answer with the right one."""
+"""Asks the service by curl, which has to be installed, and compares each response with the right one."""
 import csv, io, os, re, socket, subprocess
 
 BODY = 50_000_000
@@ -7,21 +7,21 @@ LIMIT, BESIDE = 64 << 20, 128 << 20
 
 
 class Client:
-    """Asks the service, and judges its answers."""
+    """Asks the service, and judges its responses."""
 
     def __init__(self, judge, room, at):
         self.judge, self.room, self.at = judge, room, at
 
     def curl(self, path, *words, given=b""):
-        """What curl writes if it asks for the path: the answer, and after it a line with the status."""
+        """What curl writes if it asks for the path: the response, and after it a line with the status."""
         how = {"stdin": subprocess.PIPE, "stdout": subprocess.PIPE, "stderr": subprocess.PIPE, "cwd": self.room}
         words = ["-sv", "--max-time", "60", "-X", "POST", "-w", "\n%{http_code}", *words, f"http://{self.at}{path}"]
         it = subprocess.Popen(["curl", *words], **how)
         return it if given is None else it.communicate(given)
 
     def expect(self, what, path, wanted, *words, given=b"", seen=b""):
-        answer, told = self.curl(path, *words, given=given)
-        self.judge(what, answer == wanted and seen in told)
+        response, status = self.curl(path, *words, given=given)
+        self.judge(what, response == wanted and seen in status)
 
 
 def echoes(client):
@@ -45,8 +45,8 @@ def counts(client):
     chunked = ["-T", "-", "-H", "Expect:"]
     text = "".join(f"wörd{i}" + (" ", "\t ", "\r\n", "\n\n")[i % 4] for i in range(500_000)).encode()
     for path, flag in ("/words", "-w"), ("/lines", "-l"):
-        told = subprocess.run(["wc", flag], input=text, capture_output=True, env={**os.environ, "LC_ALL": "C.UTF-8"})
-        client.expect(f"{path} as wc {flag} has it", path, told.stdout.split()[0] + b"\n\n200", *chunked, given=text)
+        counted = subprocess.run(["wc", flag], input=text, capture_output=True, env={**os.environ, "LC_ALL": "C.UTF-8"})
+        client.expect(f"{path} as wc {flag} has it", path, counted.stdout.split()[0] + b"\n\n200", *chunked, given=text)
     client.expect("lines, the last without a line feed", "/lines", b"2\n\n200", "--data-binary", "one\ntwo")
     client.expect("words of an empty body", "/words", b"0\n\n200", "--data-binary", "")
     client.expect("lines of an empty body", "/lines", b"0\n\n200", "--data-binary", "")
