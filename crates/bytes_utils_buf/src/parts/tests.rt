@@ -1,4 +1,6 @@
 //! `BufParts` of buffers that are not segmented.
+mod memory;
+
 use crate::fixtures::{JOINED, take_out};
 use bytes::Bytes;
 use std::test::Fail;

@@ -2,16 +2,18 @@
 //! looked at, and what is left after memory is refused.
 mod buf;
 mod caller;
-mod front;
+mod chunks;
+mod copy;
 mod insert;
 mod looks;
 mod memory;
 mod nested;
 mod passed;
+mod peek;
 mod queue;
 mod random;
 mod range;
-mod reads;
 mod remove;
 mod slice;
+mod split;
 mod tables;

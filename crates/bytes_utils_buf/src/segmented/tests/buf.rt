@@ -1,5 +1,5 @@
 //! Reading a `SegmentedBuf`.
-use crate::fixtures::{FOUR, Shown, assert_debugs, assert_shows, gives, held, reads_nothing, skip};
+use crate::fixtures::{FOUR, Shown, assert_debugs, assert_shows, held, reads_nothing, skip};
 use crate::segmented::SegmentedBuf;
 use bytes::Bytes;
 use std::alloc::Global;
@@ -39,31 +39,6 @@ fn empty_at_border(rt: HostRuntime) -> Result<(), Fail> {
 #[test]
 fn advance_across(rt: HostRuntime) -> Result<(), Fail> {
     skips(&rt, rt.alloc(), 7, (4, 1, "orld"))
-}
-
-// Skips bytes of `FOUR`, and copies the next ones.
-fn copies(
-    rt: &impl Abort,
-    alloc: Global,
-    cnt: usize,
-    piece: &str,
-    shown: Shown,
-) -> Result<(), Fail> {
-    let mut buf = held(alloc, &FOUR)?;
-    skip(rt, &mut buf, cnt);
-    gives(rt, alloc, &mut buf, piece)?;
-    assert_shows(rt, &buf, shown);
-    Ok(())
-}
-
-#[test]
-fn to_bytes_all(rt: HostRuntime) -> Result<(), Fail> {
-    copies(&rt, rt.alloc(), 0, "Hello World", (0, 0, ""))
-}
-
-#[test]
-fn to_bytes_across(rt: HostRuntime) -> Result<(), Fail> {
-    copies(&rt, rt.alloc(), 3, "lo Wor", (2, 1, "ld"))
 }
 
 #[test]

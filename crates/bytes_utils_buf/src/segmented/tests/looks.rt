@@ -129,7 +129,7 @@ fn twenty(rt: &impl Abort, alloc: Global) -> Result<SegmentedBuf<Asked>, Fail> {
 
 /// None of these after the first few was advanced or copied from. Each was looked at when it was
 /// accepted, and hardly again.
-pub(super) fn assert_untouched(rt: &impl Abort, bufs: &[Asked], few: usize) {
+fn assert_untouched(rt: &impl Abort, bufs: &[Asked], few: usize) {
     for i in few..bufs.len() {
         assert!(rt; bufs[i].advanced == 0 && bufs[i].looks.get() <= 3);
     }
@@ -258,5 +258,34 @@ fn passes_three_times<B: BufParts + Drop>(
 fn held_are_advanced_once_a_call(rt: HostRuntime) -> Result<(), Fail> {
     let left = passes_three_times(&rt, rt.alloc(), two(rt.alloc())?)?;
     assert!(rt; left.len() == 1 && left[0].advanced == 3);
+    Ok(())
+}
+
+// Shows a chunk, and a table of two slices.
+fn shows_two<B: BufParts>(rt: &impl Abort, buf: &B) {
+    let mut table: [&[u8]; 2] = [b"-"; 2];
+    for _ in 0..10 {
+        assert!(rt; buf.chunk().len() == 1 && buf.remaining() == 1000);
+        assert!(rt; buf.chunks_into(&mut table) == 2);
+    }
+}
+
+#[test]
+fn held_are_not_looked_at(rt: HostRuntime) -> Result<(), Fail> {
+    let buf = gather(rt.alloc(), thousand(rt.alloc())?)?;
+    for _ in 0..10 {
+        assert!(rt; buf.segments() == 1000);
+    }
+    shows_two(&rt, &buf);
+    assert_untouched(&rt, &buf.into_inner().into_vec(), 3);
+    Ok(())
+}
+
+#[test]
+fn lent_are_not_looked_at(rt: HostRuntime) -> Result<(), Fail> {
+    let mut bufs = thousand(rt.alloc())?;
+    let all = lend(&rt, &mut bufs);
+    shows_two(&rt, &all);
+    assert_untouched(&rt, all.into_lent(), 3);
     Ok(())
 }

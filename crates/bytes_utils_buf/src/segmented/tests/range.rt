@@ -1,5 +1,5 @@
-//! Places and ranges of a body, and its chunks. `memory/range` has the bytes of ranges.
-use crate::fixtures::{FOUR, JOINED, assert_bytes, held};
+//! Places and ranges of a body; `memory/range` has the bytes of ranges.
+use crate::fixtures::{FOUR, JOINED, held};
 use crate::segmented::SegmentedBuf;
 use bytes::{Buf, Bytes};
 use std::test::Fail;
@@ -10,20 +10,6 @@ fn bytes_at_places(rt: HostRuntime) -> Result<(), Fail> {
     assert!(rt; buf.byte_at(5) == Some(b' ') && buf.byte_at(11).is_none());
     assert!(rt; buf.holds_at(3, b"lo W") && !buf.holds_at(7, b"World"));
     assert!(rt; buf.eq_bytes(JOINED.as_bytes()) && !buf.eq_bytes(b"Hello"));
-    Ok(())
-}
-
-#[test]
-fn chunks(rt: HostRuntime) -> Result<(), Fail> {
-    let buf = held(rt.alloc(), &FOUR)?;
-    let mut copy = Vec::new(rt.alloc());
-    let mut count: usize = 0;
-    for chunk in buf.chunks() {
-        copy.extend_from_slice(chunk)?;
-        count = count.saturating_add(1);
-    }
-    assert_bytes(&rt, copy.as_slice(), JOINED);
-    assert!(rt; count == 3 && buf.remaining() == 11);
     Ok(())
 }
 

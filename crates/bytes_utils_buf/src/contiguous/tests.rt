@@ -1,0 +1,2 @@
+//! What no clause says: what is left after memory is refused.
+mod memory;

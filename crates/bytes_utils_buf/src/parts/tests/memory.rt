@@ -1,0 +1,19 @@
+//! Refused memory: bytes copied out of one buffer.
+use crate::fixtures::JOINED;
+use crate::fixtures::refusals::copies_out;
+use bytes::Bytes;
+use std::test::Fail;
+
+// It shares its bytes and allocates nothing, so it is never refused.
+#[test]
+fn copy_out_of_bytes(rt: HostRuntime) -> Result<(), Fail> {
+    let Ok(mut bytes) = Bytes::copy_from_slice(rt.alloc(), JOINED.as_bytes()) else {
+        return Ok(());
+    };
+    copies_out(&rt, rt.alloc(), "copy_out of Bytes", &mut bytes)
+}
+
+#[test]
+fn copy_out_of_slices(rt: HostRuntime) -> Result<(), Fail> {
+    copies_out(&rt, rt.alloc(), "copy_out of &[u8]", &mut JOINED.as_bytes())
+}
