@@ -1,10 +1,7 @@
-//! The splitters compared with the methods of `str` of the same names, which borrow their parts,
-//! over the texts of the worked cases and all short texts of a few letters.
+//! Shared helpers: the splitters compared with the methods of `str` of the same names, which borrow
+//! their parts, over the texts of the worked cases and all short texts of a few letters.
 use crate::fixtures::{assert_text, shared};
-use crate::split::tests::ways::{
-    Lines, RSplit, RSplitN, Split, SplitAsciiWhitespace, SplitInclusive, SplitN, SplitWhitespace,
-    StrWay,
-};
+use crate::split::tests::ways::StrWay;
 use std::alloc::{AllocError, Global};
 use std::process::Abort;
 use std::test::Fail;
@@ -18,7 +15,7 @@ const NAMED: &str =
 const NAMED_TEXTS: u32 = 18;
 
 /// The number of these and of all texts of at most five of the letters.
-const TEXTS: u32 = NAMED_TEXTS + 37_449;
+pub(super) const TEXTS: u32 = NAMED_TEXTS + 37_449;
 
 /// The number of these and of all texts of at most four of the letters.
 pub(super) const SHORT_TEXTS: u32 = NAMED_TEXTS + 4_681;
@@ -84,7 +81,7 @@ fn texts_are_counted(rt: HostRuntime) -> Result<(), Fail> {
 }
 
 /// Asserts that the parts of the first `texts` texts, by each separator, are those that `str` borrows.
-fn assert_as_str<W: StrWay, R: Abort>(
+pub(super) fn assert_as_str<W: StrWay, R: Abort>(
     rt: &R,
     alloc: Global,
     texts: u32,
@@ -111,51 +108,4 @@ fn assert_each_as_str<W: StrWay, R: Abort>(
         assert!(rt; answer.1.is_none());
     }
     Ok(())
-}
-
-#[test]
-fn split(rt: HostRuntime) -> Result<(), Fail> {
-    assert_as_str::<Split, HostRuntime>(&rt, rt.alloc(), SHORT_TEXTS, 0, &separators())
-}
-
-#[test]
-fn rsplit(rt: HostRuntime) -> Result<(), Fail> {
-    assert_as_str::<RSplit, HostRuntime>(&rt, rt.alloc(), SHORT_TEXTS, 0, &separators())
-}
-
-#[test]
-fn split_n(rt: HostRuntime) -> Result<(), Fail> {
-    for most in 0..5 {
-        assert_as_str::<SplitN, HostRuntime>(&rt, rt.alloc(), SHORT_TEXTS, most, &separators())?;
-    }
-    Ok(())
-}
-
-#[test]
-fn rsplit_n(rt: HostRuntime) -> Result<(), Fail> {
-    for most in 0..5 {
-        assert_as_str::<RSplitN, HostRuntime>(&rt, rt.alloc(), SHORT_TEXTS, most, &separators())?;
-    }
-    Ok(())
-}
-
-#[test]
-fn split_inclusive(rt: HostRuntime) -> Result<(), Fail> {
-    let separators = ["a", "aa", "aba", ",", "β"];
-    assert_as_str::<SplitInclusive, HostRuntime>(&rt, rt.alloc(), SHORT_TEXTS, 0, &separators)
-}
-
-#[test]
-fn lines(rt: HostRuntime) -> Result<(), Fail> {
-    assert_as_str::<Lines, HostRuntime>(&rt, rt.alloc(), TEXTS, 0, &[""])
-}
-
-#[test]
-fn split_whitespace(rt: HostRuntime) -> Result<(), Fail> {
-    assert_as_str::<SplitWhitespace, HostRuntime>(&rt, rt.alloc(), TEXTS, 0, &[""])
-}
-
-#[test]
-fn split_ascii_whitespace(rt: HostRuntime) -> Result<(), Fail> {
-    assert_as_str::<SplitAsciiWhitespace, HostRuntime>(&rt, rt.alloc(), TEXTS, 0, &[""])
 }

@@ -1,5 +1,36 @@
 //! What a call returns and leaves if a request for memory is refused, each call in a test of its
 //! own. A run with one refused request ends normally, whichever request it is, and prints which
 //! call was refused.
-mod next;
+mod closure;
+mod inclusive;
+mod indices;
+mod lines;
 mod once;
+mod separator;
+mod words;
+
+use crate::StrMut;
+use crate::fixtures::refusals::report;
+use crate::split::tests::ways::StrWay;
+use std::alloc::Global;
+use std::io::Print;
+use std::process::Abort;
+use std::test::Fail;
+
+/// Asserts the parts of the text by commas, into two parts if the way has a limit. After a refused
+/// split it asserts the parts before it and the end, and reports the refusal. It does nothing if
+/// the text itself is refused.
+pub(super) fn assert_next<W: StrWay, R: Abort + Print>(
+    rt: &R,
+    alloc: Global,
+    call: &str,
+    text: &str,
+) -> Result<(), Fail> {
+    let Ok(growing) = StrMut::from_str(alloc, text) else {
+        return Ok(());
+    };
+    match W::beside(rt, growing, 2, ",", text).1 {
+        Some(reason) => report(rt, call, reason),
+        None => Ok(()),
+    }
+}

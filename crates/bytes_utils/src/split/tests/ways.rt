@@ -1,4 +1,4 @@
-//! The ways to split a text that `str` has a method for too, for helpers over any of them.
+//! Shared helpers: the ways to split a text that `str` has a method for too.
 use crate::Reason;
 use crate::fixtures::taken_to_end;
 use crate::string::{Storage, StrInner};

@@ -1,5 +1,7 @@
 //! A text's words.
 use crate::fixtures::{shared, taken_to_end};
+use crate::split::tests::borrowed::{TEXTS, assert_as_str};
+use crate::split::tests::ways::{SplitAsciiWhitespace, SplitWhitespace};
 use std::test::Fail;
 
 #[test]
@@ -25,4 +27,14 @@ fn words_at_each_white_space(rt: HostRuntime) -> Result<(), Fail> {
         assert_eq!(rt; words.next().is_none(), SPACES.contains(c), "{c:?}");
     }
     Ok(())
+}
+
+#[test]
+fn split_whitespace(rt: HostRuntime) -> Result<(), Fail> {
+    assert_as_str::<SplitWhitespace, HostRuntime>(&rt, rt.alloc(), TEXTS, 0, &[""])
+}
+
+#[test]
+fn split_ascii_whitespace(rt: HostRuntime) -> Result<(), Fail> {
+    assert_as_str::<SplitAsciiWhitespace, HostRuntime>(&rt, rt.alloc(), TEXTS, 0, &[""])
 }

@@ -1,4 +1,4 @@
-use Rattle.bytes_utils.proofs.split.tests.hints.assert_hints.Given as goal
+use Rattle.bytes_utils.proofs.split.tests.size_hint.assert_hints.Given as goal
 
 -- `next` of the parts may be called again
 abbrev pub invariant-loop-given : goal.invariant-loop-given

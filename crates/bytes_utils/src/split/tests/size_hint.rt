@@ -1,5 +1,5 @@
-//! What `size_hint` of a splitter promises: at each point of a run, bounds on the items to come. No splitter
-//! has one of its own.
+//! `size_hint` of the splitters, which have none of their own: at each point of a run, bounds on
+//! the items to come.
 ghost use Rattle.std.specs.Prelude.{◌≤◌};
 
 use crate::fixtures::shared;
