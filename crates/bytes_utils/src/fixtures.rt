@@ -9,6 +9,7 @@ use crate::string::{Storage, StrInner};
 use crate::{Reason, Str, StrMut};
 use bytes::{Bytes, BytesMut};
 use std::alloc::{AllocError, Global};
+use std::error::Error;
 use std::process::Abort;
 use std::test::Fail;
 
@@ -36,6 +37,18 @@ pub(crate) fn strings(alloc: Global, items: &str) -> Result<Vec<String>, AllocEr
 /// Asserts that the text is the expected one.
 pub(crate) fn assert_text(rt: &impl Abort, text: &str, want: &str) {
     assert_eq!(rt; text, want);
+}
+
+/// Asserts what an error prints.
+pub(crate) fn assert_says<E: Error>(
+    rt: &impl Abort,
+    alloc: Global,
+    error: &E,
+    text: &str,
+) -> Result<(), Fail> {
+    let said = format!(in alloc; "{error}")?;
+    assert_text(rt, said.as_str(), text);
+    Ok(())
 }
 
 /// Asserts that the expected parts come and then the end, or the first of them, one refusal, and

@@ -3,7 +3,7 @@ mod memory;
 
 ghost use Rattle.std.specs.Prelude.{◌≡◌, IfOk, IfErr};
 
-use crate::fixtures::assert_text;
+use crate::fixtures::{assert_says, assert_text};
 use crate::json::JsonRefused;
 use crate::string::{Storage, StorageMut, StrInner};
 use bytes::{Bytes, BytesMut};
@@ -142,4 +142,14 @@ fn numbers_of_refusals(rt: HostRuntime) {
     let memory = (JsonRefused::OutOfMemory as u8, JsonRefused::NotJson as u8);
     let text = (JsonRefused::NotText as u8, JsonRefused::NotUtf8 as u8);
     assert!(rt; memory == (1, 3) && text == (4, 5));
+}
+
+#[test]
+fn refusals_of_json_say_why(rt: HostRuntime) -> Result<(), Fail> {
+    let alloc = rt.alloc();
+    assert_says(&rt, alloc, &JsonRefused::OutOfMemory, "out of memory")?;
+    assert_says(&rt, alloc, &JsonRefused::NotJson, "not JSON")?;
+    let no_text = "neither a string nor a list of bytes";
+    assert_says(&rt, alloc, &JsonRefused::NotText, no_text)?;
+    assert_says(&rt, alloc, &JsonRefused::NotUtf8, "not UTF-8")
 }

@@ -1,13 +1,19 @@
 //! What no clause covers: that calls succeed with ample memory, printed text, and worked cases.
+mod borrow;
 mod build;
+mod byte_str;
+mod clone;
+mod collect;
 mod compare;
-mod errors;
+mod convert;
 mod format;
+mod items;
+mod literal;
 mod memory;
-mod refused_builds;
+mod owned;
 mod serialize;
 mod show;
-mod slices;
-mod storages;
-mod texts;
-mod traits;
+mod slice;
+mod storage;
+mod text;
+mod utf8_error;

@@ -1,6 +1,7 @@
 //! Lines from pieces.
-use crate::Str;
+use crate::fixtures::assert_says;
 use crate::frame::{LineError, Lines};
+use crate::{Reason, Str};
 use bytes::{Buf, Bytes};
 use std::process::Abort;
 use std::test::Fail;
@@ -33,4 +34,15 @@ fn a_line_that_is_no_text_is_handed_over(rt: HostRuntime) -> Result<(), Fail> {
     assert_eq!(&rt; line.as_str(), "é");
     assert_eq!(&rt; lines.finish().chunk(), b"c".as_slice());
     Ok(())
+}
+
+#[test]
+fn refusals_of_lines_say_why(rt: HostRuntime) -> Result<(), Fail> {
+    let alloc = rt.alloc();
+    let refused = LineError::from(Reason::OutOfMemory);
+    assert_says(&rt, alloc, &refused, "out of memory")?;
+    let made = Str::from_inner(Bytes::from_static(&[0, 0, 255]));
+    let not_text = LineError::from(made.err().ok_or("made")?);
+    let text = "invalid utf-8 sequence of 1 bytes from index 2";
+    assert_says(&rt, alloc, &not_text, text)
 }

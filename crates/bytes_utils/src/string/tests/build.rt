@@ -1,6 +1,6 @@
 //! Texts that are built, frozen and sliced.
+use crate::StrMut;
 use crate::fixtures::assert_text;
-use crate::{Str, StrMut};
 use std::alloc::Global;
 use std::process::Abort;
 use std::test::Fail;
@@ -32,20 +32,5 @@ fn build_and_slice(rt: HostRuntime) -> Result<(), Fail> {
     assert_text(&rt, built.as_str(), "Hello World");
     assert_frozen(&rt, built)?;
     assert_text(&rt, builder.as_str(), "!");
-    Ok(())
-}
-
-#[test]
-fn from_chars(rt: HostRuntime) -> Result<(), Fail> {
-    let text = Str::from_chars(rt.alloc(), ['H', 'i', '😈'].into_iter())?;
-    assert!(rt; text.eq_str("Hi😈") && text.as_str().len() == 6);
-    Ok(())
-}
-
-#[test]
-fn from_nothing(rt: HostRuntime) -> Result<(), Fail> {
-    let none: [&str; 0] = [];
-    let text = Str::from_strs(rt.alloc(), none.into_iter())?;
-    assert!(rt; text.eq_str("") && Str::new(rt.alloc())?.eq_str(""));
     Ok(())
 }

@@ -1,10 +1,8 @@
-//! A text: made from its storage, read, split at a place, and turned back into its storage.
+//! A text made of its storage, read, and split at a place.
 use crate::Str;
 use crate::fixtures::{assert_text, shared};
-use crate::string::{Storage, StrInner};
-use bytes::{ByteStr, Bytes, BytesMut};
+use bytes::Bytes;
 use std::alloc::Global;
-use std::fmt::Debug;
 use std::process::Abort;
 use std::test::Fail;
 
@@ -20,38 +18,6 @@ fn reads_as_its_storage(rt: HostRuntime) -> Result<(), Fail> {
     assert_reads(&rt, shared(rt.alloc(), "aβ")?, "aβ");
     let text = Str::from_inner_unchecked(Bytes::from_static("aβ".as_bytes()));
     assert_reads(&rt, text, "aβ");
-    Ok(())
-}
-
-/// Asserts that the storage becomes the text, and the text that storage again.
-fn assert_converts<S, E>(rt: &impl Abort, storage: S, want: &str) -> Result<(), Fail>
-where
-    S: Storage,
-    StrInner<S>: TryFrom<S, Error = E>,
-    S: From<StrInner<S>>,
-    E: Debug + Drop,
-{
-    let text = StrInner::try_from(storage)?;
-    assert_text(rt, text.as_str(), want);
-    let storage = S::from(text);
-    assert!(rt; storage.as_bytes() == want.as_bytes());
-    Ok(())
-}
-
-#[test]
-fn converts_both_ways(rt: HostRuntime) -> Result<(), Fail> {
-    assert_converts(&rt, Bytes::from_static("aβ".as_bytes()), "aβ")?;
-    let bytes = BytesMut::copy_from_slice(rt.alloc(), "aβ".as_bytes())?;
-    assert_converts(&rt, bytes, "aβ")
-}
-
-// The conversion to a `ByteStr` and that back keep the block and its only owner.
-#[test]
-fn converts_from_and_to_byte_str(rt: HostRuntime) -> Result<(), Fail> {
-    let text = ByteStr::from(shared(rt.alloc(), "aβ")?);
-    assert_text(&rt, text.as_str(), "aβ");
-    let bytes = Str::from(text).into_inner();
-    assert!(rt; bytes.as_slice() == "aβ".as_bytes() && bytes.is_unique());
     Ok(())
 }
 

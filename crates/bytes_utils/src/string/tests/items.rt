@@ -1,12 +1,27 @@
-//! The calls that append items, with a storage that grants two requests. A borrowed iterator
-//! continues after the refused item.
+//! Texts from the items of an iterator, also where the storage refuses one of them.
 use crate::fixtures::refusing::Refusing;
 use crate::fixtures::{assert_text, strings};
 use crate::string::StrInner;
-use crate::{Reason, Refused};
+use crate::{Reason, Refused, Str};
 use std::process::Abort;
 use std::test::Fail;
 
+#[test]
+fn from_chars(rt: HostRuntime) -> Result<(), Fail> {
+    let text = Str::from_chars(rt.alloc(), ['H', 'i', '😈'].into_iter())?;
+    assert!(rt; text.eq_str("Hi😈") && text.as_str().len() == 6);
+    Ok(())
+}
+
+#[test]
+fn from_nothing(rt: HostRuntime) -> Result<(), Fail> {
+    let none: [&str; 0] = [];
+    let text = Str::from_strs(rt.alloc(), none.into_iter())?;
+    assert!(rt; text.eq_str("") && Str::new(rt.alloc())?.eq_str(""));
+    Ok(())
+}
+
+/// A text whose storage grants two requests.
 type Text = StrInner<Refusing>;
 
 /// What came back from a call that was refused for the storage's reason.
@@ -20,6 +35,7 @@ fn back<T: Drop, B: Drop>(rt: &impl Abort, answer: Result<T, Refused<B>>) -> Res
     }
 }
 
+/// A borrowed iterator continues after the refused item.
 #[test]
 fn a_refused_character_comes_back(rt: HostRuntime) -> Result<(), Fail> {
     let mut items = "aβcd".chars();

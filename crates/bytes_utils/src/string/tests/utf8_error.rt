@@ -1,29 +1,14 @@
 //! Bytes that are not UTF-8: they come back, with what is wrong.
-use crate::fixtures::assert_text;
-use crate::frame::LineError;
-use crate::json::JsonRefused;
+use crate::fixtures::{assert_says, assert_text};
 use crate::string::{Storage, StrInner, Utf8Error};
-use crate::{Reason, Str, StrMut};
+use crate::{Str, StrMut};
 use bytes::{Bytes, BytesMut};
 use std::alloc::Global;
-use std::error::Error;
 use std::fmt::Debug;
 use std::process::Abort;
 use std::test::Fail;
 
 const NOT_UTF8: [u8; 3] = [0, 0, 255];
-
-/// Asserts what an error prints.
-fn assert_says<E: Error>(
-    rt: &impl Abort,
-    alloc: Global,
-    error: &E,
-    text: &str,
-) -> Result<(), Fail> {
-    let said = format!(in alloc; "{error}")?;
-    assert_text(rt, said.as_str(), text);
-    Ok(())
-}
 
 /// Asserts that the error's other form has each of its fields. Returns the bytes that it holds.
 fn assert_debugs<S: Storage + Debug>(
@@ -100,25 +85,4 @@ fn a_cut_character_is_incomplete(rt: HostRuntime) -> Result<(), Fail> {
     let made = Str::from_inner(Bytes::from_static(&[97, 0xE2, 0x82]));
     let text = "incomplete utf-8 byte sequence from index 1";
     assert_refused_as(&rt, rt.alloc(), made, text)
-}
-
-#[test]
-fn refusals_of_json_say_why(rt: HostRuntime) -> Result<(), Fail> {
-    let alloc = rt.alloc();
-    assert_says(&rt, alloc, &JsonRefused::OutOfMemory, "out of memory")?;
-    assert_says(&rt, alloc, &JsonRefused::NotJson, "not JSON")?;
-    let no_text = "neither a string nor a list of bytes";
-    assert_says(&rt, alloc, &JsonRefused::NotText, no_text)?;
-    assert_says(&rt, alloc, &JsonRefused::NotUtf8, "not UTF-8")
-}
-
-#[test]
-fn refusals_of_lines_say_why(rt: HostRuntime) -> Result<(), Fail> {
-    let alloc = rt.alloc();
-    let refused = LineError::from(Reason::OutOfMemory);
-    assert_says(&rt, alloc, &refused, "out of memory")?;
-    let made = Str::from_inner(Bytes::from_static(&NOT_UTF8));
-    let not_text = LineError::from(made.err().ok_or("made")?);
-    let text = "invalid utf-8 sequence of 1 bytes from index 2";
-    assert_says(&rt, alloc, &not_text, text)
 }

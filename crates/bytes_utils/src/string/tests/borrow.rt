@@ -1,7 +1,7 @@
-//! Texts by std's traits: borrowed, made of literals, and copied. `memory/traits` collects and extends.
+//! What std's traits borrow of a text.
+use crate::Str;
 use crate::fixtures::{assert_text, growing, shared};
 use crate::string::{Storage, StrInner};
-use crate::{Str, StrMut};
 use std::convert::{AsSlice, AsStr};
 use std::process::Abort;
 use std::test::Fail;
@@ -35,26 +35,4 @@ fn borrows(rt: HostRuntime) -> Result<(), Fail> {
 fn splits_as_str(rt: HostRuntime) {
     let text = Str::from_static("a,β,");
     assert!(rt; text.split(",").nth(1) == Some("β"));
-}
-
-#[test]
-fn literals(rt: HostRuntime) {
-    assert_text(&rt, &Str::from_static("aβ"), "aβ");
-    assert_text(&rt, &Str::empty(), "");
-}
-
-// A copy of a `Str` shares its bytes.
-#[test]
-fn copies(rt: HostRuntime) -> Result<(), Fail> {
-    let text = shared(rt.alloc(), "aβ")?;
-    let copy = text.clone()?;
-    assert!(rt; copy == text && !text.inner().is_unique());
-    Ok(())
-}
-
-#[test]
-fn of_a_string(rt: HostRuntime) -> Result<(), Fail> {
-    let string = String::from_str(rt.alloc(), "aβ")?;
-    assert_text(&rt, &StrMut::from(string), "aβ");
-    Ok(())
 }

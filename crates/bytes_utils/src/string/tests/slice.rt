@@ -1,5 +1,5 @@
-//! Parts and copies of texts, and letters replaced.
-use crate::fixtures::{assert_text, growing, shared};
+//! Empty pieces of a text.
+use crate::fixtures::shared;
 use crate::{Reason, Str};
 use std::process::Abort;
 use std::test::Fail;
@@ -23,15 +23,5 @@ fn assert_empty_pieces(rt: &impl Abort, text: &Str) {
 #[test]
 fn slice_empty(rt: HostRuntime) -> Result<(), Fail> {
     assert_empty_pieces(&rt, &shared(rt.alloc(), "hello")?);
-    Ok(())
-}
-
-#[test]
-fn case_letters(rt: HostRuntime) -> Result<(), Fail> {
-    let mut text = growing(rt.alloc(), "aβz")?;
-    text.make_ascii_uppercase()?;
-    assert_text(&rt, text.as_str(), "AβZ");
-    text.make_ascii_lowercase()?;
-    assert_text(&rt, text.as_str(), "aβz");
     Ok(())
 }
