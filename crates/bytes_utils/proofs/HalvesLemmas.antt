@@ -1,15 +1,37 @@
 -- A text split at a place at which a separator was found in it.
-use Rattle.std.proofs.Common.{◌≡◌, refl, sym, ap, subst, ◌∙◌, ℕ, ◌+◌, ◌<◌, ◌≤◌, List, [], ◌∷◌, ◌++◌, Option, None, Some, MatchOption, length, take, drop, arith, length-take, IsUtf8}
+use Rattle.std.proofs.Common.{◌≡◌, refl, sym, ap, subst, ◌∙◌, ℕ, ◌+◌, ◌-◌, ◌<◌, ◌≤◌, List, [], ◌∷◌, ◌++◌, ⊎_elim, Option, None, Some, MatchOption, length, take, drop, arith, length-take, IsUtf8}
+use Rattle.std.proofs.Math.Seq.{drop-append-add}
+use Rattle.std.proofs.lemmas.Bool.{cases_lt}
 use Rattle.std.proofs.lemmas.List.{take_all, drop_all}
 use Rattle.std.proofs.lemmas.Str.{IsUtf8-take, IsUtf8-drop, encodes-append, encodes-chars, chars-nil}
 use Rattle.std.specs.Str.{chars, encode_utf8_all as encodes}
 use Rattle.bytes_utils.specs.Text.{byte_place}
 use Rattle.bytes_utils.specs.Halves.{AreHalvesAtFirst, AreHalvesAtLast}
-use Rattle.bytes_utils.specs.Occurrence.{OccursAt, Occurs, FindsLast}
+use Rattle.bytes_utils.specs.Occurrence.{OccursAt, Occurs, OccursLastAt, FindsLast}
 use Rattle.bytes_utils.proofs.Boundaries.{OccursAt-fits}
 use Rattle.bytes_utils.proofs.OccurrenceLemmas.{cut_whole, OccursAt-between}
 use Rattle.bytes_utils.proofs.PartCut.{end_boundary, next_boundary, chars_before, chars_after}
 use Rattle.bytes_utils.proofs.SearchLemmas.{chars-some}
+
+-- what p follows in a text holds no p, if that p is the last one and isn't empty
+pub lacks-after : {X : Type 0} (p before following : List X) → 0 < length p → OccursLastAt p (before ++ (p ++ following)) (length before) → ¬ Occurs p following
+lacks-after p before following some last = λ occurs.
+    let there = drop-append-add before (p ++ following) (length p + occurs.0) ∙ drop-append-add p following occurs.0 in
+    omega (arith, some, last.none_after (length before + (length p + occurs.0)) (ap (take (length p)) there ∙ occurs.1))
+
+-- and conversely, if p is one element
+pub last-from_lacks : {X : Type 0} (p before following : List X) → length p ≡ 1 → (¬ Occurs p following) → OccursLastAt p (before ++ (p ++ following)) (length before)
+last-from_lacks p before following one lacks = record {
+  here = OccursAt-between before p following;
+  none_after = λ j there. ⊎_elim (λ after. absurd (lacks (j - (length before + 1), within j there after))) (λ to. to) (cases_lt (length before) j);
+}
+  where
+    within : (j : ℕ) → OccursAt p (before ++ (p ++ following)) j → length before < j → OccursAt p following (j - (length before + 1))
+    within j there after =
+        let k = j - (length before + 1) in
+        let j_is : length before + (length p + k) ≡ j = omega (arith, one, after) in
+        let same = ap (λ n. drop n (before ++ (p ++ following))) (sym j_is) ∙ drop-append-add before (p ++ following) (length p + k) ∙ drop-append-add p following k in
+        ap (take (length p)) (sym same) ∙ there
 
 -- t is what is before a place at which p occurs, p, and what is after it
 module _ {X : Type 0} (t p before following : List X) (i : ℕ) (here : OccursAt p t i) (before_is : before ≡ take i t) (after_is : following ≡ drop (i + length p) t) where

@@ -26,8 +26,6 @@ pub mod ToCome
 pub mod Rejoining
 pub mod IndicesLemmas
 pub mod PartLists
-pub mod PartListsBack
-pub mod StepsBack
 pub mod Separable
 pub mod KeepingLemmas
 pub mod LinesLemmas

@@ -85,17 +85,3 @@ module _ {X : Type 0} (p : List X) (some : 0 < length p) where
   -- if p is one element, the last part is always cut at its first p
   pub last_cut : (t : List X) (parts : List (List X)) → length p ≡ 1 → ArePartsFromFront t p None parts → OfLast (IsCutAtFirst p) parts
   last_cut t parts one are = let all = front-to t p None parts some tt are in OfLast-cut one parts (all.last tt)
-
-  -- ---- a limit of two
-
-  -- two parts of at most two: the first, and all that is after the first p
-  pub halves : (t first following : List X) → ArePartsFromFront t p (Some 2) (first ∷ following ∷ []) → (t ≡ first ++ (p ++ following)) × OccursFirstAt p t (length first)
-  halves t first following are =
-      let all = front-to t p (Some 2) (first ∷ following ∷ []) some (lit< tt) are in
-      (sym all.joined, first_place p t some (Some 2) first following [] all)
-
-  -- one part of at most two: all of a text that holds no p
-  pub undivided : (t part : List X) → ArePartsFromFront t p (Some 2) (part ∷ []) → (t ≡ part) × (¬ Occurs p t)
-  undivided t part are =
-      let all = front-to t p (Some 2) (part ∷ []) some (lit< tt) are in
-      (sym all.joined, subst (λ z. ¬ Occurs p z) all.joined (all.last (lit< tt)))

@@ -1,23 +1,22 @@
 -- Headers, line by line.
-use Rattle.std.proofs.Common.{◌≡◌, refl, sym, ap, subst, ◌∙◌, ℕ, ◌+◌, ◌<◌, List, [], ◌∷◌, ◌++◌, Option, Some, Result, IfOk, MatchOption, length, arith}
-use Rattle.std.specs.Option.{option_transpose, option_zip}
+use Rattle.std.proofs.Common.{◌≡◌, refl, sym, ap, subst, ◌∙◌, ℕ, ◌+◌, ◌<◌, List, [], ◌∷◌, ◌++◌, Option, None, Some, MatchOption, length, arith}
 use Rattle.std.proofs.lemmas.Str.{chars-nil}
 use Rattle.std.specs.Str.{chars}
-use Rattle.bytes_utils.proofs.StepLemmas.{two_steps}
 use Rattle.bytes_utils.proofs.ToCome.{one_of_lines}
+use Rattle.bytes_utils.specs.Halves.{AreHalvesAtFirst}
 use Rattle.bytes_utils.specs.Lines.{AreLinesToCome}
 use Rattle.bytes_utils.specs.Occurrence.{Occurs}
-use Rattle.bytes_utils.specs.Splitting.{Splitting, AreForwardPartsToCome, all_of}
-use Rattle.bytes_utils.specs.Step.{GivesFirst, IsStep}
+use Rattle.bytes_utils.specs.Step.{GivesFirst}
 use Rattle.bytes_utils.specs.Segments.{front_of}
 use Rattle.bytes_utils_run.specs.Headers.{AreHeaders, BeginWith, IsHeader, LacksSeparator, colon}
 
--- a line's first two parts, if there are two, are its name and its value; without a second part the line holds no separator
-pub header-reported : {E : Type 0} (cuts : Splitting → Type 0) (refuses : E → Type 0) (line : List ℕ) (a b : Option (Result (List ℕ) E)) {s : Splitting} (t u : Splitting)
-    → s ≡ all_of line colon (Some 2) → IsStep AreForwardPartsToCome cuts refuses s a t → IsStep AreForwardPartsToCome cuts refuses t b u
-    → IfOk (option_transpose a) (λ name. IfOk (option_transpose b) (λ value. MatchOption (option_zip name value) (¬ Occurs colon (chars line)) (IsHeader (chars line))))
+-- the halves of a line around its first colon and space, in bytes, are a header
+pub header-split : (line name : List ℕ) (value : Option (List ℕ))
+    → MatchOption value (¬ Occurs (chars colon) (chars line)) (λ v. AreHalvesAtFirst (chars line) (chars colon) (chars name) (chars v))
+    → MatchOption value (¬ Occurs colon (chars line)) (λ v. IsHeader (chars line) (name, v))
 unfolding chars
-header-reported cuts refuses line a b t u is first second = two_steps cuts refuses line colon a b t u (omega arith) is first second
+header-split line name None lacks = lacks
+header-split line name (Some value) halves = halves
 
 no_chars : (line : List ℕ) → length line ≡ 0 → chars line ≡ []
 no_chars [] none = chars-nil

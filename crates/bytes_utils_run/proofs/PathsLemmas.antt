@@ -1,22 +1,21 @@
 -- The names of joined paths.
-use Rattle.std.proofs.Common.{◌≡◌, refl, sym, ap, subst, ◌∙◌, ℕ, ◌<◌, Bool, true, false, not, List, [], ◌∷◌, ◌++◌, Option, None, Some, Result, IfOk, MatchOption, length, map, append-nil, arith, All, IsUtf8}
+use Rattle.std.proofs.Common.{◌≡◌, refl, sym, ap, subst, ◌∙◌, ℕ, ◌<◌, Bool, true, false, not, List, [], ◌∷◌, ◌++◌, Option, None, Some, MatchOption, length, map, append-nil, arith, All, IsUtf8}
 use Rattle.std.proofs.lemmas.List.{length-map}
 use Rattle.std.proofs.lemmas.List.Elements.{All-map, All-weaker}
 use Rattle.std.proofs.lemmas.Result.{IfOk-weaker}
 use Rattle.std.proofs.lemmas.Str.{chars-append, chars-IsAscii, IsUtf8-from_ascii}
 use Rattle.std.proofs.lemmas.Str.Ascii.{IsAscii-cons}
 use Rattle.std.specs.Bool.{OnFalse, OnTrue}
-use Rattle.std.specs.Option.{is_some, option_transpose, option_zip}
+use Rattle.std.specs.Option.{is_some}
 use Rattle.std.specs.Str.{chars, IsAscii}
 use Rattle.memchr.specs.Find.{FindsNeedle}
 use Rattle.bytes_utils.specs.Occurrence.{Occurs, FindsFirst}
 use Rattle.bytes_utils.specs.Frames.{TakesFrame}
+use Rattle.bytes_utils.specs.Halves.{AreHalvesAtFirst}
 use Rattle.bytes_utils.specs.Parts.{join, ArePartsFromFront}
-use Rattle.bytes_utils.specs.Splitting.{Splitting, AreForwardPartsToCome, all_of}
-use Rattle.bytes_utils.specs.Step.{IsStep}
-use Rattle.bytes_utils.proofs.PartLists.{alone, cut-empty, led, both, halves, last, last_cut}
+use Rattle.bytes_utils.specs.Splitting.{AreForwardPartsToCome, all_of}
+use Rattle.bytes_utils.proofs.PartLists.{alone, cut-empty, led, both, last, last_cut}
 use Rattle.bytes_utils.proofs.SearchLemmas.{FindsFirst-from_needle}
-use Rattle.bytes_utils.proofs.StepLemmas.{two_steps}
 use Rattle.bytes_utils.proofs.Separable.{chars-join, separable-lack, separable-parts}
 use Rattle.bytes_utils.proofs.ToCome.{front_same}
 use Rattle.bytes_utils_run.specs.Paths.{AreNames, IsName, slash}
@@ -89,28 +88,13 @@ AreNames-given path names are = subst (AreNames path) (append-nil names) are
 pub AreNames-same : (path : List ℕ) (names others : List (List ℕ)) → AreNames path names → AreNames path others → others ≡ names
 AreNames-same path names others are also = front_same (chars path) slash None others names also are
 
--- the results of two steps with a limit of 2
-module _ (path : List ℕ) where
-  -- the two parts, or without a second part no slash occurs
-  abbrev AreReported : Option (List ℕ × List ℕ) → Type 0
-  AreReported reported = MatchOption reported (¬ Occurs slash (chars path)) (λ parts. ArePartsFromFront (chars path) slash (Some 2) (chars parts.0 ∷ chars parts.1 ∷ []))
-
-  -- the same, with all that follows the slash
-  abbrev IsFirst : Option (List ℕ × List ℕ) → Type 0
-  IsFirst reported = MatchOption reported (¬ Occurs slash (chars path)) (λ parts. TakesFrame slash (chars path) (chars parts.0) (chars parts.1))
-
-  IsFirst-reported : (reported : Option (List ℕ × List ℕ)) → AreReported reported → IsFirst reported
-  IsFirst-reported None lacks = lacks
-  IsFirst-reported (Some parts) are =
-      let whole = halves slash (omega arith) (chars path) (chars parts.0) (chars parts.1) are in
-      record { bytes = whole.0; first = whole.1 }
-
-  module _ {E : Type 0} (cuts : Splitting → Type 0) (refuses : E → Type 0) (a b : Option (Result (List ℕ) E)) {s : Splitting} (t u : Splitting) (is : s ≡ all_of path slash (Some 2))
-      (one : IsStep AreForwardPartsToCome cuts refuses s a t) (two : IsStep AreForwardPartsToCome cuts refuses t b u) where
-    reported : IfOk (option_transpose a) (λ name. IfOk (option_transpose b) (λ following. AreReported (option_zip name following)))
-    unfolding chars
-    reported = two_steps cuts refuses path slash a b t u (omega arith) is one two
-
-    pub first-reported : IfOk (option_transpose a) (λ name. IfOk (option_transpose b) (λ following. IsFirst (option_zip name following)))
-    first-reported =
-        IfOk-weaker (option_transpose a) _ _ (λ name. IfOk-weaker (option_transpose b) _ _ (λ following. IsFirst-reported (option_zip name following))) reported
+-- the halves of a path around its first slash
+pub first-split : (path name : List ℕ) (following : Option (List ℕ))
+    → MatchOption following (¬ Occurs (chars slash) (chars path)) (λ rest. AreHalvesAtFirst (chars path) (chars slash) (chars name) (chars rest))
+    → MatchOption following (¬ Occurs slash (chars path)) (λ rest. TakesFrame slash (chars path) (chars name) (chars rest))
+unfolding chars
+first-split path name None lacks = lacks
+first-split path name (Some following) halves = record {
+  bytes = sym halves.joined;
+  first = halves.first;
+}

@@ -1,17 +1,17 @@
 -- Headers, one a line, up to the first empty line or the end.
-use Rattle.std.specs.Prelude.{◌≡◌, ℕ, ◌+◌, ◌<◌, List, [], ◌∷◌, length, codes, Some}
+use Rattle.std.specs.Prelude.{◌≡◌, ℕ, ◌+◌, ◌<◌, List, [], ◌∷◌, length, codes}
 use Rattle.std.specs.Str.{chars}
+use Rattle.bytes_utils.specs.Halves.{AreHalvesAtFirst}
 use Rattle.bytes_utils.specs.Occurrence.{Occurs}
-use Rattle.bytes_utils.specs.Parts.{ArePartsFromFront}
 use Rattle.bytes_utils.specs.Segments.{front_of}
 
 -- a colon and a space
 abbrev pub colon : List ℕ
 colon = codes ": "
 
--- the name and the value, as bytes, are the two parts of the line around its first colon and space
+-- the name and the value, as bytes, are the halves of the line around its first colon and space
 abbrev pub IsHeader : List ℕ → List ℕ × List ℕ → Type 0
-IsHeader line header = ArePartsFromFront line colon (Some 2) (chars header.0 ∷ chars header.1 ∷ [])
+IsHeader line header = AreHalvesAtFirst line colon (chars header.0) (chars header.1)
 
 -- the first lines are these headers, one a line, and the other lines follow
 abbrev pub BeginWith : List (List ℕ) → List (List ℕ × List ℕ) → List (List ℕ) → Type 0

@@ -15,11 +15,8 @@ fn next_line(alloc: Global, stream: &mut Lines, piece: Bytes) -> Result<Option<S
 
 /// Splits a line such as `Host: example.org` into name and value.
 fn header(line: Str) -> Result<Option<(Str, Str)>, Reason> {
-    let mut parts = line.splitn_bytes(2, ": ");
-    match (parts.next(), parts.next()) {
-        (Some(name), Some(value)) => Ok(Some((name?, value?))), // owned: they outlive the line
-        _ => Ok(None),
-    }
+    let (name, value) = line.split_once_bytes(": ")?;
+    Ok(value.map(|value| (name, value))) // owned: they outlive the line
 }
 
 /// Takes a body of `len` bytes out of `came`, or returns `None` until all of it has arrived.

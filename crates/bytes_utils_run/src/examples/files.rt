@@ -15,25 +15,18 @@ pub fn file_name<S: Storage>(path: StrInner<S>) -> Result<StrInner<S>, Reason>
         → other ≡ chars name) }
     ensures reason { IfErr result S.refuses }
 {
-    let mut parts = path.rsplitn_bytes(2, "/");
-    let Some(name) = parts.next() else {
-        unreachable!()
-    };
-    name
+    let (_folder, name) = path.rsplit_once_bytes("/")?;
+    Ok(name)
 }
 
-/// Returns what follows the last dot of a name, and what comes before it, or `None` if the name has
-/// no dot.
-fn around_dot<S: Storage>(name: StrInner<S>) -> Result<Option<(StrInner<S>, StrInner<S>)>, Reason>
+/// Returns what follows the last dot of a name, or `None` if the name has no dot.
+fn after_dot<S: Storage>(name: StrInner<S>) -> Result<Option<StrInner<S>>, Reason>
     ensures ok { IfOk result (λ found. MatchOption found (¬ Occurs dot (chars name))
-        (λ parts. IsExtension (chars name) (chars parts.0))) }
+        (λ extension. IsExtension (chars name) (chars extension))) }
     ensures reason { IfErr result S.refuses }
 {
-    let mut parts = name.rsplitn_bytes(2, ".");
-    let extension = parts.next().transpose();
-    let stem = parts.next().transpose();
-    drop(parts); // An implicit drop would be proved again at each return.
-    Ok(extension?.zip(stem?))
+    let (stem, extension) = name.rsplit_once_bytes(".")?;
+    Ok(stem.map(|_stem| extension))
 }
 
 /// Returns the extension of a path's file name: what follows the last dot of that name, or `None`
@@ -43,8 +36,5 @@ pub fn extension<S: Storage>(path: StrInner<S>) -> Result<Option<StrInner<S>>, R
     ensures reason { IfErr result S.refuses }
 {
     let name = file_name(path)?;
-    let Some((extension, _stem)) = around_dot(name)? else {
-        return Ok(None);
-    };
-    Ok(Some(extension))
+    after_dot(name)
 }

@@ -42,11 +42,8 @@ fn header_of<S: Storage>(line: StrInner<S>) -> Result<Option<(StrInner<S>, StrIn
         (λ o. MatchOption o (¬ Occurs colon (chars line)) (λ header. IsHeader (chars line) header)) }
     ensures reason { IfErr result S.refuses }
 {
-    let mut parts = line.splitn_bytes(2, ": ");
-    let name = parts.next().transpose();
-    let value = parts.next().transpose();
-    drop(parts); // An implicit drop would be proved again at each return.
-    Ok(name?.zip(value?))
+    let (name, value) = line.split_once_bytes(": ")?;
+    Ok(value.map(|value| (name, value)))
 }
 
 /// Reads the headers of a text, one a line, up to the first empty line or the end. Fails with

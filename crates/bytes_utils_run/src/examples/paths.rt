@@ -92,9 +92,6 @@ pub fn first_name(path: Str) -> Result<Option<(Str, Str)>, Reason>
         (λ parts. TakesFrame slash (chars path) (chars parts.0) (chars parts.1))) }
     ensures reason { IfErr result (λ reason. reason ≡ Reason.OutOfMemory) }
 {
-    let mut parts = path.splitn_bytes(2, "/");
-    let name = parts.next().transpose();
-    let following = parts.next().transpose();
-    drop(parts); // An implicit drop would be proved again at each return.
-    Ok(name?.zip(following?))
+    let (name, following) = path.split_once_bytes("/")?;
+    Ok(following.map(|following| (name, following)))
 }
