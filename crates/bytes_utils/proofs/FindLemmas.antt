@@ -43,16 +43,6 @@ Fills-more size all xs filled segment next i h inside is same =
           ∙ ap (λ m. take m (filled ++ (segment ++ rest))) (sym total) ∙ ap (λ l. take size (filled ++ l)) lists ∙ h.bytes;
     }
 
-pub Fills-all : (size : ℕ) (all : List ℕ) (xs : List (List ℕ)) (filled : List ℕ) (i : ℕ) → Fills size all xs filled i → (length filled < size → length xs ≤ i) → filled ≡ take size all
-Fills-all size all xs filled i h end =
-    let within = h.within in
-    ⊎_elim
-    (λ short.
-    let none : filled ++ concat (drop i xs) ≡ filled = ap (λ l. filled ++ concat l) (drop_all i xs (end short)) ∙ append-nil filled in
-    sym (ap (take size) none ∙ take_all size filled within) ∙ h.bytes)
-    (λ full. sym (take_at filled (concat (drop i xs)) size (omega (arith, within, full))) ∙ h.bytes)
-    (cases_lt (length filled) size)
-
 -- ---- a needle that begins in a segment, from place `from` of it on
 
 module _ (p segment following : List ℕ) (from : ℕ) (some : 0 < length p) (inside : from ≤ length segment) where

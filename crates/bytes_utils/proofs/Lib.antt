@@ -2,7 +2,6 @@ pub mod Boundaries
 pub mod JsonText
 pub mod JsonBytes
 pub mod JsonReading
-pub mod JsonCases
 pub mod Places
 pub mod SearchLemmas
 pub mod OccurrenceLemmas

@@ -1,5 +1,5 @@
 -- What one call of a splitter's `next` does.
-use Rattle.std.specs.Prelude.{ℕ, List, [], ◌∷◌, Option, Result, MatchOption, MatchResult}
+use Rattle.std.specs.Prelude.{ℕ, List, [], ◌∷◌, ◌++◌, Option, Result, MatchOption, MatchResult}
 use Rattle.std.specs.Str.{chars}
 
 -- Below, `coming s parts` says that in the state s of a splitter these parts are to come; at most one list is. `seen`
@@ -25,3 +25,9 @@ IsStepOf seen coming cuts refuses s r t = MatchOption r (coming s [] × coming t
 -- a step of a splitter whose items are texts
 abbrev pub IsStep : {S E : Type 0} → (S → List (List ℕ) → Type 0) → (S → Type 0) → (E → Type 0) → S → Option (Result (List ℕ) E) → S → Type 0
 IsStep coming cuts refuses s r t = IsStepOf chars coming cuts refuses s r t
+
+-- What a loop over a splitter keeps: since the state `start` the splitter has given these parts, and it is in the state
+-- `now`. Some list is to come, and the parts followed by each such list were to come at the start.
+pub record HasGiven {S X : Type 0} (coming : S → List X → Type 0) (start : S) (parts : List X) (now : S) : Type 0 where
+  pub some : (more : List X) × coming now more
+  pub each : (more : List X) → coming now more → coming start (parts ++ more)

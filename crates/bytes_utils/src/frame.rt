@@ -1,5 +1,5 @@
 //! Frames of a stream that comes in pieces, each ended by a separator.
-ghost use Rattle.std.specs.Prelude.{◌≡◌, ℕ, ◌+◌, ◌^◌, ◌<◌, ◌≤◌, ◌↔◌, List, [], ◌++◌, length, take, drop, IfOk, IfErr, IfSome, IfNone, OnOk, OnErr};
+ghost use Rattle.std.specs.Prelude.{◌≡◌, ℕ, ◌+◌, ◌^◌, ◌<◌, ◌≤◌, ◌↔◌, List, [], ◌++◌, length, take, drop, IfOk, IfErr, IfSome, IfNone, IsOk, OnOk, OnErr};
 ghost use Rattle.std.specs.List.{concat};
 ghost use Rattle.std.specs.Bool.{OnFalse, OnTrue};
 ghost use Rattle.bytes_utils.specs.Occurrence.{Occurs};
@@ -87,6 +87,7 @@ impl Frames {
         ensures back { IfErr result (λ e. e.back ≡ piece) }
         ensures too_long { IfErr result (λ e. (e.reason ≡ Reason.TooLong)
             ↔ (2 ^ 64 ≤ length self.old.held + length e.back)) }
+        ensures empty { piece ≡ [] → IsOk result }
     {
         self.pieces.try_push(piece)
     }
@@ -152,6 +153,7 @@ impl Frames {
         ensures front { IfOk result (λ front. concat front.segments ≡ take len self.old.held) }
         ensures ok { OnOk result (self.new ≡ record self.old { held = drop len self.old.held }) }
         ensures err { OnErr result (self.new ≡ self.old) }
+        ensures none { len ≡ 0 → IsOk result }
         ensures reason { IfErr result (λ reason. reason ≡ Reason.OutOfMemory) }
     {
         let front = self.pieces.split_to(alloc, len)?;

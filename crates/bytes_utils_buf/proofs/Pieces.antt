@@ -57,25 +57,6 @@ pub Skips-inside : (xs : List (List ℕ)) (passed offset at : ℕ) → Skips at 
 Skips-inside xs passed offset at skips more =
     inside xs passed offset 1 (omega arith) (omega (arith, more, ap length skips.bytes, length-drop at (concat xs)))
 
--- the byte at a place is the first byte from there on
-pub byte_after : (xs following : List (List ℕ)) (at : ℕ) → Skips at xs following → at < length (concat xs)
-    → (0 < length (front_of following)) × (slice_get (front_of following) 0 ≡ slice_get (concat xs) at)
-byte_after xs following at skips more =
-    let size : 0 < length (concat following) = omega (arith, more, ap length skips.bytes, length-drop at (concat xs)) in
-    let some = skips.front (concat_some following size) in
-    (some, first_byte following some ∙ ap (λ l. slice_get l 0) skips.bytes ∙ dropped (concat xs) at)
-  where
-    first_byte : (lists : List (List ℕ)) → 0 < length (front_of lists) → slice_get (front_of lists) 0 ≡ slice_get (concat lists) 0
-    first_byte [] some = absurd (omega arith)
-    first_byte ([] ∷ lists) some = absurd (omega arith)
-    first_byte ((b ∷ x) ∷ lists) some = refl
-
-    dropped : (bytes : List ℕ) (n : ℕ) → slice_get (drop n bytes) 0 ≡ slice_get bytes n
-    dropped [] zero = refl
-    dropped [] (suc n) = refl
-    dropped (b ∷ bytes) zero = refl
-    dropped (b ∷ bytes) (suc n) = dropped bytes n
-
 -- the first list alone has these bytes
 pub front_alone : (following : List (List ℕ)) (n : ℕ) → n ≤ length (front_of following) → take n (concat following) ≡ take n (front_of following)
 front_alone [] n fits = refl

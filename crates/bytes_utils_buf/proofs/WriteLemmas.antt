@@ -9,16 +9,6 @@ use Rattle.std.specs.Io.KnownBytes.{Appends}
 use Rattle.bytes_utils_buf.specs.Slices.{joined, FillsTable}
 use Rattle.bytes_utils_buf.specs.Write.{WritesCounted, WritesFront}
 
--- nothing is written yet
-pub WritesCounted-none : (a : Option (List ℕ)) (n : ℕ) (bytes : List ℕ) → WritesCounted a a n n bytes
-WritesCounted-none a n bytes =
-    let none : 0 ≡ n - n = omega arith in
-    record {
-      rises = omega arith;
-      within = omega arith;
-      appends = subst (λ k. Appends a a (take k bytes)) none (Appends-nil a);
-    }
-
 -- some of the bytes that come next were written
 pub WritesCounted-more : {a b c : Option (List ℕ)} {m n k : ℕ} {all part : List ℕ} (following : List ℕ) → WritesCounted a b m n all
     → WritesCounted b c n k part → part ++ following ≡ drop (n - m) all → WritesCounted a c m k all

@@ -1,5 +1,5 @@
 //! Buffers that copy their unread bytes out, and show them as slices.
-ghost use Rattle.std.specs.Prelude.{ℕ, ⊤, ◌≡◌, ◌<◌, ◌≤◌, length, take, drop, IfOk, IfErr, OnErr, ◌⊎◌};
+ghost use Rattle.std.specs.Prelude.{ℕ, ⊤, ◌≡◌, ◌<◌, ◌≤◌, length, take, drop, IfOk, IfErr, IsOk, OnErr, ◌⊎◌};
 ghost use Rattle.bytes_utils_buf.specs.Slices.{taken_by, joined, FillsTable};
 
 #[cfg(test)]
@@ -51,6 +51,8 @@ impl BufParts for Bytes {
         ensures rest { self.new ≡ drop (taken_by len result) self.old }
         ensures refused { IfErr result (λ e. e.taken ≡ 0) }
         ensures same { OnErr result (self.new ≡ self.old) }
+        ensures none { len ≡ 0 → IsOk result }
+        ensures whole { len ≡ length self.old → IsOk result }
     {
         match self.split_to(len) {
             Ok(copy) => Ok(copy),

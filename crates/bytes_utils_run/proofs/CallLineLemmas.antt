@@ -3,7 +3,8 @@ use Rattle.std.proofs.Common.{◌≡◌, refl, sym, ap, subst, ◌∙◌, ℕ, �
 use Rattle.std.proofs.lemmas.Str.{IsCharBoundary-at_seam, encodes-chars}
 use Rattle.std.specs.Str.{chars}
 use Rattle.bytes_utils.specs.Lines.{AreLinesToCome, lines}
-use Rattle.bytes_utils.specs.Step.{GivesFirst}
+use Rattle.bytes_utils.specs.Step.{GivesFirst, HasGiven}
+use Rattle.bytes_utils.proofs.StepLemmas.{HasGiven-none, HasGiven-more}
 use Rattle.bytes_utils_run.specs.CallLine.{AreCallLines, IsCallLine}
 use Rattle.bytes_utils_run.proofs.CommandLemmas.{chars-push}
 use Rattle.bytes_utils_run.specs.declared.calls.Call.{Call}
@@ -55,20 +56,18 @@ module _ (line text : List ℕ) (following : line ≡ codes "push " ++ text) (te
       let same : bytes ≡ text = is ∙ ap (λ k. drop k line) (pushed-place at place).0 ∙ ap (drop 5) following in
       (chars text, same ∙ sym (encodes-chars text text_is), e ∙ ap (λ z. z ++ chars text) chars-push)
 
--- The calls read so far: the first lines of the text ask for them, and its other lines are to come in the splitter's state.
+-- The calls read so far: the splitter gave lines that ask for them.
 pub record HasRead (text : List ℕ) (calls : List (Call (List ℕ))) (state : Option (List ℕ)) : Type 0 where
   pub read : List (List ℕ)
   pub asked : AreCallLines calls read
-  pub some : (more : List (List ℕ)) × AreLinesToCome state more
-  pub each : (more : List (List ℕ)) → AreLinesToCome state more → lines (chars text) ≡ read ++ more
+  pub had : HasGiven AreLinesToCome (Some text) read state
 
 -- no call yet
 pub HasRead-none : (text : List ℕ) (calls : List (Call (List ℕ))) (state : Option (List ℕ)) → calls ≡ [] → state ≡ Some text → HasRead text calls state
 HasRead-none text calls state none is = record {
   read = [];
   asked = subst (λ cs. AreCallLines cs []) (sym none) tt;
-  some = (lines (chars text), subst (λ rest. AreLinesToCome rest (lines (chars text))) (sym is) refl);
-  each = λ more come. sym (subst (λ rest. AreLinesToCome rest more) is come);
+  had = HasGiven-none AreLinesToCome (Some text) (lines (chars text), refl) refl is;
 }
 
 -- one more call
@@ -77,8 +76,7 @@ pub HasRead-more : (text : List ℕ) (calls new : List (Call (List ℕ))) (state
 HasRead-more text calls new state next call line old gives is pushed = record {
   read = old.read ++ line ∷ [];
   asked = subst (λ cs. AreCallLines cs (old.read ++ line ∷ [])) (sym pushed) (AreCallLines-push calls old.read call line old.asked is);
-  some = gives.some;
-  each = λ more come. old.each (line ∷ more) (gives.each more come) ∙ sym (append_assoc old.read (line ∷ []) more);
+  had = HasGiven-more AreLinesToCome (Some text) line old.had gives;
 }
 
 -- if the next line asks for no call, the lines of the text are not all call lines
@@ -86,4 +84,5 @@ pub no-calls-read : (text : List ℕ) (calls : List (Call (List ℕ))) (state ne
     → HasRead text calls state → GivesFirst AreLinesToCome state line next → ((call : Call (List ℕ)) → ¬ IsCallLine call line)
     → (all : List (Call (List ℕ))) → ¬ AreCallLines all (lines (chars text))
 no-calls-read text calls state next line old gives none all are =
-    no-call all old.read line gives.some.0 none (subst (AreCallLines all) (old.each (line ∷ gives.some.0) (gives.each gives.some.0 gives.some.1)) are)
+    let whole = old.had.each (line ∷ gives.some.0) (gives.each gives.some.0 gives.some.1) in
+    no-call all old.read line gives.some.0 none (subst (AreCallLines all) (sym whole) are)

@@ -12,7 +12,6 @@ pub mod Joining
 pub mod Fitting
 pub mod Ample
 pub mod Replying
-pub mod Cases
 pub mod TextBeginnings
 pub mod BorrowedRuns
 pub mod BorrowedCuts

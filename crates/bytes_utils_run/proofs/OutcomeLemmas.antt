@@ -1,5 +1,5 @@
 -- What follows from an outcome.
-use Rattle.std.proofs.Common.{List, [], ◌∷◌, ◌++◌, ◌≡◌, ◌<◌, length, Option, None, Some, Result, Ok, Err, map, subst, refl, arith}
+use Rattle.std.proofs.Common.{List, ◌++◌, ◌<◌, length, Option, None, Some, Result, Ok, Err, map, subst, arith}
 use Rattle.std.proofs.lemmas.Bool.{false≢true}
 use Rattle.std.proofs.lemmas.List.{map-append, length-map}
 use Rattle.std.specs.Result.{IsErr, result_err}
@@ -21,18 +21,8 @@ Outcome-map f Is Are into given (Some e) begun = (
   subst Are (map-append f given begun.0) (into (given ++ begun.0) begun.2),
 )
 
--- a right list isn't empty if the empty list isn't right
-pub some-of : {X : Type 0} (Is : List X → Type 0) → ¬ Is [] → (all : List X) → Is all → 0 < length all
-some-of Is none [] is = absurd (none is)
-some-of Is none (x ∷ all) is = omega arith
-
 -- the outcome after a refusal: other elements are missing
 pub Outcome-refused : {X E : Type 0} (Is : List X → Type 0) (given : List X) (result : Result Unit E) → IsErr result
-    → (others : List X) → 0 < length others → Is (given ++ others) → Outcome Is given (result_err result)
-Outcome-refused Is given (Ok _) none _ _ _ = absurd (false≢true none)
-Outcome-refused Is given (Err _) _ others some is = (others, some, is)
-
--- an element before others, or at the end of those before them
-pub map-between : {X Y : Type 0} (f : X → Y) (before : List X) (x : X) (others : List Y) → map f before ++ f x ∷ others ≡ map f (before ++ x ∷ []) ++ others
-map-between f [] x others = refl
-map-between f (y ∷ before) x others = rw (map-between f before x others) refl
+    → (others : List X) × (0 < length others) × Is (given ++ others) → Outcome Is given (result_err result)
+Outcome-refused Is given (Ok _) none _ = absurd (false≢true none)
+Outcome-refused Is given (Err _) _ missing = missing

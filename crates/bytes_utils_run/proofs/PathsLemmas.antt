@@ -13,9 +13,11 @@ use Rattle.bytes_utils.specs.Occurrence.{Occurs, FindsFirst}
 use Rattle.bytes_utils.specs.Frames.{TakesFrame}
 use Rattle.bytes_utils.specs.Halves.{AreHalvesAtFirst}
 use Rattle.bytes_utils.specs.Parts.{join, ArePartsFromFront}
-use Rattle.bytes_utils.specs.Splitting.{AreForwardPartsToCome, all_of}
+use Rattle.bytes_utils.specs.Splitting.{Splitting, AreForwardPartsToCome, all_of}
+use Rattle.bytes_utils.specs.Step.{HasGiven}
 use Rattle.bytes_utils.proofs.PartLists.{alone, cut-empty, led, both, last, last_cut}
 use Rattle.bytes_utils.proofs.SearchLemmas.{FindsFirst-from_needle}
+use Rattle.bytes_utils.proofs.StepLemmas.{HasGiven-all}
 use Rattle.bytes_utils.proofs.Separable.{chars-join, separable-lack, separable-parts}
 use Rattle.bytes_utils.proofs.ToCome.{front_same}
 use Rattle.bytes_utils_run.specs.Paths.{AreNames, IsName, slash}
@@ -80,9 +82,10 @@ AreNames-more path name names is plain are =
     (last slash (omega arith) (chars path) (chars name) names are (last_cut slash (omega arith) (chars path) names refl are) plain.1)
 
 -- all names that a splitter gives
-pub AreNames-given : (path : List ℕ) (names : List (List ℕ)) → AreForwardPartsToCome (all_of path slash None) (names ++ []) → AreNames path names
+pub AreNames-given : {path : List ℕ} {names : List (List ℕ)} {now : Splitting} → HasGiven AreForwardPartsToCome (all_of path slash None) names now
+    → AreForwardPartsToCome now [] → AreNames path names
 unfolding chars
-AreNames-given path names are = subst (AreNames path) (append-nil names) are
+AreNames-given had none = HasGiven-all AreForwardPartsToCome _ had none
 
 -- a path has one list of names
 pub AreNames-same : (path : List ℕ) (names others : List (List ℕ)) → AreNames path names → AreNames path others → others ≡ names

@@ -1,5 +1,5 @@
 //! Frames with a limit on their length.
-ghost use Rattle.std.specs.Prelude.{◌≡◌, ◌+◌, ◌^◌, ◌<◌, ◌≤◌, ◌↔◌, false, [], ◌++◌, length, take, drop, IsTrue, IfOk, IfErr, IfSome, IfNone, OnOk, OnErr, OnSome};
+ghost use Rattle.std.specs.Prelude.{◌≡◌, ◌+◌, ◌^◌, ◌<◌, ◌≤◌, ◌↔◌, false, [], ◌++◌, length, take, drop, IsTrue, IsOk, IfOk, IfErr, IfSome, IfNone, OnOk, OnErr, OnSome};
 ghost use Rattle.std.specs.List.{concat};
 ghost use Rattle.std.specs.Bool.{OnTrue};
 ghost use Rattle.bytes_utils.specs.Occurrence.{Occurs};
@@ -71,6 +71,7 @@ impl LimitedFrames {
         ensures back { IfErr result (λ e. e.back ≡ piece) }
         ensures too_long { IfErr result (λ e. (e.reason ≡ Reason.TooLong)
             ↔ (2 ^ 64 ≤ length self.old.held + length e.back)) }
+        ensures empty { piece ≡ [] → IsOk result }
     {
         self.frames.push(piece)
     }
@@ -93,6 +94,10 @@ impl LimitedFrames {
             (λ next. IfNone next (¬ Occurs self.new.separator self.new.held)) }
         ensures few { IfOk result (λ next. IfNone next
             (length self.new.held < self.new.max_length + length self.new.separator)) }
+
+        // The bytes of a skipped frame are dropped as they come.
+        ensures skipped { IfOk result (λ next. IfNone next (OnTrue self.new.discarding
+            (length self.new.held < length self.new.separator))) }
         ensures separator { self.new.separator ≡ self.old.separator }
         ensures max_length { self.new.max_length ≡ self.old.max_length }
     {
@@ -121,6 +126,10 @@ impl LimitedFrames {
             (λ next. IfNone next (¬ Occurs self.new.separator self.new.held)) }
         ensures few { IfOk result (λ next. IfNone next
             (length self.new.held < self.new.max_length + length self.new.separator)) }
+
+        // The bytes of a skipped frame are dropped as they come.
+        ensures skipped { IfOk result (λ next. IfNone next (OnTrue self.new.discarding
+            (length self.new.held < length self.new.separator))) }
         ensures separator { self.new.separator ≡ self.old.separator }
         ensures max_length { self.new.max_length ≡ self.old.max_length }
     {
@@ -151,6 +160,10 @@ impl LimitedFrames {
             (λ next. IfNone next (¬ Occurs self.new.separator self.new.held)) }
         ensures few { IfOk result (λ next. IfNone next
             (length self.new.held < self.new.max_length + length self.new.separator)) }
+
+        // The bytes of a skipped frame are dropped as they come.
+        ensures skipped { IfOk result (λ next. IfNone next (OnTrue self.new.discarding
+            (length self.new.held < length self.new.separator))) }
         ensures separator { self.new.separator ≡ self.old.separator }
         ensures max_length { self.new.max_length ≡ self.old.max_length }
     {

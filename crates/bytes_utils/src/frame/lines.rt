@@ -1,5 +1,5 @@
 //! Lines of a stream that comes in pieces.
-ghost use Rattle.std.specs.Prelude.{◌≡◌, ◌+◌, ◌^◌, ◌≤◌, ◌↔◌, [], ◌∷◌, ◌++◌, length, IsUtf8, IfOk, IfErr, IfSome, IfNone, OnErr, OnOk};
+ghost use Rattle.std.specs.Prelude.{◌≡◌, ◌+◌, ◌^◌, ◌≤◌, ◌↔◌, [], ◌∷◌, ◌++◌, length, IsUtf8, IfOk, IfErr, IfSome, IfNone, IsOk, OnErr, OnOk};
 ghost use Rattle.std.specs.List.{concat};
 ghost use Rattle.bytes_utils.specs.Errors.{IsFaultOf, fault_of, refused_storage};
 ghost use Rattle.bytes_utils.specs.Lines.{IsWithoutReturn, line_feed};
@@ -126,6 +126,7 @@ impl Lines {
         ensures back { IfErr result (λ e. e.back ≡ piece) }
         ensures too_long { IfErr result (λ e. (e.reason ≡ Reason.TooLong)
             ↔ (2 ^ 64 ≤ length self.old + length e.back)) }
+        ensures empty { piece ≡ [] → IsOk result }
     {
         self.frames.push(piece)
     }

@@ -1,5 +1,5 @@
 //! Records of a stream, each followed by an empty line, with a limit of length.
-ghost use Rattle.std.specs.Prelude.{◌≡◌, ◌+◌, ◌^◌, ◌<◌, ◌≤◌, ◌↔◌, false, [], ◌++◌, length, IsUtf8, IsErrOf, IfOk, IfErr, IfSome, IfNone, OnOk, OnErr};
+ghost use Rattle.std.specs.Prelude.{◌≡◌, ◌+◌, ◌^◌, ◌<◌, ◌≤◌, ◌↔◌, false, [], ◌++◌, length, IsUtf8, IsErrOf, IfOk, IfErr, IfSome, IfNone, OnOk, OnErr, IsOk};
 ghost use Rattle.bytes_utils.specs.Occurrence.{Occurs};
 ghost use Rattle.bytes_utils.specs.LimitedFrames.{Gives, Discards, Reports};
 ghost use Rattle.bytes_utils_run.specs.Records.{record_end};
@@ -64,6 +64,7 @@ impl Records {
         ensures back { IfErr result (λ e. e.back ≡ piece) }
         ensures too_long { IfErr result (λ e. (e.reason ≡ Reason.TooLong)
             ↔ (2 ^ 64 ≤ length self.old.held + length e.back)) }
+        ensures empty { piece ≡ [] → IsOk result }
     {
         self.frames.push(piece)
     }

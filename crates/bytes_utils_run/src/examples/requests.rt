@@ -1,7 +1,7 @@
 //! Requests of a stream: lines before an empty one, and a body as long as these lines report.
 //!
 //! An example of framing, and no HTTP parser: a server takes `hyper`.
-ghost use Rattle.std.specs.Prelude.{◌≡◌, ◌≢◌, ℕ, ◌+◌, ◌^◌, ◌<◌, ◌≤◌, ◌↔◌, List, [], ◌++◌, length, IfOk, IfErr, IfSome, IfNone, OnOk, OnErr, IsSomeAnd, MatchOption};
+ghost use Rattle.std.specs.Prelude.{◌≡◌, ◌≢◌, ℕ, ◌+◌, ◌^◌, ◌<◌, ◌≤◌, ◌↔◌, List, [], ◌++◌, length, IfOk, IfErr, IfSome, IfNone, OnOk, OnErr, IsSomeAnd, MatchOption, IsOk};
 ghost use Rattle.std.specs.List.{concat, prefix_len, suffix_len};
 ghost use Rattle.std.specs.Option.{option_or};
 ghost use Rattle.bytes_utils.specs.Frames.{TakesFrame};
@@ -70,6 +70,7 @@ impl Requests {
         ensures back { IfErr result (λ e. e.back ≡ piece) }
         ensures too_long { IfErr result (λ e. (e.reason ≡ Reason.TooLong)
             ↔ (2 ^ 64 ≤ length self.old + length e.back)) }
+        ensures empty { piece ≡ [] → IsOk result }
     {
         self.frames.push(piece)
     }

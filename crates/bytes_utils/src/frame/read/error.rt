@@ -1,5 +1,5 @@
 //! Why no frame was read.
-ghost use Rattle.std.specs.Prelude.{◌≡◌, ◌++◌, IfErr, OnOk, OnErr};
+ghost use Rattle.std.specs.Prelude.{◌≡◌, [], ◌++◌, IfErr, IsOk, OnOk, OnErr};
 ghost use Rattle.bytes_utils.specs.ReadError.{IsDue, back_bytes, error_text};
 ghost use Rattle.bytes_utils.specs.declared.frame.read.error.ReadError.TheVariants.{Refused as RefusedError};
 
@@ -33,6 +33,7 @@ impl ReadError {
         ensures err { OnErr result (frames.new ≡ frames.old) }
         ensures back { IfErr result (λ e. back_bytes e ≡ back_bytes self) }
         ensures due { IfErr result (IsDue frames.new.separator frames.new.held) }
+        ensures none { back_bytes self ≡ [] → IsOk result }
         ensures separator { frames.new.separator ≡ frames.old.separator }
     {
         match self {
@@ -52,6 +53,7 @@ pub(super) fn push(frames: &mut Frames, piece: Bytes) -> Result<(), ReadError>
     ensures err { OnErr result (frames.new ≡ frames.old) }
     ensures back { IfErr result (λ e. back_bytes e ≡ piece) }
     ensures due { IfErr result (IsDue frames.new.separator frames.new.held) }
+    ensures empty { piece ≡ [] → IsOk result }
     ensures separator { frames.new.separator ≡ frames.old.separator }
 {
     frames.push(piece).map_err(ReadError::Unpushed)

@@ -1,33 +1,28 @@
-use Rattle.std.proofs.Common.{List, [], ◌∷◌, ◌++◌, ℕ, map, subst, sym, append_assoc}
+use Rattle.std.proofs.Common.{List, [], ◌∷◌, ◌++◌, ℕ, map, refl, ap}
 use Rattle.std.proofs.KnownBytes.{Appends-nil}
 use Rattle.std.specs.List.{concat}
 use Rattle.std.specs.Str.{chars}
+use Rattle.bytes_utils.proofs.StepLemmas.{HasGiven-none, HasGiven-more, HasGiven-refused}
 use Rattle.bytes_utils_run.specs.Coming.{AreToCome}
 use Rattle.bytes_utils_run.specs.Moves.{AppendsBeginning}
 use Rattle.bytes_utils_run.specs.Printed.{printed_part}
 use Rattle.bytes_utils_run.proofs.Beginnings.{OnErr-always}
-use Rattle.bytes_utils_run.proofs.OutcomeLemmas.{some-of}
 use Rattle.bytes_utils_run.proofs.PrintedLemmas.{print_after, print_begun_after}
 use Rattle.bytes_utils_run.proofs.program.print.print_parts.Goals as goal
 
 pub loop-item-init : goal.loop-item-init
-loop-item-init g c =
-    let same = c.into_iter-item-iterator.ensures.into_iter_gives in
-    record {
-      parts = [];
-      some = rw same c.requires;
-      each = λ more to_come. subst (λ s. AreToCome s.now more) same to_come;
-      printed = Appends-nil _;
-    }
+loop-item-init g c = record {
+  parts = [];
+  had = HasGiven-none AreToCome c.args.splitter.now c.requires refl (ap (λ s. s.now) c.into_iter-item-iterator.ensures.into_iter_gives);
+  printed = Appends-nil _;
+}
 
 -- a split was refused: the parts that were to come are missing
 pub returns-in-Err-clause-ok : goal.returns-in-Err-clause-ok
 returns-in-Err-clause-ok g c =
     let before = c.loop-item.invariant in
-    let others = before.some in
     let step = rw c.in-Err.is at c.in-Some.ensures.steps in
-    let some = some-of (AreToCome c.loop-item.item-iterator.now) step.some others.0 others.1 in
-    (before.parts, (others.0, some, before.each others.0 others.1), before.printed)
+    (before.parts, HasGiven-refused AreToCome c.args.splitter.now before.had step.some, before.printed)
 
 -- first bytes of the part were printed, and others are to come
 pub returns-in_err-print-in-Ok-clause-err : goal.returns-in_err-print-in-Ok-clause-err
@@ -39,7 +34,7 @@ returns-in_err-print-in-Ok-clause-err g c =
     let begun : (parts : List (List ℕ)) × AreToCome c.args.splitter.now parts
     × AppendsBeginning (g.W.Write.contents c.args.writer.now) (g.W.Write.contents c.print.new.writer) (concat (map printed_part parts)) = (
       before.parts ++ part ∷ others.0,
-      before.each (part ∷ others.0) (step.gives.each others.0 others.1),
+      before.had.each (part ∷ others.0) (step.gives.each others.0 others.1),
       print_begun_after printed_part before.parts part others.0 _ _ _ before.printed c.in_err-print-in-Ok.ensures.err,
     ) in
     OnErr-always _ _ begun
@@ -51,8 +46,6 @@ loop-item-preserved g c =
     let step = rw c.in-Ok.is at c.in-Some.ensures.steps in
     record {
       parts = before.parts ++ part ∷ [];
-      some = step.gives.some;
-      each = λ more to_come.
-          subst (AreToCome c.args.splitter.now) (sym (append_assoc before.parts (part ∷ []) more)) (before.each (part ∷ more) (step.gives.each more to_come));
+      had = HasGiven-more AreToCome c.args.splitter.now part before.had step.gives;
       printed = print_after printed_part before.parts part _ _ _ before.printed c.in_ok-print-in-Ok.ensures.ok;
     }
