@@ -1,6 +1,5 @@
 -- The search for a separator that a splitter keeps: what it searches for, and from which end.
 use Rattle.std.specs.Prelude.{ℕ, List}
-use Rattle.bytes_utils.specs.Splitting.{Splitting}
 use Rattle.bytes_utils.specs.declared.split.direction.Direction.{Direction}
 use Rattle.bytes_utils.specs.declared.split.direction.Direction.TheVariants.{Forward, Backward}
 use Rattle.bytes_utils.specs.declared.split.search.Search.{Search}
@@ -15,8 +14,3 @@ needle_of (Last finder) = finder
 abbrev pub end_of : Search → Direction
 end_of (First _) = Forward
 end_of (Last _) = Backward
-
--- the state of a splitter by a separator, and the end from which it splits
-pub record SplittingFrom : Type 0 where
-  pub state : Splitting
-  pub end : Direction

@@ -16,6 +16,11 @@ pub record Splitting : Type 0 where
   pub limit : Option ℕ
   pub begun : Bool
 
+-- such a state, and the end from which the splitter splits
+pub record SplittingFrom : Type 0 where
+  pub state : Splitting
+  pub end : Direction
+
 -- a state, by its fields
 abbrev pub splitting : Option (List ℕ) → List ℕ → Option ℕ → Bool → Splitting
 splitting rest separator limit begun = record { rest = rest; separator = separator; limit = limit; begun = begun }

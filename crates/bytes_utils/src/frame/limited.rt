@@ -14,8 +14,9 @@ use std::alloc::Global;
 use std::marker::Model;
 
 /// A [`Frames`] with a limit on the bytes of a frame. A longer frame is reported once, as an error
-/// in its place, as soon as it is certain. It is skipped: its bytes are dropped as they come, and
-/// the next frame is the one after it.
+/// in its place: when it has ended, or as soon as it has as many bytes as the limit and the
+/// separator together. It is skipped: its bytes are dropped as they come, and the next frame is the
+/// one after it.
 ///
 /// If `next_frame` is called after each `push` until it returns `None`, then fewer bytes are held
 /// than `max_length` and the length of the separator together. Each held piece keeps its whole

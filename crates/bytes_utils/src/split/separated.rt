@@ -140,7 +140,8 @@ pub(super) struct SeparatorSplit<'s, S: Storage> {
 impl<'s, S: Storage> Model for SeparatorSplit<'s, S> {
     ghost use Rattle.std.specs.Prelude.{◌≡◌, ◌≢◌, length, Some, IfSome, IsUtf8};
     ghost use Rattle.std.specs.Bool.{OnTrue};
-    ghost use Rattle.bytes_utils.specs.Search.{SplittingFrom, end_of, needle_of};
+    ghost use Rattle.bytes_utils.specs.Search.{end_of, needle_of};
+    ghost use Rattle.bytes_utils.specs.Splitting.{SplittingFrom};
 
     ghost Value = { SplittingFrom };
 
