@@ -3,10 +3,10 @@ pub(crate) mod odd;
 pub(crate) mod refusals;
 pub(crate) mod slow_writer;
 
-use crate::Refused;
 use crate::contiguous::ContiguousBuf;
 use crate::parts::{BufParts, CopyRefused};
 use crate::segmented::{SegmentedBuf, SegmentedSlice};
+use crate::{Reason, Refused};
 use bytes::{Buf, Bytes};
 use odd::Asked;
 use std::alloc::{AllocError, Global};
@@ -64,15 +64,6 @@ pub(crate) fn gather<B: Buf + Drop>(alloc: Global, bufs: Vec<B>) -> Result<Segme
 
 pub(crate) fn held(alloc: Global, texts: &[&'static str]) -> Result<SegmentedBuf<Bytes>, Fail> {
     gather(alloc, bytes_of(alloc, texts)?)
-}
-
-/// Puts buffers of any type into one, by `from_iter`.
-pub(crate) fn collect<B: Buf + Drop>(alloc: Global, bufs: Vec<B>) -> Result<SegmentedBuf<B>, Fail> {
-    Ok(
-        SegmentedBuf::from_iter(alloc, bufs.into_iter())
-            .ok()
-            .ok_or("refused")?,
-    )
 }
 
 /// Puts a buffer of any type alone into one.
@@ -135,13 +126,6 @@ pub(crate) fn take_out<B: BufParts>(
 
 pub(crate) fn assert_bytes(rt: &impl Abort, found: &[u8], wanted: &str) {
     assert!(rt; found == wanted.as_bytes(), "these are not {wanted}");
-}
-
-pub(crate) fn assert_hold(rt: &impl Abort, bufs: &[Bytes], texts: &[&'static str]) {
-    assert!(rt; bufs.len() == texts.len());
-    for place in 0..texts.len() {
-        assert_bytes(rt, bufs[place].as_slice(), texts[place]);
-    }
 }
 
 /// The block of `other`, which was taken out whole, has one more owner and no third one. A copy of
@@ -222,34 +206,39 @@ fn assert_table(rt: &impl Abort, table: &[&[u8]], slices: &[&'static str]) {
     }
 }
 
-/// Asserts that a buffer of `JOINED` shows these slices, and gives all of its bytes.
-pub(crate) fn hands_out<B: BufParts>(
+/// Takes the next bytes out of a buffer. They are `piece`, and share the block of the buffer.
+pub(crate) fn shares_taken<B: BufParts>(
     rt: &impl Abort,
     alloc: Global,
     buf: &mut B,
-    slices: &[&'static str],
+    piece: &str,
 ) -> Result<(), Fail> {
-    assert_fills(rt, buf, 10, slices);
-    for piece in ["Hel", "", "lo World"] {
-        let copy = take_out(rt, alloc, buf, piece.len())?;
-        assert_bytes(rt, copy.as_slice(), piece);
-    }
-    assert_fills(rt, buf, 10, &[]);
+    let copy = take_out(rt, alloc, buf, piece.len())?;
+    assert!(rt; copy.as_slice() == piece.as_bytes() && !copy.is_unique());
     Ok(())
 }
 
-/// What is taken out and what is left share their block, and so do the first bytes and a part.
+/// These are the bytes of a result, and they are shared.
+fn assert_shared(rt: &impl Abort, found: Result<Bytes, Reason>, wanted: &str) -> Result<(), Fail> {
+    let found = found?;
+    assert!(rt; found.as_slice() == wanted.as_bytes() && !found.is_unique());
+    Ok(())
+}
+
+/// A buffer of `JOINED` reads as one slice. Its first bytes, a part, and bytes taken out share its
+/// block.
 pub(crate) fn shares<B: BufParts + ContiguousBuf>(
     rt: &impl Abort,
     alloc: Global,
     buf: &mut B,
 ) -> Result<(), Fail> {
+    assert_bytes(rt, buf.as_contiguous(), JOINED);
+    assert_fills(rt, buf, 10, &[JOINED]);
     assert!(rt; buf.remaining() >= 6);
-    let (first, part) = (buf.prefix(alloc, 5)?, buf.part(alloc, 1..5)?);
-    assert!(rt; !first.is_unique() && !part.is_unique());
-    assert_bytes(rt, part.as_slice(), "ello");
-    let copy = take_out(rt, alloc, buf, 5)?;
-    drop((first, part));
-    assert!(rt; !copy.is_unique());
+    assert_shared(rt, buf.prefix(alloc, 5), "Hello")?;
+    assert_shared(rt, buf.part(alloc, 1..5), "ello")?;
+    shares_taken(rt, alloc, buf, "Hello")?;
+    skip(rt, buf, 1);
+    assert_reads(rt, buf, 5, "World");
     Ok(())
 }

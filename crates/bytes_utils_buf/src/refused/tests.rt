@@ -31,7 +31,6 @@ fn too_long() -> Refused<u8> {
 fn refusals_say_why(rt: HostRuntime) -> Result<(), Fail> {
     let alloc = rt.alloc();
     assert_says(&rt, alloc, &Reason::OutOfMemory, "out of memory")?;
-    assert_says(&rt, alloc, &too_long().reason, "too long")?;
     assert_says(&rt, alloc, &too_long(), "too long")?;
     assert_says(
         &rt,

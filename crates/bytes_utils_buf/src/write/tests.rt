@@ -25,38 +25,18 @@ fn assert_writes(
     assert!(rt; SegmentedSlice::total(lent) == Some(whole.len()) && written <= whole.len());
     let mut writer = SlowWriter::new(Vec::new(alloc), most, fails_at);
     let mut all = SegmentedSlice::new(lent);
-    let result = write_all_of(&mut writer, &mut all);
+    let found = match write_all_of(&mut writer, &mut all) {
+        Ok(()) => None,
+        Err(reported) => Some(reported.kind()),
+    };
     assert!(rt;
         writer.held() == &whole[..written]
             && all.remaining() == whole.len() - written
             && writer.calls() == calls
-            && result.err().map(|reported| reported.kind()) == error,
-        "{most}, {fails_at}"
+            && found == error
     );
     if error == Some(ErrorKind::Interrupted) && most > 0 {
         assert!(rt; write_all_of(&mut writer, &mut all).is_ok() && writer.held() == whole);
-    }
-}
-
-// A writer that takes three bytes a call takes part of the block three times, and stops in the
-// third of the buffers. One call takes all of them, and no call follows it.
-const ROWS: &[Row] = &[
-    (1, 0, 12, 12, None),
-    (3, 0, 12, 4, None),
-    (100, 2, 12, 1, None),
-    (0, 0, 0, 1, Some(ErrorKind::WriteZero)),
-    (0, 1, 0, 1, Some(ErrorKind::Interrupted)),
-    (100, 1, 0, 1, Some(ErrorKind::Interrupted)),
-    (2, 2, 2, 2, Some(ErrorKind::Interrupted)),
-    (3, 4, 9, 4, Some(ErrorKind::Interrupted)),
-];
-
-#[test]
-fn lent_buffers(rt: HostRuntime) {
-    for row in ROWS {
-        let mut lent: [&[u8]; 4] = [b"Gr\xc3", b"", b"\xbc\xc3\x9fe ", b"alle"];
-        let whole = "Grüße alle".as_bytes();
-        assert_writes(&rt, rt.alloc(), &mut lent, whole, *row);
     }
 }
 
@@ -87,6 +67,49 @@ fn cut<'s>(alloc: Global, bytes: &'s [u8], lengths: &[usize]) -> Result<Vec<&'s 
 /// The lengths of the buffers in turn, the length of all of them, and what writing them gives.
 type Case = (&'static [usize], usize, Row);
 
+fn writes(rt: &impl Abort, alloc: Global, cases: &[Case]) -> Result<(), Fail> {
+    for (lengths, len, row) in cases {
+        let whole = whole(alloc, *len)?;
+        let mut lent = cut(alloc, &whole, lengths)?;
+        assert_writes(rt, alloc, &mut lent, &whole, *row);
+    }
+    Ok(())
+}
+
+// A writer that takes three bytes a call takes part of the block three times, and stops in the
+// third of the buffers. One call takes all of them, and no call follows it.
+const LENT: &[Case] = &[
+    (&[3, 0, 5, 4], 12, (1, 0, 12, 12, None)),
+    (&[3, 0, 5, 4], 12, (3, 0, 12, 4, None)),
+    (&[3, 0, 5, 4], 12, (100, 2, 12, 1, None)),
+    (&[3, 0, 5, 4], 12, (0, 0, 0, 1, Some(ErrorKind::WriteZero))),
+    (
+        &[3, 0, 5, 4],
+        12,
+        (0, 1, 0, 1, Some(ErrorKind::Interrupted)),
+    ),
+    (
+        &[3, 0, 5, 4],
+        12,
+        (100, 1, 0, 1, Some(ErrorKind::Interrupted)),
+    ),
+    (
+        &[3, 0, 5, 4],
+        12,
+        (2, 2, 2, 2, Some(ErrorKind::Interrupted)),
+    ),
+    (
+        &[3, 0, 5, 4],
+        12,
+        (3, 4, 9, 4, Some(ErrorKind::Interrupted)),
+    ),
+];
+
+#[test]
+fn lent_buffers(rt: HostRuntime) -> Result<(), Fail> {
+    writes(&rt, rt.alloc(), LENT)
+}
+
 const ALL: usize = usize::MAX;
 
 // One call writes up to 1,024 small buffers, in blocks of whole buffers and at most 16,384 bytes. A
@@ -107,12 +130,7 @@ const CALLS: &[Case] = &[
 
 #[test]
 fn calls(rt: HostRuntime) -> Result<(), Fail> {
-    for (lengths, len, row) in CALLS {
-        let whole = whole(rt.alloc(), *len)?;
-        let mut lent = cut(rt.alloc(), &whole, lengths)?;
-        assert_writes(&rt, rt.alloc(), &mut lent, &whole, *row);
-    }
-    Ok(())
+    writes(&rt, rt.alloc(), CALLS)
 }
 
 // What a short write leaves of a block is written by itself: 16,000 bytes by four calls, and then
@@ -162,10 +180,5 @@ const SHORT: &[Case] = &[
 
 #[test]
 fn short_writes(rt: HostRuntime) -> Result<(), Fail> {
-    for (lengths, len, row) in SHORT {
-        let whole = whole(rt.alloc(), *len)?;
-        let mut lent = cut(rt.alloc(), &whole, lengths)?;
-        assert_writes(&rt, rt.alloc(), &mut lent, &whole, *row);
-    }
-    Ok(())
+    writes(&rt, rt.alloc(), SHORT)
 }

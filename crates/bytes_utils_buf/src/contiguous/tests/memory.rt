@@ -1,33 +1,15 @@
-//! Refused memory: the first bytes of one buffer.
+//! Refused memory: the first bytes of one buffer, and a part.
 use crate::contiguous::ContiguousBuf;
-use crate::fixtures::refusals::report;
-use crate::fixtures::{JOINED, assert_bytes};
+use crate::fixtures::JOINED;
+use crate::fixtures::refusals::gives_bytes;
 use bytes::Bytes;
-use std::alloc::Global;
-use std::process::Abort;
 use std::test::Fail;
 
-fn gives_first<B: ContiguousBuf>(
-    rt: &(impl Abort + Print),
-    alloc: Global,
-    call: &str,
-    buf: &B,
-) -> Result<(), Fail> {
-    assert!(rt; buf.remaining() >= 5);
-    let copy = match buf.prefix(alloc, 5) {
-        Ok(copy) => copy,
-        Err(reason) => {
-            report(rt, call, reason)?;
-            buf.prefix(alloc, 5)?
-        }
-    };
-    assert_bytes(rt, copy.as_slice(), "Hello");
-    Ok(())
-}
-
 #[test]
-fn first_of_slices(rt: HostRuntime) -> Result<(), Fail> {
-    gives_first(&rt, rt.alloc(), "first of &[u8]", &JOINED.as_bytes())
+fn first_and_part_of_slices(rt: HostRuntime) -> Result<(), Fail> {
+    let slice = JOINED.as_bytes();
+    gives_bytes(&rt, "first of &[u8]", slice.prefix(rt.alloc(), 5), "Hello")?;
+    gives_bytes(&rt, "part of &[u8]", slice.part(rt.alloc(), 6..11), "World")
 }
 
 // It shares its bytes and allocates nothing, so it is never refused.
@@ -36,5 +18,5 @@ fn first_of_bytes(rt: HostRuntime) -> Result<(), Fail> {
     let Ok(bytes) = Bytes::copy_from_slice(rt.alloc(), JOINED.as_bytes()) else {
         return Ok(());
     };
-    gives_first(&rt, rt.alloc(), "first of Bytes", &bytes)
+    gives_bytes(&rt, "first of Bytes", bytes.prefix(rt.alloc(), 5), "Hello")
 }

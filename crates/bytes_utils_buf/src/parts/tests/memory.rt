@@ -1,6 +1,7 @@
 //! Refused memory: bytes copied out of one buffer.
 use crate::fixtures::JOINED;
-use crate::fixtures::refusals::copies_out;
+use crate::fixtures::refusals::{copies_out, following};
+use crate::parts::copy_out_of;
 use bytes::Bytes;
 use std::test::Fail;
 
@@ -10,10 +11,15 @@ fn copy_out_of_bytes(rt: HostRuntime) -> Result<(), Fail> {
     let Ok(mut bytes) = Bytes::copy_from_slice(rt.alloc(), JOINED.as_bytes()) else {
         return Ok(());
     };
-    copies_out(&rt, rt.alloc(), "copy_out of Bytes", &mut bytes)
+    copies_out(&rt, rt.alloc(), "copy_out of Bytes", &mut bytes, &[JOINED])
 }
 
 #[test]
 fn copy_out_of_slices(rt: HostRuntime) -> Result<(), Fail> {
-    copies_out(&rt, rt.alloc(), "copy_out of &[u8]", &mut JOINED.as_bytes())
+    let mut slice = JOINED.as_bytes();
+    copies_out(&rt, rt.alloc(), "copy_out of &[u8]", &mut slice, &[JOINED])?;
+    let mut slice = JOINED.as_bytes();
+    let copy = copy_out_of(&mut slice, rt.alloc(), 5);
+    let _ = following(&rt, "copy_out_of", copy, 5, slice.len(), JOINED.as_bytes())?;
+    Ok(())
 }

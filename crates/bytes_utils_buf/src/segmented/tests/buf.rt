@@ -1,5 +1,5 @@
 //! Reading a `SegmentedBuf`.
-use crate::fixtures::{FOUR, Shown, assert_debugs, assert_shows, held, reads_nothing, skip};
+use crate::fixtures::{FOUR, Shown, assert_debugs, assert_shows, gives, held, reads_nothing, skip};
 use crate::segmented::SegmentedBuf;
 use bytes::Bytes;
 use std::alloc::Global;
@@ -7,38 +7,39 @@ use std::collections::VecDeque;
 use std::process::Abort;
 use std::test::Fail;
 
-// Skips bytes of `FOUR`.
-fn skips(rt: &impl Abort, alloc: Global, cnt: usize, shown: Shown) -> Result<(), Fail> {
+// Skips bytes of `FOUR`, and copies the next ones.
+fn reads(
+    rt: &impl Abort,
+    alloc: Global,
+    cnt: usize,
+    piece: &str,
+    shown: Shown,
+) -> Result<(), Fail> {
     let mut buf = held(alloc, &FOUR)?;
     skip(rt, &mut buf, cnt);
+    gives(rt, alloc, &mut buf, piece)?;
     assert_shows(rt, &buf, shown);
     Ok(())
 }
 
-#[test]
-fn segments(rt: HostRuntime) -> Result<(), Fail> {
-    skips(&rt, rt.alloc(), 0, (11, 3, "Hello"))?;
-    skips(&rt, rt.alloc(), 3, (8, 3, "lo"))
-}
+/// How many bytes are skipped, which are copied after that, and what is shown then.
+const FOUR_READ: &[(usize, &str, Shown)] = &[
+    (0, "", (11, 3, "Hello")),
+    (2, "", (9, 3, "llo")),
+    (3, "", (8, 3, "lo")),
+    (5, "", (6, 2, " ")),
+    (6, "", (5, 1, "World")),
+    (7, "", (4, 1, "orld")),
+    (0, "Hello World", (0, 0, "")),
+    (3, "lo Wor", (2, 1, "ld")),
+];
 
 #[test]
-fn advance_within(rt: HostRuntime) -> Result<(), Fail> {
-    skips(&rt, rt.alloc(), 2, (9, 3, "llo"))
-}
-
-#[test]
-fn advance_border(rt: HostRuntime) -> Result<(), Fail> {
-    skips(&rt, rt.alloc(), 5, (6, 2, " "))
-}
-
-#[test]
-fn empty_at_border(rt: HostRuntime) -> Result<(), Fail> {
-    skips(&rt, rt.alloc(), 6, (5, 1, "World"))
-}
-
-#[test]
-fn advance_across(rt: HostRuntime) -> Result<(), Fail> {
-    skips(&rt, rt.alloc(), 7, (4, 1, "orld"))
+fn advance_and_copy(rt: HostRuntime) -> Result<(), Fail> {
+    for (cnt, piece, shown) in FOUR_READ {
+        reads(&rt, rt.alloc(), *cnt, piece, *shown)?;
+    }
+    Ok(())
 }
 
 #[test]
@@ -57,7 +58,8 @@ fn hands_back(rt: HostRuntime) -> Result<(), Fail> {
 
 #[test]
 fn has_a_debug_text(rt: HostRuntime) -> Result<(), Fail> {
-    assert_debugs(&rt, rt.alloc(), &held(rt.alloc(), &["a"])?, "SegmentedBuf")
+    let buf: SegmentedBuf<Bytes> = SegmentedBuf::new(rt.alloc());
+    assert_debugs(&rt, rt.alloc(), &buf, "SegmentedBuf")
 }
 
 // The tally has no bytes: there are only the deque and the sum.

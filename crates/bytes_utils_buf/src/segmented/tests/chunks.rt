@@ -1,18 +1,23 @@
 //! The chunks of held buffers.
-use crate::fixtures::{FOUR, JOINED, assert_bytes, held};
+use crate::contiguous::ContiguousBuf;
+use crate::fixtures::{FIVE, assert_bytes, held};
+use crate::segmented::SegmentedBuf;
 use bytes::Buf;
+use std::process::Abort;
 use std::test::Fail;
+
+fn shows_five<B: ContiguousBuf + Drop>(rt: &impl Abort, buf: &SegmentedBuf<B>) {
+    let mut place = 0;
+    for chunk in buf.chunks() {
+        assert!(rt; place < 5);
+        assert_bytes(rt, chunk, FIVE[place]);
+        place += 2;
+    }
+    assert!(rt; place == 6 && buf.remaining() == 11);
+}
 
 #[test]
 fn chunks(rt: HostRuntime) -> Result<(), Fail> {
-    let buf = held(rt.alloc(), &FOUR)?;
-    let mut copy = Vec::new(rt.alloc());
-    let mut count: usize = 0;
-    for chunk in buf.chunks() {
-        copy.extend_from_slice(chunk)?;
-        count = count.saturating_add(1);
-    }
-    assert_bytes(&rt, copy.as_slice(), JOINED);
-    assert!(rt; count == 3 && buf.remaining() == 11);
+    shows_five(&rt, &held(rt.alloc(), &FIVE)?);
     Ok(())
 }

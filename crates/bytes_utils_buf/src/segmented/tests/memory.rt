@@ -9,7 +9,9 @@ mod queue;
 mod range;
 mod split;
 
-use crate::fixtures::{assert_fills, bytes_of, put, skip};
+use crate::Reason;
+use crate::fixtures::refusals::report;
+use crate::fixtures::{assert_fills, bytes_of};
 use crate::segmented::SegmentedBuf;
 use bytes::{Buf, Bytes};
 use std::alloc::{AllocError, Global};
@@ -17,27 +19,36 @@ use std::process::Abort;
 use std::test::Fail;
 
 /// Six buffers. A deque grows twice while they are appended.
-pub(super) const LETTERS: &[&str] = &["a", "b", "c", "d", "e", "f"];
+const LETTERS: &[&str] = &["a", "b", "c", "d", "e", "f"];
 
-pub(super) fn letters(alloc: Global) -> Result<Vec<Bytes>, AllocError> {
+fn letters(alloc: Global) -> Result<Vec<Bytes>, AllocError> {
     bytes_of(alloc, LETTERS)
 }
 
+// These letters are held, if there is memory for them.
+fn holding(alloc: Global, letters: &[&'static str]) -> Option<SegmentedBuf<Bytes>> {
+    SegmentedBuf::from_vec(alloc, bytes_of(alloc, letters).ok()?).ok()
+}
+
 // The first `held` letters are held.
-pub(super) fn assert_holds(rt: &impl Abort, buf: &SegmentedBuf<Bytes>, held: usize) {
-    assert!(rt; held <= LETTERS.len());
-    assert!(rt; buf.segments() == held && buf.remaining() == held);
+fn assert_holds(rt: &impl Abort, buf: &SegmentedBuf<Bytes>, held: usize) {
+    assert!(rt; held <= LETTERS.len() && buf.segments() == held && buf.remaining() == held);
     assert_fills(rt, buf, 10, &LETTERS[..held]);
 }
 
-// An empty buffer is pushed, and bytes are skipped.
-pub(super) fn passes<B: Buf + Drop>(
-    rt: &impl Abort,
-    buf: &mut SegmentedBuf<B>,
-    empty: B,
-    cnt: usize,
+// The letters from `from` on are returned, or the call is refused.
+fn gives_letters(
+    rt: &(impl Abort + Print),
+    call: &str,
+    answer: Result<SegmentedBuf<Bytes>, Reason>,
+    from: usize,
 ) -> Result<(), Fail> {
-    put(rt, buf, empty)?;
-    skip(rt, buf, cnt);
-    Ok(())
+    match answer {
+        Ok(part) => {
+            assert!(rt; from <= LETTERS.len());
+            assert_fills(rt, &part, 10, &LETTERS[from..]);
+            Ok(())
+        }
+        Err(reason) => report(rt, call, reason),
+    }
 }

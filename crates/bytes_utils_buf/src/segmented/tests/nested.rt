@@ -29,10 +29,24 @@ fn pair<B: Buf + Drop>(alloc: Global, first: B, second: B) -> Result<SegmentedBu
     gather(alloc, bufs)
 }
 
+// The middle buffers are of the first two, and of the third.
+fn nests<B: BufParts + Drop>(
+    rt: &impl Abort,
+    alloc: Global,
+    (first, second, third): (B, B, B),
+) -> Result<(), Fail> {
+    let upper = pair(alloc, first, second)?;
+    let lower = hold(rt, alloc, third)?;
+    reads_three(rt, alloc, pair(alloc, upper, lower)?)
+}
+
 #[test]
 fn three_levels(rt: HostRuntime) -> Result<(), Fail> {
-    let alloc = rt.alloc();
-    let upper = pair(alloc, held(alloc, &["a", "", "b"])?, held(alloc, &[])?)?;
-    let lower = hold(&rt, alloc, held(alloc, &["cd"])?)?;
-    reads_three(&rt, alloc, pair(alloc, upper, lower)?)
+    let first = held(rt.alloc(), &["a", "", "b"])?;
+    let third = held(rt.alloc(), &["cd"])?;
+    nests(
+        &rt,
+        rt.alloc(),
+        (first, SegmentedBuf::new(rt.alloc()), third),
+    )
 }

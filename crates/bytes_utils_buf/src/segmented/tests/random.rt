@@ -1,6 +1,7 @@
 //! The same bytes read through buffers of different kinds.
-use crate::fixtures::{FIVE, JOINED, collect, gives, lend, slices_of};
+use crate::fixtures::{FIVE, JOINED, gives, lend, slices_of};
 use crate::parts::{BufParts, CopyRefused};
+use crate::segmented::SegmentedBuf;
 use bytes::Bytes;
 use std::alloc::Global;
 use std::process::Abort;
@@ -21,32 +22,32 @@ fn gives_pieces<B: BufParts>(
     Ok(())
 }
 
+fn random_held<B: BufParts + Drop>(
+    rt: &impl Abort,
+    alloc: Global,
+    mut held: SegmentedBuf<B>,
+    clone: Option<SegmentedBuf<B>>,
+) -> Result<(), Fail> {
+    assert!(rt; held.segments() <= 5);
+    gives_pieces(rt, alloc, &mut held)?;
+    drop(held);
+    gives(rt, alloc, &mut clone.ok_or("refused")?, JOINED)?;
+    Ok(())
+}
+
 #[test]
 fn random(rt: HostRuntime) -> Result<(), Fail> {
-    let mut held = collect(rt.alloc(), slices_of(rt.alloc(), &FIVE)?)?;
-    assert!(rt; held.segments() <= 5);
-    gives_pieces(&rt, rt.alloc(), &mut held)?;
-    Ok(())
+    let bufs = slices_of(rt.alloc(), &FIVE)?;
+    let held = SegmentedBuf::from_iter(rt.alloc(), bufs.into_iter())?;
+    let clone = held.try_clone().ok();
+    random_held(&rt, rt.alloc(), held, clone)
 }
 
 #[test]
-fn random_bytes(rt: HostRuntime) -> Result<(), Fail> {
+fn random_lent_and_bytes(rt: HostRuntime) -> Result<(), Fail> {
+    let mut bufs: [&[u8]; 5] = [b"Hello", b"", b" ", b"", b"World"];
+    gives_pieces(&rt, rt.alloc(), &mut lend(&rt, &mut bufs))?;
     let mut bytes = Bytes::from_static(JOINED.as_bytes());
     gives_pieces(&rt, rt.alloc(), &mut bytes)?;
-    Ok(())
-}
-
-#[test]
-fn random_lent(rt: HostRuntime) -> Result<(), Fail> {
-    let mut bufs = slices_of(rt.alloc(), &FIVE)?;
-    gives_pieces(&rt, rt.alloc(), &mut lend(&rt, &mut bufs))?;
-    Ok(())
-}
-
-#[test]
-fn random_clone(rt: HostRuntime) -> Result<(), Fail> {
-    let held = collect(rt.alloc(), slices_of(rt.alloc(), &FIVE)?)?;
-    let mut clone = held.try_clone()?;
-    gives(&rt, rt.alloc(), &mut clone, JOINED)?;
     Ok(())
 }

@@ -1,37 +1,50 @@
 //! Places and ranges of a body; `memory/range` has the bytes of ranges.
-use crate::fixtures::{FOUR, JOINED, held};
+use crate::contiguous::ContiguousBuf;
+use crate::fixtures::{FOUR, JOINED, held, hold, put};
 use crate::segmented::SegmentedBuf;
 use bytes::{Buf, Bytes};
+use std::alloc::Global;
+use std::process::Abort;
 use std::test::Fail;
 
 #[test]
 fn bytes_at_places(rt: HostRuntime) -> Result<(), Fail> {
     let buf = held(rt.alloc(), &FOUR)?;
-    assert!(rt; buf.byte_at(5) == Some(b' ') && buf.byte_at(11).is_none());
-    assert!(rt; buf.holds_at(3, b"lo W") && !buf.holds_at(7, b"World"));
-    assert!(rt; buf.eq_bytes(JOINED.as_bytes()) && !buf.eq_bytes(b"Hello"));
+    assert!(rt;
+        buf.byte_at(5) == Some(b' ') && buf.holds_at(3, b"lo W") && buf.eq_bytes(JOINED.as_bytes())
+    );
     Ok(())
 }
 
 // A range shares the segments in which it is, and a copy of it does if it is in one segment.
+fn shares_ranges<B: ContiguousBuf + Drop>(
+    rt: &impl Abort,
+    alloc: Global,
+    buf: &SegmentedBuf<B>,
+) -> Result<(), Fail> {
+    assert!(rt; buf.remaining() >= 8);
+    for piece in buf.slice(alloc, 3..8)? {
+        assert!(rt; !piece.is_unique());
+    }
+    let alone = buf.copy_range(alloc, 1..4)?;
+    assert!(rt; !alone.is_unique());
+    drop(alone);
+    let across = buf.copy_range(alloc, 1..7)?;
+    assert!(rt; across.is_unique());
+    Ok(())
+}
+
 #[test]
 fn ranges_are_shared(rt: HostRuntime) -> Result<(), Fail> {
-    let alloc = rt.alloc();
-    let mut bufs = Vec::new(alloc);
-    bufs.push(Bytes::copy_from_slice(alloc, b"Hello")?)?;
-    bufs.push(Bytes::copy_from_slice(alloc, b" World")?)?;
-    let buf = SegmentedBuf::from_vec(alloc, bufs)?;
-    assert!(rt; buf.remaining() >= 8);
-    let (alone, across) = (buf.copy_range(alloc, 1..4)?, buf.copy_range(alloc, 1..7)?);
-    assert!(rt; !alone.is_unique() && across.is_unique());
-    drop(alone);
-    let part = buf.slice(alloc, 3..8)?;
-    drop(buf);
-    assert!(rt;
-        part.into_inner()
-            .into_vec()
-            .iter()
-            .all(|piece| piece.is_unique())
-    );
-    Ok(())
+    let mut buf = hold(
+        &rt,
+        rt.alloc(),
+        Bytes::copy_from_slice(rt.alloc(), b"Hello")?,
+    )?;
+    put(
+        &rt,
+        &mut buf,
+        Bytes::copy_from_slice(rt.alloc(), b" World")?,
+    )?;
+    shares_ranges(&rt, rt.alloc(), &buf)
 }

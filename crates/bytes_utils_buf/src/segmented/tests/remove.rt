@@ -1,13 +1,22 @@
 //! Segments that are taken out whole.
-use crate::fixtures::{FOUR, assert_hold, held};
+use crate::contiguous::ContiguousBuf;
+use crate::fixtures::{FIVE, assert_bytes, held};
+use crate::segmented::SegmentedBuf;
+use std::process::Abort;
 use std::test::Fail;
+
+fn yields_five<B: ContiguousBuf + Drop>(rt: &impl Abort, buf: SegmentedBuf<B>) {
+    let mut place = 0;
+    for segment in buf {
+        assert!(rt; place < 5);
+        assert_bytes(rt, segment.as_contiguous(), FIVE[place]);
+        place += 2;
+    }
+    assert!(rt; place == 6);
+}
 
 #[test]
 fn into_iter_in_order(rt: HostRuntime) -> Result<(), Fail> {
-    let mut all = Vec::new(rt.alloc());
-    for segment in held(rt.alloc(), &FOUR)? {
-        all.push(segment)?;
-    }
-    assert_hold(&rt, &all, &["Hello", " ", "World"]);
+    yields_five(&rt, held(rt.alloc(), &FIVE)?);
     Ok(())
 }

@@ -1,8 +1,7 @@
 //! Reading a `SegmentedSlice`.
 use crate::fixtures::odd::Zeros;
 use crate::fixtures::{
-    FIVE, assert_bytes, assert_debugs, assert_hold, assert_reads, bytes_of, lend, reads_nothing,
-    skip, slices_of,
+    FIVE, assert_bytes, assert_debugs, assert_reads, bytes_of, lend, reads_nothing, skip,
 };
 use crate::segmented::SegmentedSlice;
 use bytes::{Buf, Bytes};
@@ -14,6 +13,13 @@ use std::test::Fail;
 /// How many bytes are left after the skipped ones, the chunk then, and what the borrowed buffers
 /// hold.
 type Left = (usize, &'static str, &'static [&'static str]);
+
+fn assert_hold(rt: &impl Abort, bufs: &[Bytes], texts: &[&'static str]) {
+    assert!(rt; bufs.len() == texts.len());
+    for place in 0..texts.len() {
+        assert_bytes(rt, bufs[place].as_slice(), texts[place]);
+    }
+}
 
 // Skips bytes of `FIVE`, until the borrow ends.
 fn skips(rt: &impl Abort, alloc: Global, cnt: usize, left: &Left) -> Result<(), Fail> {
@@ -27,25 +33,18 @@ fn skips(rt: &impl Abort, alloc: Global, cnt: usize, left: &Left) -> Result<(), 
     Ok(())
 }
 
-#[test]
-fn slice_advance(rt: HostRuntime) -> Result<(), Fail> {
-    skips(&rt, rt.alloc(), 0, &(11, "Hello", &FIVE))?;
-    skips(
-        &rt,
-        rt.alloc(),
-        6,
-        &(5, "World", &["", "", "", "", "World"]),
-    )
-}
+const FIVE_SKIPPED: &[(usize, Left)] = &[
+    (0, (11, "Hello", &FIVE)),
+    (3, (8, "lo", &["lo", "", " ", "", "World"])),
+    (6, (5, "World", &["", "", "", "", "World"])),
+];
 
 #[test]
-fn slice_advance_inside(rt: HostRuntime) -> Result<(), Fail> {
-    skips(
-        &rt,
-        rt.alloc(),
-        3,
-        &(8, "lo", &["lo", "", " ", "", "World"]),
-    )
+fn slice_advance(rt: HostRuntime) -> Result<(), Fail> {
+    for (cnt, left) in FIVE_SKIPPED {
+        skips(&rt, rt.alloc(), *cnt, left)?;
+    }
+    Ok(())
 }
 
 #[test]
@@ -56,7 +55,7 @@ fn empty_slices(rt: HostRuntime) -> Result<(), Fail> {
 
 #[test]
 fn sliced_hello(rt: HostRuntime) -> Result<(), Fail> {
-    let mut bufs = slices_of(rt.alloc(), &FIVE)?;
+    let mut bufs: [&[u8]; 5] = [b"Hello", b"", b" ", b"", b"World"];
     let all = lend(&rt, &mut bufs);
     assert_reads(&rt, &all, 11, "Hello");
     let mut text = Vec::new(rt.alloc());
@@ -66,16 +65,16 @@ fn sliced_hello(rt: HostRuntime) -> Result<(), Fail> {
 }
 
 #[test]
-fn totals(rt: HostRuntime) -> Result<(), Fail> {
-    assert!(rt; SegmentedSlice::total(&bytes_of(rt.alloc(), &FIVE)?) == Some(11));
-    let more = [Zeros { left: usize::MAX }, Zeros { left: 1 }];
-    assert!(rt; SegmentedSlice::total(&more).is_none());
-    Ok(())
+fn totals(rt: HostRuntime) {
+    let mut bufs = [Zeros { left: usize::MAX }, Zeros { left: 0 }];
+    assert!(rt; SegmentedSlice::total(&bufs) == Some(usize::MAX));
+    bufs[1].left = 1;
+    assert!(rt; SegmentedSlice::total(&bufs).is_none());
 }
 
 #[test]
 fn has_a_debug_text(rt: HostRuntime) -> Result<(), Fail> {
-    let mut bufs = bytes_of(rt.alloc(), &["a"])?;
+    let mut bufs = [b"a".as_slice()];
     assert_debugs(&rt, rt.alloc(), &lend(&rt, &mut bufs), "SegmentedSlice")
 }
 

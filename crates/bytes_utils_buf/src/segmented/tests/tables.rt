@@ -1,7 +1,6 @@
 //! Tables that buffers fill with slices.
-use crate::fixtures::{FOUR, assert_fills, held, hold, lend, skip};
+use crate::fixtures::{FOUR, assert_fills, held, lend, skip};
 use crate::parts::BufParts;
-use bytes::Bytes;
 use std::process::Abort;
 use std::test::Fail;
 
@@ -38,21 +37,5 @@ const EIGHT_FILL: &[Row] = &[
 fn chunk_vectored_nested(rt: HostRuntime) -> Result<(), Fail> {
     let mut both = vec![in rt.alloc(); held(rt.alloc(), &FOUR)?, held(rt.alloc(), &FOUR)?]?;
     fills(&rt, &mut lend(&rt, &mut both), EIGHT_FILL);
-    Ok(())
-}
-
-/// No other buffer of the tests is that long.
-static FORTY: [u8; 40] = [b'x'; 40];
-
-// All bytes of one buffer are one slice, for which one place is enough.
-fn shows_whole<B: BufParts>(rt: &impl Abort, buf: &B) {
-    let mut table: [&[u8]; 2] = [b"-"; 2];
-    assert!(rt; buf.chunk().len() == 40 && buf.chunks_into(&mut table) == 1);
-}
-
-#[test]
-fn forty_bytes_are_one_chunk(rt: HostRuntime) -> Result<(), Fail> {
-    shows_whole(&rt, &hold(&rt, rt.alloc(), Bytes::from_static(&FORTY))?);
-    shows_whole(&rt, &lend(&rt, &mut [FORTY.as_slice()]));
     Ok(())
 }

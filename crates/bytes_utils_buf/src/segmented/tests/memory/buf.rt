@@ -1,34 +1,16 @@
-//! Refused memory: held buffers that are copied or read.
-use super::{assert_holds, letters, passes};
-use crate::fixtures::gather;
-use crate::fixtures::refusals::report;
+//! Refused memory: held buffers that are cloned or read.
+use super::{LETTERS, assert_holds, gives_letters, holding};
+use crate::fixtures::{put, skip};
 use crate::segmented::SegmentedBuf;
 use bytes::{Buf, Bytes};
-use std::process::Abort;
 use std::test::Fail;
-
-fn clones(
-    rt: &(impl Abort + Print),
-    buf: &SegmentedBuf<Bytes>,
-) -> Result<SegmentedBuf<Bytes>, Fail> {
-    match buf.try_clone() {
-        Ok(clone) => Ok(clone),
-        Err(reason) => {
-            report(rt, "SegmentedBuf::try_clone", reason)?;
-            Ok(buf.try_clone()?)
-        }
-    }
-}
 
 #[test]
 fn try_clone(rt: HostRuntime) -> Result<(), Fail> {
-    let Ok(letters) = letters(rt.alloc()) else {
-        return Ok(());
-    };
-    let buf = gather(rt.alloc(), letters)?;
-    assert_holds(&rt, &clones(&rt, &buf)?, 6);
-    assert_holds(&rt, &buf, 6);
-    Ok(())
+    match holding(rt.alloc(), LETTERS) {
+        Some(buf) => gives_letters(&rt, "SegmentedBuf::try_clone", buf.try_clone(), 0),
+        None => Ok(()),
+    }
 }
 
 // These allocate nothing, so they are never refused.
@@ -36,7 +18,8 @@ fn try_clone(rt: HostRuntime) -> Result<(), Fail> {
 fn no_memory_needed(rt: HostRuntime) -> Result<(), Fail> {
     let mut buf = SegmentedBuf::new(rt.alloc());
     assert!(rt; buf.fits(usize::MAX));
-    passes(&rt, &mut buf, Bytes::new(), 0)?;
+    put(&rt, &mut buf, Bytes::new())?;
+    skip(&rt, &mut buf, 0);
     assert_holds(&rt, &buf, 0);
     assert!(rt; buf.chunk().is_empty() && buf.into_inner().capacity() == 0);
     Ok(())
