@@ -51,13 +51,24 @@ pub(crate) fn assert_says<E: Error>(
     Ok(())
 }
 
-/// Asserts that the expected parts come and then the end, or the first of them, one refusal, and
-/// then the end. Returns the number of parts, and the reason of the refusal.
-pub(crate) fn taken<'t, S, P, W>(
+/// Returns why the part was refused. If it wasn't, asserts that it is the expected one.
+fn refusal_of<S: Storage>(
     rt: &impl Abort,
-    parts: &mut P,
-    wanted: W,
-) -> (usize, Option<Reason>)
+    next: Result<StrInner<S>, Reason>,
+    want: &str,
+) -> Option<Reason> {
+    match next {
+        Ok(part) => {
+            assert_text(rt, part.as_str(), want);
+            None
+        }
+        Err(reason) => Some(reason),
+    }
+}
+
+/// Asserts that the expected parts come and then the end, or the first of them, one refusal, and
+/// then the end. Returns the reason of the refusal.
+pub(crate) fn taken<'t, S, P, W>(rt: &impl Abort, parts: &mut P, wanted: W) -> Option<Reason>
 where
     S: Storage,
     P: Iterator<Item = Result<StrInner<S>, Reason>> + Drop,
@@ -65,20 +76,20 @@ where
     requires parts { P.can_next parts.old }
     requires wanted { W.can_next wanted × IsFinite (W.remaining wanted) }
 {
-    let mut count = 0_usize;
     for want in wanted {
         match parts.next() {
-            Some(Ok(part)) => assert_eq!(rt; part.as_str(), want),
-            Some(Err(reason)) => {
-                assert!(rt; parts.next().is_none(), "an item after the refusal");
-                return (count, Some(reason));
+            Some(next) => {
+                let refused = refusal_of(rt, next, want);
+                if refused.is_some() {
+                    assert!(rt; parts.next().is_none(), "an item after the refusal");
+                    return refused;
+                }
             }
             None => assert!(rt; false, "a part is missing"),
         }
-        count = count.saturating_add(1);
     }
     assert!(rt; parts.next().is_none(), "more parts than are wanted");
-    (count, None)
+    None
 }
 
 /// Asserts that the parts have ended, also at each further call.
@@ -92,11 +103,7 @@ where
 }
 
 /// As `taken`. Then the parts have ended, also at each further call.
-pub(crate) fn taken_to_end<'t, S, P, W>(
-    rt: &impl Abort,
-    mut parts: P,
-    wanted: W,
-) -> (usize, Option<Reason>)
+pub(crate) fn taken_to_end<'t, S, P, W>(rt: &impl Abort, mut parts: P, wanted: W) -> Option<Reason>
 where
     S: Storage,
     P: Iterator<Item = Result<StrInner<S>, Reason>> + Drop,

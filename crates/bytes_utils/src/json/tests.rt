@@ -11,33 +11,11 @@ use std::alloc::Global;
 use std::process::Abort;
 use std::test::Fail;
 
-/// A text, and the JSON that it is written as.
-fn written() -> [(&'static str, &'static str); 2] {
-    [
-        ("Hello, world!", "\"Hello, world!\""),
-        ("\u{1}\"\\\né", "\"\\u0001\\\"\\\\\\né\""),
-    ]
-}
-
-/// JSON, and the text read from it.
-fn texts() -> [(&'static str, &'static str); 5] {
-    [
-        ("\"Hello, world!\"", "Hello, world!"),
-        ("[72,105]", "Hi"),
-        ("[]", ""),
-        ("\"\\u00e9\"", "é"),
-        ("[195,169]", "é"),
-    ]
-}
-
 /// Input that is not JSON, with a bar between.
 const NOT_JSON: &str = "[1||\"a\" 1";
 
 /// JSON that is neither a string nor a list of bytes, with a bar between.
 const NOT_TEXT: &str = "[256]|1|[255,256]|[-1]|[1.0]|{}|null";
-
-/// A list of bytes that aren't UTF-8.
-const NOT_UTF8: &str = "[255]";
 
 /// Writes the text as JSON and reads it back: it is the same, unless memory is refused.
 fn written_and_read<S: Storage>(
@@ -71,23 +49,12 @@ where
     Ok(())
 }
 
-#[test]
-fn test_de_ser_str(rt: HostRuntime) -> Result<(), Fail> {
-    for (text, want) in written() {
-        assert_writes::<Bytes>(&rt, rt.alloc(), text, want)?;
-    }
-    Ok(())
+/// Whether the result is the expected one.
+fn is_answer(answer: Result<&str, JsonRefused>, want: Result<&str, JsonRefused>) -> bool {
+    answer == want
 }
 
-#[test]
-fn test_de_ser_str_mut(rt: HostRuntime) -> Result<(), Fail> {
-    for (text, want) in written() {
-        assert_writes::<BytesMut>(&rt, rt.alloc(), text, want)?;
-    }
-    Ok(())
-}
-
-/// Asserts the text that is read from JSON.
+/// Asserts what is read from JSON.
 fn assert_reads<S: Storage>(
     rt: &impl Abort,
     alloc: Global,
@@ -105,35 +72,45 @@ where
     assert!(rt; is_as_wanted, "{json}");
 }
 
-/// Whether the result is the expected one.
-pub(super) fn is_answer(
-    answer: Result<&str, JsonRefused>,
-    want: Result<&str, JsonRefused>,
-) -> bool {
-    answer == want
+/// Asserts what is read from JSON of each kind.
+fn assert_reads_all<S: Storage>(rt: &impl Abort, alloc: Global)
+where
+    S::Creator: StorageMut,
+    requires creator { (c : S.Creator) → S.created c ≡ S.Creator.stored c }
+{
+    assert_reads::<S>(rt, alloc, "[72,105]", Ok("Hi"));
+    assert_reads::<S>(rt, alloc, "[]", Ok(""));
+    assert_reads::<S>(rt, alloc, "\"\\u00e9\"", Ok("é"));
+    assert_reads::<S>(rt, alloc, "[195,169]", Ok("é"));
+    for json in NOT_JSON.split('|') {
+        assert_reads::<S>(rt, alloc, json, Err(JsonRefused::NotJson));
+    }
+    for json in NOT_TEXT.split('|') {
+        assert_reads::<S>(rt, alloc, json, Err(JsonRefused::NotText));
+    }
+    assert_reads::<S>(rt, alloc, "[255]", Err(JsonRefused::NotUtf8));
+}
+
+/// Asserts all of these of texts in one storage.
+fn assert_de_ser<S: Storage>(rt: &impl Abort, alloc: Global) -> Result<(), Fail>
+where
+    S::Creator: StorageMut,
+    requires creator { (c : S.Creator) → S.created c ≡ S.Creator.stored c }
+{
+    assert_reads_all::<S>(rt, alloc);
+    assert_writes::<S>(rt, alloc, "Hello, world!", "\"Hello, world!\"")?;
+    let json = "\"\\u0001\\\"\\\\\\né\"";
+    assert_writes::<S>(rt, alloc, "\u{1}\"\\\né", json)
 }
 
 #[test]
-fn reads_texts(rt: HostRuntime) {
-    for (json, want) in texts() {
-        assert_reads::<Bytes>(&rt, rt.alloc(), json, Ok(want));
-        assert_reads::<BytesMut>(&rt, rt.alloc(), json, Ok(want));
-    }
-}
-
-/// Asserts that each of these, with a bar between, fails with this error.
-fn assert_refuses(rt: &impl Abort, alloc: Global, list: &str, want: JsonRefused) {
-    for json in list.split('|') {
-        assert_reads::<Bytes>(rt, alloc, json, Err(want));
-        assert_reads::<BytesMut>(rt, alloc, json, Err(want));
-    }
+fn test_de_ser_str(rt: HostRuntime) -> Result<(), Fail> {
+    assert_de_ser::<Bytes>(&rt, rt.alloc())
 }
 
 #[test]
-fn refuses_all_other(rt: HostRuntime) {
-    assert_refuses(&rt, rt.alloc(), NOT_JSON, JsonRefused::NotJson);
-    assert_refuses(&rt, rt.alloc(), NOT_TEXT, JsonRefused::NotText);
-    assert_refuses(&rt, rt.alloc(), NOT_UTF8, JsonRefused::NotUtf8);
+fn test_de_ser_str_mut(rt: HostRuntime) -> Result<(), Fail> {
+    assert_de_ser::<BytesMut>(&rt, rt.alloc())
 }
 
 /// Callers can rely on these numbers of the errors.
@@ -145,11 +122,6 @@ fn numbers_of_refusals(rt: HostRuntime) {
 }
 
 #[test]
-fn refusals_of_json_say_why(rt: HostRuntime) -> Result<(), Fail> {
-    let alloc = rt.alloc();
-    assert_says(&rt, alloc, &JsonRefused::OutOfMemory, "out of memory")?;
-    assert_says(&rt, alloc, &JsonRefused::NotJson, "not JSON")?;
-    let no_text = "neither a string nor a list of bytes";
-    assert_says(&rt, alloc, &JsonRefused::NotText, no_text)?;
-    assert_says(&rt, alloc, &JsonRefused::NotUtf8, "not UTF-8")
+fn a_refusal_of_json_says_why(rt: HostRuntime) -> Result<(), Fail> {
+    assert_says(&rt, rt.alloc(), &JsonRefused::NotJson, "not JSON")
 }

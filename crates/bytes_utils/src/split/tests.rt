@@ -1,12 +1,10 @@
 //! What no clause says: that calls succeed with enough memory, printed text, and worked cases.
 mod borrowed;
-mod boundary;
 mod closure;
 mod inclusive;
 mod indices;
 mod lines;
 mod memory;
-mod once;
 mod separator;
 mod size_hint;
 mod split_counts;

@@ -8,7 +8,6 @@ mod compare;
 mod convert;
 mod format;
 mod items;
-mod literal;
 mod memory;
 mod owned;
 mod serialize;

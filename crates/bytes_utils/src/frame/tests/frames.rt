@@ -7,30 +7,34 @@ use std::process::Abort;
 use std::test::Fail;
 
 /// Pushes a piece that has a block of its own.
-fn put_copy<F: Holds>(alloc: Global, reader: &mut F, piece: &[u8]) -> Result<(), Fail> {
-    reader.put(Bytes::copy_from_slice(alloc, piece)?)?;
+fn put_copy<F: Holds>(alloc: Global, reader: &mut F, piece: &str) -> Result<(), Fail> {
+    reader.put(Bytes::copy_from_slice(alloc, piece.as_bytes())?)?;
     Ok(())
 }
 
-/// Asserts the next frame, and whether it is the only owner of its block.
-fn assert_next<F: ReadsFrames>(
+/// Whether this is the next frame, and whether it is the only owner of its block.
+fn is_next<F: ReadsFrames>(alloc: Global, reader: &mut F, frame: &str, is_unique: bool) -> bool {
+    match reader.frame(alloc) {
+        Ok(Some(given)) => given.as_slice() == frame.as_bytes() && given.is_unique() == is_unique,
+        _ => false,
+    }
+}
+
+/// Asserts both frames of two pieces. The first is in one piece, and the second in two.
+fn assert_shares<F: Holds + ReadsFrames>(
     rt: &impl Abort,
     alloc: Global,
     reader: &mut F,
-    frame: &[u8],
-    is_unique: bool,
 ) -> Result<(), Fail> {
-    let given = reader.frame(alloc)?.ok_or("a frame is missing")?;
-    assert!(rt; given.as_slice() == frame && given.is_unique() == is_unique);
+    put_copy(alloc, reader, "ab\ncd")?;
+    put_copy(alloc, reader, "e\n")?;
+    assert!(rt; is_next(alloc, reader, "ab", false) && is_next(alloc, reader, "cde", true));
     Ok(())
 }
 
-/// A frame in one piece shares that piece's block with what is left of it. The second one is in two pieces.
+/// A frame in one piece shares that piece's block with what is left of it.
 #[test]
 fn frame_in_one_piece_is_shared(rt: HostRuntime) -> Result<(), Fail> {
-    let mut frames = Frames::new(rt.alloc(), b"\n")?;
-    put_copy(rt.alloc(), &mut frames, b"ab\ncd")?;
-    put_copy(rt.alloc(), &mut frames, b"e\n")?;
-    assert_next(&rt, rt.alloc(), &mut frames, b"ab", false)?;
-    assert_next(&rt, rt.alloc(), &mut frames, b"cde", true)
+    let mut frames = Frames::new(rt.alloc(), "\n".as_bytes())?;
+    assert_shares(&rt, rt.alloc(), &mut frames)
 }

@@ -11,7 +11,6 @@ use std::alloc::Global;
 use std::cell::Cell;
 use std::marker::Model;
 use std::process::Abort;
-use std::test::Fail;
 
 /// Bytes that count how often they are read.
 #[derive(Drop)]
@@ -76,79 +75,102 @@ impl<'c> Stream<'c> {
     }
 
     /// Pushes a piece.
-    fn push<R: Abort>(&mut self, rt: &R, piece: Watched<'c>) -> Result<(), Fail> {
+    fn push<R: Abort>(&mut self, rt: &R, piece: Watched<'c>) {
         assert!(rt; self.pieces.fits(piece.bytes.len()));
-        Ok(self.pieces.push(piece).ok().ok_or("refused")?)
+        assert!(rt; self.pieces.push(piece).is_ok());
     }
 
     /// Drops the next frame. Returns whether its end has come.
-    fn pass(&mut self) -> Result<bool, Fail> {
-        let Some(len) = find(&self.finder, &self.pieces, &mut self.progress)? else {
-            return Ok(false);
-        };
-        self.pieces.advance(len + self.finder.needle().len());
-        self.progress.restart();
-        Ok(true)
+    fn pass<R: Abort>(&mut self, rt: &R) -> bool {
+        match find(&self.finder, &self.pieces, &mut self.progress) {
+            Ok(Some(len)) => {
+                self.pieces.advance(len + self.finder.needle().len());
+                self.progress.restart();
+                true
+            }
+            Ok(None) => false,
+            Err(_) => {
+                assert!(rt; false, "refused");
+                false
+            }
+        }
     }
 
     /// Drops all frames whose end has come. Returns their number.
-    fn pass_all(&mut self) -> Result<usize, Fail> {
+    fn pass_all<R: Abort>(&mut self, rt: &R) -> usize {
         for count in 0..=self.pieces.remaining() {
-            if !self.pass()? {
-                return Ok(count);
+            if !self.pass(rt) {
+                return count;
             }
         }
-        Err("more frames than bytes")?
+        assert!(rt; false, "more frames than bytes");
+        0
+    }
+
+    /// Pushes the pieces, which have a `|` between them, and drops frames after each piece if that
+    /// is asked for. Returns the number of frames.
+    fn pass_round<R: Abort>(
+        &mut self,
+        rt: &R,
+        pieces: &'static str,
+        looks: &'c Cell<usize>,
+        each: bool,
+    ) -> usize {
+        let mut passed = 0_usize;
+        for piece in pieces.split('|') {
+            let bytes = Bytes::from_static(piece.as_bytes());
+            self.push(rt, Watched { bytes, looks });
+            if each {
+                passed = passed.saturating_add(self.pass_all(rt));
+            }
+        }
+        passed
     }
 }
 
-/// Asserts how many frames a hundred rounds of the pieces have, and how often these are read, if
-/// frames are asked for after each piece or at the end. The pieces have a `|` between them.
-fn assert_looks<R: Abort>(
+/// Returns how many frames a hundred rounds of the pieces have, and how often these are read, if
+/// frames are asked for after each piece or at the end.
+fn frames_and_looks<R: Abort>(
     rt: &R,
     alloc: Global,
     separator: &str,
     pieces: &'static str,
+    each: bool,
+) -> (usize, usize) {
+    assert!(rt; !separator.is_empty());
+    let looked = Cell::new(0);
+    let mut stream = Stream::new(alloc, separator.as_bytes());
+    let mut passed = 0_usize;
+    for _ in 0..100 {
+        passed = passed.saturating_add(stream.pass_round(rt, pieces, &looked, each));
+    }
+    passed = passed.saturating_add(stream.pass_all(rt));
+    (passed, looked.get())
+}
+
+/// Asserts how many frames a hundred rounds of the pieces have, and how often these are read,
+/// whenever frames are asked for.
+fn assert_looks<R: Abort>(
+    rt: &R,
+    alloc: Global,
+    (separator, pieces): (&str, &'static str),
     frames: usize,
     looks: usize,
-) -> Result<(), Fail> {
-    assert!(rt; !separator.is_empty());
-    for each in [false, true] {
-        let looked = Cell::new(0);
-        let mut stream = Stream::new(alloc, separator.as_bytes());
-        let mut passed = 0_usize;
-        for _ in 0..100 {
-            for piece in pieces.split('|') {
-                let bytes = Bytes::from_static(piece.as_bytes());
-                stream.push(
-                    rt,
-                    Watched {
-                        bytes,
-                        looks: &looked,
-                    },
-                )?;
-                if each {
-                    passed = passed.saturating_add(stream.pass_all()?);
-                }
-            }
-        }
-        passed = passed.saturating_add(stream.pass_all()?);
-        assert_eq!(rt; passed, frames);
-        assert_eq!(rt; looked.get(), looks);
-    }
-    Ok(())
+) {
+    assert!(rt; frames_and_looks(rt, alloc, separator, pieces, false) == (frames, looks));
+    assert!(rt; frames_and_looks(rt, alloc, separator, pieces, true) == (frames, looks));
 }
 
 #[test]
-fn looks_at_each_piece_once(rt: HostRuntime) -> Result<(), Fail> {
+fn looks_at_each_piece_once(rt: HostRuntime) {
     let alloc = rt.alloc();
 
     // no frame ends, or each ends with a piece
-    assert_looks(&rt, alloc, "-", "a|b|c|d", 0, 400)?;
-    assert_looks(&rt, alloc, "-", "a|b|c-", 100, 300)?;
-    assert_looks(&rt, alloc, "-+-+", "-|+|-|+", 100, 400)?;
+    assert_looks(&rt, alloc, ("-", "a|b|c|d"), 0, 400);
+    assert_looks(&rt, alloc, ("-", "a|b|c-"), 100, 300);
+    assert_looks(&rt, alloc, ("-+-+", "-|+|-|+"), 100, 400);
 
     // a frame ends within the third piece, or three within each
-    assert_looks(&rt, alloc, "\r\n", "ab|c\r|\nd|e\r\n", 200, 500)?;
-    assert_looks(&rt, alloc, "-", "a-b-c-d", 300, 400)
+    assert_looks(&rt, alloc, ("\r\n", "ab|c\r|\nd|e\r\n"), 200, 500);
+    assert_looks(&rt, alloc, ("-", "a-b-c-d"), 300, 400);
 }

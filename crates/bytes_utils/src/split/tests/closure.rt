@@ -3,10 +3,10 @@ ghost use Rattle.std.specs.Prelude.{◌≤◌, IfSome};
 ghost use Rattle.bytes_utils.specs.Walk.{IsLawfulCut};
 ghost use Rattle.bytes_utils.specs.declared.split.direction.Direction.TheVariants.{Forward};
 
-use crate::Reason;
-use crate::fixtures::{growing, shared, taken};
+use crate::fixtures::{growing, taken};
 use crate::split::tests::ways::StrWay;
 use crate::string::{BytesIter, Direction, Storage, StrInner};
+use crate::{Reason, Str};
 use std::process::Abort;
 use std::test::Fail;
 
@@ -20,7 +20,7 @@ impl StrWay for Fields {
         _most: usize,
         _separator: &str,
         same: &str,
-    ) -> (usize, Option<Reason>) {
+    ) -> Option<Reason> {
         let mut chunks = BytesIter::new(text, Direction::Forward, |s: &str| {
             s.find(',').map(|at| (at, at + 1))
         });
@@ -33,29 +33,24 @@ fn taken_characters<S: Storage>(
     rt: &impl Abort,
     text: StrInner<S>,
     wanted: &str,
-) -> (usize, Option<Reason>) {
+) -> Option<Reason> {
     let mut chunks = BytesIter::new(text, Direction::Backward, |s: &str| {
         let last = s.len().checked_sub(1)?;
         let start = s.floor_char_boundary(last);
         Some((start, start))
     });
-    taken(rt, &mut chunks, wanted.split_terminator('|'))
+    taken(rt, &mut chunks, wanted.split('|'))
 }
 
 #[test]
 fn closure_backward(rt: HostRuntime) -> Result<(), Fail> {
-    let over_shared = taken_characters(&rt, shared(rt.alloc(), "aβ")?, "β|a||");
-    let over_growing = taken_characters(&rt, growing(rt.alloc(), "aβ")?, "β|a||");
-    assert!(rt; over_shared.1.is_none() && over_growing.1.is_none());
+    assert!(rt; taken_characters(&rt, Str::from_static("aβ"), "β|a|").is_none());
+    assert!(rt; taken_characters(&rt, growing(rt.alloc(), "aβ")?, "β|a|").is_none());
     Ok(())
 }
 
 /// Asserts the chunks of one, two and three characters and so on, as `taken` does.
-fn taken_growing<S: Storage>(
-    rt: &impl Abort,
-    text: StrInner<S>,
-    wanted: &str,
-) -> (usize, Option<Reason>) {
+fn taken_growing<S: Storage>(rt: &impl Abort, text: StrInner<S>, wanted: &str) -> Option<Reason> {
     let mut passed = 0_usize;
     let grows = move |s: &str|
         ensures { IfSome result (λ cut. IsLawfulCut Forward s.now cut.0 cut.1) }
@@ -66,15 +61,14 @@ fn taken_growing<S: Storage>(
         s.is_char_boundary(end).then_some((end, end))
     };
     let mut chunks = BytesIter::new(text, Direction::Forward, grows);
-    taken(rt, &mut chunks, wanted.split_terminator('|'))
+    taken(rt, &mut chunks, wanted.split('|'))
 }
 
 #[test]
 fn closure_growing(rt: HostRuntime) -> Result<(), Fail> {
-    for (text, wanted) in [("abcdef", "a|bc|def||"), ("αβγδεζ", "α|βγ|δεζ||")] {
-        let over_shared = taken_growing(&rt, shared(rt.alloc(), text)?, wanted);
-        let over_growing = taken_growing(&rt, growing(rt.alloc(), text)?, wanted);
-        assert!(rt; over_shared.1.is_none() && over_growing.1.is_none());
-    }
+    assert!(rt; taken_growing(&rt, Str::from_static("abcdef"), "a|bc|def|").is_none());
+    assert!(rt; taken_growing(&rt, Str::from_static("αβγδεζ"), "α|βγ|δεζ|").is_none());
+    assert!(rt; taken_growing(&rt, growing(rt.alloc(), "abcdef")?, "a|bc|def|").is_none());
+    assert!(rt; taken_growing(&rt, growing(rt.alloc(), "αβγδεζ")?, "α|βγ|δεζ|").is_none());
     Ok(())
 }

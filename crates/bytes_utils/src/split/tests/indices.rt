@@ -1,41 +1,40 @@
 //! Parts with their places: worked cases.
-use crate::fixtures::shared;
-use crate::split::SplitIndicesBytes;
-use crate::string::Storage;
+use crate::string::{Storage, StrInner};
+use crate::{Reason, Str};
 use std::process::Abort;
-use std::test::Fail;
 
-/// Parts with their places.
-type Indices = &'static [(usize, &'static str)];
-
-/// A text, a separator, and the parts.
-const ROWS: &[(&str, &str, Indices)] = &[
-    ("a, β, c", ", ", &[(0, "a"), (3, "β"), (7, "c")]),
-    ("aβ", "", &[(0, ""), (0, "a"), (1, "β"), (3, "")]),
-];
-
-/// Asserts that exactly these parts come, at these places.
-fn assert_indices<S: Storage>(
-    rt: &impl Abort,
-    mut parts: SplitIndicesBytes<'_, S>,
-    wanted: Indices,
-) {
-    for (at, want) in wanted {
-        match parts.next() {
-            Some(Ok((place, part))) => {
-                assert!(rt; place == *at && part.eq_str(want), "{want:?} at {at}");
-            }
-            _ => assert!(rt; false, "{want:?} is missing"),
-        }
+/// Whether this part comes next, at this place.
+fn is_part<S: Storage>(
+    next: Option<Result<(usize, StrInner<S>), Reason>>,
+    place: usize,
+    want: &str,
+) -> bool {
+    match next {
+        Some(Ok((at, part))) => at == place && part.eq_str(want),
+        _ => false,
     }
-    assert!(rt; parts.next().is_none() && parts.next().is_none());
+}
+
+/// Asserts that exactly these parts come, with a bar between them, each at the place after the one
+/// before it and a separator of `between` bytes.
+fn assert_indices<S, P>(rt: &impl Abort, mut parts: P, between: usize, wanted: &str)
+where
+    S: Storage,
+    P: Iterator<Item = Result<(usize, StrInner<S>), Reason>> + Drop,
+    requires { (s : P) → P.can_next s }
+{
+    let mut place = 0_usize;
+    for want in wanted.split('|') {
+        assert!(rt; is_part(parts.next(), place, want), "{want:?} at {place}");
+        place = place.saturating_add(want.len()).saturating_add(between);
+    }
+    assert!(rt; parts.next().is_none());
 }
 
 #[test]
-fn worked_cases(rt: HostRuntime) -> Result<(), Fail> {
-    for (text, separator, wanted) in ROWS {
-        let parts = shared(rt.alloc(), text)?.split_bytes(separator).indices();
-        assert_indices(&rt, parts, wanted);
-    }
-    Ok(())
+fn worked_cases(rt: HostRuntime) {
+    let parts = Str::from_static("a, β, c").split_bytes(", ").indices();
+    assert_indices(&rt, parts, 2, "a|β|c");
+    let parts = Str::from_static("aβ").split_bytes("").indices();
+    assert_indices(&rt, parts, 0, "|a|β|");
 }

@@ -1,5 +1,5 @@
-//! What a call returns and leaves if a request for memory is refused, each call in a test of its
-//! own. A run with one refused request ends normally, whichever request it is, and prints which
+//! What a call returns if a request for memory is refused: a refused split is one item, and then
+//! the end. A run with one refused request ends normally, whichever request it is, and prints which
 //! call was refused.
 mod closure;
 mod inclusive;
@@ -15,7 +15,6 @@ use crate::split::tests::ways::StrWay;
 use std::alloc::Global;
 use std::io::Print;
 use std::process::Abort;
-use std::test::Fail;
 
 /// Asserts the parts of the text by commas, into two parts if the way has a limit. After a refused
 /// split it asserts the parts before it and the end, and reports the refusal. It does nothing if
@@ -25,12 +24,10 @@ pub(super) fn assert_next<W: StrWay, R: Abort + Print>(
     alloc: Global,
     call: &str,
     text: &str,
-) -> Result<(), Fail> {
-    let Ok(growing) = StrMut::from_str(alloc, text) else {
-        return Ok(());
-    };
-    match W::beside(rt, growing, 2, ",", text).1 {
-        Some(reason) => report(rt, call, reason),
-        None => Ok(()),
+) {
+    if let Ok(growing) = StrMut::from_str(alloc, text) {
+        if let Some(reason) = W::beside(rt, growing, 2, ",", text) {
+            report(rt, call, reason);
+        }
     }
 }

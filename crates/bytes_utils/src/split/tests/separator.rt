@@ -1,58 +1,40 @@
 //! A text's parts by a separator, from either end, with or without a limit.
-use crate::fixtures::{shared, taken_to_end};
-use crate::split::tests::borrowed::{SHORT_TEXTS, assert_as_str, separators};
+use crate::Str;
+use crate::fixtures::taken_to_end;
+use crate::split::boundaries;
+use crate::split::tests::borrowed::{SEPARATORS, assert_as_str};
 use crate::split::tests::ways::{RSplit, RSplitN, Split, SplitN};
-use std::alloc::Global;
 use std::process::Abort;
-use std::test::Fail;
 
-/// Asserts the parts of the text, each with a bar after it.
-pub(super) fn assert_parts(
-    rt: &impl Abort,
-    alloc: Global,
-    text: &str,
-    separator: &str,
-    wanted: &str,
-) -> Result<(), Fail> {
-    let parts = shared(alloc, text)?.split_bytes(separator);
-    let (_, refused) = taken_to_end(rt, parts, wanted.split_terminator('|'));
-    assert!(rt; refused.is_none());
-    Ok(())
+/// Asserts the parts of the text, with a bar between them.
+fn assert_parts(rt: &impl Abort, text: &'static str, separator: &str, wanted: &str) {
+    let parts = Str::from_static(text).split_bytes(separator);
+    assert!(rt; taken_to_end(rt, parts, wanted.split('|')).is_none());
 }
 
 #[test]
-fn split_same(rt: HostRuntime) -> Result<(), Fail> {
-    assert_parts(&rt, rt.alloc(), "a", "a", "||")
+fn split_same(rt: HostRuntime) {
+    assert_parts(&rt, "a", "a", "|");
+
+    // the empty separator
+    assert_parts(&rt, "a", "", "|a|");
+    assert_parts(&rt, "", "", "|");
+
+    // the search is among bytes, and different characters share some bytes
+    boundaries();
+    assert_parts(&rt, "😈😉", "😉", "😈|");
 }
 
 #[test]
-fn split_empty_pat(rt: HostRuntime) -> Result<(), Fail> {
-    assert_parts(&rt, rt.alloc(), "a", "", "|a||")?;
-    assert_parts(&rt, rt.alloc(), "", "", "||")
+fn split(rt: HostRuntime) {
+    assert_as_str::<Split, HostRuntime>(&rt, 0, SEPARATORS);
+    assert_as_str::<RSplit, HostRuntime>(&rt, 0, SEPARATORS);
 }
 
 #[test]
-fn split(rt: HostRuntime) -> Result<(), Fail> {
-    assert_as_str::<Split, HostRuntime>(&rt, rt.alloc(), SHORT_TEXTS, 0, &separators())
-}
-
-#[test]
-fn rsplit(rt: HostRuntime) -> Result<(), Fail> {
-    assert_as_str::<RSplit, HostRuntime>(&rt, rt.alloc(), SHORT_TEXTS, 0, &separators())
-}
-
-#[test]
-fn split_n(rt: HostRuntime) -> Result<(), Fail> {
+fn split_n(rt: HostRuntime) {
     for most in 0..5 {
-        assert_as_str::<SplitN, HostRuntime>(&rt, rt.alloc(), SHORT_TEXTS, most, &separators())?;
+        assert_as_str::<SplitN, HostRuntime>(&rt, most, SEPARATORS);
+        assert_as_str::<RSplitN, HostRuntime>(&rt, most, SEPARATORS);
     }
-    Ok(())
-}
-
-#[test]
-fn rsplit_n(rt: HostRuntime) -> Result<(), Fail> {
-    for most in 0..5 {
-        assert_as_str::<RSplitN, HostRuntime>(&rt, rt.alloc(), SHORT_TEXTS, most, &separators())?;
-    }
-    Ok(())
 }

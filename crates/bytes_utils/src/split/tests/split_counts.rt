@@ -8,11 +8,10 @@ use crate::split::tests::ways::{
 };
 use crate::string::{Storage, StrInner};
 use crate::{Reason, Refused};
-use bytes::BytesMut;
+use bytes::Bytes;
 use std::alloc::Global;
 use std::cell::Cell;
 use std::process::Abort;
-use std::test::Fail;
 
 /// The number of splits that the pieces of a storage were asked for, and how many are granted.
 #[derive(Drop)]
@@ -33,16 +32,16 @@ impl Splits {
 /// Bytes whose splits are counted. `into_front` and `into_back` count as no split.
 #[derive(Drop)]
 struct Counted<'c> {
-    bytes: BytesMut,
+    bytes: Bytes,
     splits: &'c Splits,
 }
 
 impl<'c> Storage for Counted<'c> {
     type Creator = Counted<'c>;
 
-    ghost stored = { λ s. s.bytes.items };
+    ghost stored = { λ s. s.bytes };
 
-    ghost created = { λ c. c.bytes.items };
+    ghost created = { λ c. c.bytes };
 
     /// Without bytes there are no splits to count.
     fn empty(_alloc: Global) -> Result<Self, Reason> {
@@ -82,53 +81,45 @@ impl<'c> Storage for Counted<'c> {
     }
 }
 
+/// The text in counted bytes.
+fn text_of<'c>(text: &'static str, splits: &'c Splits) -> Option<StrInner<Counted<'c>>> {
+    let bytes = Bytes::from_static(text.as_bytes());
+    StrInner::from_inner(Counted { bytes, splits }).ok()
+}
+
 /// Asserts the number of splits that a run over the text asks for: `cuts` if all are granted, and
 /// none after a refused one. The limit, for a way that has one, is two parts.
-fn assert_splits<W: StrWay, R: Abort>(
-    rt: &R,
-    alloc: Global,
-    text: &str,
-    separator: &str,
-    cuts: usize,
-) -> Result<(), Fail> {
+fn assert_splits<W: StrWay, R: Abort>(rt: &R, text: &'static str, separator: &str, cuts: usize) {
     for granted in 0..4 {
         let asked = Cell::new(0);
         let splits = Splits { asked, granted };
-        let bytes = BytesMut::copy_from_slice(alloc, text.as_bytes())?;
-        let counted = StrInner::from_inner(Counted {
-            bytes,
-            splits: &splits,
-        });
-        let counted = counted.ok().ok_or("not UTF-8")?;
-        let (_, refused) = W::beside(rt, counted, 2, separator, text);
-        assert_eq!(rt; refused.is_some(), granted < cuts);
+        match text_of(text, &splits) {
+            Some(counted) => {
+                let refused = W::beside(rt, counted, 2, separator, text);
+                assert!(rt; refused.is_some() == (granted < cuts));
+            }
+            None => assert!(rt; false, "not UTF-8"),
+        }
         assert_eq!(rt; splits.asked.get(), cuts.min(granted + 1));
     }
-    Ok(())
 }
 
 #[test]
-fn separated(rt: HostRuntime) -> Result<(), Fail> {
-    let alloc = rt.alloc();
-    assert_splits::<Split, HostRuntime>(&rt, alloc, "a,b,c", ",", 2)?;
-    assert_splits::<RSplit, HostRuntime>(&rt, alloc, "a,b,c", ",", 2)?;
-    assert_splits::<SplitN, HostRuntime>(&rt, alloc, "a,b,c", ",", 1)?;
-    assert_splits::<RSplitN, HostRuntime>(&rt, alloc, "a,b,c", ",", 1)?;
-    assert_splits::<Fields, HostRuntime>(&rt, alloc, "a,b,c", ",", 2)
-}
-
-#[test]
-fn characters(rt: HostRuntime) -> Result<(), Fail> {
-    assert_splits::<Split, HostRuntime>(&rt, rt.alloc(), "αβ", "", 3)?;
-    assert_splits::<RSplit, HostRuntime>(&rt, rt.alloc(), "αβ", "", 3)
+fn separated(rt: HostRuntime) {
+    assert_splits::<Split, HostRuntime>(&rt, "a,b,c", ",", 2);
+    assert_splits::<RSplit, HostRuntime>(&rt, "a,b,c", ",", 2);
+    assert_splits::<SplitN, HostRuntime>(&rt, "a,b,c", ",", 1);
+    assert_splits::<RSplitN, HostRuntime>(&rt, "a,b,c", ",", 1);
+    assert_splits::<Fields, HostRuntime>(&rt, "a,b,c", ",", 2);
+    assert_splits::<Split, HostRuntime>(&rt, "αβ", "", 3);
+    assert_splits::<RSplit, HostRuntime>(&rt, "αβ", "", 3);
 }
 
 /// A part that reaches to the end of the text needs no split.
 #[test]
-fn pieces(rt: HostRuntime) -> Result<(), Fail> {
-    let alloc = rt.alloc();
-    assert_splits::<SplitInclusive, HostRuntime>(&rt, alloc, "a,b,", ",", 1)?;
-    assert_splits::<SplitWhitespace, HostRuntime>(&rt, alloc, " a b", "", 1)?;
-    assert_splits::<SplitAsciiWhitespace, HostRuntime>(&rt, alloc, " a b", "", 1)?;
-    assert_splits::<Lines, HostRuntime>(&rt, alloc, "a\nb\n", "", 2)
+fn pieces(rt: HostRuntime) {
+    assert_splits::<SplitInclusive, HostRuntime>(&rt, "a,b,", ",", 1);
+    assert_splits::<SplitWhitespace, HostRuntime>(&rt, " a b", "", 1);
+    assert_splits::<SplitAsciiWhitespace, HostRuntime>(&rt, " a b", "", 1);
+    assert_splits::<Lines, HostRuntime>(&rt, "a\nb\n", "", 2);
 }

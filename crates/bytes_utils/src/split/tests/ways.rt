@@ -15,7 +15,7 @@ pub(super) trait StrWay {
         most: usize,
         separator: &str,
         same: &str,
-    ) -> (usize, Option<Reason>);
+    ) -> Option<Reason>;
 }
 
 pub(super) struct Split;
@@ -27,7 +27,7 @@ impl StrWay for Split {
         _most: usize,
         separator: &str,
         same: &str,
-    ) -> (usize, Option<Reason>) {
+    ) -> Option<Reason> {
         taken_to_end(rt, text.split_bytes(separator), same.split(separator))
     }
 }
@@ -41,7 +41,7 @@ impl StrWay for RSplit {
         _most: usize,
         separator: &str,
         same: &str,
-    ) -> (usize, Option<Reason>) {
+    ) -> Option<Reason> {
         taken_to_end(rt, text.rsplit_bytes(separator), same.rsplit(separator))
     }
 }
@@ -55,7 +55,7 @@ impl StrWay for SplitN {
         most: usize,
         separator: &str,
         same: &str,
-    ) -> (usize, Option<Reason>) {
+    ) -> Option<Reason> {
         taken_to_end(
             rt,
             text.splitn_bytes(most, separator),
@@ -73,7 +73,7 @@ impl StrWay for RSplitN {
         most: usize,
         separator: &str,
         same: &str,
-    ) -> (usize, Option<Reason>) {
+    ) -> Option<Reason> {
         taken_to_end(
             rt,
             text.rsplitn_bytes(most, separator),
@@ -91,7 +91,7 @@ impl StrWay for SplitInclusive {
         _most: usize,
         separator: &str,
         same: &str,
-    ) -> (usize, Option<Reason>) {
+    ) -> Option<Reason> {
         assert!(rt; !separator.is_empty());
         taken_to_end(
             rt,
@@ -110,7 +110,7 @@ impl StrWay for Lines {
         _most: usize,
         _separator: &str,
         same: &str,
-    ) -> (usize, Option<Reason>) {
+    ) -> Option<Reason> {
         taken_to_end(rt, text.lines_bytes(), same.lines())
     }
 }
@@ -124,7 +124,7 @@ impl StrWay for SplitWhitespace {
         _most: usize,
         _separator: &str,
         same: &str,
-    ) -> (usize, Option<Reason>) {
+    ) -> Option<Reason> {
         taken_to_end(rt, text.split_whitespace_bytes(), same.split_whitespace())
     }
 }
@@ -138,7 +138,7 @@ impl StrWay for SplitAsciiWhitespace {
         _most: usize,
         _separator: &str,
         same: &str,
-    ) -> (usize, Option<Reason>) {
+    ) -> Option<Reason> {
         taken_to_end(
             rt,
             text.split_ascii_whitespace_bytes(),

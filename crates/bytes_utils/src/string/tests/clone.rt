@@ -7,6 +7,6 @@ use std::test::Fail;
 fn copies(rt: HostRuntime) -> Result<(), Fail> {
     let text = shared(rt.alloc(), "aβ")?;
     let copy = text.clone()?;
-    assert!(rt; copy == text && !text.inner().is_unique());
+    assert!(rt; copy.eq_str("aβ") && !text.inner().is_unique());
     Ok(())
 }

@@ -1,10 +1,7 @@
-//! Equality, order and hash of texts, compared with those of their `str`.
-use crate::fixtures::{growing, shared};
-use std::alloc::Global;
+//! Equality, order and hash of texts, worked cases.
+use crate::Str;
 use std::cmp::Ordering;
 use std::hash::{DefaultHasher, Hash, Hasher};
-use std::process::Abort;
-use std::test::Fail;
 
 fn hash_of<T: Hash>(value: &T) -> u64 {
     let mut hasher = DefaultHasher::new();
@@ -12,39 +9,19 @@ fn hash_of<T: Hash>(value: &T) -> u64 {
     hasher.finish()
 }
 
-/// Every comparison of two texts, each made through its trait alone.
-fn compared<T: Ord>(one: &T, other: &T) -> (bool, Ordering, Option<Ordering>, bool) {
-    (
-        one == other,
-        one.cmp(other),
-        one.partial_cmp(other),
-        one < other,
-    )
-}
-
-/// Asserts the order of a text in each storage and the other.
-fn assert_order(
-    rt: &impl Abort,
-    alloc: Global,
-    one: &str,
-    other: &str,
-    want: Ordering,
-) -> Result<(), Fail> {
-    assert!(rt; shared(alloc, one)?.cmp_str(other) == want);
-    assert!(rt; growing(alloc, one)?.cmp_str(other) == want);
-    Ok(())
+/// Whether one value is greater than the other, by each of their traits.
+fn is_greater<T: Ord>(one: &T, other: &T) -> bool {
+    let greater = Ordering::Greater;
+    one != other
+        && one.cmp(other) == greater
+        && one.partial_cmp(other) == Some(greater)
+        && one > other
 }
 
 #[test]
-fn compare(rt: HostRuntime) -> Result<(), Fail> {
-    assert_order(&rt, rt.alloc(), "Ä", "z", Ordering::Greater)?;
-    assert_order(&rt, rt.alloc(), "", "", Ordering::Equal)
-}
-
-#[test]
-fn compares_and_hashes_as_str(rt: HostRuntime) -> Result<(), Fail> {
-    let (one, other) = (shared(rt.alloc(), "Ä")?, shared(rt.alloc(), "z")?);
-    assert!(rt; compared(&one, &other) == compared(&"Ä", &"z") && !one.eq_str("z"));
-    assert!(rt; hash_of(&one) == hash_of(&"Ä"));
-    Ok(())
+fn compare(rt: HostRuntime) {
+    let (one, other) = (Str::from_static("Ä"), Str::from_static("z"));
+    assert!(rt; one.cmp_str("z") == Ordering::Greater && !one.eq_str("z"));
+    assert!(rt; Str::empty().cmp_str("") == Ordering::Equal);
+    assert!(rt; is_greater(&one, &other) && hash_of(&one) == hash_of(&"Ä"));
 }

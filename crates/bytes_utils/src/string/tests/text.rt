@@ -1,53 +1,35 @@
 //! A text made of its storage, read, and split at a place.
 use crate::Str;
-use crate::fixtures::{assert_text, shared};
+use crate::fixtures::assert_text;
+use crate::string::{Storage, StrInner};
 use bytes::Bytes;
-use std::alloc::Global;
-use std::process::Abort;
 use std::test::Fail;
-
-/// Asserts the text's `str` and its storage.
-fn assert_reads(rt: &impl Abort, text: Str, want: &str) {
-    assert_text(rt, text.as_str(), want);
-    assert!(rt; text.inner().as_slice() == want.as_bytes());
-    assert!(rt; text.into_inner().as_slice() == want.as_bytes());
-}
 
 #[test]
 fn reads_as_its_storage(rt: HostRuntime) -> Result<(), Fail> {
-    assert_reads(&rt, shared(rt.alloc(), "aβ")?, "aβ");
-    let text = Str::from_inner_unchecked(Bytes::from_static("aβ".as_bytes()));
-    assert_reads(&rt, text, "aβ");
+    let text = Str::from_inner(Bytes::from_static("aβ".as_bytes()))?;
+    assert_text(&rt, text.as_str(), "aβ");
+    assert!(rt; text.inner().as_slice() == "aβ".as_bytes());
+    let text = Str::from_inner_unchecked(text.into_inner());
+    assert_text(&rt, text.as_str(), "aβ");
     Ok(())
 }
 
-/// Asserts that `hello` is split at the place into these two.
-fn assert_splits(
-    rt: &impl Abort,
-    alloc: Global,
-    at: usize,
-    left: &str,
-    right: &str,
-) -> Result<(), Fail> {
-    let hello = shared(alloc, "hello")?;
-    assert!(rt; hello.as_str().is_char_boundary(at));
-    let (first, second) = hello.split_at_bytes(at)?;
-    assert_eq!(rt; first.as_str(), left);
-    assert_eq!(rt; second.as_str(), right);
-    Ok(())
+/// Whether the text is split at the place into these two.
+pub(super) fn is_split<S: Storage>(text: StrInner<S>, at: usize, left: &str, right: &str) -> bool {
+    if !text.as_str().is_char_boundary(at) {
+        return false;
+    }
+    match text.split_at_bytes(at) {
+        Ok((first, second)) => first.eq_str(left) && second.eq_str(right),
+        Err(_) => false,
+    }
 }
 
+/// In the middle, at the begin and at the end.
 #[test]
-fn split_at_bytes_mid(rt: HostRuntime) -> Result<(), Fail> {
-    assert_splits(&rt, rt.alloc(), 2, "he", "llo")
-}
-
-#[test]
-fn split_at_bytes_begin(rt: HostRuntime) -> Result<(), Fail> {
-    assert_splits(&rt, rt.alloc(), 0, "", "hello")
-}
-
-#[test]
-fn split_at_bytes_end(rt: HostRuntime) -> Result<(), Fail> {
-    assert_splits(&rt, rt.alloc(), 5, "hello", "")
+fn split_at_bytes(rt: HostRuntime) {
+    assert!(rt; is_split(Str::from_static("hello"), 2, "he", "llo"));
+    assert!(rt; is_split(Str::from_static("hello"), 0, "", "hello"));
+    assert!(rt; is_split(Str::from_static("hello"), 5, "hello", ""));
 }

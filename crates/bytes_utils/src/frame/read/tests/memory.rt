@@ -1,13 +1,13 @@
-//! The state after a refused request for memory: with the bytes that are put back, none is lost.
-//! With ample memory no request is refused; a run that refuses one prints a line for it.
+//! What a call returns if a request for memory is refused; a run that refuses one prints a line for
+//! it. That no byte is lost is a clause.
 use crate::fixtures::readers::SlowReader;
+use crate::fixtures::refusals::say;
 use crate::frame::Frames;
 use crate::frame::read::{ReadError, read_frame};
 use bytes::{Bytes, BytesMut};
 use std::alloc::Global;
-use std::io::Print;
+use std::io::{Print, Read};
 use std::process::Abort;
-use std::test::Fail;
 
 /// Which call was refused, for the line that is printed.
 fn place_of(error: &ReadError) -> &'static str {
@@ -19,58 +19,62 @@ fn place_of(error: &ReadError) -> &'static str {
     }
 }
 
-/// Reads a frame. If memory is refused, puts the bytes of the error back and reads again.
-fn read<A: Abort + Print>(
-    rt: &A,
-    alloc: Global,
-    input: &mut SlowReader<'_>,
-    frames: &mut Frames,
-) -> Result<Option<Bytes>, Fail> {
-    match read_frame(input, frames, alloc) {
-        Ok(next) => Ok(next),
+/// Asserts the frame. Returns whether it came; a refusal is reported.
+fn is_read<R: Abort + Print>(rt: &R, next: Result<Option<Bytes>, ReadError>, want: &str) -> bool {
+    match next {
+        Ok(Some(frame)) => {
+            assert!(rt; frame.as_slice() == want.as_bytes());
+            true
+        }
+        Ok(None) => {
+            assert!(rt; false, "no frame");
+            false
+        }
         Err(error) => {
-            println!(rt; "refused {}", place_of(&error))?;
-            error.put_back(frames)?;
-            Ok(read_frame(input, frames, alloc)?)
+            say(rt, place_of(&error));
+            false
         }
     }
 }
 
-// The first frame is in one piece. The second is in two, so it is copied.
-#[test]
-fn frames_of_pieces(rt: HostRuntime) -> Result<(), Fail> {
-    let alloc = rt.alloc();
-    let Ok(mut frames) = Frames::new(alloc, b"-") else {
-        return Ok(());
-    };
-    let mut input = SlowReader::new(b"ab-cdef-g", 4, 0);
-    for wanted in [b"ab".as_slice(), b"cdef"] {
-        let frame = read(&rt, alloc, &mut input, &mut frames)?.ok_or("no frame")?;
-        assert!(rt; frame.as_slice() == wanted);
+/// Asserts two frames, unless a call is refused, which is reported. The first is in one piece. The
+/// second is in two, so it is copied.
+fn assert_frames<I: Read, R: Abort + Print>(
+    rt: &R,
+    alloc: Global,
+    input: &mut I,
+    frames: &mut Frames,
+) {
+    if is_read(rt, read_frame(input, frames, alloc), "ab") {
+        is_read(rt, read_frame(input, frames, alloc), "cdef");
     }
-    assert!(rt; read(&rt, alloc, &mut input, &mut frames)?.is_none());
-    assert_eq!(rt; frames.remaining(), 1);
-    Ok(())
 }
 
 #[test]
-fn put_back(rt: HostRuntime) -> Result<(), Fail> {
-    let alloc = rt.alloc();
-    let Ok(mut frames) = Frames::new(alloc, b"-") else {
-        return Ok(());
-    };
-    let Ok(block) = BytesMut::copy_from_slice(alloc, b"ab-") else {
-        return Ok(());
-    };
-    let mut error = ReadError::Unshared(block);
-    for _ in 0..2 {
-        let Err(again) = error.put_back(&mut frames) else {
-            assert_eq!(rt; frames.remaining(), 3);
-            return Ok(());
-        };
-        println!(rt; "refused ReadError::put_back")?;
-        assert_eq!(rt; frames.remaining(), 0);
-        error = again;
+fn frames_of_pieces(rt: HostRuntime) {
+    if let Ok(mut frames) = Frames::new(rt.alloc(), "-".as_bytes()) {
+        let mut input = SlowReader::new("ab-cdef-g".as_bytes(), 4, 0);
+        assert_frames(&rt, rt.alloc(), &mut input, &mut frames);
     }
-    Err("refused twice")?
+}
+
+/// Asserts that a block is put back, unless that is refused, which is reported.
+fn assert_puts_back<R: Abort + Print>(rt: &R, alloc: Global, frames: &mut Frames) {
+    let Ok(block) = BytesMut::copy_from_slice(alloc, "ab-".as_bytes()) else {
+        return;
+    };
+    match ReadError::Unshared(block).put_back(frames) {
+        Ok(()) => assert!(rt; frames.remaining() == 3),
+        Err(error) => {
+            assert!(rt; place_of(&error) != "no request");
+            say(rt, "ReadError::put_back");
+        }
+    }
+}
+
+#[test]
+fn put_back(rt: HostRuntime) {
+    if let Ok(mut frames) = Frames::new(rt.alloc(), "-".as_bytes()) {
+        assert_puts_back(&rt, rt.alloc(), &mut frames);
+    }
 }

@@ -1,51 +1,20 @@
 //! Frames of at most `limit` bytes.
-use crate::fixtures::refusals::report;
+use crate::fixtures::refusals::given;
 use crate::frame::LimitedFrames;
-use crate::frame::tests::memory::readers::{
-    PIECES, assert_frame, assert_pushes, assert_segments, holding,
-};
-use std::alloc::Global;
-use std::test::Fail;
-
-/// A reader that holds the pieces of a frame as long as its limit, or `None` if memory is refused.
-fn prepared(alloc: Global) -> Option<LimitedFrames> {
-    holding(LimitedFrames::new(alloc, b"-\n", 2).ok()?, PIECES)
-}
+use crate::frame::tests::memory::readers::{assert_frames, is_held};
 
 #[test]
-fn new(rt: HostRuntime) -> Result<(), Fail> {
-    match LimitedFrames::new(rt.alloc(), b"-\n", 2) {
-        Ok(frames) => assert_eq!(&rt; frames.remaining(), 0),
-        Err(reason) => report(&rt, "LimitedFrames::new", reason)?,
-    }
-    Ok(())
-}
-
-#[test]
-fn push(rt: HostRuntime) -> Result<(), Fail> {
-    match LimitedFrames::new(rt.alloc(), b"-", 1) {
-        Ok(frames) => assert_pushes(&rt, "LimitedFrames::push", frames),
-        Err(_) => Ok(()),
-    }
-}
-
-#[test]
-fn next_frame(rt: HostRuntime) -> Result<(), Fail> {
-    match prepared(rt.alloc()) {
-        Some(frames) => assert_frame(&rt, rt.alloc(), "LimitedFrames::next_frame", frames),
-        None => Ok(()),
-    }
-}
-
-#[test]
-fn next_frame_segments(rt: HostRuntime) -> Result<(), Fail> {
-    match prepared(rt.alloc()) {
-        Some(frames) => assert_segments(
-            &rt,
-            rt.alloc(),
-            "LimitedFrames::next_frame_segments",
-            frames,
-        ),
-        None => Ok(()),
+fn limited(rt: HostRuntime) {
+    let alloc = rt.alloc();
+    let made = LimitedFrames::new(alloc, "-\n".as_bytes(), 2);
+    let Some(mut frames) = given(&rt, "LimitedFrames::new", made) else {
+        return;
+    };
+    let calls = (
+        "LimitedFrames::next_frame",
+        "LimitedFrames::next_frame_segments",
+    );
+    if is_held(&rt, "LimitedFrames::push", &mut frames, "a") {
+        assert_frames(&rt, alloc, calls, &mut frames);
     }
 }

@@ -1,9 +1,9 @@
-//! Parts with their separators: a refused split is one item, and then the end.
+//! Parts with their separators.
 use crate::split::tests::memory::assert_next;
 use crate::split::tests::ways::SplitInclusive;
-use std::test::Fail;
 
 #[test]
-fn split_inclusive(rt: HostRuntime) -> Result<(), Fail> {
-    assert_next::<SplitInclusive, HostRuntime>(&rt, rt.alloc(), "SplitInclusiveBytes::next", "a,b,")
+fn split_inclusive(rt: HostRuntime) {
+    let call = "SplitInclusiveBytes::next";
+    assert_next::<SplitInclusive, HostRuntime>(&rt, rt.alloc(), call, "a,b,");
 }

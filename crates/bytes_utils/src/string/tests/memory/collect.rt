@@ -1,77 +1,45 @@
 //! Texts that collect the items of an iterator.
-use crate::fixtures::refusals::items;
+use crate::fixtures::refusals::{assert_given, items};
 use crate::fixtures::strings;
-use crate::string::tests::memory::assert_made;
-use crate::{Str, StrMut};
-use std::alloc::{AllocError, Global};
-use std::test::Fail;
+use crate::{Reason, Str, StrMut};
+use std::alloc::AllocError;
+use std::convert::AsStr;
+use std::io::Print;
+use std::process::Abort;
 
-fn shared_chars(alloc: Global) -> Result<Str, AllocError> {
-    items().chars().collect(alloc)
+/// Asserts that the items were collected, unless that was refused, which is reported.
+fn assert_collected<T: AsStr + Drop, R: Abort + Print>(
+    rt: &R,
+    call: &str,
+    answer: Result<T, AllocError>,
+) {
+    assert_given(rt, call, answer.map_err(Reason::from), items());
 }
 
 #[test]
-fn shared_of_chars(rt: HostRuntime) -> Result<(), Fail> {
-    let made = (shared_chars(rt.alloc()), shared_chars(rt.alloc()));
-    assert_made(&rt, "Str::from_iter of char", made)
-}
-
-fn growing_chars(alloc: Global) -> Result<StrMut, AllocError> {
-    items().chars().collect(alloc)
-}
-
-#[test]
-fn growing_of_chars(rt: HostRuntime) -> Result<(), Fail> {
-    let made = (growing_chars(rt.alloc()), growing_chars(rt.alloc()));
-    assert_made(&rt, "StrMut::from_iter of char", made)
-}
-
-fn shared_strs(alloc: Global) -> Result<Str, AllocError> {
-    items().split_inclusive(',').collect(alloc)
+fn of_chars(rt: HostRuntime) {
+    let shared: Result<Str, AllocError> = items().chars().collect(rt.alloc());
+    assert_collected(&rt, "Str::from_iter of char", shared);
+    let growing: Result<StrMut, AllocError> = items().chars().collect(rt.alloc());
+    assert_collected(&rt, "StrMut::from_iter of char", growing);
 }
 
 #[test]
-fn shared_of_strs(rt: HostRuntime) -> Result<(), Fail> {
-    let made = (shared_strs(rt.alloc()), shared_strs(rt.alloc()));
-    assert_made(&rt, "Str::from_iter of &str", made)
-}
-
-fn growing_strs(alloc: Global) -> Result<StrMut, AllocError> {
-    items().split_inclusive(',').collect(alloc)
-}
-
-#[test]
-fn growing_of_strs(rt: HostRuntime) -> Result<(), Fail> {
-    let made = (growing_strs(rt.alloc()), growing_strs(rt.alloc()));
-    assert_made(&rt, "StrMut::from_iter of &str", made)
-}
-
-/// What `collect` made of the strings, or `None` if these were refused.
-fn shared_strings(alloc: Global) -> Option<Result<Str, AllocError>> {
-    let parts = strings(alloc, items()).ok()?;
-    Some(parts.into_iter().collect(alloc))
+fn of_strs(rt: HostRuntime) {
+    let shared: Result<Str, AllocError> = items().split_inclusive(',').collect(rt.alloc());
+    assert_collected(&rt, "Str::from_iter of &str", shared);
+    let growing: Result<StrMut, AllocError> = items().split_inclusive(',').collect(rt.alloc());
+    assert_collected(&rt, "StrMut::from_iter of &str", growing);
 }
 
 #[test]
-fn shared_of_strings(rt: HostRuntime) -> Result<(), Fail> {
-    let (Some(first), Some(second)) = (shared_strings(rt.alloc()), shared_strings(rt.alloc()))
-    else {
-        return Ok(());
-    };
-    assert_made(&rt, "Str::from_iter of String", (first, second))
-}
-
-/// As `shared_strings`, in bytes that may grow.
-fn growing_strings(alloc: Global) -> Option<Result<StrMut, AllocError>> {
-    let parts = strings(alloc, items()).ok()?;
-    Some(parts.into_iter().collect(alloc))
-}
-
-#[test]
-fn growing_of_strings(rt: HostRuntime) -> Result<(), Fail> {
-    let (Some(first), Some(second)) = (growing_strings(rt.alloc()), growing_strings(rt.alloc()))
-    else {
-        return Ok(());
-    };
-    assert_made(&rt, "StrMut::from_iter of String", (first, second))
+fn of_strings(rt: HostRuntime) {
+    if let Ok(strings) = strings(rt.alloc(), items()) {
+        let shared: Result<Str, AllocError> = strings.into_iter().collect(rt.alloc());
+        assert_collected(&rt, "Str::from_iter of String", shared);
+    }
+    if let Ok(strings) = strings(rt.alloc(), items()) {
+        let growing: Result<StrMut, AllocError> = strings.into_iter().collect(rt.alloc());
+        assert_collected(&rt, "StrMut::from_iter of String", growing);
+    }
 }
