@@ -2,9 +2,10 @@
 use crate::split::line_place;
 use crate::split::tests::borrowed::assert_as_str;
 use crate::split::tests::ways::Lines;
+use std::test::Fail;
 
 #[test]
-fn lines(rt: HostRuntime) {
+fn lines(rt: HostRuntime) -> Result<(), Fail> {
     assert!(rt; matches!(line_place("αb\r\n\nc"), Some((3, 5))) && line_place("a\rb").is_none());
-    assert_as_str::<Lines, HostRuntime>(&rt, 0, "");
+    assert_as_str::<Lines, HostRuntime>(&rt, rt.alloc(), 0, "")
 }

@@ -5,6 +5,7 @@ use crate::split::boundaries;
 use crate::split::tests::borrowed::{SEPARATORS, assert_as_str};
 use crate::split::tests::ways::{RSplit, RSplitN, Split, SplitN};
 use std::process::Abort;
+use std::test::Fail;
 
 /// Asserts the parts of the text, with a bar between them.
 fn assert_parts(rt: &impl Abort, text: &'static str, separator: &str, wanted: &str) {
@@ -26,15 +27,16 @@ fn split_same(rt: HostRuntime) {
 }
 
 #[test]
-fn split(rt: HostRuntime) {
-    assert_as_str::<Split, HostRuntime>(&rt, 0, SEPARATORS);
-    assert_as_str::<RSplit, HostRuntime>(&rt, 0, SEPARATORS);
+fn split(rt: HostRuntime) -> Result<(), Fail> {
+    assert_as_str::<Split, HostRuntime>(&rt, rt.alloc(), 0, SEPARATORS)?;
+    assert_as_str::<RSplit, HostRuntime>(&rt, rt.alloc(), 0, SEPARATORS)
 }
 
 #[test]
-fn split_n(rt: HostRuntime) {
+fn split_n(rt: HostRuntime) -> Result<(), Fail> {
     for most in 0..5 {
-        assert_as_str::<SplitN, HostRuntime>(&rt, most, SEPARATORS);
-        assert_as_str::<RSplitN, HostRuntime>(&rt, most, SEPARATORS);
+        assert_as_str::<SplitN, HostRuntime>(&rt, rt.alloc(), most, SEPARATORS)?;
+        assert_as_str::<RSplitN, HostRuntime>(&rt, rt.alloc(), most, SEPARATORS)?;
     }
+    Ok(())
 }
