@@ -9,22 +9,17 @@ use std::io::{self, ErrorKind, Read, Write};
 struct Calls {
     made: usize,
     fails_at: usize,
-    kind: ErrorKind,
 }
 
 impl Calls {
     fn new(fails_at: usize) -> Calls {
-        Calls {
-            made: 0,
-            fails_at,
-            kind: ErrorKind::Interrupted,
-        }
+        Calls { made: 0, fails_at }
     }
 
     fn count(&mut self) -> io::Result<()> {
         self.made = self.made.saturating_add(1);
         if self.made == self.fails_at {
-            return Err(io::Error::from(self.kind));
+            return Err(io::Error::from(ErrorKind::Interrupted));
         }
         Ok(())
     }
@@ -47,16 +42,6 @@ impl<'a> SlowReader<'a> {
             rest: input,
             most,
             calls: Calls::new(fails_at),
-        }
-    }
-
-    /// Returns the same reader, which fails with `kind` in place of `Interrupted`.
-    pub(crate) fn failing_as(self, kind: ErrorKind) -> Self {
-        let SlowReader { rest, most, calls } = self;
-        SlowReader {
-            rest,
-            most,
-            calls: Calls { kind, ..calls },
         }
     }
 
@@ -134,7 +119,7 @@ impl Read for EndlessReader {
     }
 }
 
-/// Accepts at most `most` bytes a call, and fails at one call.
+/// Accepts at most `most` bytes a call, and fails at one call. A flush is a call too.
 #[derive(Drop)]
 pub(crate) struct SlowWriter {
     held: Vec<u8>,
@@ -154,11 +139,6 @@ impl SlowWriter {
     pub(crate) fn held(&self) -> &[u8] {
         self.held.as_slice()
     }
-
-    /// Returns how many calls of `write` were made.
-    pub(crate) fn calls(&self) -> usize {
-        self.calls.made
-    }
 }
 
 impl Write for SlowWriter {
@@ -174,27 +154,6 @@ impl Write for SlowWriter {
     }
 
     fn flush(&mut self) -> io::Result<()> {
-        Ok(())
-    }
-}
-
-/// Accepts all bytes, and fails to flush.
-#[derive(Drop)]
-pub(crate) struct UnflushedWriter {
-    pub(crate) held: Vec<u8>,
-}
-
-impl Write for UnflushedWriter {
-    ghost use Rattle.std.specs.Prelude.{Some};
-
-    ghost contents = { λ writer. Some writer.held.items };
-
-    fn write(&mut self, buf: &[u8]) -> io::Result<usize> {
-        self.held.extend_from_slice(buf)?;
-        Ok(buf.len())
-    }
-
-    fn flush(&mut self) -> io::Result<()> {
-        Err(io::Error::from(ErrorKind::Interrupted))
+        self.calls.count()
     }
 }

@@ -1,74 +1,49 @@
 //! Worked cases of runs.
 mod memory;
-mod odd_buffers;
 
 use super::{Call, ReadCall, Replies, Reply, drive, read_calls};
-use crate::odd::Zeros;
+use crate::odd::{Drip, Zeros};
 use bytes::{Buf, Bytes};
 use bytes_utils::parts::BufParts;
 use bytes_utils::{SegmentedBuf, SegmentedSlice};
-use std::alloc::{AllocError, Global};
+use std::alloc::Global;
 use std::process::Abort;
 use std::test::Fail;
 
-/// A reply as a test writes it.
-#[derive(Clone, Copy)]
-enum Want {
-    Done,
-    PastEnd,
-    Number(usize),
-    Piece(&'static str),
-    Shown(&'static str),
-    Slices(&'static [&'static str]),
-}
-
-fn are_slices(slices: &[Vec<u8>], texts: &[&str]) -> bool {
-    slices.len() == texts.len()
-        && slices
-            .iter()
-            .zip(texts)
-            .all(|(slice, text)| slice.as_slice() == text.as_bytes())
-}
-
-impl Want {
-    fn is(&self, reply: &Reply) -> bool {
-        match self {
-            Want::Done => matches!(reply, Reply::Done),
-            Want::PastEnd => matches!(reply, Reply::PastEnd),
-            Want::Number(number) => matches!(reply, Reply::Number(count) if count == number),
-            Want::Piece(text) => {
-                matches!(reply, Reply::Piece(piece) if piece.as_slice() == text.as_bytes())
-            }
-            Want::Shown(text) => {
-                matches!(reply, Reply::Shown(chunk) if chunk.as_slice() == text.as_bytes())
-            }
-            Want::Slices(texts) => {
-                matches!(reply, Reply::Slices(slices) if are_slices(slices, texts))
-            }
+/// Returns whether these are the slices in `wanted`, where a comma comes after each.
+fn are_slices(slices: &[Vec<u8>], wanted: &str) -> bool {
+    let mut rest = wanted;
+    for slice in slices {
+        let (front, following) = rest.split_once(',').unwrap_or(("", ""));
+        if slice.as_slice() != front.as_bytes() {
+            return false;
         }
+        rest = following;
+    }
+    rest.is_empty()
+}
+
+/// Returns whether a reply is as written: in words, as a number, or by its bytes.
+fn is_written(reply: &Reply, wanted: &str) -> bool {
+    match reply {
+        Reply::Done => wanted == "ok",
+        Reply::PastEnd => wanted == "past end",
+        Reply::TooLong => wanted == "too long",
+        Reply::NoMemory | Reply::CopyStopped(_) => false,
+        Reply::Number(number) => wanted.parse().ok() == Some(*number),
+        Reply::Piece(piece) => piece.as_slice() == wanted.as_bytes(),
+        Reply::Shown(chunk) => chunk.as_slice() == wanted.as_bytes(),
+        Reply::Slices(slices) => are_slices(slices, wanted),
     }
 }
 
-/// A read and its reply.
-type Row = (ReadCall, Want);
-
-fn reads(alloc: Global, rows: &[Row]) -> Result<Vec<ReadCall>, AllocError> {
-    rows.iter().map(|row| row.0).collect(alloc)
-}
-
-/// Asserts the replies of any buffer, through the trait alone.
-fn assert_reads<B: BufParts>(
-    rt: &impl Abort,
-    alloc: Global,
-    buf: &mut B,
-    rows: &[Row],
-) -> Result<(), Fail> {
-    let replies = read_calls(alloc, buf, reads(alloc, rows)?);
-    assert!(rt; replies.refused.is_none() && replies.given.len() == rows.len());
-    for (reply, (_, want)) in replies.given.iter().zip(rows) {
-        assert!(rt; want.is(reply), "{reply:?}");
+/// Asserts these replies, written with a bar between them.
+fn assert_replies(rt: &impl Abort, replies: &Replies, wanted: &str) {
+    let mut rest = wanted.split('|');
+    for reply in &replies.given {
+        assert!(rt; is_written(reply, rest.next().unwrap_or("none")));
     }
-    Ok(())
+    assert!(rt; rest.next().is_none() && replies.refused.is_none());
 }
 
 // A buffer that would make the length pass `usize::MAX` isn't appended.
@@ -78,45 +53,84 @@ fn pushed_past_the_greatest_length(rt: HostRuntime) -> Result<(), Fail> {
     let mut buf = SegmentedBuf::from_vec(rt.alloc(), all)?;
     let calls = vec![in rt.alloc(); Call::Push(Zeros::new(1)), Call::Segments]?;
     let replies = drive(rt.alloc(), &mut buf, calls);
-    assert!(rt; replies.refused.is_none() && buf.remaining() == usize::MAX);
-    assert!(rt; matches!(replies.given.as_slice(), [Reply::TooLong, Reply::Number(1)]));
+    assert_replies(&rt, &replies, "too long|1");
+    assert_eq!(rt; buf.remaining(), usize::MAX);
     Ok(())
 }
 
-/// Makes a buffer out of four, one of them empty, if there is memory for it.
-fn four(alloc: Global) -> Option<SegmentedBuf<Bytes>> {
-    let mut bufs = Vec::new(alloc);
-    for text in &["Hello", " ", "", "World"] {
-        bufs.push(Bytes::from_static(text.as_bytes())).ok()?;
-    }
-    SegmentedBuf::from_vec(alloc, bufs).ok()
-}
-
 /// Asserts the replies of borrowed buffers.
-fn assert_lent_reads<B: BufParts>(
+fn assert_lent<B: BufParts>(
     rt: &impl Abort,
     alloc: Global,
     bufs: &mut [B],
-    rows: &[Row],
-) -> Result<(), Fail> {
+    calls: Vec<ReadCall>,
+    wanted: &str,
+) {
     assert!(rt; SegmentedSlice::total(bufs).is_some());
-    assert_reads(rt, alloc, &mut SegmentedSlice::new(bufs), rows)
+    let replies = read_calls(alloc, &mut SegmentedSlice::new(bufs), calls);
+    assert_replies(rt, &replies, wanted);
 }
 
-const NESTED: &[Row] = &[
-    (ReadCall::Remaining, Want::Number(22)),
-    (ReadCall::CopyOut(12), Want::Piece("Hello WorldH")),
-    (ReadCall::Chunk, Want::Shown("ello")),
-    (ReadCall::Advance(11), Want::PastEnd),
-    (ReadCall::Advance(10), Want::Done),
-    (ReadCall::Chunk, Want::Shown("")),
-    (ReadCall::Remaining, Want::Number(0)),
-];
+/// Makes a buffer out of four, one of them empty.
+fn four(alloc: Global) -> Result<SegmentedBuf<Bytes>, Fail> {
+    let mut buf = SegmentedBuf::new(alloc);
+    for text in "Hello| ||World".split('|') {
+        buf.try_push(Bytes::from_static(text.as_bytes()))?;
+    }
+    Ok(buf)
+}
 
 #[test]
 fn reads_nested_buffers(rt: HostRuntime) -> Result<(), Fail> {
-    let first = four(rt.alloc()).ok_or("out of memory")?;
-    let second = four(rt.alloc()).ok_or("out of memory")?;
-    let mut both = vec![in rt.alloc(); first, second]?;
-    assert_lent_reads(&rt, rt.alloc(), &mut both, NESTED)
+    let mut both = vec![in rt.alloc(); four(rt.alloc())?, four(rt.alloc())?]?;
+    let calls = vec![in rt.alloc();
+        ReadCall::Remaining,
+        ReadCall::CopyOut(12),
+        ReadCall::Chunk,
+        ReadCall::Advance(11),
+        ReadCall::Advance(10),
+        ReadCall::Chunk,
+        ReadCall::Remaining,
+    ]?;
+    let wanted = "22|Hello WorldH|ello|past end|ok||0";
+    assert_lent(&rt, rt.alloc(), &mut both, calls, wanted);
+    Ok(())
+}
+
+/// Eight zero bytes, three times, and four of them.
+const ZEROS: &str = "\0\0\0\0\0\0\0\0|\0\0\0\0\0\0\0\0,\0\0\0\0\0\0\0\0,\0\0\0\0,|\
+    \0\0\0\0\0\0\0\0,\0\0\0\0\0\0\0\0,|ok|\0\0\0\0";
+
+#[test]
+fn zeros_lie_in_eights(rt: HostRuntime) -> Result<(), Fail> {
+    let calls = vec![in rt.alloc();
+        ReadCall::Chunk,
+        ReadCall::Chunks(5),
+        ReadCall::Chunks(2),
+        ReadCall::Advance(16),
+        ReadCall::Chunk,
+    ]?;
+    let replies = read_calls(rt.alloc(), &mut Zeros::new(20), calls);
+    assert_replies(&rt, &replies, ZEROS);
+    Ok(())
+}
+
+fn drip(text: &'static [u8]) -> Drip {
+    Drip::new(Bytes::from_static(text))
+}
+
+#[test]
+fn drips_are_held(rt: HostRuntime) -> Result<(), Fail> {
+    let drips = vec![in rt.alloc(); drip(b"ab"), drip(b"c")]?;
+    let mut buf = SegmentedBuf::from_vec(rt.alloc(), drips)?;
+    let calls = vec![in rt.alloc();
+        ReadCall::Chunk,
+        ReadCall::Chunks(2),
+        ReadCall::Chunks(5),
+        ReadCall::CopyOut(3),
+    ]?;
+    let replies = read_calls(rt.alloc(), &mut buf, calls);
+    drop(buf);
+    assert_replies(&rt, &replies, "a|a,b,|a,b,c,|abc");
+    Ok(())
 }

@@ -4,11 +4,10 @@ ghost use Rattle.bytes_utils_run.specs.Cutting.{IsAllowed};
 
 mod memory;
 mod refusals;
-mod sweep;
 
 use super::{How, Parts, cut_all};
-use bytes_utils::string::Storage;
-use bytes_utils::{Str, StrMut};
+use bytes_utils::string::{Storage, StrInner};
+use bytes_utils::{Reason, Str, StrMut};
 use std::alloc::Global;
 use std::process::Abort;
 use std::test::Fail;
@@ -33,51 +32,85 @@ fn following<'w, S: Storage>(parts: &Parts<S>, wanted: &'w str) -> Option<&'w st
     Some(rest)
 }
 
+/// Reads how to split: the letter of the way, and after it the limit, if there is one.
+fn how_of<'r>(way: &str, separator: &'r str) -> How<'r> {
+    match way.as_bytes() {
+        [b's'] => How::Split(separator),
+        [b's', most] => How::SplitN(usize::from(most.saturating_sub(b'0')), separator),
+        [b'r'] => How::RSplit(separator),
+        [b'r', most] => How::RSplitN(usize::from(most.saturating_sub(b'0')), separator),
+        [b'w'] => How::Words,
+        [b'a'] => How::AsciiWords,
+        [b'l'] => How::Lines,
+        _ => How::Inclusive(separator),
+    }
+}
+
 /// A text, how it is split, and its parts, with a bar after each.
 pub(crate) type Row<'r> = (&'r str, How<'r>, &'r str);
 
-const ROWS: &[Row<'static>] = &[
-    ("a,b,,c", How::Split(","), "a|b||c|"),
-    ("a,b,c", How::Split(","), "a|b|c|"),
-    ("a", How::Split("a"), "||"),
-    ("a", How::Split(""), "|a||"),
-    ("", How::Split(""), "||"),
-    ("aaa", How::Split("aa"), "|a|"),
-    ("aaa", How::RSplit("aa"), "|a|"),
-    ("ababa", How::Split("aba"), "|ba|"),
-    ("ababa", How::RSplit("aba"), "|ab|"),
-    ("αβα", How::Split("β"), "α|α|"),
-    ("ββαβ", How::Split("β"), "||α||"),
-    ("ββαβ", How::RSplit("β"), "|α|||"),
-    ("😈😉", How::Split("😉"), "😈||"),
-    ("a,b,c", How::SplitN(2, ","), "a|b,c|"),
-    ("a,b,c", How::RSplitN(2, ","), "c|a,b|"),
-    ("ab", How::SplitN(0, ""), ""),
-    ("ab", How::SplitN(1, ""), "ab|"),
-    ("ab", How::SplitN(2, ""), "|ab|"),
-    ("ab", How::SplitN(3, ""), "|a|b|"),
-    ("ab", How::SplitN(4, ""), "|a|b||"),
-    ("ab", How::RSplitN(3, ""), "|b|a|"),
-    (" a\u{b}b\t😈 ", How::Words, "a|b|😈|"),
-    (" a\u{b}b\t😈 ", How::AsciiWords, "a\u{b}b|😈|"),
-    ("😈 ", How::Words, "😈|"),
-    ("a\r\n\nb\n", How::Lines, "a||b|"),
-    ("a\r", How::Lines, "a\r|"),
-    ("\r\r\n", How::Lines, "\r|"),
-    ("\n", How::Lines, "|"),
-    ("", How::Lines, ""),
-    ("a\rb\r\n", How::Lines, "a\rb|"),
-    ("a,b,", How::Inclusive(","), "a,|b,|"),
-    ("a,b", How::Inclusive(","), "a,|b|"),
-    ("", How::Inclusive(","), ""),
-    ("aaa", How::Inclusive("aa"), "aa|a|"),
-    ("ababa", How::Inclusive("aba"), "aba|ba|"),
-    (",,", How::Inclusive(","), ",|,|"),
-];
+/// Reads a row: how to split, the separator, the text and its parts, with a semicolon after each but
+/// the last.
+pub(crate) fn row_of(row: &str) -> Row<'_> {
+    let mut fields = row.split(';');
+    let way = fields.next().unwrap_or("");
+    let how = how_of(way, fields.next().unwrap_or(""));
+    let text = fields.next().unwrap_or("");
+    (text, how, fields.next().unwrap_or(""))
+}
 
-/// Returns whether the text was split completely, into these parts.
-fn gave<S: Storage>(parts: &Parts<S>, wanted: &str) -> bool {
-    parts.refused.is_none() && following(parts, wanted) == Some("")
+const ROWS: &str = "s;,;a,b,,c;a|b||c|~\
+    s;,;a,b,c;a|b|c|~\
+    s;a;a;||~\
+    s;;a;|a||~\
+    s;;;||~\
+    s;aa;aaa;|a|~\
+    r;aa;aaa;|a|~\
+    s;aba;ababa;|ba|~\
+    r;aba;ababa;|ab|~\
+    s;β;αβα;α|α|~\
+    s;β;ββαβ;||α||~\
+    r;β;ββαβ;|α|||~\
+    s;😉;😈😉;😈||~\
+    s2;,;a,b,c;a|b,c|~\
+    r2;,;a,b,c;c|a,b|~\
+    s0;;ab;~\
+    s1;;ab;ab|~\
+    s2;;ab;|ab|~\
+    s3;;ab;|a|b|~\
+    s4;;ab;|a|b||~\
+    r3;;ab;|b|a|~\
+    w;; a\u{b}b\t😈 ;a|b|😈|~\
+    a;; a\u{b}b\t😈 ;a\u{b}b|😈|~\
+    w;;😈 ;😈|~\
+    l;;a\r\n\nb\n;a||b|~\
+    l;;a\r;a\r|~\
+    l;;\r\r\n;\r|~\
+    l;;\n;|~\
+    l;;;~\
+    l;;a\rb\r\n;a\rb|~\
+    i;,;a,b,;a,|b,|~\
+    i;,;a,b;a,|b|~\
+    i;,;;~\
+    i;aa;aaa;aa|a|~\
+    i;aba;ababa;aba|ba|~\
+    i;,;,,;,|,|";
+
+/// Returns whether the text is split into these parts, a bar after each, and after them an
+/// exclamation mark if the next split is refused for this reason.
+fn is_cut<S: Storage>(
+    alloc: Global,
+    text: StrInner<S>,
+    how: How<'_>,
+    wanted: &str,
+    reason: Reason,
+) -> bool
+    requires { IsAllowed how }
+{
+    let parts = cut_all(alloc, text, how);
+    let rest = following(&parts, wanted);
+    rest == Some("") && parts.refused.is_none()
+        || rest == Some("!") && parts.refused == Some(reason)
 }
 
 /// Asserts the parts of a text, over both storages of `bytes_utils`.
@@ -87,17 +120,18 @@ pub(crate) fn assert_cut(
     (text, how, wanted): Row<'_>,
 ) -> Result<(), Fail> {
     assert!(rt; is_allowed(how));
-    let shared = cut_all(alloc, Str::from_str(alloc, text)?, how);
-    assert!(rt; gave(&shared, wanted), "{text:?}, {how:?}");
-    let owned = cut_all(alloc, StrMut::from_str(alloc, text)?, how);
-    assert!(rt; gave(&owned, wanted), "{text:?}, {how:?}");
+    let shared = Str::from_str(alloc, text)?;
+    let is_shared_cut = is_cut(alloc, shared, how, wanted, Reason::OutOfMemory);
+    let owned = StrMut::from_str(alloc, text)?;
+    let is_owned_cut = is_cut(alloc, owned, how, wanted, Reason::OutOfMemory);
+    assert!(rt; is_shared_cut && is_owned_cut, "{text:?}, {how:?}");
     Ok(())
 }
 
 #[test]
 fn texts_are_cut(rt: HostRuntime) -> Result<(), Fail> {
-    for row in ROWS {
-        assert_cut(&rt, rt.alloc(), *row)?;
+    for row in ROWS.split('~') {
+        assert_cut(&rt, rt.alloc(), row_of(row))?;
     }
     Ok(())
 }

@@ -1,44 +1,40 @@
 //! Records of a stream.
 use crate::examples::records::{RecordError, Records};
 use bytes::Bytes;
-use bytes_utils::Str;
-use std::process::Abort;
+use std::alloc::{AllocError, Global};
 use std::test::Fail;
 
-/// What a call returns: a record, one that is too long, or the bytes of one that isn't UTF-8.
-#[derive(Clone, Copy, Debug)]
-enum Told {
-    Record(&'static str),
-    TooLong,
-    NotUtf8(&'static [u8]),
-}
-
-fn reports(found: &Result<Option<Str>, RecordError>, wanted: Told) -> bool {
-    match (found, wanted) {
-        (Ok(Some(text)), Told::Record(wanted)) => text.as_str() == wanted,
-        (Err(RecordError::TooLong), Told::TooLong) => true,
-        (Err(RecordError::NotUtf8(bytes)), Told::NotUtf8(wanted)) => bytes.as_slice() == wanted,
-        _ => false,
-    }
+/// Appends what a call returns, with a bar after it: a record, which call failed, or the bytes of a
+/// record that isn't UTF-8.
+fn report(alloc: Global, records: &mut Records, told: &mut Vec<u8>) -> Result<(), AllocError> {
+    let written = match records.next_record(alloc) {
+        Ok(Some(text)) => told.extend_from_slice(text.as_str().as_bytes()),
+        Ok(None) => told.extend_from_slice(b"none"),
+        Err(RecordError::TooLong) => told.extend_from_slice(b"too long"),
+        Err(RecordError::NotUtf8(bytes)) => told.extend_from_slice(&bytes),
+        Err(RecordError::OutOfMemory) => told.extend_from_slice(b"refused"),
+    };
+    written?;
+    told.extend_from_slice(b"|")
 }
 
 const STREAM: &[u8] = b"Gr\xc3\xbc\xc3\x9fe\r\n\r\nalle, die\r\n\r\na\xffb\r\n\r\n\r\n\r\nrest";
 
-const TOLD: &[Told] = &[
-    Told::Record("Grüße"),
-    Told::TooLong,
-    Told::NotUtf8(b"a\xffb"),
-    Told::Record(""),
-];
+/// Pushes the stream, and appends what five calls return.
+fn report_all(alloc: Global, records: &mut Records, told: &mut Vec<u8>) -> Result<(), Fail> {
+    records.push(Bytes::from_static(STREAM))?;
+    for _ in 0..5 {
+        report(alloc, records, told)?;
+    }
+    Ok(())
+}
 
 #[test]
 fn records_of_a_stream(rt: HostRuntime) -> Result<(), Fail> {
-    let alloc = rt.alloc();
-    let mut records = Records::new(alloc, 7)?;
-    records.push(Bytes::from_static(STREAM))?;
-    for want in TOLD {
-        assert!(rt; reports(&records.next_record(alloc), *want), "{want:?}");
-    }
-    assert!(rt; matches!(&records.next_record(alloc), Ok(None)) && records.remaining() == 4);
+    let mut records = Records::new(rt.alloc(), 7)?;
+    let mut told = Vec::new(rt.alloc());
+    report_all(rt.alloc(), &mut records, &mut told)?;
+    let is_told = told.as_slice() == b"Gr\xc3\xbc\xc3\x9fe|too long|a\xffb||none|".as_slice();
+    assert!(rt; is_told && records.remaining() == 4);
     Ok(())
 }

@@ -3,25 +3,18 @@ use crate::odd::Asked;
 use bytes::{Buf, Bytes};
 use std::process::Abort;
 
-fn assert_shows<B: Buf>(rt: &impl Abort, buf: &B, shown: &[u8]) {
-    assert!(rt; buf.remaining() == shown.len() && buf.chunk() == shown);
-}
-
-fn assert_asked(rt: &impl Abort, buf: &Asked, advances: usize, looks: usize) {
-    assert!(rt;
-        buf.advances() == advances && buf.looked() == looks,
-        "{buf:?}"
-    );
+/// Returns whether these bytes are shown, and after two looks these numbers of calls.
+fn is_asked(buf: &Asked, shown: &[u8], advances: usize, looks: usize) -> bool {
+    buf.remaining() == shown.len()
+        && buf.chunk() == shown
+        && buf.advances() == advances
+        && buf.looked() == looks
 }
 
 #[test]
 fn asked_counts(rt: HostRuntime) {
     let mut buf = Asked::new(Bytes::from_static(b"abc"));
-    assert_asked(&rt, &buf, 0, 0);
-    assert_shows(&rt, &buf, b"abc");
-    assert_asked(&rt, &buf, 0, 2);
+    assert!(rt; buf.looked() == 0 && is_asked(&buf, b"abc", 0, 2));
     buf.advance(2);
-    assert_asked(&rt, &buf, 1, 2);
-    assert_shows(&rt, &buf, b"c");
-    assert_asked(&rt, &buf, 1, 4);
+    assert!(rt; buf.looked() == 2 && is_asked(&buf, b"c", 1, 4));
 }
