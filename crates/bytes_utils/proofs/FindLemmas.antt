@@ -1,7 +1,7 @@
 -- The first place of a needle in segments, from the needles that begin in each segment.
-use Rattle.std.proofs.Common.{◌≡◌, ℕ, zero, suc, ◌+◌, ◌-◌, ◌<◌, ◌≤◌, List, [], ◌∷◌, ◌++◌, length, take, drop, get_or, Some, None, ap, ◌∙◌, sym, refl, arith, length-append, length-drop, length-take, append_assoc, append-nil, take-append-drop, take_at, drop_at, ⊎_elim}
+use Rattle.std.proofs.Common.{◌≡◌, ℕ, zero, suc, ◌+◌, ◌-◌, ◌<◌, ◌≤◌, List, [], ◌∷◌, ◌++◌, length, take, drop, get_or, Some, None, ap, ◌∙◌, sym, refl, arith, length-append, length-drop, length-take, append_assoc, append-nil, take-append-drop, drop_at, ⊎_elim}
 use Rattle.std.proofs.lemmas.Bool.{cases_lt}
-use Rattle.std.proofs.lemmas.List.{drop-append-le, drop_all, drop_more, take_all}
+use Rattle.std.proofs.lemmas.List.{drop-append-le, drop_more}
 use Rattle.std.proofs.Math.Seq.{take-append-add}
 use Rattle.std.specs.List.{concat}
 use Rattle.memchr.specs.Find.{FindsNeedle, IsFirst, Nowhere, OccursAt}

@@ -1,5 +1,5 @@
 -- Lists of parts between separators, as a caller builds them and takes them apart. The separator p isn't empty.
-use Rattle.std.proofs.Common.{◌≡◌, sym, ap, subst, ◌∙◌, ℕ, ◌<◌, List, [], ◌∷◌, ◌++◌, Option, None, Some, length, arith, lit<, length-append, append_assoc, append-nil, ⊎_elim}
+use Rattle.std.proofs.Common.{◌≡◌, sym, ap, subst, ◌∙◌, ℕ, ◌<◌, List, [], ◌∷◌, ◌++◌, Option, None, length, arith, length-append, append_assoc, append-nil, ⊎_elim}
 use Rattle.std.proofs.lemmas.Bool.{cases_lt}
 use Rattle.bytes_utils.specs.Occurrence.{OccursAt, Occurs, OccursFirstAt}
 use Rattle.bytes_utils.specs.Parts.{join, IsCutAtFirst, OfLast, AreForwardParts, ArePartsFromFront}
@@ -7,7 +7,7 @@ use Rattle.bytes_utils.specs.Splitting.{LeavesMore, one_less}
 use Rattle.bytes_utils.proofs.OccurrenceLemmas.{OccursAt-between, OccursAt-front, OccursFirstAt-append, OccursFirstAt-front}
 use Rattle.bytes_utils.proofs.Forward.{AreForwardParts-led, AreForwardParts-last}
 use Rattle.bytes_utils.proofs.FromEnds.{positive, positive-less, front-from, front-to}
-use Rattle.bytes_utils.proofs.Unique.{first_place, AreForwardParts-others}
+use Rattle.bytes_utils.proofs.Unique.{AreForwardParts-others}
 
 -- ---- where a part ends
 

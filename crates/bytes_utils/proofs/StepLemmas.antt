@@ -1,5 +1,5 @@
 -- What a caller concludes from the steps of a splitter.
-use Rattle.std.proofs.Common.{◌≡◌, refl, sym, ap, subst, ◌∙◌, ℕ, ◌<◌, List, [], ◌∷◌, ◌++◌, Result, Ok, MatchResult, length, map, arith, append_assoc, append-nil}
+use Rattle.std.proofs.Common.{◌≡◌, sym, ap, subst, ◌∙◌, ℕ, ◌<◌, List, [], ◌∷◌, ◌++◌, Result, Ok, MatchResult, length, map, arith, append_assoc, append-nil}
 use Rattle.std.proofs.lemmas.List.{map-append}
 use Rattle.std.specs.Str.{chars}
 use Rattle.bytes_utils.specs.Step.{GivesFirst, GivesItem, HasGiven}
