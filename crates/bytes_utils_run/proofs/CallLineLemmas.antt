@@ -1,5 +1,5 @@
 -- Call lines read one after the other.
-use Rattle.std.proofs.Common.{◌≡◌, refl, sym, ap, subst, ◌∙◌, ℕ, ◌-◌, List, [], ◌∷◌, ◌++◌, length, length-append, drop, codes, IsUtf8, IsCharBoundary, Option, Some, append_assoc, arith}
+use Rattle.std.proofs.Common.{◌≡◌, refl, sym, ap, subst, ◌∙◌, ℕ, ◌-◌, List, [], ◌∷◌, ◌++◌, length, length-append, drop, codes, IsUtf8, IsCharBoundary, Option, Some, arith}
 use Rattle.std.proofs.lemmas.Str.{IsCharBoundary-at_seam, encodes-chars}
 use Rattle.std.specs.Str.{chars}
 use Rattle.bytes_utils.specs.Lines.{AreLinesToCome, lines}
