@@ -7,7 +7,8 @@ use bytes_utils::{Reason, SegmentedBuf, Str};
 use std::alloc::Global;
 use std::io::{self, Write};
 
-/// Returns the next line of a stream that arrives in pieces, or `None` until the line has ended.
+/// Appends a piece of a stream, and returns the next line, or `None` until it has ended. If a piece
+/// ends more lines, `stream.next_line` alone returns them.
 fn next_line(alloc: Global, stream: &mut Lines, piece: Bytes) -> Result<Option<Str>, LineError> {
     stream.push(piece)?;
     stream.next_line(alloc)
@@ -28,7 +29,7 @@ fn body(
     if came.remaining() < len {
         return Ok(None);
     }
-    Ok(Some(came.copy_to_bytes(alloc, len)?)) // shared if it is in one piece
+    Ok(Some(came.copy_to_bytes(alloc, len)?)) // shared if in one piece; an error may lose it
 }
 
 /// Writes all of `came`, small pieces together. After an error, `came` holds what wasn't written.
