@@ -1,5 +1,5 @@
 //! What each call returns if a request for memory is refused. A run with one refused request ends
-//! well, whichever request it is, and prints which call was refused. What stands after a refused
+//! well, whichever request it is, and prints which call was refused. What is left after a refused
 //! call is a clause, but for `Extend`.
 mod build;
 mod clone;

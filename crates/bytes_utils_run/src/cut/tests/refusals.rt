@@ -38,7 +38,7 @@ fn refused_after_each_split(rt: HostRuntime) -> Result<(), Fail> {
     Ok(())
 }
 
-/// A storage that refuses each split, and not for want of memory.
+/// A storage that refuses each split, and reports another reason than `OutOfMemory`.
 #[derive(Drop)]
 struct Long(Bytes);
 
