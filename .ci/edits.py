@@ -1,19 +1,17 @@
-"""Wrong bodies: how an edit is read and applied, and what the check of a copy says of it.
-
-An edit is a file of lines: 'file: PATH'; '# fn: NAME' for each function that it changes, as the prover names it without
-the crate's name, or '# test: NAME' for the test that has to catch it; and pairs of 'old: TEXT', which is in the file
-once, and 'new: TEXT'. `rt ci` reads the lines without '#'."""
+"""Wrong bodies: how an edit, whose form CONTRIBUTING.md has, is read and applied, and what the check of a copy says of
+it. `rt ci` reads the lines of an edit without '#'."""
 import re
 from collections import namedtuple
 from pathlib import Path
 
 from kit import CRATES, EXAMPLES, ROOT, files_of
 
-# what a proof file says where an edit only took a name away
-LOST_NAME = re.compile(r"\./proofs/.*(has no field|is not in scope|has no `|was not admitted|which was rejected)")
+# what is said of a goal that stays open. Else a term of a proof file no longer fits, as it also may for a right body
+OPEN = re.compile(r"src/|\./proofs/.*(does not follow|allow values at which|(found )?no proof\b)")
+BY_PROOF = "by the proof file alone"
 # a program's files are texts by their paths, and its folder is that of its edits; a pair is an old text and a new one
 Program = namedtuple("Program", "name uses files folder")
-Edit = namedtuple("Edit", "program name file functions test pairs")
+Edit = namedtuple("Edit", "program name file functions test breaks pairs")
 
 
 def program_of(name):
@@ -28,9 +26,9 @@ def edits_of(program, kind):
 
 
 def edit_of(program, name, text):
-    file, functions, test = (re.findall(rf"^{key}: (.*)$", text, re.M) for key in ("file", "# fn", "# test"))
+    file, of, test, breaks = (re.findall(rf"^{it}: (.*)$", text, re.M) for it in ("file", "# fn", "# test", "# breaks"))
     pairs = re.findall(r"^old: (.+)\nnew: ?(.*)$", text, re.M)
-    return Edit(program, f"{program.name}/{name}", "".join(file), functions, "".join(test), pairs)
+    return Edit(program, f"{program.name}/{name}", "".join(file), of, "".join(test), "".join(breaks), pairs)
 
 
 def files_with(edits):
@@ -47,10 +45,8 @@ def files_with(edits):
 def fault_of(edit):
     """What is wrong with an edit, as far as its text shows, or nothing."""
     files = files_with([edit])
-    if not files or not edit.pairs:
-        return f"an old text isn't in {edit.file} once"
-    if any(old == new for old, new in edit.pairs):
-        return "it changes nothing"
+    if not files or not edit.pairs or any(old == new for old, new in edit.pairs):
+        return f"an old text isn't in {edit.file} once, or is the new one"
     *module, _ = edit.test.split("::")
     # an edit of a macro changes functions of any file
     paths = files if "macro_rules!" in files[edit.file] else [edit.file]
@@ -65,10 +61,9 @@ def goals_in(said):
     found, notes = {}, []
     errors = [" ".join(it.split()) for it in re.findall(r"^\./proofs/\S+: error: .*(?:\n  .*)?", said, re.M)]
     for line in said.split("\n"):
-        named = re.match(r"(?:fn|impl) \w+::(\S+): (.*)", line)
         if re.match(r"note: \S+\.rt:\d+:\d+: ", line):
             notes.append(line.removeprefix("note: "))
-        elif named:
+        elif named := re.match(r"(?:fn|impl) \w+::(\S+): (.*)", line):
             name, verdict = named.groups()
             own = [it for it in errors if it.startswith(f"./proofs/{name.replace('::', '/')}/")] + notes
             waits = re.match(r"not proved; it waits|no proof: it calls", verdict)
@@ -78,17 +73,17 @@ def goals_in(said):
 
 
 def judged(edit, said):
-    """What a check says of an edit: 'refused', and at which goal of a function that it changes, or why it isn't."""
+    """What a check says of an edit: 'refused', and at which open goal of a function that it changes, or why it isn't."""
     goals = goals_in(said)
     if not re.search(r"^logic=", said, re.M):
         errors = [it for it in said.split("\n") if "error" in it] or [said[-200:]]
         return f"the prover can't read the copy: {errors[0][:200]}"
-    lost = [it for it in edit.functions if it not in goals]
-    if lost:
+    if lost := [it for it in edit.functions if it not in goals]:
         return f"the prover sees no function {lost[0]}"
     closures = [it for it in goals if any(it.replace("fn::", "", 1).startswith(f"{of}::") for of in edit.functions)]
     refused = [(name, goal) for name in (*edit.functions, *closures) for goal in goals[name]]
-    for name, goal in refused:
-        if not LOST_NAME.match(goal):
-            return f"refused: {name}: {goal.removeprefix('./proofs/')[:200]}"
-    return "a proof file only misses a name: keep the names, change a value" if refused else "it is proved"
+    if not refused:
+        return "it is proved"
+    name, goal = next((it for it in refused if OPEN.match(it[1])), refused[0])
+    how = "refused" if OPEN.match(goal) else f"refused {BY_PROOF}" if edit.breaks else BY_PROOF
+    return f"{how}: {name}: {goal.removeprefix('./proofs/')[:200]}"
