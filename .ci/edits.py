@@ -73,7 +73,7 @@ def goals_in(said):
 
 
 def judged(edit, said):
-    """What a check says of an edit: 'refused', and at which open goal of a function that it changes, or why it isn't."""
+    """What a check says of an edit: "refused", and at which open goal of a function that it changes, or why not."""
     goals = goals_in(said)
     if not re.search(r"^logic=", said, re.M):
         errors = [it for it in said.split("\n") if "error" in it] or [said[-200:]]
