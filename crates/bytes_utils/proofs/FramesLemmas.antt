@@ -1,5 +1,5 @@
 -- Frames from pieces.
-use Rattle.std.proofs.Common.{map, All, IsUtf8, drop-drop, Option, ◌≤◌, ◌≡◌, ℕ, ◌+◌, ◌<◌, List, [], ◌∷◌, ◌++◌, length, take, drop, None, Some, ap, ◌∙◌, sym, refl, subst, arith, append_assoc, append-nil, take-append-drop, ⊎_elim}
+use Rattle.std.proofs.Common.{map, All, IsUtf8, drop-drop, Option, ◌≤◌, ◌≡◌, ℕ, ◌+◌, ◌<◌, List, [], ◌∷◌, ◌++◌, length, take, drop, None, Some, ap, ◌∙◌, sym, refl, subst, arith, append_assoc, take-append-drop, ⊎_elim}
 use Rattle.std.proofs.lemmas.Bool.{cases_lt}
 use Rattle.std.proofs.lemmas.List.{append_cancel_left, length-take-le, take_at, drop_at}
 use Rattle.std.proofs.lemmas.List.Elements.{All-nil, All-cons, All-head, All-tail}
@@ -10,7 +10,7 @@ use Rattle.memchr.specs.Find.{FindsNeedle}
 use Rattle.memchr.proofs.lemmas.MatchLemmas.{OccursAt-part, OccursAt-split}
 use Rattle.bytes_utils.specs.Occurrence.{Occurs, OccursAt, OccursFirstAt}
 use Rattle.bytes_utils.specs.Parts.{IsCutAtFirst, AreForwardParts}
-use Rattle.bytes_utils.specs.Frames.{TakesFrame, FrameEvent, Pushed, Taken, IsFrameRun, pushed_by, given_by, AreFrames, framed, FramesLaw, FramePartsLaw, PutFramesLaw, SameFramesLaw, AllFramesLaw, TextFramesLaw}
+use Rattle.bytes_utils.specs.Frames.{TakesFrame, AreFrames, FrameOrBytes, Frame, First, TakesFrameOrBytes, framed, FramesLaw, FramesAndBytesLaw, FramePartsLaw, PutFramesLaw, SameFramesLaw, AllFramesLaw, TextFramesLaw}
 use Rattle.bytes_utils.proofs.Boundaries.{OccursAt-fits, HasNeedleAt-from_occurs}
 use Rattle.bytes_utils.proofs.OccurrenceLemmas.{OccursFirstAt-append, first_places_same}
 use Rattle.bytes_utils.proofs.Joins.{append_same}
@@ -18,6 +18,7 @@ use Rattle.bytes_utils.proofs.Forward.{AreForwardParts-led, AreForwardParts-last
 use Rattle.bytes_utils.proofs.FromEnds.{front-from}
 use Rattle.bytes_utils.proofs.PartLists.{first-from_cut, cut-from_first}
 use Rattle.bytes_utils.proofs.PartCut.{next_boundary, chars_before, chars_after}
+use Rattle.bytes_utils.proofs.StreamRunsLemmas.{AreFirst-more, AreFirst-next, stream_law, same_first_law}
 use Rattle.bytes_utils.proofs.SearchLemmas.{chars-some, FindsFirst-from_needle}
 
 -- ---- a frame is taken
@@ -66,26 +67,21 @@ TakesFrame-more p old frame rest piece takes = record {
 }
 
 pub AreFrames-more : (p bytes : List ℕ) (frames : List (List ℕ)) (rest piece : List ℕ) → AreFrames p bytes frames rest → AreFrames p (bytes ++ piece) frames (rest ++ piece)
-AreFrames-more p bytes [] rest piece are = ap (λ l. l ++ piece) are
-AreFrames-more p bytes (frame ∷ frames) rest piece are =
-    (are.0 ++ piece, TakesFrame-more p bytes frame are.0 piece are.1, AreFrames-more p are.0 frames rest piece are.2)
+AreFrames-more p bytes frames rest piece are = AreFirst-more (TakesFrame p) (TakesFrame-more p) bytes frames rest piece are
 
 pub AreFrames-next : (p bytes : List ℕ) (frames : List (List ℕ)) (held frame rest : List ℕ) → AreFrames p bytes frames held → TakesFrame p held frame rest
     → AreFrames p bytes (frames ++ frame ∷ []) rest
-AreFrames-next p bytes [] held frame rest are takes = (rest, subst (λ l. TakesFrame p l frame rest) (sym are) takes, refl)
-AreFrames-next p bytes (x ∷ frames) held frame rest are takes = (are.0, are.1, AreFrames-next p are.0 frames held frame rest are.2 takes)
-
-AreFrames-run : (p bytes : List ℕ) (frames : List (List ℕ)) (held : List ℕ) (events : List FrameEvent) (end : List ℕ) → AreFrames p bytes frames held → IsFrameRun p held events end
-    → AreFrames p (bytes ++ pushed_by events) (frames ++ given_by events) end
-AreFrames-run p bytes frames held [] end are run = rw (append-nil bytes, append-nil frames) (subst (AreFrames p bytes frames) (sym run) are)
-AreFrames-run p bytes frames held (Pushed piece ∷ events) end are run =
-    rw (← append_assoc bytes piece (pushed_by events)) (AreFrames-run p (bytes ++ piece) frames (held ++ piece) events end (AreFrames-more p bytes frames held piece are) run)
-AreFrames-run p bytes frames held (Taken frame ∷ events) end are run =
-    let later = AreFrames-run p bytes (frames ++ frame ∷ []) run.0 events end (AreFrames-next p bytes frames held frame run.0 are run.1) run.2 in
-    rw (append_assoc frames (frame ∷ []) (given_by events)) at later
+AreFrames-next p bytes frames held frame rest are takes = AreFirst-next (TakesFrame p) bytes frames held frame rest are takes
 
 pub frames_law : FramesLaw
-frames_law p events end run = AreFrames-run p [] [] [] events end refl run
+frames_law p = stream_law (TakesFrame p) (TakesFrame-more p)
+
+either_more : (p old : List ℕ) (item : FrameOrBytes) (rest piece : List ℕ) → TakesFrameOrBytes p old item rest → TakesFrameOrBytes p (old ++ piece) item (rest ++ piece)
+either_more p old (Frame frame) rest piece takes = TakesFrame-more p old frame rest piece takes
+either_more p old (First bytes) rest piece takes = ap (λ l. l ++ piece) takes ∙ append_assoc bytes rest piece
+
+pub frames_and_bytes_law : FramesAndBytesLaw
+frames_and_bytes_law p = stream_law (TakesFrameOrBytes p) (either_more p)
 
 -- ---- the list of parts
 
@@ -148,13 +144,7 @@ TakesFrame-same p bytes f g x y s t =
     (same.0, append_cancel_left p x y same.1)
 
 pub same_frames_law : SameFramesLaw
-same_frames_law p bytes [] [] x y a b size = (refl, sym a ∙ b)
-same_frames_law p bytes [] (g ∷ ys) x y a b size = absurd (omega (arith, size))
-same_frames_law p bytes (f ∷ xs) [] x y a b size = absurd (omega (arith, size))
-same_frames_law p bytes (f ∷ xs) (g ∷ ys) x y a b size =
-    let same = TakesFrame-same p bytes f g a.0 b.0 a.1 b.1 in
-    let later = same_frames_law p b.0 xs ys x y (subst (λ l. AreFrames p l xs x) same.1 a.2) b.2 (omega (arith, size)) in
-    ((λ i. same.0 i ∷ later.0 i), later.1)
+same_frames_law p = same_first_law (TakesFrame p) (TakesFrame-same p)
 
 pub all_frames_law : AllFramesLaw
 all_frames_law p bytes [] [] x y a b none_x none_y = (refl, sym a ∙ b)

@@ -2,7 +2,8 @@
 use Rattle.std.proofs.Common.{◌≡◌, refl, sym, ap, subst, ◌∙◌, ℕ, List, [], ◌∷◌, ◌++◌, Option, None, Some, append_assoc, append-nil}
 use Rattle.std.proofs.KnownBytes.{Consumes-nil, Consumes-trans, Consumes-whole}
 use Rattle.std.specs.Io.KnownBytes.{Consumes}
-use Rattle.bytes_utils.specs.Frames.{AreFrames, FrameEvent, FramesLaw, Taken, IsFrameRun, Pushed, TakesFrame, given_by, pushed_by}
+use Rattle.bytes_utils.specs.StreamRuns.{Taken, Pushed, given_by, pushed_by}
+use Rattle.bytes_utils.specs.Frames.{AreFrames, FrameEvent, FramesLaw, IsFrameRun, TakesFrame}
 use Rattle.bytes_utils.specs.ReadFrame.{IsReadRun, ReadFramesLaw, ReadsFrame, ReadsOn, WholeInputLaw, frames_of}
 
 -- one more read

@@ -1,5 +1,5 @@
 -- Lines from pieces.
-use Rattle.std.proofs.Common.{map, IsUtf8, ◌≡◌, ℕ, zero, suc, ◌+◌, ◌<◌, List, [], ◌∷◌, ◌++◌, length, drop, None, inl, inr, ap, ◌∙◌, sym, refl, subst, arith, length-append, append_assoc, append-nil, get_or}
+use Rattle.std.proofs.Common.{map, IsUtf8, ◌≡◌, ℕ, zero, suc, ◌+◌, ◌<◌, List, [], ◌∷◌, ◌++◌, length, drop, None, inl, inr, ap, ◌∙◌, sym, refl, subst, arith, length-append, append_assoc, get_or}
 use Rattle.std.proofs.Math.Seq.{get_or-append_seam}
 use Rattle.std.proofs.lemmas.List.{append_cancel_left, take_at, drop_at}
 use Rattle.std.proofs.lemmas.List.Elements.{All-nil, All-cons}
@@ -9,12 +9,12 @@ use Rattle.std.specs.Char.{encode_utf8}
 use Rattle.memchr.proofs.lemmas.MatchLemmas.{OccursAt-part}
 use Rattle.bytes_utils.specs.Occurrence.{Occurs, OccursAt}
 use Rattle.bytes_utils.specs.Lines.{lines, line_feed, carriage_return, IsFeedEnd, IsWithoutReturn}
-use Rattle.bytes_utils.specs.Frames.{TakesFrame, FrameEvent, Pushed, Taken, pushed_by, given_by}
-use Rattle.bytes_utils.specs.StreamLines.{TakesLine, IsLineRun, AreFirstLines, LineRunLaw, FirstLinesLaw, last_line, TextLinesLaw, SameLinesLaw}
+use Rattle.bytes_utils.specs.Frames.{TakesFrame}
+use Rattle.bytes_utils.specs.StreamLines.{TakesLine, LineRunLaw, FirstLinesLaw, last_line, TextLinesLaw, SameLinesLaw}
 use Rattle.bytes_utils.proofs.Boundaries.{OccursAt-fits}
 use Rattle.bytes_utils.proofs.OccurrenceLemmas.{OccursAt-append}
-use Rattle.bytes_utils.proofs.Joins.{append_same}
 use Rattle.bytes_utils.proofs.LinesLemmas.{lines-at_end, lines-last}
+use Rattle.bytes_utils.proofs.StreamRunsLemmas.{stream_law, same_first_law}
 use Rattle.bytes_utils.proofs.SearchLemmas.{FindsFirst-from_needle}
 
 -- ---- a line is taken
@@ -53,26 +53,8 @@ TakesLine-more old line rest piece takes = record {
   lacks = takes.lacks;
 }
 
-AreFirstLines-more : (bytes : List ℕ) (given : List (List ℕ)) (rest piece : List ℕ) → AreFirstLines bytes given rest → AreFirstLines (bytes ++ piece) given (rest ++ piece)
-AreFirstLines-more bytes [] rest piece are = ap (λ l. l ++ piece) are
-AreFirstLines-more bytes (line ∷ given) rest piece are =
-    (are.0 ++ piece, TakesLine-more bytes line are.0 piece are.1, AreFirstLines-more are.0 given rest piece are.2)
-
-AreFirstLines-next : (bytes : List ℕ) (given : List (List ℕ)) (held line rest : List ℕ) → AreFirstLines bytes given held → TakesLine held line rest → AreFirstLines bytes (given ++ line ∷ []) rest
-AreFirstLines-next bytes [] held line rest are takes = (rest, subst (λ l. TakesLine l line rest) (sym are) takes, refl)
-AreFirstLines-next bytes (x ∷ given) held line rest are takes = (are.0, are.1, AreFirstLines-next are.0 given held line rest are.2 takes)
-
-AreFirstLines-run : (bytes : List ℕ) (given : List (List ℕ)) (held : List ℕ) (events : List FrameEvent) (end : List ℕ) → AreFirstLines bytes given held → IsLineRun held events end
-    → AreFirstLines (bytes ++ pushed_by events) (given ++ given_by events) end
-AreFirstLines-run bytes given held [] end are run = rw (append-nil bytes, append-nil given) (subst (AreFirstLines bytes given) (sym run) are)
-AreFirstLines-run bytes given held (Pushed piece ∷ events) end are run =
-    rw (← append_assoc bytes piece (pushed_by events)) (AreFirstLines-run (bytes ++ piece) given (held ++ piece) events end (AreFirstLines-more bytes given held piece are) run)
-AreFirstLines-run bytes given held (Taken line ∷ events) end are run =
-    let later = AreFirstLines-run bytes (given ++ line ∷ []) run.0 events end (AreFirstLines-next bytes given held line run.0 are run.1) run.2 in
-    rw (append_assoc given (line ∷ []) (given_by events)) at later
-
 pub line_run_law : LineRunLaw
-line_run_law events end run = AreFirstLines-run [] [] [] events end refl run
+line_run_law = stream_law TakesLine TakesLine-more
 
 -- ---- the lines of the bytes
 
@@ -187,12 +169,9 @@ TakesLine-same old line x y s t = same s.end t.end s.ends t.ends (append_cancel_
         let both : 10 ∷ x ≡ 13 ∷ 10 ∷ y = ap (λ l. l ++ x) (sym a.0) ∙ whole ∙ ap (λ l. l ++ y) b in
         absurd (omega (arith, ap (λ l. get_or l 0 0) both))
 
-rest_same : (bytes : List ℕ) (given : List (List ℕ)) (x y : List ℕ) → AreFirstLines bytes given x → AreFirstLines bytes given y → x ≡ y
-rest_same bytes [] x y a b = sym a ∙ b
-rest_same bytes (line ∷ given) x y a b =
-    rest_same b.0 given x y (subst (λ l. AreFirstLines l given x) (TakesLine-same bytes line a.0 b.0 a.1 b.1) a.2) b.2
-
 pub same_lines_law : SameLinesLaw
-same_lines_law bytes xs ys x y a b size =
-    let same = (append_same xs ys (lines x) (lines y) size (sym (first_lines_law bytes xs x a) ∙ first_lines_law bytes ys y b)).0 in
-    (same, rest_same bytes xs x y a (subst (λ ls. AreFirstLines bytes ls y) (sym same) b))
+same_lines_law = same_first_law TakesLine (λ old line other x y s t.
+    let first : line ∷ lines x ≡ other ∷ lines y =
+    sym (first_lines_law old (line ∷ []) x (x, s, refl)) ∙ first_lines_law old (other ∷ []) y (y, t, refl) in
+    let same : line ≡ other = ap (λ ls. get_or ls 0 []) first in
+    (same, TakesLine-same old line x y s (subst (λ l. TakesLine old l y) (sym same) t)))

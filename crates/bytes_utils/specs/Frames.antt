@@ -3,6 +3,7 @@ use Rattle.std.specs.Prelude.{◌≡◌, ◌↔◌, ℕ, ◌<◌, List, [], ◌�
 use Rattle.std.specs.Str.{chars}
 use Rattle.bytes_utils.specs.Occurrence.{Occurs, OccursFirstAt}
 use Rattle.bytes_utils.specs.Parts.{IsCutAtFirst, ArePartsFromFront}
+use Rattle.bytes_utils.specs.StreamRuns.{StreamEvent, IsStreamRun, AreFirst, StreamLaw, SameFirstLaw}
 
 -- what clauses see of a `Frames`: the separator, and the held bytes, which were pushed and not yet taken
 pub record Framing : Type 0 where
@@ -15,40 +16,34 @@ pub record TakesFrame (separator old frame rest : List ℕ) : Type 0 where
   pub first : OccursFirstAt separator old (length frame)
 
 -- what a caller did: it pushed a piece, or took a frame
-pub data FrameEvent : Type 0 where
-  Pushed : List ℕ → FrameEvent
-  Taken : List ℕ → FrameEvent
+abbrev pub FrameEvent : Type 0
+FrameEvent = StreamEvent (List ℕ)
 
 -- these events lead from the held bytes to the bytes held at the end
 abbrev pub IsFrameRun : List ℕ → List ℕ → List FrameEvent → List ℕ → Type 0
-IsFrameRun separator held [] end = end ≡ held
-IsFrameRun separator held (Pushed piece ∷ events) end = IsFrameRun separator (held ++ piece) events end
-IsFrameRun separator held (Taken frame ∷ events) end =
-    (rest : List ℕ) × TakesFrame separator held frame rest × IsFrameRun separator rest events end
-
--- all pushed pieces, joined
-abbrev pub pushed_by : List FrameEvent → List ℕ
-pushed_by [] = []
-pushed_by (Pushed piece ∷ events) = piece ++ pushed_by events
-pushed_by (Taken frame ∷ events) = pushed_by events
-
--- all taken frames
-abbrev pub given_by : List FrameEvent → List (List ℕ)
-given_by [] = []
-given_by (Pushed piece ∷ events) = given_by events
-given_by (Taken frame ∷ events) = frame ∷ given_by events
+IsFrameRun separator held events end = IsStreamRun (TakesFrame separator) held events end
 
 -- these are the first frames of the bytes, in order, and the bytes after them
 abbrev pub AreFrames : List ℕ → List ℕ → List (List ℕ) → List ℕ → Type 0
-AreFrames separator bytes [] rest = bytes ≡ rest
-AreFrames separator bytes (frame ∷ frames) rest =
-    (following : List ℕ) × TakesFrame separator bytes frame following × AreFrames separator following frames rest
+AreFrames separator bytes frames rest = AreFirst (TakesFrame separator) bytes frames rest
 
 -- Whatever the pieces are and whenever frames are asked for, a run from an empty reader gives the first frames of the joined pieces, and holds the
 -- bytes after them.
 abbrev pub FramesLaw : Type 0
-FramesLaw = (separator : List ℕ) (events : List FrameEvent) (end : List ℕ) → IsFrameRun separator [] events end
-    → AreFrames separator (pushed_by events) (given_by events) end
+FramesLaw = (separator : List ℕ) → StreamLaw (TakesFrame separator)
+
+-- what a caller took: a frame, or the first bytes, whatever they are
+pub data FrameOrBytes : Type 0 where
+  Frame : List ℕ → FrameOrBytes
+  First : List ℕ → FrameOrBytes
+
+abbrev pub TakesFrameOrBytes : List ℕ → List ℕ → FrameOrBytes → List ℕ → Type 0
+TakesFrameOrBytes separator old (Frame frame) rest = TakesFrame separator old frame rest
+TakesFrameOrBytes separator old (First bytes) rest = old ≡ bytes ++ rest
+
+-- the same if first bytes are taken by their number between the frames, as a body after its head
+abbrev pub FramesAndBytesLaw : Type 0
+FramesAndBytesLaw = (separator : List ℕ) → StreamLaw (TakesFrameOrBytes separator)
 
 -- All frames of the bytes, and the bytes after them, are the parts between separators, of which there is one list.
 abbrev pub FramePartsLaw : Type 0
@@ -73,8 +68,7 @@ TextFramesLaw = (separator text : List ℕ) (frames : List (List ℕ)) (rest : L
 
 -- two lists of frames of the same bytes that have the same length are the same, with the same bytes after them
 abbrev pub SameFramesLaw : Type 0
-SameFramesLaw = (separator bytes : List ℕ) (xs ys : List (List ℕ)) (x y : List ℕ) → AreFrames separator bytes xs x → AreFrames separator bytes ys y
-    → length xs ≡ length ys → (xs ≡ ys) × (x ≡ y)
+SameFramesLaw = (separator : List ℕ) → SameFirstLaw (TakesFrame separator)
 
 -- two lists of frames of the same bytes with no separator after them are the same, with the same bytes after them
 abbrev pub AllFramesLaw : Type 0

@@ -14,6 +14,7 @@ pub mod Keeping
 pub mod Walk
 pub mod Errors
 pub mod Json
+pub mod StreamRuns
 pub mod Frames
 pub mod FrameSearch
 pub mod LimitedFrames

@@ -1,6 +1,9 @@
 -- Frames with a limit on their length. A frame that is longer is reported in its place, and skipped.
-use Rattle.std.specs.Prelude.{◌≡◌, ℕ, ◌+◌, ◌<◌, ◌≤◌, Bool, true, false, List, [], ◌∷◌, ◌++◌, length, map, nat_le, Option, None, Some, if◌then◌else◌}
-use Rattle.bytes_utils.specs.Occurrence.{OccursAt}
+use Rattle.std.specs.Prelude.{◌≡◌, ℕ, ◌+◌, ◌<◌, ◌≤◌, Bool, true, false, List, [], ◌∷◌, ◌++◌, length, map, nat_le, Option, None, Some, Result, Ok, Err, if◌then◌else◌}
+use Rattle.std.specs.Bool.{OnTrue}
+use Rattle.bytes_utils_buf.specs.declared.refused.Reason.{Reason}
+use Rattle.bytes_utils_buf.specs.declared.refused.Reason.TheVariants.{OutOfMemory, TooLong}
+use Rattle.bytes_utils.specs.Occurrence.{Occurs, OccursAt}
 use Rattle.bytes_utils.specs.Frames.{TakesFrame, AreFrames}
 
 -- what clauses see of a `LimitedFrames`: as of a `Frames`, the greatest length of a frame, and whether a longer one was reported whose end has not
@@ -52,6 +55,24 @@ Gives old frame new = (new.discarding ≡ false) × GivesWithin old.separator ol
 
 abbrev pub Reports : Limiting → Limiting → Type 0
 Reports old new = ReportsOverlong old.separator old.max_length old.discarding old.held new.discarding new.held
+
+-- No frame ends in the held bytes, and the next one may still be within the limit. Of a frame that is skipped fewer bytes are held than the separator
+-- has.
+pub record Awaits (s : Limiting) : Type 0 where
+  pub lacks : ¬ Occurs s.separator s.held
+  pub few : length s.held < s.max_length + length s.separator
+  pub skipped : OnTrue s.discarding (length s.held < length s.separator)
+
+-- what a call for the next frame did, by what it returned; `bytes_of` gives the bytes of a frame
+abbrev pub IsLimitedStep : {A : Type 0} → (A → List ℕ) → Limiting → Result (Option A) Reason → Limiting → Type 0
+IsLimitedStep bytes_of old (Ok (Some frame)) new = Gives old (bytes_of frame) new
+IsLimitedStep bytes_of old (Ok None) new = Discards old new × Awaits new
+IsLimitedStep bytes_of old (Err TooLong) new = Reports old new
+IsLimitedStep bytes_of old (Err OutOfMemory) new = Discards old new
+
+-- the separator and the limit stay
+abbrev pub KeepsLimit : Limiting → Limiting → Type 0
+KeepsLimit old new = (new.separator ≡ old.separator) × (new.max_length ≡ old.max_length)
 
 -- what happened: a piece was pushed, a frame was taken, one was reported as too long, or a call returned no frame
 pub data LimitedEvent : Type 0 where

@@ -1,11 +1,11 @@
 -- Lines of a stream of bytes that comes in pieces, each ended by a line feed.
-use Rattle.std.specs.Prelude.{◌≡◌, ℕ, List, [], ◌∷◌, ◌++◌, length, map, All, IsUtf8}
+use Rattle.std.specs.Prelude.{◌≡◌, ℕ, List, [], ◌∷◌, ◌++◌, map, All, IsUtf8}
 use Rattle.std.specs.Str.{chars, valid_up_to, error_len}
 use Rattle.bytes_utils.specs.Occurrence.{Occurs}
 use Rattle.bytes_utils.specs.Lines.{lines, line_feed, IsFeedEnd}
 use Rattle.bytes_utils_buf.specs.Refusals.{reason_text}
 use Rattle.bytes_utils.specs.Errors.{fault_of, utf8_error_text}
-use Rattle.bytes_utils.specs.Frames.{FrameEvent, Pushed, Taken, pushed_by, given_by}
+use Rattle.bytes_utils.specs.StreamRuns.{StreamEvent, IsStreamRun, AreFirst, StreamLaw, SameFirstLaw}
 use Rattle.bytes_utils.specs.declared.frame.lines.LineError.{LineError}
 use Rattle.bytes_utils.specs.declared.frame.lines.LineError.TheVariants.{Refused, NotUtf8}
 
@@ -16,21 +16,18 @@ pub record TakesLine (old line rest : List ℕ) : Type 0 where
   pub ends : IsFeedEnd line end
   pub lacks : ¬ Occurs (line_feed ∷ []) line
 
--- these events, in which the frames are lines, lead from the held bytes to the bytes held at the end
-abbrev pub IsLineRun : List ℕ → List FrameEvent → List ℕ → Type 0
-IsLineRun held [] end = end ≡ held
-IsLineRun held (Pushed piece ∷ events) end = IsLineRun (held ++ piece) events end
-IsLineRun held (Taken line ∷ events) end = (rest : List ℕ) × TakesLine held line rest × IsLineRun rest events end
+-- these events lead from the held bytes to the bytes held at the end
+abbrev pub IsLineRun : List ℕ → List (StreamEvent (List ℕ)) → List ℕ → Type 0
+IsLineRun held events end = IsStreamRun TakesLine held events end
 
 -- these are the first lines of the bytes, in order, and the bytes after them
 abbrev pub AreFirstLines : List ℕ → List (List ℕ) → List ℕ → Type 0
-AreFirstLines bytes [] rest = bytes ≡ rest
-AreFirstLines bytes (line ∷ others) rest = (following : List ℕ) × TakesLine bytes line following × AreFirstLines following others rest
+AreFirstLines bytes lines rest = AreFirst TakesLine bytes lines rest
 
 -- Whatever the pieces are and whenever lines are asked for, a run from an empty reader gives the first lines of the joined pieces, and holds the
 -- bytes after them.
 abbrev pub LineRunLaw : Type 0
-LineRunLaw = (events : List FrameEvent) (end : List ℕ) → IsLineRun [] events end → AreFirstLines (pushed_by events) (given_by events) end
+LineRunLaw = StreamLaw TakesLine
 
 -- together with the lines of the bytes after them they are the lines of all bytes, of which there is one list
 abbrev pub FirstLinesLaw : Type 0
@@ -54,8 +51,7 @@ TextLinesLaw = (text : List ℕ) (given : List (List ℕ)) (rest : List ℕ) →
 
 -- two lists of first lines of the same bytes that have the same length are the same, with the same bytes after them
 abbrev pub SameLinesLaw : Type 0
-SameLinesLaw = (bytes : List ℕ) (xs ys : List (List ℕ)) (x y : List ℕ) → AreFirstLines bytes xs x → AreFirstLines bytes ys y
-    → length xs ≡ length ys → (xs ≡ ys) × (x ≡ y)
+SameLinesLaw = SameFirstLaw TakesLine
 
 -- the text of a `LineError`
 abbrev pub line_error_text : LineError → List ℕ

@@ -3,7 +3,7 @@ ghost use Rattle.std.specs.Prelude.{◌≡◌, ℕ, ◌+◌, ◌^◌, ◌<◌, �
 ghost use Rattle.std.specs.List.{concat};
 ghost use Rattle.std.specs.Bool.{OnFalse, OnTrue};
 ghost use Rattle.bytes_utils.specs.Occurrence.{Occurs};
-ghost use Rattle.bytes_utils.specs.Frames.{AllFramesLaw, FramePartsLaw, FramesLaw, PutFramesLaw, SameFramesLaw, TakesFrame, TextFramesLaw};
+ghost use Rattle.bytes_utils.specs.Frames.{AllFramesLaw, FramePartsLaw, FramesAndBytesLaw, FramesLaw, PutFramesLaw, SameFramesLaw, TakesFrame, TextFramesLaw};
 ghost use Rattle.bytes_utils.specs.LimitedFrames.{LosesFront};
 
 mod limited;
@@ -253,10 +253,12 @@ impl Frames {
 }
 
 /// The laws of a run of calls. The frames and the bytes left depend on the joined pieces alone, not
-/// on where these are cut or when frames are asked for. Frames written with a separator after each
-/// are returned again, exactly if the first separator in each of them is the one at its end.
+/// on where these are cut or when frames are asked for, also if first bytes are taken between the
+/// frames by `split_to`. Frames written with a separator after each are returned again, exactly if
+/// the first separator in each of them is the one at its end.
 pub fn frame_laws()
     ensures run { FramesLaw }
+    ensures bytes { FramesAndBytesLaw }
     ensures parts { FramePartsLaw }
     ensures text { TextFramesLaw }
     ensures same { SameFramesLaw }

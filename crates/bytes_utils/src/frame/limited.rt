@@ -4,7 +4,7 @@ ghost use Rattle.std.specs.List.{concat};
 ghost use Rattle.std.specs.Bool.{OnTrue};
 ghost use Rattle.bytes_utils.specs.Occurrence.{Occurs};
 ghost use Rattle.bytes_utils.specs.Frames.{TakesFrame};
-ghost use Rattle.bytes_utils.specs.LimitedFrames.{Gives, IsOverlong, LimitedFramesLaw, Discards, Reports};
+ghost use Rattle.bytes_utils.specs.LimitedFrames.{Awaits, Discards, Gives, IsLimitedStep, IsOverlong, KeepsLimit, LimitedFramesLaw, Reports};
 
 use super::Frames;
 use bytes::Bytes;
@@ -82,25 +82,8 @@ impl LimitedFrames {
     /// refused; then the call can be made again, and only bytes of a skipped frame may have been
     /// dropped.
     pub fn next_frame(&mut self, alloc: Global) -> Result<Option<Bytes>, Reason>
-        ensures frame { IfOk result (λ next. IfSome next (λ frame. Gives self.old frame self.new)) }
-        ensures too_long { IfErr result
-            (λ reason. reason ≡ Reason.TooLong → Reports self.old self.new) }
-        ensures waits { IfOk result (λ next. IfNone next (Discards self.old self.new)) }
-        ensures refused { IfErr result
-            (λ reason. reason ≡ Reason.OutOfMemory → Discards self.old self.new) }
-
-        // It waits only for a frame whose end has not come yet and that may still be within the
-        // limit.
-        ensures lacks { IfOk result
-            (λ next. IfNone next (¬ Occurs self.new.separator self.new.held)) }
-        ensures few { IfOk result (λ next. IfNone next
-            (length self.new.held < self.new.max_length + length self.new.separator)) }
-
-        // The bytes of a skipped frame are dropped as they come.
-        ensures skipped { IfOk result (λ next. IfNone next (OnTrue self.new.discarding
-            (length self.new.held < length self.new.separator))) }
-        ensures separator { self.new.separator ≡ self.old.separator }
-        ensures max_length { self.new.max_length ≡ self.old.max_length }
+        ensures step { IsLimitedStep (λ frame. frame) self.old result self.new }
+        ensures limit { KeepsLimit self.old self.new }
     {
         let Some(len) = self.next_len()? else {
             return Ok(None);
@@ -113,26 +96,8 @@ impl LimitedFrames {
         &mut self,
         alloc: Global,
     ) -> Result<Option<SegmentedBuf<Bytes>>, Reason>
-        ensures frame { IfOk result (λ next. IfSome next (λ frame.
-            Gives self.old (concat frame.segments) self.new)) }
-        ensures too_long { IfErr result
-            (λ reason. reason ≡ Reason.TooLong → Reports self.old self.new) }
-        ensures waits { IfOk result (λ next. IfNone next (Discards self.old self.new)) }
-        ensures refused { IfErr result
-            (λ reason. reason ≡ Reason.OutOfMemory → Discards self.old self.new) }
-
-        // It waits only for a frame whose end has not come yet and that may still be within the
-        // limit.
-        ensures lacks { IfOk result
-            (λ next. IfNone next (¬ Occurs self.new.separator self.new.held)) }
-        ensures few { IfOk result (λ next. IfNone next
-            (length self.new.held < self.new.max_length + length self.new.separator)) }
-
-        // The bytes of a skipped frame are dropped as they come.
-        ensures skipped { IfOk result (λ next. IfNone next (OnTrue self.new.discarding
-            (length self.new.held < length self.new.separator))) }
-        ensures separator { self.new.separator ≡ self.old.separator }
-        ensures max_length { self.new.max_length ≡ self.old.max_length }
+        ensures step { IsLimitedStep (λ frame. concat frame.segments) self.old result self.new }
+        ensures limit { KeepsLimit self.old self.new }
     {
         let Some(len) = self.next_len()? else {
             return Ok(None);
@@ -149,24 +114,13 @@ impl LimitedFrames {
               held = drop (len + length self.new.separator) self.new.held;
             }))) }
         ensures over { IfOk result (λ next. OnSome next (Discards self.old self.new)) }
+        ensures waits { IfOk result
+            (λ next. IfNone next (Discards self.old self.new × Awaits self.new)) }
         ensures too_long { IfErr result
             (λ reason. reason ≡ Reason.TooLong → Reports self.old self.new) }
-        ensures waits { IfOk result (λ next. IfNone next (Discards self.old self.new)) }
         ensures refused { IfErr result
             (λ reason. reason ≡ Reason.OutOfMemory → Discards self.old self.new) }
-
-        // It waits only for a frame whose end has not come yet and that may still be within the
-        // limit.
-        ensures lacks { IfOk result
-            (λ next. IfNone next (¬ Occurs self.new.separator self.new.held)) }
-        ensures few { IfOk result (λ next. IfNone next
-            (length self.new.held < self.new.max_length + length self.new.separator)) }
-
-        // The bytes of a skipped frame are dropped as they come.
-        ensures skipped { IfOk result (λ next. IfNone next (OnTrue self.new.discarding
-            (length self.new.held < length self.new.separator))) }
-        ensures separator { self.new.separator ≡ self.old.separator }
-        ensures max_length { self.new.max_length ≡ self.old.max_length }
+        ensures limit { KeepsLimit self.old self.new }
     {
         self.discard_overlong()?;
         if self.discarding {

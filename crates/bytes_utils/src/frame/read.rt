@@ -51,35 +51,14 @@ pub fn read_frame<R: Read>(
     ensures at_once { Occurs frames.old.separator frames.old.held
         → IfErr result (λ e. e ≡ ReadError.Refused Reason.OutOfMemory) }
 
+    // Each error comes only if it is due, and any but refused memory only while no frame is held.
     ensures due { IfErr result (IsDue frames.new.separator frames.new.held) }
+    ensures none_held { IfErr result (λ e. ¬ (e ≡ ReadError.Refused Reason.OutOfMemory)
+        → ¬ Occurs frames.new.separator frames.new.held) }
 {
-    match frames.next_frame(alloc)? {
-        Some(frame) => Ok(Some(frame)),
-        None => read_on(input, frames, alloc),
+    if let Some(held) = frames.next_frame(alloc)? {
+        return Ok(Some(held));
     }
-}
-
-/// As `read_frame`, if no frame ends in the held bytes.
-fn read_on<R: Read>(
-    input: &mut R,
-    frames: &mut Frames,
-    alloc: Global,
-) -> Result<Option<Bytes>, ReadError>
-    requires { ¬ Occurs frames.old.separator frames.old.held }
-    ensures frame { IfOk result (λ next. IfSome next (λ frame.
-        ReadsFrame frames.old.separator (R.remaining input.old) (R.remaining input.new)
-        frames.old.held frame frames.new.held)) }
-    ensures rest { IfOk result (λ next. IfNone next
-        (ReadsOn (R.remaining input.old) (R.remaining input.new) frames.old.held frames.new.held)) }
-    ensures end { IfOk result (λ next. IfNone next (IsAtEnd (R.remaining input.new))) }
-    ensures last { IfOk result (λ next. IfNone next
-        (¬ Occurs frames.new.separator frames.new.held)) }
-    ensures none_lost { IfErr result (λ e.
-        ReadsOn (R.remaining input.old) (R.remaining input.new)
-        frames.old.held (frames.new.held ++ back_bytes e)) }
-    ensures separator { frames.new.separator ≡ frames.old.separator }
-    ensures due { IfErr result (IsDue frames.new.separator frames.new.held) }
-{
     let mut block = BytesMut::new(alloc);
     for _ in 0..MOST_READS {
         if !read_piece(input, frames, &mut block, alloc)? {
@@ -108,6 +87,7 @@ fn read_piece<R: Read>(
     ensures none_lost { IfErr result (λ e.
         ReadsOn (R.remaining input.old) (R.remaining input.new)
         frames.old.held (frames.new.held ++ back_bytes e)) }
+    ensures err { OnErr result (frames.new ≡ frames.old) }
     ensures separator { frames.new.separator ≡ frames.old.separator }
     ensures block { OnOk result (block.new.items ≡ []) }
     ensures due { IfErr result (IsDue frames.new.separator frames.new.held) }

@@ -101,6 +101,7 @@ pub(crate) fn find<B: ContiguousBuf + Drop>(
     requires searched { SearchedPieces finder.now pieces.now.segments progress.old }
     ensures found { IfOk result (λ at. FindsNeedle (concat pieces.now.segments) finder.now 0 at) }
     ensures searched { SearchedPieces finder.now pieces.now.segments progress.new }
+    ensures further { progress.old.pieces ≤ progress.new.pieces }
     ensures all { IfOk result
         (λ at. IfNone at (progress.new.pieces ≡ length pieces.now.segments)) }
 {

@@ -75,7 +75,12 @@ fn assert_hands_on<R: Read>(
 // The reader fails at its first, second or third read.
 #[test]
 fn an_error_is_handed_on_and_the_next_call_reads_on(rt: HostRuntime) -> Result<(), Fail> {
-    for kind in [ErrorKind::ConnectionReset, ErrorKind::WouldBlock] {
+    for kind in [
+        ErrorKind::BrokenPipe,
+        ErrorKind::ConnectionReset,
+        ErrorKind::TimedOut,
+        ErrorKind::WouldBlock,
+    ] {
         for fails_at in 1..=3_usize {
             let mut input = SlowReader::new("abc\r\nd".as_bytes(), 2, fails_at).failing_as(kind);
             let mut frames = Frames::new(rt.alloc(), "\r\n".as_bytes())?;
@@ -85,15 +90,16 @@ fn an_error_is_handed_on_and_the_next_call_reads_on(rt: HostRuntime) -> Result<(
     Ok(())
 }
 
-// Three blocks hold it, and the last of them also the bytes after it.
+// The frame and the rest fill 26 blocks but for one byte, into which the last read is made.
 #[test]
-fn a_frame_longer_than_a_block(rt: HostRuntime) -> Result<(), Fail> {
-    let mut bytes = [b'a'; 10_003];
+fn a_frame_and_a_rest_longer_than_a_block(rt: HostRuntime) -> Result<(), Fail> {
+    let mut bytes = [b'a'; 106_495];
     bytes[10_000] = b'-';
     let mut input = NotingReader::new(&bytes);
-    let mut frames = Frames::new(rt.alloc(), "-".as_bytes())?;
+    let mut frames = Frames::new(rt.alloc(), b"-")?;
     assert!(rt; is_next(rt.alloc(), &mut input, &mut frames, &[b'a'; 10_000]));
-    assert!(rt; input.places() == (4_096, 4_096));
+    assert!(rt; is_end(rt.alloc(), &mut input, &mut frames, 96_494));
+    assert!(rt; input.places() == (1, 4_096));
     Ok(())
 }
 

@@ -1,6 +1,6 @@
-//! Frames out of pieces: what is shared.
-use crate::frame::Frames;
+//! Frames out of pieces: what is shared, what is let go, and long ones.
 use crate::frame::tests::readers::{Holds, ReadsFrames};
+use crate::frame::{Frames, LimitedFrames, Lines};
 use bytes::Bytes;
 use std::alloc::Global;
 use std::process::Abort;
@@ -37,4 +37,53 @@ fn assert_shares<F: Holds + ReadsFrames>(
 fn frame_in_one_piece_is_shared(rt: HostRuntime) -> Result<(), Fail> {
     let mut frames = Frames::new(rt.alloc(), "\n".as_bytes())?;
     assert_shares(&rt, rt.alloc(), &mut frames)
+}
+
+/// Whether a piece is shared while a reader holds it, and not any more once the reader is dropped.
+fn is_let_go<F: Holds + Drop>(alloc: Global, mut reader: F) -> Result<bool, Fail> {
+    let piece = Bytes::copy_from_slice(alloc, b"ab\ncd")?;
+    reader.put(piece.clone()?)?;
+    let held = !piece.is_unique();
+    drop(reader);
+    Ok(held && piece.is_unique())
+}
+
+#[test]
+fn a_dropped_reader_lets_its_pieces_go(rt: HostRuntime) -> Result<(), Fail> {
+    let alloc = rt.alloc();
+    assert!(rt; is_let_go(alloc, Frames::new(alloc, b"\n")?)?);
+    assert!(rt; is_let_go(alloc, LimitedFrames::new(alloc, b"\n", 9)?)?);
+    assert!(rt; is_let_go(alloc, Lines::new(alloc)?)?);
+    Ok(())
+}
+
+/// The pieces of a frame share the pushed blocks.
+#[test]
+fn frame_in_pieces_is_shared(rt: HostRuntime) -> Result<(), Fail> {
+    let piece = Bytes::copy_from_slice(rt.alloc(), b"a-b")?;
+    let mut frames = Frames::new(rt.alloc(), b"+")?;
+    for _ in 0..2 {
+        frames.push(piece.clone()?)?;
+    }
+    frames.push(Bytes::from_static(b"+"))?;
+    let frame = frames.next_frame_segments(rt.alloc())?;
+    drop(frames);
+    assert!(rt; frame.is_some() && !piece.is_unique());
+    drop(frame);
+    assert!(rt; piece.is_unique());
+    Ok(())
+}
+
+#[test]
+fn a_long_frame_in_many_pieces(rt: HostRuntime) -> Result<(), Fail> {
+    let mut frames = Frames::new(rt.alloc(), &[b'-'; 300])?;
+    let piece = Bytes::copy_from_slice(rt.alloc(), &[b'a'; 1_024])?;
+    for _ in 0..2_000 {
+        frames.push(piece.clone()?)?;
+    }
+    frames.push(Bytes::copy_from_slice(rt.alloc(), &[b'-'; 301])?)?;
+    let frame = frames.next_frame(rt.alloc())?;
+    assert!(rt; matches!(frame, Some(frame) if frame.len() == 2_048_000));
+    assert!(rt; frames.remaining() == 1);
+    Ok(())
 }

@@ -11,7 +11,7 @@ step-requires-clause-fits g c =
     let pieces = c.args.pieces.now.segments in
     let l = c.loop-progress.progress in
     let piece = c.in-Some.piece.now in
-    let s = c.loop-progress.invariant.searched in
+    let s = c.loop-progress.invariant.pieces.searched in
     let within = s.within in
     let around = concat_around pieces l.pieces piece c.in-Some.ensures in
     omega (
@@ -30,17 +30,20 @@ returns-in-Some-2-clause-found g c =
     let pieces = c.args.pieces.now.segments in
     let l = c.loop-progress.progress in
     let around = concat_around pieces l.pieces c.in-Some.piece.now c.in-Some.ensures in
-    rw around (rw c.in-Some-2.is at (c.in_ok-at.ensures.found (concat (take l.pieces pieces)) (concat (drop (l.pieces + 1) pieces)) c.loop-progress.invariant.searched))
+    rw around (rw c.in-Some-2.is at (c.in_ok-at.ensures.found (concat (take l.pieces pieces)) (concat (drop (l.pieces + 1) pieces)) c.loop-progress.invariant.pieces.searched))
 
 pub loop-progress-preserved : goal.loop-progress-preserved
 loop-progress-preserved g c =
     let pieces = c.args.pieces.now.segments in
     let l = c.loop-progress.progress in
     let next = concat-take_next pieces l.pieces c.in-Some.piece.now c.in-Some.ensures in
-    let searched = rw c.in_default-2.is at (c.in_ok-at.ensures.found (concat (take l.pieces pieces)) [] c.loop-progress.invariant.searched) in
+    let searched = rw c.in_default-2.is at (c.in_ok-at.ensures.found (concat (take l.pieces pieces)) [] c.loop-progress.invariant.pieces.searched) in
     record {
-      within = omega (arith, c.loop-progress-test.true, c.segments.ensures.count, c.in_ok-at.ensures.pieces);
-      searched = rw (c.in_ok-at.ensures.pieces, next) searched;
+      pieces = record {
+        within = omega (arith, c.loop-progress-test.true, c.segments.ensures.count, c.in_ok-at.ensures.pieces);
+        searched = rw (c.in_ok-at.ensures.pieces, next) searched;
+      };
+      further = omega (arith, c.loop-progress.invariant.further, c.in_ok-at.ensures.pieces);
     }
 
 pub returns-clause-found : goal.returns-clause-found
@@ -48,5 +51,5 @@ returns-clause-found g c =
     let pieces = c.args.pieces.now.segments in
     let l = c.loop-progress.progress in
     let all : take l.pieces pieces ≡ pieces = take_all l.pieces pieces (omega (arith, c.loop-progress-test.false, c.segments.ensures.count)) in
-    let s = subst (λ ps. Searched c.args.finder.now (concat ps) l.base l.held.items) all c.loop-progress.invariant.searched in
+    let s = subst (λ ps. Searched c.args.finder.now (concat ps) l.base l.held.items) all c.loop-progress.invariant.pieces.searched in
     Searched-all c.args.finder.now (concat pieces) l.held.items l.base s

@@ -1,9 +1,12 @@
-use Rattle.std.proofs.Common.{◌-◌, length}
+use Rattle.std.proofs.Common.{◌-◌, ◌≤◌, length}
 use Rattle.bytes_utils.specs.FrameSearch.{SearchedPieces}
 use Rattle.bytes_utils.proofs.frame.search.find.Given as goal
 
 abbrev pub invariant-loop-progress : goal.invariant-loop-progress
-invariant-loop-progress g l = SearchedPieces l.finder l.pieces.segments l.progress
+invariant-loop-progress g l = record {
+  pieces : SearchedPieces l.finder l.pieces.segments l.progress;
+  further : l.initial.progress.pieces ≤ l.progress.pieces;
+}
 
 abbrev pub decreases-loop-progress : goal.decreases-loop-progress
 decreases-loop-progress g l = length l.pieces.segments - l.progress.pieces
