@@ -2,7 +2,7 @@
 use Rattle.std.proofs.Common.{◌≡◌, ◌≢◌, ℕ, ◌+◌, ◌-◌, ◌<◌, ◌≤◌, List, [], ◌∷◌, ◌++◌, zero, suc, length, take, drop, min, get_or, ap, ◌∙◌, sym, refl, arith, append_assoc, length-append, length-drop, length-take}
 use Rattle.std.proofs.lemmas.List.{append_cancel_left, drop_all, drop-drop, take-append-le, take_min}
 use Rattle.std.proofs.lemmas.List.Elements.{All-nil, All-cons, All-head, All-tail}
-use Rattle.std.specs.List.{concat, slice_get}
+use Rattle.std.specs.List.{concat}
 use Rattle.bytes.proofs.Chunks.{concat_some}
 use Rattle.bytes_utils_buf.specs.Segments.{cut_front, front_of, IsInside, lists_from, take_bytes, NoneEmpty, Skips}
 use Rattle.bytes_utils_buf.proofs.Lists.{cut_front-none, front_of_drop, length-cut_front}

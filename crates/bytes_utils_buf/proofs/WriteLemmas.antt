@@ -1,6 +1,6 @@
 -- Writing a buffer out in steps.
 use Rattle.std.proofs.Common.{◌≡◌, refl, sym, ap, subst, ◌∙◌, ℕ, zero, suc, ◌+◌, ◌-◌, ◌<◌, ◌≤◌, List, [], ◌∷◌, ◌++◌, Option, Result, Ok, Err, length, take, drop, arith, append_assoc, length-append, length-drop, take-append-drop, take-add}
-use Rattle.std.proofs.KnownBytes.{Appends-nil, Appends-trans}
+use Rattle.std.proofs.KnownBytes.{Appends-trans}
 use Rattle.std.proofs.lemmas.List.{drop_at, drop-drop, take-append-le, take_rest}
 use Rattle.std.proofs.lemmas.List.Elements.{All-head}
 use Rattle.std.specs.Borrow.{Bor}
@@ -74,7 +74,7 @@ next-slices slices place count bytes left is all =
     ∙ all
 
 -- a table with room has a byte if there is one
-FillsTable-some : (n : ℕ) (old new : List (Bor (List ℕ))) (unread : List ℕ) → 0 < length old → length new ≡ length old → 0 < length unread
+pub FillsTable-some : (n : ℕ) (old new : List (Bor (List ℕ))) (unread : List ℕ) → 0 < length old → length new ≡ length old → 0 < length unread
     → FillsTable n old new unread → 0 < length (joined (take n new))
 FillsTable-some zero old new unread room same some fills = omega (arith, some, ap length (fills.whole room))
 FillsTable-some (suc n) old [] unread room same some fills = absurd (omega (arith, room, same))
@@ -83,11 +83,10 @@ FillsTable-some (suc n) old (x ∷ new) unread room same some fills =
     omega (arith, first, length-append x.now (joined (take n new)))
 
 -- so something is written
-pub some-written : {E : Type 0} (r : Result (Unit {0}) E) (written : ℕ) {n : ℕ} {old new : List (Bor (List ℕ))} {unread : List ℕ} → FillsTable n old new unread
-    → 0 < length old → length new ≡ length old → OnOk r (written ≡ 0 + length (joined (take n new))) → OnOk r (0 < length unread → 0 < written)
-some-written (Err e) written fills room same is = tt
-some-written (Ok done) written {n} {old} {new} {unread} fills room same is = λ some.
-    let front = FillsTable-some n old new unread room same some fills in
+pub some-written : {E : Type 0} (r : Result (Unit {0}) E) (some : Type 0) (count written : ℕ) → (some → 0 < count) → OnOk r (written ≡ 0 + count) → OnOk r (some → 0 < written)
+some-written (Err e) some count written more is = tt
+some-written (Ok done) some count written more is = λ s.
+    let front = more s in
     omega (arith, is)
 
 -- the first bytes are at most as many as all bytes

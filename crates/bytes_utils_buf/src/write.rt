@@ -1,5 +1,5 @@
 //! Many buffers written in few calls.
-ghost use Rattle.std.specs.Prelude.{◌≡◌, ◌+◌, ◌<◌, ◌≤◌, [], length, take, IsTrue, OnOk, OnErr};
+ghost use Rattle.std.specs.Prelude.{◌≡◌, ◌+◌, ◌^◌, ◌<◌, ◌≤◌, [], ◌++◌, length, take, drop, IsTrue, OnOk, OnErr};
 ghost use Rattle.std.specs.Io.KnownBytes.{Appends};
 ghost use Rattle.bytes_utils_buf.specs.Slices.{joined};
 ghost use Rattle.bytes_utils_buf.specs.Write.{WritesCounted, WritesFront};
@@ -14,8 +14,14 @@ use std::io::{self, ErrorKind, Write};
 /// The most slices of a buffer that are written before their bytes are removed from it.
 const MOST_SLICES: usize = 1_024;
 
+/// The length of the table that is filled first. A buffer with fewer slices needs no longer one.
+const FEW_SLICES: usize = 16;
+
 /// The most bytes of small slices that one call writes.
 const BLOCK_LEN: usize = 16_384;
+
+/// The length of the block for slices with no more bytes than this.
+const SMALL_BLOCK_LEN: usize = 2_048;
 
 /// The length from which a slice is written by a call of its own, without a copy.
 const LARGE_LEN: usize = 4_096;
@@ -80,15 +86,22 @@ fn front_of<'b, 's: 'b>(slices: &[&'s [u8]], block: &'b mut [u8]) -> (usize, &'b
     (gathered, &block[..filled])
 }
 
-/// Writes `slices`, and adds the number of bytes written to `written`.
-fn write_slices<W: Write>(writer: &mut W, slices: &[&[u8]], written: &mut usize) -> io::Result<()>
-    requires { written.old + length (joined slices.now) ≤ usize.MAX }
+/// Writes `slices`, and adds the number of bytes written to `written`. Small slices are copied into
+/// a block of `BLOCK` bytes, which only this call has on its stack.
+#[inline(never)]
+fn write_slices<W: Write, const BLOCK: usize>(
+    writer: &mut W,
+    slices: &[&[u8]],
+    written: &mut usize,
+) -> io::Result<()>
+    requires fits { written.old + length (joined slices.now) ≤ usize.MAX }
+    requires block { BLOCK < 2 ^ 63 }
     ensures front { WritesCounted (W.contents writer.old) (W.contents writer.new)
         written.old written.new (joined slices.now) }
     ensures ok { OnOk result (written.new ≡ written.old + length (joined slices.now)) }
     ensures err { OnErr result (written.new < written.old + length (joined slices.now)) }
 {
-    let mut block = [0; BLOCK_LEN];
+    let mut block = [0; BLOCK];
     let mut place = 0;
     while place < slices.len() {
         let (count, bytes) = front_of(&slices[place..], &mut block);
@@ -96,6 +109,71 @@ fn write_slices<W: Write>(writer: &mut W, slices: &[&[u8]], written: &mut usize)
         place += count;
     }
     Ok(())
+}
+
+/// Whether the slices have at most `room` bytes together.
+fn fit_in(slices: &[&[u8]], room: usize) -> bool {
+    let mut room = room;
+    for slice in slices {
+        if room < slice.len() {
+            return false;
+        }
+        room -= slice.len();
+    }
+    true
+}
+
+/// As `write_slices`, with a block no larger than needed. One slice needs none.
+fn write_by_block<W: Write>(writer: &mut W, slices: &[&[u8]], written: &mut usize) -> io::Result<()>
+    requires { written.old + length (joined slices.now) ≤ usize.MAX }
+    ensures front { WritesCounted (W.contents writer.old) (W.contents writer.new)
+        written.old written.new (joined slices.now) }
+    ensures ok { OnOk result (written.new ≡ written.old + length (joined slices.now)) }
+    ensures err { OnErr result (written.new < written.old + length (joined slices.now)) }
+{
+    if slices.len() == 1 {
+        return write_bytes(writer, slices[0], written);
+    }
+    if fit_in(slices, SMALL_BLOCK_LEN) {
+        return write_slices::<W, SMALL_BLOCK_LEN>(writer, slices, written);
+    }
+    write_slices::<W, BLOCK_LEN>(writer, slices, written)
+}
+
+/// Writes the first slices of a buffer. Returns how many bytes were written, and any error.
+fn write_first<W: Write, B: BufParts>(
+    writer: &mut W,
+    buf: &B,
+    slices: &[&[u8]],
+) -> (usize, io::Result<()>)
+    requires front { joined slices.now ++ drop (length (joined slices.now)) (B.unread buf.now)
+        ≡ B.unread buf.now }
+    requires some { 0 < length (B.unread buf.now) → 0 < length (joined slices.now) }
+    ensures bound { result.0 ≤ length (B.unread buf.now) }
+    ensures bytes { Appends (W.contents writer.old) (W.contents writer.new)
+        (take result.0 (B.unread buf.now)) }
+    ensures some { OnOk result.1 (0 < length (B.unread buf.now) → 0 < result.0) }
+    ensures err { OnErr result.1 (result.0 < length (B.unread buf.now)) }
+{
+    // The number of unread bytes fits `usize`.
+    let _most = buf.remaining();
+    let mut written = 0;
+    let result = write_by_block(writer, slices, &mut written);
+    (written, result)
+}
+
+/// As `write_front`, with the longer table, which only this call has on its stack.
+#[inline(never)]
+fn write_many<W: Write, B: BufParts>(writer: &mut W, buf: &B) -> (usize, io::Result<()>)
+    ensures bound { result.0 ≤ length (B.unread buf.now) }
+    ensures bytes { Appends (W.contents writer.old) (W.contents writer.new)
+        (take result.0 (B.unread buf.now)) }
+    ensures some { OnOk result.1 (0 < length (B.unread buf.now) → 0 < result.0) }
+    ensures err { OnErr result.1 (result.0 < length (B.unread buf.now)) }
+{
+    let mut table: [&[u8]; MOST_SLICES] = [b""; MOST_SLICES];
+    let filled = buf.chunks_into(&mut table);
+    write_first(writer, buf, &table[..filled])
 }
 
 /// Writes the first slices of a buffer. Returns how many bytes were written, and any error.
@@ -106,13 +184,12 @@ fn write_front<W: Write, B: BufParts>(writer: &mut W, buf: &B) -> (usize, io::Re
     ensures some { OnOk result.1 (0 < length (B.unread buf.now) → 0 < result.0) }
     ensures err { OnErr result.1 (result.0 < length (B.unread buf.now)) }
 {
-    let mut table: [&[u8]; MOST_SLICES] = [b""; MOST_SLICES];
+    let mut table: [&[u8]; FEW_SLICES] = [b""; FEW_SLICES];
     let filled = buf.chunks_into(&mut table);
-    // The number of unread bytes fits `usize`.
-    let _most = buf.remaining();
-    let mut written = 0;
-    let result = write_slices(writer, &table[..filled], &mut written);
-    (written, result)
+    if filled == FEW_SLICES {
+        return write_many(writer, buf);
+    }
+    write_first(writer, buf, &table[..filled])
 }
 
 /// Writes all unread bytes of `buf`, such as a `SegmentedBuf` or a `SegmentedSlice` of borrowed
@@ -125,7 +202,8 @@ fn write_front<W: Write, B: BufParts>(writer: &mut W, buf: &B) -> (usize, io::Re
 ///
 /// Slices of less than 4,096 bytes that follow one another are copied into a block of 16 KiB on the
 /// stack, and one call writes up to 1,024 of them. Each larger slice is written by a call of its
-/// own, without a copy.
+/// own, without a copy, and so is a slice that is alone. For fewer than 16 slices the table and the
+/// block are smaller.
 ///
 /// A short write is continued. Fails with the writer's own error, after which it makes no further
 /// write, or with `WriteZero` if a write took nothing. Then `buf` has the bytes that were not

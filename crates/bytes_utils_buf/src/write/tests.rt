@@ -115,6 +115,9 @@ const ALL: usize = usize::MAX;
 // One call writes up to 1,024 small buffers, in blocks of whole buffers and at most 16,384 bytes. A
 // buffer of 4,096 bytes or more is written by a call of its own.
 const CALLS: &[Case] = &[
+    (&[1], 15, (ALL, 0, 15, 1, None)),
+    (&[1], 16, (ALL, 0, 16, 1, None)),
+    (&[137], 2_055, (ALL, 0, 2_055, 1, None)),
     (&[16], 16_000, (ALL, 0, 16_000, 1, None)),
     (&[16], 16_384, (ALL, 0, 16_384, 1, None)),
     (&[16], 16_385, (ALL, 0, 16_385, 2, None)),
