@@ -24,6 +24,10 @@ lists_of lent = replicate lent.place [] ++ lent.segments
 abbrev pub as_lent : Held → Lent
 as_lent held = record { handed_in = []; place = held.tally.turns; segments = held.segments; tally = held.tally; name = 0 }
 
+-- borrowed buffers as held segments: those to read
+abbrev pub held_of : Lent → Held
+held_of lent = record { segments = lent.segments; tally = lent.tally }
+
 -- `read` bytes were read: they are skipped in what was handed in, and the buffers removed from the front are passed
 pub record IsReading (lent : Lent) : Type 0 where
   pub read : ℕ

@@ -1,7 +1,7 @@
 -- Many buffers as one. Their unread lists, front first, are a list of byte lists, and the bytes to read are these joined.
 use Rattle.std.specs.Prelude.{◌≡◌, ℕ, zero, suc, ◌+◌, ◌-◌, ◌<◌, ◌≤◌, List, [], ◌∷◌, ◌++◌, length, take, drop, All}
 use Rattle.std.specs.List.{concat}
-use Rattle.bytes_utils_buf.specs.Tally.{Tallied, nothing_counted}
+use Rattle.bytes_utils_buf.specs.Tally.{Tallied, cost_of, lined_up, nothing_counted, pay_of}
 
 -- what clauses see of a `SegmentedBuf`: the unread lists of the segments that it holds, and its tally
 pub record Held : Type 0 where
@@ -72,6 +72,17 @@ after_accepting held lists =
         turns = held.tally.turns;
       };
     }
+
+-- what calls that are given no segment add to the tally: each segment that they removed from the front was passed by one turn
+pub record CountsPass (counted : ℕ) (old new : Held) : Type 0 where
+  pub turns : lined_up new.segments new.tally ≡ lined_up old.segments old.tally
+  pub given : new.tally.given ≡ old.tally.given
+  pub dropped : new.tally.dropped ≡ old.tally.dropped
+  pub calls : new.tally.calls ≡ old.tally.calls + counted
+
+-- a call that leads from old to new adds at most as much cost as pay, so it pays for itself
+abbrev pub IsPaid : Held → Held → Type 0
+IsPaid old new = cost_of new.segments new.tally + pay_of old.tally ≤ cost_of old.segments old.tally + pay_of new.tally
 
 -- the first n bytes of these lists: whole lists, and the first bytes of the last one
 abbrev pub take_bytes : ℕ → List (List ℕ) → List (List ℕ)

@@ -34,8 +34,3 @@ pay_of tally = 2 * tally.given + 2 * tally.calls
 -- the given segments and the calls pay for the turns
 abbrev pub IsCovered : List (List ℕ) → Tallied → Type 0
 IsCovered segments tally = cost_of segments tally ≤ pay_of tally
-
--- a call that leads from old to new adds at most as much cost as pay, so it pays for itself
-abbrev pub IsPaid : List (List ℕ) → Tallied → List (List ℕ) → Tallied → Type 0
-IsPaid old_segments old new_segments new =
-    cost_of new_segments new + pay_of old ≤ cost_of old_segments old + pay_of new

@@ -7,10 +7,11 @@ use Rattle.std.proofs.lemmas.List.{length-map}
 use Rattle.std.proofs.lemmas.List.Elements.{All-cons, All-head, All-nil, All-tail}
 use Rattle.bytes.specs.Unread.{IsChunkOf}
 use Rattle.bytes_utils_buf.specs.Segments.{Held, NoneEmpty, Skips, after_accepting, count_unread, cut_front, front_of}
+use Rattle.bytes_utils_buf.specs.Copies.{CountsCopy}
 use Rattle.bytes_utils_buf.specs.Tally.{lined_up}
 use Rattle.bytes_utils_buf.proofs.Lists.{Skips-from_count, count_unread-Skips, length-Skips}
 use Rattle.bytes_utils_run.proofs.Fitting.{Fits, fits-accepting, fits-call, fits-skip}
-use Rattle.bytes_utils_run.specs.Calls.{AreSlices, CountsCopyOf, IsCall, IsRun}
+use Rattle.bytes_utils_run.specs.Calls.{AreSlices, IsCall, IsRun}
 use Rattle.bytes_utils_run.specs.Request.{lacks_memory}
 use Rattle.bytes_utils_run.specs.declared.calls.Call.{Call}
 use Rattle.bytes_utils_run.specs.declared.calls.Call.TheVariants.{Push, Segments, Read}
@@ -118,7 +119,7 @@ cost-counted : (n advances : ℕ) (old : Held) (segments : List (List ℕ)) → 
 cost-counted n advances old segments skips = omega (arith, length-Skips n old.segments segments skips)
 
 -- the number of advances that a copy of n bytes may be counted with
-copies : (n : ℕ) (old : Held) (segments : List (List ℕ)) → Skips n old.segments segments → (advances : ℕ) × CountsCopyOf n n old (counted advances old segments)
+copies : (n : ℕ) (old : Held) (segments : List (List ℕ)) → Skips n old.segments segments → (advances : ℕ) × CountsCopy n n old (counted advances old segments)
 copies n old segments skips = elim (cases_lt (length (front_of old.segments)) n) [
   | inl across ↦ (
     count_unread old.segments - count_unread segments,
@@ -182,7 +183,7 @@ module _ {Y : Type 0} (like : Vec Y) where
         record {
           reply = Done;
           next = counted 0 old left.0;
-          is = ((within, left.1), (refl, refl, omega arith, cost-counted n 0 old left.0 left.1));
+          is = ((within, left.1), record { turns = cost-counted n 0 old left.0 left.1; given = refl; dropped = refl; calls = omega arith });
           whole = refl;
           fits = fits-skip n _ _ left.1 fits;
         })

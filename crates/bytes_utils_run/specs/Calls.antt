@@ -5,8 +5,7 @@ use Rattle.std.specs.Prelude.{◌≡◌, ℕ, ◌+◌, ◌^◌, ◌<◌, ◌≤�
 use Rattle.std.specs.List.{concat}
 use Rattle.bytes.specs.Unread.{IsChunkOf}
 use Rattle.bytes_utils_buf.specs.Copies.{CountsCopy}
-use Rattle.bytes_utils_buf.specs.Segments.{Held, NoneEmpty, Skips, after_accepting, without_empty}
-use Rattle.bytes_utils_buf.specs.Tally.{lined_up}
+use Rattle.bytes_utils_buf.specs.Segments.{CountsPass, Held, NoneEmpty, Skips, after_accepting, without_empty}
 use Rattle.bytes_utils_run.specs.declared.calls.Call.{Call}
 use Rattle.bytes_utils_run.specs.declared.calls.Call.TheVariants.{Push, Segments, Read}
 use Rattle.bytes_utils_run.specs.declared.calls.ReadCall.{ReadCall}
@@ -40,21 +39,12 @@ IsRead (Chunks n) old (Slices slices) new = AreSlices n (map (λ s. s.items) sli
 IsRead (Chunks n) old NoMemory new = new ≡ old
 IsRead call old reply new = ⊥
 
--- a copy of n bytes that took `taken` counts as one call and one more for each advance that it made, within the bounds
--- of `CountsCopy`
-abbrev pub CountsCopyOf : ℕ → ℕ → Held → Held → Type 0
-CountsCopyOf n taken old new = CountsCopy n taken old.segments old.tally new.segments new.tally
-
 -- What a read adds to the tally. An advance that was done counts as a call, with one turn for each segment that it
--- passed. A copy that was made or stopped counts as `CountsCopyOf` says. Nothing else counts.
+-- passed. A copy that was made or stopped counts as `CountsCopy` says. Nothing else counts.
 abbrev pub CountsRead : ReadCall → Held → Reply → Held → Type 0
-CountsRead (Advance n) old Done new =
-    (new.tally.given ≡ old.tally.given)
-    × (new.tally.dropped ≡ old.tally.dropped)
-    × (new.tally.calls ≡ old.tally.calls + 1)
-    × (lined_up new.segments new.tally ≡ lined_up old.segments old.tally)
-CountsRead (CopyOut n) old (Piece piece) new = CountsCopyOf n n old new
-CountsRead (CopyOut n) old (CopyStopped taken) new = CountsCopyOf n taken old new
+CountsRead (Advance n) old Done new = CountsPass 1 old new
+CountsRead (CopyOut n) old (Piece piece) new = CountsCopy n n old new
+CountsRead (CopyOut n) old (CopyStopped taken) new = CountsCopy n taken old new
 CountsRead call old reply new = new.tally ≡ old.tally
 
 -- the reply to a call on a `SegmentedBuf`, and the buffer after it

@@ -1,6 +1,7 @@
 //! Lists of calls on a buffer, with one reply for each call.
 ghost use Rattle.std.specs.Prelude.{◌≡◌, [], Some, IfNone, OnSome, IfSome};
-ghost use Rattle.bytes_utils_buf.specs.Tally.{IsBalanced, IsCovered, IsPaid};
+ghost use Rattle.bytes_utils_buf.specs.Segments.{IsPaid};
+ghost use Rattle.bytes_utils_buf.specs.Tally.{IsBalanced, IsCovered};
 ghost use Rattle.bytes_utils_run.specs.Calls.{IsCall, IsRead, IsRun, lists_of};
 ghost use Rattle.bytes_utils_buf.specs.declared.refused.Reason.{Reason as WhyRefused};
 
@@ -107,7 +108,7 @@ pub fn drive<B: BufParts + Drop>(
     // the turns of all the calls together are paid for, by these calls alone and since the
     // beginning.
     ensures balanced { IsBalanced buf.new.segments buf.new.tally }
-    ensures paid { IsPaid buf.old.segments buf.old.tally buf.new.segments buf.new.tally }
+    ensures paid { IsPaid buf.old buf.new }
     ensures covered { IsCovered buf.new.segments buf.new.tally }
 {
     // No segment is empty, so there are no more segments than bytes.

@@ -2,8 +2,8 @@
 ghost use Rattle.std.specs.Prelude.{◌≡◌, ◌+◌, ◌^◌, ◌<◌, ◌≤◌, [], ◌∷◌, length, map, drop, IsTrue, ◌↔◌, IfOk, IfErr};
 ghost use Rattle.std.specs.List.{concat};
 ghost use Rattle.bytes_utils_buf.specs.Lent.{as_lent};
-ghost use Rattle.bytes_utils_buf.specs.Segments.{NoneEmpty, newly_held, nothing_held, Skips};
-ghost use Rattle.bytes_utils_buf.specs.Tally.{IsBalanced, IsCovered, IsPaid, lined_up};
+ghost use Rattle.bytes_utils_buf.specs.Segments.{CountsPass, IsPaid, NoneEmpty, newly_held, nothing_held, Skips};
+ghost use Rattle.bytes_utils_buf.specs.Tally.{IsBalanced, IsCovered};
 
 mod chunks;
 mod copy;
@@ -117,12 +117,8 @@ impl<B: Buf + Drop> SegmentedBuf<B> {
         ensures bytes { concat self.new.segments ≡ drop cnt (concat self.old.segments) }
 
         // Each passed segment counts one turn, on this value's own tally.
-        ensures turns { lined_up self.new.segments self.new.tally
-            ≡ lined_up self.old.segments self.old.tally }
-        ensures given { self.new.tally.given ≡ self.old.tally.given }
-        ensures dropped { self.new.tally.dropped ≡ self.old.tally.dropped }
-        ensures calls { self.new.tally.calls ≡ self.old.tally.calls + 1 }
-        ensures paid { IsPaid self.old.segments self.old.tally self.new.segments self.new.tally }
+        ensures counts { CountsPass 1 self.old self.new }
+        ensures paid { IsPaid self.old self.new }
     {
         self.tally.call();
         skip_held(&mut self.segments, &mut self.tally, cnt);
@@ -206,11 +202,7 @@ impl<B: Buf + Drop> Buf for SegmentedBuf<B> {
         requires { cnt ≤ length (concat self.old.segments) }
         ensures skips { Skips cnt self.old.segments self.new.segments }
         ensures value { concat self.new.segments ≡ drop cnt (concat self.old.segments) }
-        ensures turns { lined_up self.new.segments self.new.tally
-            ≡ lined_up self.old.segments self.old.tally }
-        ensures given { self.new.tally.given ≡ self.old.tally.given }
-        ensures dropped { self.new.tally.dropped ≡ self.old.tally.dropped }
-        ensures calls { self.new.tally.calls ≡ self.old.tally.calls + 1 }
+        ensures counts { CountsPass 1 self.old self.new }
     {
         SegmentedBuf::advance(self, cnt)
     }

@@ -2,9 +2,9 @@
 ghost use Rattle.std.specs.Prelude.{◌≡◌, ◌+◌, ◌^◌, ◌<◌, ◌≤◌, [], ◌∷◌, length, map, drop};
 ghost use Rattle.std.specs.List.{concat};
 ghost use Rattle.std.specs.Option.{SomeIff};
-ghost use Rattle.bytes_utils_buf.specs.Lent.{lists_of, IsPassedOnce, IsReading, SkipsLent};
-ghost use Rattle.bytes_utils_buf.specs.Segments.{Skips};
-ghost use Rattle.bytes_utils_buf.specs.Tally.{IsBalanced, IsCovered, IsPaid, lined_up};
+ghost use Rattle.bytes_utils_buf.specs.Lent.{held_of, lists_of, IsPassedOnce, IsReading, SkipsLent};
+ghost use Rattle.bytes_utils_buf.specs.Segments.{CountsPass, IsPaid, Skips};
+ghost use Rattle.bytes_utils_buf.specs.Tally.{IsBalanced, IsCovered};
 
 mod copy;
 
@@ -133,12 +133,8 @@ impl<'a, B: Buf> SegmentedSlice<'a, B> {
         ensures bytes { concat self.new.segments ≡ drop cnt (concat self.old.segments) }
 
         // Each passed buffer counts one turn, on this value's own tally.
-        ensures turns { lined_up self.new.segments self.new.tally
-            ≡ lined_up self.old.segments self.old.tally }
-        ensures given { self.new.tally.given ≡ self.old.tally.given }
-        ensures dropped { self.new.tally.dropped ≡ self.old.tally.dropped }
-        ensures calls { self.new.tally.calls ≡ self.old.tally.calls + 1 }
-        ensures paid { IsPaid self.old.segments self.old.tally self.new.segments self.new.tally }
+        ensures counts { CountsPass 1 (held_of self.old) (held_of self.new) }
+        ensures paid { IsPaid (held_of self.old) (held_of self.new) }
     {
         self.tally.call();
         let place = self.place;
@@ -194,11 +190,7 @@ impl<B: Buf> Buf for SegmentedSlice<'_, B> {
         requires { cnt ≤ length (concat self.old.segments) }
         ensures skips { SkipsLent cnt self.old self.new }
         ensures value { concat self.new.segments ≡ drop cnt (concat self.old.segments) }
-        ensures turns { lined_up self.new.segments self.new.tally
-            ≡ lined_up self.old.segments self.old.tally }
-        ensures given { self.new.tally.given ≡ self.old.tally.given }
-        ensures dropped { self.new.tally.dropped ≡ self.old.tally.dropped }
-        ensures calls { self.new.tally.calls ≡ self.old.tally.calls + 1 }
+        ensures counts { CountsPass 1 (held_of self.old) (held_of self.new) }
     {
         SegmentedSlice::advance(self, cnt)
     }

@@ -1,5 +1,5 @@
 //! One call on a `SegmentedBuf`.
-ghost use Rattle.bytes_utils_buf.specs.Tally.{IsPaid};
+ghost use Rattle.bytes_utils_buf.specs.Segments.{IsPaid};
 ghost use Rattle.bytes_utils_run.specs.Calls.{CountsRead, IsCall, IsRead};
 
 use super::show::{chunk, slices};
@@ -16,7 +16,7 @@ pub(super) fn make<B: BufParts + Drop>(
     call: Call<B>,
 ) -> Reply
     ensures reply { IsCall B.unread call buf.old result buf.new }
-    ensures paid { IsPaid buf.old.segments buf.old.tally buf.new.segments buf.new.tally }
+    ensures paid { IsPaid buf.old buf.new }
 {
     match call {
         Call::Push(part) => push(buf, part),
@@ -27,7 +27,7 @@ pub(super) fn make<B: BufParts + Drop>(
 
 fn push<B: Buf + Drop>(buf: &mut SegmentedBuf<B>, part: B) -> Reply
     ensures reply { IsCall B.unread (Call.Push part) buf.old result buf.new }
-    ensures paid { IsPaid buf.old.segments buf.old.tally buf.new.segments buf.new.tally }
+    ensures paid { IsPaid buf.old buf.new }
 {
     match buf.try_push(part) {
         Ok(()) => Reply::Done,
@@ -41,7 +41,7 @@ fn push<B: Buf + Drop>(buf: &mut SegmentedBuf<B>, part: B) -> Reply
 fn read<B: BufParts + Drop>(alloc: Global, buf: &mut SegmentedBuf<B>, call: ReadCall) -> Reply
     ensures reply { IsRead call buf.old.segments result buf.new.segments }
     ensures counts { CountsRead call buf.old result buf.new }
-    ensures paid { IsPaid buf.old.segments buf.old.tally buf.new.segments buf.new.tally }
+    ensures paid { IsPaid buf.old buf.new }
 {
     match call {
         ReadCall::Remaining => Reply::Number(buf.remaining()),
@@ -55,7 +55,7 @@ fn read<B: BufParts + Drop>(alloc: Global, buf: &mut SegmentedBuf<B>, call: Read
 fn advance<B: Buf + Drop>(buf: &mut SegmentedBuf<B>, cnt: usize) -> Reply
     ensures reply { IsRead (ReadCall.Advance cnt) buf.old.segments result buf.new.segments }
     ensures counts { CountsRead (ReadCall.Advance cnt) buf.old result buf.new }
-    ensures paid { IsPaid buf.old.segments buf.old.tally buf.new.segments buf.new.tally }
+    ensures paid { IsPaid buf.old buf.new }
 {
     if cnt > buf.remaining() {
         return Reply::PastEnd;
@@ -67,7 +67,7 @@ fn advance<B: Buf + Drop>(buf: &mut SegmentedBuf<B>, cnt: usize) -> Reply
 fn copy<B: BufParts + Drop>(alloc: Global, buf: &mut SegmentedBuf<B>, len: usize) -> Reply
     ensures reply { IsRead (ReadCall.CopyOut len) buf.old.segments result buf.new.segments }
     ensures counts { CountsRead (ReadCall.CopyOut len) buf.old result buf.new }
-    ensures paid { IsPaid buf.old.segments buf.old.tally buf.new.segments buf.new.tally }
+    ensures paid { IsPaid buf.old buf.new }
 {
     if len > buf.remaining() {
         return Reply::PastEnd;

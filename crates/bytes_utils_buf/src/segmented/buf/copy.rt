@@ -3,8 +3,7 @@ ghost use Rattle.std.specs.Prelude.{◌≡◌, ◌+◌, ◌<◌, ◌≤◌, leng
 ghost use Rattle.std.specs.List.{concat};
 ghost use Rattle.bytes_utils_buf.specs.Copies.{CountsCopy};
 ghost use Rattle.bytes_utils_buf.specs.Slices.{taken_by, FillsTable};
-ghost use Rattle.bytes_utils_buf.specs.Segments.{front_of, Skips};
-ghost use Rattle.bytes_utils_buf.specs.Tally.{IsPaid, lined_up};
+ghost use Rattle.bytes_utils_buf.specs.Segments.{CountsPass, front_of, IsPaid, Skips};
 
 use super::SegmentedBuf;
 use super::front::{front_holds, take_from_front};
@@ -35,9 +34,8 @@ impl<B: BufParts + Drop> SegmentedBuf<B> {
             → IfErr result (λ e. B.loses len e.taken) }
         ensures refused { length (front_of self.old.segments) < len
             → IfErr result (λ e. (e.taken ≡ 0) ⊎ (e.taken ≡ len)) }
-        ensures counts { CountsCopy len (taken_by len result) self.old.segments self.old.tally
-            self.new.segments self.new.tally }
-        ensures paid { IsPaid self.old.segments self.old.tally self.new.segments self.new.tally }
+        ensures counts { CountsCopy len (taken_by len result) self.old self.new }
+        ensures paid { IsPaid self.old self.new }
     {
         self.tally.call();
         if front_holds(&self.segments, len) {
@@ -62,11 +60,7 @@ impl<B: BufParts + Drop> SegmentedBuf<B> {
         ensures taken { taken_by len result ≤ len }
         ensures lost { IfErr result (λ e. B.loses len e.taken) }
         ensures skips { Skips (taken_by len result) self.old.segments self.new.segments }
-        ensures given { self.new.tally.given ≡ self.old.tally.given }
-        ensures dropped { self.new.tally.dropped ≡ self.old.tally.dropped }
-        ensures calls { self.new.tally.calls ≡ self.old.tally.calls }
-        ensures turns { lined_up self.new.segments self.new.tally
-            ≡ lined_up self.old.segments self.old.tally }
+        ensures counts { CountsPass 0 self.old self.new }
     {
         let copy = take_from_front(&mut self.segments, alloc, len);
         skip_held(&mut self.segments, &mut self.tally, 0);
@@ -87,8 +81,7 @@ impl<B: BufParts + Drop> BufParts for SegmentedBuf<B> {
         ensures rest { concat self.new.segments
             ≡ drop (taken_by len result) (concat self.old.segments) }
         ensures lost { IfErr result (λ e. (e.taken ≡ 0) ⊎ (e.taken ≡ len) ⊎ B.loses len e.taken) }
-        ensures counts { CountsCopy len (taken_by len result) self.old.segments self.old.tally
-            self.new.segments self.new.tally }
+        ensures counts { CountsCopy len (taken_by len result) self.old self.new }
     {
         self.copy_to_bytes(alloc, len)
     }

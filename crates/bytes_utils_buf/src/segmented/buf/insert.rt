@@ -2,8 +2,7 @@
 ghost use Rattle.std.specs.Prelude.{◌≡◌, ◌+◌, ◌-◌, ◌^◌, ◌<◌, ◌≤◌, List, [], ◌∷◌, ◌++◌, length, map, ◌↔◌, Some, IsOk, IsErr, OnOk, OnErr, IfOk, IfErr};
 ghost use Rattle.std.specs.Iterator.{IsFinite, Drains, YieldsThen};
 ghost use Rattle.std.specs.List.{concat};
-ghost use Rattle.bytes_utils_buf.specs.Segments.{after_accepting, count_unread, nothing_held, without_empty};
-ghost use Rattle.bytes_utils_buf.specs.Tally.{IsPaid};
+ghost use Rattle.bytes_utils_buf.specs.Segments.{after_accepting, count_unread, IsPaid, nothing_held, without_empty};
 
 use super::SegmentedBuf;
 use crate::segmented::sum::sum_of_held;
@@ -27,7 +26,7 @@ impl<B: Buf + Drop> SegmentedBuf<B> {
         ensures back { IfErr result (λ e. e.back ≡ buf) }
         ensures reason { IfErr result (λ e. e.reason ≡ Reason.OutOfMemory) }
         ensures empty { B.unread buf ≡ [] → IsOk result }
-        ensures paid { IsPaid self.old.segments self.old.tally self.new.segments self.new.tally }
+        ensures paid { IsPaid self.old self.new }
     {
         let size = buf.remaining();
         append(&mut self.segments, &mut self.tally, buf, size)?;
@@ -56,7 +55,7 @@ impl<B: Buf + Drop> SegmentedBuf<B> {
         ensures memory { IfErr result (λ e. (e.reason ≡ Reason.OutOfMemory)
             ↔ (length (concat self.old.segments) + length (B.unread buf) < 2 ^ 64)) }
         ensures empty { B.unread buf ≡ [] → IsOk result }
-        ensures paid { IsPaid self.old.segments self.old.tally self.new.segments self.new.tally }
+        ensures paid { IsPaid self.old self.new }
     {
         if !self.fits(buf.remaining()) {
             return Err(Refused {
@@ -94,7 +93,7 @@ impl<B: Buf + Drop> SegmentedBuf<B> {
         ensures too_long { IfErr result (λ e. (e.reason ≡ Reason.TooLong)
             ↔ (2 ^ 64 ≤ length (concat self.new.segments) + length (B.unread e.back))) }
         ensures empty { IfErr result (λ e. 0 < length (B.unread e.back)) }
-        ensures paid { IsPaid self.old.segments self.old.tally self.new.segments self.new.tally }
+        ensures paid { IsPaid self.old self.new }
     {
         self.tally.call();
         for buf in iter {

@@ -1,8 +1,7 @@
 //! `prepend` and `append`.
 ghost use Rattle.std.specs.Prelude.{◌≡◌, ◌+◌, ◌^◌, ◌<◌, [], ◌∷◌, ◌++◌, length, IsOk, OnOk, OnErr, IfErr};
 ghost use Rattle.std.specs.List.{concat};
-ghost use Rattle.bytes_utils_buf.specs.Segments.{after_accepting, without_empty};
-ghost use Rattle.bytes_utils_buf.specs.Tally.{IsPaid};
+ghost use Rattle.bytes_utils_buf.specs.Segments.{after_accepting, IsPaid, without_empty};
 
 use super::SegmentedBuf;
 use crate::{Reason, Refused};
@@ -26,7 +25,7 @@ impl<B: Buf + Drop> SegmentedBuf<B> {
         ensures back { IfErr result (λ e. e.back ≡ buf) }
         ensures reason { IfErr result (λ e. e.reason ≡ Reason.OutOfMemory) }
         ensures empty { B.unread buf ≡ [] → IsOk result }
-        ensures paid { IsPaid self.old.segments self.old.tally self.new.segments self.new.tally }
+        ensures paid { IsPaid self.old self.new }
     {
         let size = buf.remaining();
         if size == 0 {
@@ -63,7 +62,7 @@ impl<B: Buf + Drop> SegmentedBuf<B> {
         ensures back { IfErr result (λ e. e.back ≡ other) }
         ensures reason { IfErr result (λ e. e.reason ≡ Reason.OutOfMemory) }
         ensures empty { other.segments ≡ [] → IsOk result }
-        ensures paid { IsPaid self.old.segments self.old.tally self.new.segments self.new.tally }
+        ensures paid { IsPaid self.old self.new }
     {
         let count = other.segments.len();
         let Ok(()) = self.segments.append(&mut other.segments) else {

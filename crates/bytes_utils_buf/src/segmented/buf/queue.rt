@@ -1,7 +1,7 @@
 //! Segments moved from and to a `BytesQueue`.
 ghost use Rattle.std.specs.Prelude.{◌≡◌, ℕ, ◌+◌, ◌^◌, ◌<◌, List, [], ◌∷◌, ◌++◌, length, IsOk, OnOk, OnErr, IfErr};
 ghost use Rattle.std.specs.List.{concat};
-ghost use Rattle.bytes_utils_buf.specs.Tally.{IsPaid, lined_up};
+ghost use Rattle.bytes_utils_buf.specs.Segments.{CountsPass, IsPaid};
 
 use super::SegmentedBuf;
 use crate::Reason;
@@ -31,7 +31,7 @@ impl SegmentedBuf<Bytes> {
         ensures err { OnErr result (0 < length queue.new) }
         ensures reason { IfErr result (λ reason. reason ≡ Reason.OutOfMemory) }
         ensures empty { queue.old ≡ [] → IsOk result }
-        ensures paid { IsPaid self.old.segments self.old.tally self.new.segments self.new.tally }
+        ensures paid { IsPaid self.old self.new }
     {
         self.tally.call();
         while !queue.is_empty() {
@@ -82,12 +82,8 @@ impl SegmentedBuf<Bytes> {
         ensures empty { self.old.segments ≡ [] → IsOk result }
 
         // Each segment that is moved counts as passed, by one turn.
-        ensures turns { lined_up self.new.segments self.new.tally
-            ≡ lined_up self.old.segments self.old.tally }
-        ensures given { self.new.tally.given ≡ self.old.tally.given }
-        ensures dropped { self.new.tally.dropped ≡ self.old.tally.dropped }
-        ensures calls { self.new.tally.calls ≡ self.old.tally.calls + 1 }
-        ensures paid { IsPaid self.old.segments self.old.tally self.new.segments self.new.tally }
+        ensures counts { CountsPass 1 self.old self.new }
+        ensures paid { IsPaid self.old self.new }
     {
         self.tally.call();
         while !self.segments.is_empty() {

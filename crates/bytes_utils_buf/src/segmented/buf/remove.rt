@@ -3,7 +3,7 @@ ghost use Rattle.std.specs.Prelude.{◌≡◌, ◌+◌, [], ◌∷◌, map, IfSo
 ghost use Rattle.std.specs.Iterator.Runs.{EveryRun, ItemsAre};
 ghost use Rattle.std.specs.Vec.Iter.{into_iter_items, into_iter_steps};
 ghost use Rattle.std.specs.declared.alloc.Global.{Global};
-ghost use Rattle.bytes_utils_buf.specs.Tally.{IsPaid, lined_up};
+ghost use Rattle.bytes_utils_buf.specs.Segments.{CountsPass, IsPaid};
 
 use super::SegmentedBuf;
 use bytes::Buf;
@@ -21,12 +21,8 @@ impl<B: Buf + Drop> SegmentedBuf<B> {
             ((self.old.segments ≡ []) × (self.new.segments ≡ self.old.segments)) }
 
         // The segment counts as passed, by one turn.
-        ensures turns { lined_up self.new.segments self.new.tally
-            ≡ lined_up self.old.segments self.old.tally }
-        ensures given { self.new.tally.given ≡ self.old.tally.given }
-        ensures dropped { self.new.tally.dropped ≡ self.old.tally.dropped }
-        ensures calls { self.new.tally.calls ≡ self.old.tally.calls + 1 }
-        ensures paid { IsPaid self.old.segments self.old.tally self.new.segments self.new.tally }
+        ensures counts { CountsPass 1 self.old self.new }
+        ensures paid { IsPaid self.old self.new }
     {
         self.tally.call();
         let front = self.segments.pop_front()?;

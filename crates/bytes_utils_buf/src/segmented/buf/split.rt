@@ -1,8 +1,7 @@
 //! The first bytes, shared if they can be.
 ghost use Rattle.std.specs.Prelude.{◌≡◌, ◌+◌, ◌≤◌, length, take, drop, IsOk, IfOk, IfErr, OnOk, OnErr};
 ghost use Rattle.std.specs.List.{concat};
-ghost use Rattle.bytes_utils_buf.specs.Segments.{Skips, newly_held, take_bytes};
-ghost use Rattle.bytes_utils_buf.specs.Tally.{IsPaid, lined_up};
+ghost use Rattle.bytes_utils_buf.specs.Segments.{CountsPass, IsPaid, Skips, newly_held, take_bytes};
 
 use super::SegmentedBuf;
 use super::front::front_holds;
@@ -45,12 +44,8 @@ impl<B: ContiguousBuf + Drop> SegmentedBuf<B> {
         ensures none { len ≡ 0 → IsOk result }
 
         // Each passed segment counts one turn, on this value's own tally.
-        ensures turns { OnOk result (lined_up self.new.segments self.new.tally
-            ≡ lined_up self.old.segments self.old.tally) }
-        ensures given { OnOk result (self.new.tally.given ≡ self.old.tally.given) }
-        ensures dropped { OnOk result (self.new.tally.dropped ≡ self.old.tally.dropped) }
-        ensures calls { OnOk result (self.new.tally.calls ≡ self.old.tally.calls + 1) }
-        ensures paid { IsPaid self.old.segments self.old.tally self.new.segments self.new.tally }
+        ensures counts { OnOk result (CountsPass 1 self.old self.new) }
+        ensures paid { IsPaid self.old self.new }
     {
         let first = self.prefix(alloc, len)?;
         self.advance(len);
@@ -94,11 +89,7 @@ impl SegmentedBuf<Bytes> {
         ensures none { at ≡ 0 → IsOk result }
 
         // The returned part has the tally from before. Each passed segment counts one turn on it.
-        ensures turns { IfOk result (λ rest. lined_up rest.segments rest.tally
-            ≡ lined_up self.old.segments self.old.tally) }
-        ensures given { IfOk result (λ rest. rest.tally.given ≡ self.old.tally.given) }
-        ensures dropped { IfOk result (λ rest. rest.tally.dropped ≡ self.old.tally.dropped) }
-        ensures calls { IfOk result (λ rest. rest.tally.calls ≡ self.old.tally.calls + 1) }
+        ensures counts { IfOk result (λ rest. CountsPass 1 self.old rest) }
     {
         let front = self.split_to(alloc, at)?;
         Ok(replace(self, front))

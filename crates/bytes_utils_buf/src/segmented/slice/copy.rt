@@ -2,10 +2,9 @@
 ghost use Rattle.std.specs.Prelude.{◌≡◌, ◌+◌, ◌<◌, ◌≤◌, [], length, map, take, drop, replicate, IsTrue, ◌↔◌, IfOk, IfErr, ◌⊎◌};
 ghost use Rattle.std.specs.List.{concat};
 ghost use Rattle.bytes_utils_buf.specs.Copies.{CountsCopy};
-ghost use Rattle.bytes_utils_buf.specs.Lent.{SkipsLent};
+ghost use Rattle.bytes_utils_buf.specs.Lent.{held_of, SkipsLent};
 ghost use Rattle.bytes_utils_buf.specs.Slices.{taken_by, FillsTable};
-ghost use Rattle.bytes_utils_buf.specs.Segments.{front_of, Skips};
-ghost use Rattle.bytes_utils_buf.specs.Tally.{IsPaid, lined_up};
+ghost use Rattle.bytes_utils_buf.specs.Segments.{CountsPass, front_of, IsPaid, Skips};
 
 use super::SegmentedSlice;
 use crate::parts::{BufParts, CopyRefused};
@@ -35,9 +34,9 @@ impl<B: BufParts> SegmentedSlice<'_, B> {
             → IfErr result (λ e. B.loses len e.taken) }
         ensures refused { length (front_of self.old.segments) < len
             → IfErr result (λ e. (e.taken ≡ 0) ⊎ (e.taken ≡ len)) }
-        ensures counts { CountsCopy len (taken_by len result) self.old.segments self.old.tally
-            self.new.segments self.new.tally }
-        ensures paid { IsPaid self.old.segments self.old.tally self.new.segments self.new.tally }
+        ensures counts { CountsCopy len (taken_by len result)
+            (held_of self.old) (held_of self.new) }
+        ensures paid { IsPaid (held_of self.old) (held_of self.new) }
     {
         self.tally.call();
         if self.front_holds(len) {
@@ -71,11 +70,7 @@ impl<B: BufParts> SegmentedSlice<'_, B> {
         ensures taken { taken_by len result ≤ len }
         ensures lost { IfErr result (λ e. B.loses len e.taken) }
         ensures skips { SkipsLent (taken_by len result) self.old self.new }
-        ensures given { self.new.tally.given ≡ self.old.tally.given }
-        ensures dropped { self.new.tally.dropped ≡ self.old.tally.dropped }
-        ensures calls { self.new.tally.calls ≡ self.old.tally.calls }
-        ensures turns { lined_up self.new.segments self.new.tally
-            ≡ lined_up self.old.segments self.old.tally }
+        ensures counts { CountsPass 0 (held_of self.old) (held_of self.new) }
     {
         let place = self.place;
         let bufs = &mut *self.bufs;
@@ -123,8 +118,8 @@ impl<B: BufParts> BufParts for SegmentedSlice<'_, B> {
         ensures rest { concat self.new.segments
             ≡ drop (taken_by len result) (concat self.old.segments) }
         ensures lost { IfErr result (λ e. (e.taken ≡ 0) ⊎ (e.taken ≡ len) ⊎ B.loses len e.taken) }
-        ensures counts { CountsCopy len (taken_by len result) self.old.segments self.old.tally
-            self.new.segments self.new.tally }
+        ensures counts { CountsCopy len (taken_by len result)
+            (held_of self.old) (held_of self.new) }
     {
         self.copy_to_bytes(alloc, len)
     }

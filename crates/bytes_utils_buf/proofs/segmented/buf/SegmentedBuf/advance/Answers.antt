@@ -35,7 +35,7 @@ returns-clause-paid g c =
     let s = c.skip_held.ensures in
     let counted = c.call.ensures in
     rw (← c.self.view_is)
-    (IsPaid-passing c.args.cnt (map f old.segments.items) (map f new.segments.items) old.tally new.tally s.skips
+    (IsPaid-passing c.args.cnt (record { segments = map f old.segments.items; tally = old.tally }) (record { segments = map f new.segments.items; tally = new.tally }) s.skips
     (ap (λ t. t.given) s.rest ∙ ap (λ t. t.given) counted)
     (omega (arith, ap (λ t. t.calls) s.rest, ap (λ t. t.calls) counted))
     (omega (arith, s.turns, ap (λ t. t.turns) counted, length-map old.segments.items f, length-map new.segments.items f)))

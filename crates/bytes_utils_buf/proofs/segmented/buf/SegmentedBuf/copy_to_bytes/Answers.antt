@@ -9,10 +9,10 @@ returns-then-front_holds-clause-paid g c =
     let s = c.take_front.ensures in
     let counted = c.call.ensures in
     rw (← c.self.view_is)
-    (IsPaid-passing (taken_by c.args.len c.take_front.result) (map g.B.Buf.unread c.self.inside.segments.items) new.segments c.self.inside.tally new.tally s.skips
-    (s.given ∙ ap (λ t. t.given) counted)
-    (omega (arith, s.calls, ap (λ t. t.calls) counted))
-    (omega (arith, s.turns, ap (λ t. t.turns) counted)))
+    (IsPaid-passing (taken_by c.args.len c.take_front.result) (record { segments = map g.B.Buf.unread c.self.inside.segments.items; tally = c.self.inside.tally }) new s.skips
+    (s.counts.given ∙ ap (λ t. t.given) counted)
+    (omega (arith, s.counts.calls, ap (λ t. t.calls) counted))
+    (omega (arith, s.counts.turns, ap (λ t. t.turns) counted)))
 
 pub returns-else-front_holds-clause-paid : goal.returns-else-front_holds-clause-paid
 returns-else-front_holds-clause-paid g c =
@@ -21,7 +21,7 @@ returns-else-front_holds-clause-paid g c =
     let p = s.passes in
     let counted = c.call.ensures in
     rw (← c.self.view_is)
-    (IsPaid-passing (taken_by c.args.len c.collect.result) (map g.B.Buf.unread c.self.inside.segments.items) new.segments c.self.inside.tally new.tally p.skips.segments
+    (IsPaid-passing (taken_by c.args.len c.collect.result) (record { segments = map g.B.Buf.unread c.self.inside.segments.items; tally = c.self.inside.tally }) new p.skips.segments
     (p.given ∙ ap (λ t. t.given) counted)
     (omega (arith, s.least, ap (λ t. t.calls) counted))
     (omega (arith, p.turns, ap (λ t. t.turns) counted)))

@@ -1,4 +1,5 @@
 use Rattle.std.proofs.Common.{map, drop, ap, ◌∙◌, arith}
+use Rattle.bytes_utils_buf.specs.Lent.{held_of}
 use Rattle.bytes_utils_buf.specs.Slices.{taken_by}
 use Rattle.bytes_utils_buf.proofs.TallyLemmas.{IsPaid-passing}
 use Rattle.bytes_utils_buf.proofs.segmented.slice.SegmentedSlice.copy_to_bytes.Goals as goal
@@ -9,10 +10,10 @@ returns-then-front_holds-clause-paid g c =
     let s = c.take_front.ensures in
     let counted = c.call.ensures in
     rw (← c.self.view_is)
-    (IsPaid-passing (taken_by c.args.len c.take_front.result) (drop c.self.inside.place (map g.B.Buf.unread c.self.inside.bufs.now)) new.segments c.self.inside.tally new.tally s.skips.segments
-    (s.given ∙ ap (λ t. t.given) counted)
-    (omega (arith, s.calls, ap (λ t. t.calls) counted))
-    (omega (arith, s.turns, ap (λ t. t.turns) counted)))
+    (IsPaid-passing (taken_by c.args.len c.take_front.result) (record { segments = drop c.self.inside.place (map g.B.Buf.unread c.self.inside.bufs.now); tally = c.self.inside.tally }) (held_of new) s.skips.segments
+    (s.counts.given ∙ ap (λ t. t.given) counted)
+    (omega (arith, s.counts.calls, ap (λ t. t.calls) counted))
+    (omega (arith, s.counts.turns, ap (λ t. t.turns) counted)))
 
 pub returns-else-front_holds-clause-paid : goal.returns-else-front_holds-clause-paid
 returns-else-front_holds-clause-paid g c =
@@ -21,7 +22,7 @@ returns-else-front_holds-clause-paid g c =
     let p = s.passes in
     let counted = c.call.ensures in
     rw (← c.self.view_is)
-    (IsPaid-passing (taken_by c.args.len c.collect.result) (drop c.self.inside.place (map g.B.Buf.unread c.self.inside.bufs.now)) new.segments c.self.inside.tally new.tally p.skips.segments
+    (IsPaid-passing (taken_by c.args.len c.collect.result) (record { segments = drop c.self.inside.place (map g.B.Buf.unread c.self.inside.bufs.now); tally = c.self.inside.tally }) (held_of new) p.skips.segments
     (p.given ∙ ap (λ t. t.given) counted)
     (omega (arith, s.least, ap (λ t. t.calls) counted))
     (omega (arith, p.turns, ap (λ t. t.turns) counted)))

@@ -18,8 +18,10 @@ loop-self-preserved c =
         queue-more c.args.queue.now queue c.give_first.new.queue chunk moved before.moved.2 step.2,
       );
       bytes = bytes-fewer queue c.give_first.new.queue chunk left rest step.2 step.1 ∙ before.bytes;
-      turns = omega (arith, ap length step.1, ap (λ t. t.turns) step.3, before.turns);
-      given = ap (λ t. t.given) step.3 ∙ before.given;
-      dropped = ap (λ t. t.dropped) step.3 ∙ before.dropped;
-      calls = ap (λ t. t.calls) step.3 ∙ before.calls;
+      counts = rw step.3 (record {
+        turns = omega (arith, ap length step.1, before.counts.turns);
+        given = before.counts.given;
+        dropped = before.counts.dropped;
+        calls = before.counts.calls;
+      });
     }

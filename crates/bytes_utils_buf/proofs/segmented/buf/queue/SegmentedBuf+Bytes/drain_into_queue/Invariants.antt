@@ -1,6 +1,6 @@
-use Rattle.std.proofs.Common.{◌≡◌, ℕ, ◌+◌, List, ◌++◌, length}
+use Rattle.std.proofs.Common.{◌≡◌, ℕ, List, ◌++◌, length}
 use Rattle.std.specs.List.{concat}
-use Rattle.bytes_utils_buf.specs.Tally.{lined_up}
+use Rattle.bytes_utils_buf.specs.Segments.{CountsPass}
 use Rattle.bytes_utils_buf.proofs.segmented.buf.queue.SegmentedBuf+Bytes.drain_into_queue.Given as goal
 
 -- some segments were moved, each by one turn
@@ -10,10 +10,7 @@ invariant-loop-self l =
     record {
       moved : (moved : List (List ℕ)) × (old.segments ≡ moved ++ l.self.segments) × (l.queue ≡ l.fn.queue ++ concat moved);
       bytes : l.queue ++ concat l.self.segments ≡ l.fn.queue ++ concat old.segments;
-      turns : lined_up l.self.segments l.self.tally ≡ lined_up old.segments old.tally;
-      given : l.self.tally.given ≡ old.tally.given;
-      dropped : l.self.tally.dropped ≡ old.tally.dropped;
-      calls : l.self.tally.calls ≡ old.tally.calls + 1;
+      counts : CountsPass 1 old l.self;
     }
 
 abbrev pub decreases-loop-self : goal.decreases-loop-self
