@@ -66,13 +66,12 @@ pub map-part : {X : Type 0} (f : X → List ℕ) (xs : List X) (k : ℕ) → map
 map-part f xs k = ap (map f) (take_rest xs k) ∙ sym (drop-map f k xs)
 
 -- of the buffers from place k on, p more became empty
-pub SkipsLent-part : {X : Type 0} (f : X → List ℕ) (xs ys : List X) (n k p : ℕ) (handed_in : List (List ℕ)) (old new : Tallied) (name : ℕ) → k ≤ length xs
-    → take k (map f xs) ≡ replicate k []
+pub SkipsLent-part : {X : Type 0} (f : X → List ℕ) (xs ys : List X) (n k p : ℕ) (handed_in : List (List ℕ)) (old new : Tallied) (name : ℕ) → map f xs ≡ replicate k [] ++ drop k (map f xs)
     → (let part = take (length xs - k) (drop k xs) in
     p ≤ length part → length ys ≡ length part → take p (map f ys) ≡ replicate p [] → Skips n (map f part) (drop p (map f ys))
     → SkipsLent n (lent_at k handed_in (map f xs) old name) (lent_at (k + p) handed_in (map f (put_mid k (length xs - k) xs ys)) new name))
-SkipsLent-part f xs ys n k p handed_in old new name in_all before inside size out skips =
-    let lists = map-put_mid f xs ys k in_all ∙ more_read_out k p (map f xs) (map f ys) before out in
+SkipsLent-part f xs ys n k p handed_in old new name is inside size out skips =
+    let lists = map-put_mid f xs ys k (place_inside f xs k is) ∙ more_read_out k p (map f xs) (map f ys) (take_read_out k (map f xs) is) out in
     let following = ap (drop (k + p)) lists ∙ drop_read_out (k + p) (drop p (map f ys)) in
     let part = map-part f xs k in
     record {
@@ -83,11 +82,11 @@ SkipsLent-part f xs ys n k p handed_in old new name in_all before inside size ou
     }
 
 -- the passed buffers are still empty
-pub lists_of-part : {X : Type 0} (f : X → List ℕ) (xs ys : List X) (k p : ℕ) (handed_in : List (List ℕ)) (new : Tallied) (name : ℕ) → k ≤ length xs
-    → take k (map f xs) ≡ replicate k [] → take p (map f ys) ≡ replicate p []
+pub lists_of-part : {X : Type 0} (f : X → List ℕ) (xs ys : List X) (k p : ℕ) (handed_in : List (List ℕ)) (new : Tallied) (name : ℕ) → map f xs ≡ replicate k [] ++ drop k (map f xs)
+    → take p (map f ys) ≡ replicate p []
     → (let table = map f (put_mid k (length xs - k) xs ys) in table ≡ lists_of (lent_at (k + p) handed_in table new name))
-lists_of-part f xs ys k p handed_in new name in_all before out =
-    let lists = map-put_mid f xs ys k in_all ∙ more_read_out k p (map f xs) (map f ys) before out in
+lists_of-part f xs ys k p handed_in new name is out =
+    let lists = map-put_mid f xs ys k (place_inside f xs k is) ∙ more_read_out k p (map f xs) (map f ys) (take_read_out k (map f xs) is) out in
     let following = ap (drop (k + p)) lists ∙ drop_read_out (k + p) (drop p (map f ys)) in
     lists ∙ ap (λ l. replicate (k + p) [] ++ l) (sym following)
 

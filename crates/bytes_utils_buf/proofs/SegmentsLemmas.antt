@@ -1,9 +1,11 @@
 -- Accepted buffers, and what pays for them.
-use Rattle.std.proofs.Common.{◌≡◌, ℕ, ◌+◌, ◌-◌, List, [], ◌∷◌, ◌++◌, length, arith, ap, ◌∙◌, length-append}
+use Rattle.std.proofs.Common.{◌≡◌, ℕ, ◌+◌, ◌-◌, ◌<◌, List, [], ◌∷◌, ◌++◌, length, arith, ap, ◌∙◌, length-append}
 use Rattle.std.proofs.lemmas.List.{length_push}
+use Rattle.std.proofs.lemmas.List.Elements.{All-same}
 use Rattle.std.specs.List.{concat}
-use Rattle.bytes_utils_buf.specs.Segments.{Held, count_unread, without_empty, after_accepting}
-use Rattle.bytes_utils_buf.proofs.Lists.{accepted_more, concat-accepted, length-without_empty, without_empty-append}
+use Rattle.bytes_utils_buf.specs.Segments.{Held, NoneEmpty, count_unread, without_empty, after_accepting}
+use Rattle.bytes_utils_buf.specs.Tally.{IsBalanced, Tallied}
+use Rattle.bytes_utils_buf.proofs.Lists.{NoneEmpty-accepted, accepted_more, concat-accepted, length-accepted, length-concat-accepted, length-without_empty, without_empty-append}
 
 -- one buffer, accepted without a counted call
 abbrev pub with_one : Held → List ℕ → Held
@@ -34,3 +36,14 @@ with_one-accepting held ys y =
 -- the bytes to read are followed by those of the accepted lists
 pub concat-accepting : (held : Held) (ys : List (List ℕ)) → concat (after_accepting held ys).segments ≡ concat held.segments ++ concat ys
 concat-accepting held ys = concat-accepted held.segments ys
+
+-- what is true of every value stays true with one more buffer
+pub one_more : (old new : List (List ℕ)) (y : List ℕ) (remaining next : ℕ) (tally : Tallied) → new ≡ old ++ without_empty (y ∷ []) → next ≡ remaining + length y
+    → (remaining ≡ length (concat old)) × NoneEmpty old × IsBalanced old tally
+    → (next ≡ length (concat new)) × NoneEmpty new
+    × IsBalanced new (record { given = tally.given + 1; dropped = tally.dropped + (1 - count_unread (y ∷ [])); calls = tally.calls; turns = tally.turns })
+one_more old new y remaining next tally lists sum is = (
+  omega (arith, ap (λ l. length (concat l)) lists ∙ length-concat-accepted old (y ∷ []), length-append y [], is.0, sum),
+  All-same (λ s. 0 < length s) _ _ lists (NoneEmpty-accepted old (y ∷ []) is.1),
+  omega (arith, ap length lists, length-accepted old (y ∷ []), is.2),
+)

@@ -1,31 +1,39 @@
-use Rattle.std.proofs.Common.{◌≡◌, ◌<◌, ◌+◌, ◌-◌, ◌++◌, List, ℕ, [], ◌∷◌, length, map, take, drop, min, arith, rules, ap, ◌∙◌, sym, subst, length-drop}
+use Rattle.std.proofs.Common.{◌≡◌, ◌<◌, ◌≤◌, ◌+◌, get_or, ◌-◌, ◌++◌, List, ℕ, [], ◌∷◌, length, map, take, drop, min, arith, rules, ap, ◌∙◌, sym, subst, length-drop}
 use Rattle.std.proofs.lemmas.List.{length-map}
-use Rattle.bytes_utils_buf.specs.Segments.{front_of, lists_from, take_bytes}
+use Rattle.std.specs.List.{concat}
+use Rattle.bytes_utils_buf.specs.Segments.{front_of, IsInside, lists_from, take_bytes}
 use Rattle.bytes_utils_buf.proofs.Lists.{read_at, front_of_drop}
 use Rattle.bytes_utils_buf.proofs.Pieces.{Gives, Gives-more, inside, front_from, next_from}
 use Rattle.bytes_utils_buf.proofs.segmented.pieces.share_pieces.Goals as goal
 
+-- the place is inside the buffer there
+offset_within : {X : Type 0} (f : X → List ℕ) (items : List X) (item : X) (passed offset left : ℕ) → 0 < left
+    → left ≤ length (concat (lists_from passed offset (map f items))) → item ≡ get_or items passed item → IsInside passed offset (map f items)
+    → offset ≤ length (f item)
+offset_within f items item passed offset left some enough is in_front =
+    let within : passed < length items = omega (arith, inside (map f items) passed offset left some enough, length-map items f) in
+    omega (arith, in_front, ap length (front_of_drop (map f items) passed ∙ read_at f items passed item within is))
+
 pub overflow_sub-remaining : goal.overflow_sub-remaining
 overflow_sub-remaining g c =
-    let f = g.B.Buf.unread in
-    let items = c.args.bufs.now.items in
     let l = c.loop-left in
-    let some : 0 < l.left = search rules in
-    let within : l.place.passed < length items =
-    omega (arith, inside (map f items) l.place.passed l.place.offset l.left some l.invariant.gives.enough, length-map items f) in
-    let read = read_at f items l.place.passed c.index-buf.result.now within c.index-buf.ensures in
-    omega (arith, l.invariant.inside, ap length (front_of_drop (map f items) l.place.passed ∙ read), c.remaining.ensures)
+    omega (
+      arith,
+      offset_within g.B.Buf.unread c.args.bufs.now.items c.index-buf.result.now l.place.passed l.place.offset l.left (search rules) l.invariant.gives.enough c.index-buf.ensures
+          l.invariant.inside,
+      c.remaining.ensures,
+    )
 
 pub part-requires-clause-within : goal.part-requires-clause-within
 part-requires-clause-within g c =
-    let f = g.B.Buf.unread in
-    let items = c.args.bufs.now.items in
     let l = c.loop-left in
-    let some : 0 < l.left = search rules in
-    let within : l.place.passed < length items =
-    omega (arith, inside (map f items) l.place.passed l.place.offset l.left some l.invariant.gives.enough, length-map items f) in
-    let read = read_at f items l.place.passed c.index-buf.result.now within c.index-buf.ensures in
-    omega (arith, l.invariant.inside, ap length (front_of_drop (map f items) l.place.passed ∙ read), c.remaining.ensures, c.min-count.ensures)
+    omega (
+      arith,
+      offset_within g.B.Buf.unread c.args.bufs.now.items c.index-buf.result.now l.place.passed l.place.offset l.left (search rules) l.invariant.gives.enough c.index-buf.ensures
+          l.invariant.inside,
+      c.remaining.ensures,
+      c.min-count.ensures,
+    )
 
 pub loop-left-preserved : goal.loop-left-preserved
 loop-left-preserved g c =

@@ -1,4 +1,4 @@
-use Rattle.std.proofs.Common.{length, map, arith, ap, ◌∙◌, length-drop}
+use Rattle.std.proofs.Common.{length, map, arith, ap, length-drop}
 use Rattle.std.proofs.lemmas.List.{length-map}
 use Rattle.std.specs.List.{concat}
 use Rattle.bytes_utils_buf.proofs.TallyLemmas.{IsPaid-passing}
@@ -33,9 +33,7 @@ returns-clause-paid g c =
     let old = c.self.inside in
     let new = c.skip_held.new in
     let s = c.skip_held.ensures in
-    let counted = c.call.ensures in
     rw (← c.self.view_is)
-    (IsPaid-passing c.args.cnt (record { segments = map f old.segments.items; tally = old.tally }) (record { segments = map f new.segments.items; tally = new.tally }) s.skips
-    (ap (λ t. t.given) s.rest ∙ ap (λ t. t.given) counted)
-    (omega (arith, ap (λ t. t.calls) s.rest, ap (λ t. t.calls) counted))
-    (omega (arith, s.turns, ap (λ t. t.turns) counted, length-map old.segments.items f, length-map new.segments.items f)))
+    (IsPaid-passing c.args.cnt (record { segments = map f old.segments.items; tally = old.tally }) (record { segments = map f new.segments.items; tally = new.tally })
+    c.call.new.self c.call.ensures s.skips (ap (λ t. t.given) s.rest) (omega (arith, ap (λ t. t.calls) s.rest))
+    (omega (arith, s.turns, length-map old.segments.items f, length-map new.segments.items f)))

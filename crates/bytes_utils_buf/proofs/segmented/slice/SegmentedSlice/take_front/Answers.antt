@@ -2,7 +2,7 @@ use Rattle.std.proofs.Common.{◌+◌, ◌-◌, length, map, ap, ◌∙◌, arit
 use borrow.Rule.Slice.PartMut.{put_mid}
 use Rattle.bytes_utils_buf.specs.Lent.{lent_at, IsPassedOnce, SkipsLent}
 use Rattle.bytes_utils_buf.specs.Slices.{taken_by}
-use Rattle.bytes_utils_buf.proofs.LentLemmas.{take_read_out, place_inside, map-part, IsLent-skip, SkipsLent-part, lists_of-part}
+use Rattle.bytes_utils_buf.proofs.LentLemmas.{map-part, IsLent-skip, SkipsLent-part, lists_of-part}
 use Rattle.bytes_utils_buf.proofs.segmented.slice.SegmentedSlice.take_front.Goals as goal
 
 pub take_from_first-passed-requires-clause-holds : goal.take_from_first-passed-requires-clause-holds
@@ -22,15 +22,13 @@ invariant_of-self g c =
     let taken = taken_by c.args.len c.take_from_first-passed.result.1 in
     let old = lent_at s.place handed_in (map f xs) s.tally s.bufs.ghost_name in
     let new = lent_at (s.place + p) handed_in (map f (put_mid s.place (length xs - s.place) xs now.bufs)) now.tally s.bufs.ghost_name in
-    let before = take_read_out s.place (map f xs) c.self.invariant.lists in
-    let in_all = place_inside f xs s.place c.self.invariant.lists in
     let skips : SkipsLent taken old new =
-    SkipsLent-part f xs now.bufs taken s.place p handed_in s.tally now.tally s.bufs.ghost_name in_all before e.passed c.take_from_first-passed.auto.bufs e.read_out e.skips in
+    SkipsLent-part f xs now.bufs taken s.place p handed_in s.tally now.tally s.bufs.ghost_name c.self.invariant.lists e.passed c.take_from_first-passed.auto.bufs e.read_out e.skips in
     let was = c.self.invariant.passed in
     let passed : IsPassedOnce new = rw e.turns (record { given = was.given; dropped = was.dropped; turns = omega (arith, was.turns) }) in
     rw c.bytes_taken.ensures
     (IsLent-skip taken s.remaining (map f xs) _ old new c.self.invariant skips
-    (lists_of-part f xs now.bufs s.place p handed_in now.tally s.bufs.ghost_name in_all before e.read_out) passed)
+    (lists_of-part f xs now.bufs s.place p handed_in now.tally s.bufs.ghost_name c.self.invariant.lists e.read_out) passed)
 
 pub returns-clause-value : goal.returns-clause-value
 returns-clause-value g c =
@@ -46,8 +44,6 @@ returns-clause-skips g c =
     let handed_in = map f s.handed_in.value.bufs.now in
     let now = c.take_from_first-passed.new in
     let taken = taken_by c.args.len c.take_from_first-passed.result.1 in
-    let before = take_read_out s.place (map f xs) c.self.invariant.lists in
-    let in_all = place_inside f xs s.place c.self.invariant.lists in
     rw (← c.self.view_is)
-    (SkipsLent-part f xs now.bufs taken s.place c.take_from_first-passed.result.0 handed_in s.tally now.tally s.bufs.ghost_name in_all before e.passed
+    (SkipsLent-part f xs now.bufs taken s.place c.take_from_first-passed.result.0 handed_in s.tally now.tally s.bufs.ghost_name c.self.invariant.lists e.passed
     c.take_from_first-passed.auto.bufs e.read_out e.skips)
