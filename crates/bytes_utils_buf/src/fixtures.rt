@@ -97,6 +97,17 @@ pub(crate) fn put<B: Buf + Drop>(
     Ok(())
 }
 
+/// Puts a buffer before the others. An error fails the test.
+pub(crate) fn put_first<B: Buf + Drop>(
+    rt: &impl Abort,
+    held: &mut SegmentedBuf<B>,
+    buf: B,
+) -> Result<(), Fail> {
+    assert!(rt; held.fits(buf.remaining()));
+    held.prepend(buf).ok().ok_or("refused")?;
+    Ok(())
+}
+
 /// Appends more buffers.
 pub(crate) fn extend<B: Buf + Drop>(buf: &mut SegmentedBuf<B>, bufs: Vec<B>) -> Result<(), Fail> {
     Ok(buf.extend(bufs.into_iter()).ok().ok_or("refused")?)

@@ -1,5 +1,5 @@
 //! How errors print, and what `?` converts them to.
-use crate::fixtures::assert_debugs;
+use crate::fixtures::{assert_debugs, shared};
 use crate::parts::CopyRefused;
 use crate::{Reason, Refused};
 use std::alloc::{AllocError, AllocFailed, Global};
@@ -57,6 +57,15 @@ fn question_mark_gives_the_reason(rt: HostRuntime) {
             && reason_of(AllocError) == Err(Reason::OutOfMemory)
             && reason_of(value) == Err(Reason::OutOfMemory)
     );
+}
+
+#[test]
+fn question_mark_drops_the_value(rt: HostRuntime) -> Result<(), Fail> {
+    let (back, other) = shared(rt.alloc())?;
+    let reason = Reason::TooLong;
+    assert!(rt; !other.is_unique() && reason_of(Refused { reason, back }) == Err(reason));
+    assert!(rt; other.is_unique());
+    Ok(())
 }
 
 #[test]

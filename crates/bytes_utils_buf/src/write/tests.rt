@@ -13,8 +13,7 @@ use std::test::Fail;
 type Row = (usize, usize, usize, usize, Option<ErrorKind>);
 
 /// Writes borrowed buffers by such a writer. Asserts how many of the bytes are written, by how many
-/// calls, that the others are left, and the error. If a call was interrupted, a second try writes
-/// what was left.
+/// calls, that the others are left, and the error. A second try writes what was left.
 fn assert_writes(
     rt: &impl Abort,
     alloc: Global,
@@ -23,7 +22,8 @@ fn assert_writes(
     (most, fails_at, written, calls, error): Row,
 ) {
     assert!(rt; SegmentedSlice::total(lent) == Some(whole.len()) && written <= whole.len());
-    let mut writer = SlowWriter::new(Vec::new(alloc), most, fails_at);
+    let kind = error.unwrap_or(ErrorKind::Other);
+    let mut writer = SlowWriter::new(Vec::new(alloc), most, fails_at, kind);
     let mut all = SegmentedSlice::new(lent);
     let found = match write_all_of(&mut writer, &mut all) {
         Ok(()) => None,
@@ -35,7 +35,7 @@ fn assert_writes(
             && writer.calls() == calls
             && found == error
     );
-    if error == Some(ErrorKind::Interrupted) && most > 0 {
+    if error.is_some() && most > 0 {
         assert!(rt; write_all_of(&mut writer, &mut all).is_ok() && writer.held() == whole);
     }
 }
@@ -184,4 +184,19 @@ const SHORT: &[Case] = &[
 #[test]
 fn short_writes(rt: HostRuntime) -> Result<(), Fail> {
     writes(&rt, rt.alloc(), SHORT)
+}
+
+// Each error comes back as it is, and no call follows it. At `WriteZero` a call takes nothing.
+const KINDS: &[Case] = &[
+    (&[3, 5], 8, (ALL, 1, 0, 1, Some(ErrorKind::WouldBlock))),
+    (&[3, 5], 8, (3, 2, 3, 2, Some(ErrorKind::WouldBlock))),
+    (&[3, 5], 8, (3, 2, 3, 2, Some(ErrorKind::BrokenPipe))),
+    (&[3, 5], 8, (3, 2, 3, 2, Some(ErrorKind::TimedOut))),
+    (&[3, 5], 8, (3, 3, 6, 3, Some(ErrorKind::OutOfMemory))),
+    (&[3, 5], 8, (3, 2, 3, 2, Some(ErrorKind::WriteZero))),
+];
+
+#[test]
+fn kinds_of_errors(rt: HostRuntime) -> Result<(), Fail> {
+    writes(&rt, rt.alloc(), KINDS)
 }

@@ -1,7 +1,7 @@
 //! How often buffers are advanced and looked at.
 use crate::contiguous::ContiguousBuf;
 use crate::fixtures::odd::Asked;
-use crate::fixtures::{extend, gather, hold, lend, put, take_out, thousand};
+use crate::fixtures::{extend, gather, hold, lend, put, put_first, take_out, thousand};
 use crate::parts::{BufParts, CopyRefused};
 use crate::segmented::{SegmentedBuf, SegmentedSlice};
 use bytes::Buf;
@@ -130,12 +130,28 @@ fn copies_lent<'a, B: BufParts>(
 /// Ten bytes are copied. The buffer after them may be looked at, to see that it isn't empty.
 const TEN: &[usize] = &[1, 1, 2, 1, 3, 1, 1];
 
-// Buffers of one byte each: many at once, and twenty more, one after another.
+// A buffer is put before the others and popped, others are appended, and a segment is seen.
+fn moves_ends<B: ContiguousBuf + Drop>(
+    rt: &impl Abort,
+    buf: &mut SegmentedBuf<B>,
+    first: B,
+    others: SegmentedBuf<B>,
+) -> Result<(), Fail> {
+    put_first(rt, buf, first)?;
+    assert!(rt; buf.fits(others.remaining()));
+    buf.append(others).ok().ok_or("refused")?;
+    assert!(rt; buf.pop().is_some() && buf.segment(0).is_some());
+    Ok(())
+}
+
+// Buffers of one byte each: many at once, and forty more, one after another.
 fn accepted(rt: &impl Abort, alloc: Global) -> Result<SegmentedBuf<Asked>, Fail> {
     let mut buf = SegmentedBuf::new(alloc);
     extend(&mut buf, thousand(alloc)?)?;
     for _ in 0..20 {
         put(rt, &mut buf, Asked::of("x"))?;
+        let other = hold(rt, alloc, Asked::of("x"))?;
+        moves_ends(rt, &mut buf, Asked::of("x"), other)?;
     }
     Ok(buf)
 }

@@ -1,6 +1,6 @@
 //! What becomes of buffers that are passed, read to the end, or empty.
 use crate::fixtures::odd::Asked;
-use crate::fixtures::{hold, lend, shared, skip, take_out};
+use crate::fixtures::{hold, lend, put_first, shared, skip, take_out};
 use crate::parts::{BufParts, CopyRefused};
 use bytes::{Buf, Bytes};
 use std::alloc::{AllocError, Global};
@@ -79,7 +79,10 @@ fn read_out(rt: &impl Abort, alloc: Global) -> Result<(Bytes, Bytes), Fail> {
 #[test]
 fn empty_segments_are_dropped(rt: HostRuntime) -> Result<(), Fail> {
     let (empty, other) = read_out(&rt, rt.alloc())?;
-    let held = hold(&rt, rt.alloc(), empty)?;
+    let mut held = hold(&rt, rt.alloc(), empty)?;
+    assert!(rt; held.segments() == 0 && other.is_unique());
+    let (empty, other) = read_out(&rt, rt.alloc())?;
+    put_first(&rt, &mut held, empty)?;
     assert!(rt; held.segments() == 0 && other.is_unique());
     Ok(())
 }
