@@ -1,7 +1,8 @@
 -- The first place of a needle in segments, from the needles that begin in each segment.
-use Rattle.std.proofs.Common.{◌≡◌, ℕ, zero, suc, ◌+◌, ◌-◌, ◌<◌, ◌≤◌, List, [], ◌∷◌, ◌++◌, length, take, drop, get_or, Some, None, ap, ◌∙◌, sym, refl, arith, length-append, length-drop, length-take, append_assoc, append-nil, take-append-drop, drop_at, ⊎_elim}
+use Rattle.std.proofs.Common.{◌≡◌, ℕ, zero, suc, ◌+◌, ◌-◌, ◌<◌, ◌≤◌, List, [], ◌∷◌, ◌++◌, length, take, drop, get_or, slice_get, Some, None, ap, ◌∙◌, sym, refl, arith, length-append, length-drop, length-take, append_assoc, append-nil, take-append-drop, drop_at, ⊎_elim}
 use Rattle.std.proofs.lemmas.Bool.{cases_lt}
 use Rattle.std.proofs.lemmas.List.{drop-append-le, drop_more}
+use Rattle.std.proofs.lemmas.Option.{get_or_from_slice_get, slice_get_within}
 use Rattle.std.proofs.Math.Seq.{take-append-add}
 use Rattle.std.specs.List.{concat}
 use Rattle.memchr.specs.Find.{FindsNeedle, IsFirst, Nowhere, OccursAt}
@@ -152,6 +153,19 @@ pub segment_bytes : (xs : List (List ℕ)) (segment : List ℕ) (i base : ℕ) �
 segment_bytes xs segment i base inside is at =
     ap (drop base) (concat_split i xs) ∙ drop_at (concat (take i xs)) (concat (drop i xs)) base (sym at) ∙ ap concat (drop_more xs i [] inside)
     ∙ ap (λ l. l ++ concat (drop (i + 1) xs)) (sym is)
+
+-- what a loop knows after it read the segment at its place
+pub record HasRead (xs : List (List ℕ)) (segment : List ℕ) (i base : ℕ) : Type 0 where
+  pub inside : i < length xs
+  pub is : segment ≡ get_or xs i []
+  pub bytes : drop base (concat xs) ≡ segment ++ concat (drop (i + 1) xs)
+  pub within : base ≤ length (concat xs)
+
+pub has_read : (xs : List (List ℕ)) (segment : List ℕ) (i base : ℕ) → slice_get xs i ≡ Some segment → base ≡ length (concat (take i xs)) → HasRead xs segment i base
+has_read xs segment i base read at =
+    let inside = slice_get_within xs i segment read in
+    let is = sym (get_or_from_slice_get xs i segment [] read) in
+    record { inside = inside; is = is; bytes = segment_bytes xs segment i base inside is at; within = base_within xs i base at }
 
 pub missed_all : (all p : List ℕ) (start : ℕ) → 0 < length p → Nowhere (OccursAt all p) start (length all) → FindsNeedle all p start None
 missed_all all p start some none j low high here =
