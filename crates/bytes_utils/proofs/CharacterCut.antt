@@ -5,7 +5,6 @@ use Rattle.std.specs.Option.{option_map}
 use Rattle.std.specs.Str.{chars}
 use Rattle.bytes_utils.specs.Text.{byte_place}
 use Rattle.bytes_utils.specs.EmptySeparator.{by_element, by_element_backward}
-use Rattle.bytes_utils.specs.Parts.{ArePartsFromFront, ArePartsFromBack}
 use Rattle.bytes_utils.specs.Splitting.{Splitting, AreForwardPartsToCome, AreBackwardPartsToCome, ArePartsToCome, LeavesMore, one_less}
 use Rattle.bytes_utils.specs.declared.split.direction.Direction.{Direction}
 use Rattle.bytes_utils.specs.declared.split.direction.Direction.TheVariants.{Forward, Backward}
@@ -19,23 +18,6 @@ following rest limit = record { rest = rest; separator = []; limit = limit; begu
 
 abbrev before : Option (List ℕ) → Option ℕ → Splitting
 before rest limit = record { rest = rest; separator = []; limit = limit; begun = false }
-
--- the parts by the empty separator, with one more than the limit
-front_to : (t : List ℕ) (limit : Option ℕ) (parts : List (List ℕ)) → ArePartsFromFront t [] (option_map suc limit) parts → parts ≡ by_element t (option_map suc limit)
-front_to t None parts are = are
-front_to t (Some n) parts are = are
-
-front_from : (t : List ℕ) (limit : Option ℕ) (parts : List (List ℕ)) → parts ≡ by_element t (option_map suc limit) → ArePartsFromFront t [] (option_map suc limit) parts
-front_from t None parts are = are
-front_from t (Some n) parts are = are
-
-back_to : (t : List ℕ) (limit : Option ℕ) (parts : List (List ℕ)) → ArePartsFromBack t [] (option_map suc limit) parts → parts ≡ by_element_backward t (option_map suc limit)
-back_to t None parts are = are
-back_to t (Some n) parts are = are
-
-back_from : (t : List ℕ) (limit : Option ℕ) (parts : List (List ℕ)) → parts ≡ by_element_backward t (option_map suc limit) → ArePartsFromBack t [] (option_map suc limit) parts
-back_from t None parts are = are
-back_from t (Some n) parts are = are
 
 module _ (text : List ℕ) (text_is : IsUtf8 text) (i at : ℕ) (at_is : at ≡ byte_place (chars text) i) where
   pub boundary : IsCharBoundary text at
@@ -54,14 +36,12 @@ module _ (text : List ℕ) (text_is : IsUtf8 text) (at : ℕ) (some : 0 < length
   gives_first_character at_is part rest part_is rest_is limit more = record {
     some = (
       after_first (chars rest) limit,
-      front_from (chars rest) (one_less limit) _
-          (sym (by_element-first (chars rest) limit more) ∙ ap (by_element (chars rest)) (sym (suc-less limit more))),
+      sym (by_element-first (chars rest) limit more) ∙ ap (by_element (chars rest)) (sym (suc-less limit more)),
     );
     each = λ others are.
-        let left : [] ∷ others ≡ by_element (chars rest) limit = front_to (chars rest) (one_less limit) ([] ∷ others) are ∙ ap (by_element (chars rest)) (suc-less limit more) in
+        let left : [] ∷ others ≡ by_element (chars rest) limit = are ∙ ap (by_element (chars rest)) (suc-less limit more) in
         let left_chars : [] ∷ others ≡ by_element (drop 1 (chars text)) limit = left ∙ ap (λ z. by_element z limit) (chars_after text text_is 1 at at_is rest rest_is) in
-        front_from (chars text) limit ([] ∷ chars part ∷ others)
-        (ap (λ z. [] ∷ z ∷ others) (chars_before text text_is 1 at at_is part part_is) ∙ first_element (chars text) limit others some more left_chars);
+        ap (λ z. [] ∷ z ∷ others) (chars_before text text_is 1 at at_is part part_is) ∙ first_element (chars text) limit others some more left_chars;
   }
 
   -- the last character, and then what is before it
@@ -72,14 +52,12 @@ module _ (text : List ℕ) (text_is : IsUtf8 text) (at : ℕ) (some : 0 < length
       record {
         some = (
           map reverse (after_first (reverse (chars rest)) limit),
-          back_from (chars rest) (one_less limit) _
-              (ap (map reverse) (sym (by_element-first (reverse (chars rest)) limit more)) ∙ ap (by_element_backward (chars rest)) (sym (suc-less limit more))),
+          ap (map reverse) (sym (by_element-first (reverse (chars rest)) limit more)) ∙ ap (by_element_backward (chars rest)) (sym (suc-less limit more)),
         );
         each = λ others are.
-            let left : [] ∷ others ≡ by_element_backward (chars rest) limit = back_to (chars rest) (one_less limit) ([] ∷ others) are ∙ ap (by_element_backward (chars rest)) (suc-less limit more) in
+            let left : [] ∷ others ≡ by_element_backward (chars rest) limit = are ∙ ap (by_element_backward (chars rest)) (suc-less limit more) in
             let left_chars : [] ∷ others ≡ by_element_backward (take i (chars text)) limit = left ∙ ap (λ z. by_element_backward z limit) (chars_before text text_is i at at_is rest rest_is) in
-            back_from (chars text) limit ([] ∷ chars part ∷ others)
-            (ap (λ z. [] ∷ z ∷ others) (chars_after text text_is i at at_is part part_is) ∙ last_element (chars text) limit others some more left_chars);
+            ap (λ z. [] ∷ z ∷ others) (chars_after text text_is i at at_is part part_is) ∙ last_element (chars text) limit others some more left_chars;
       }
 
   at_byte : (i : ℕ) → i < length (chars text) → at ≡ byte_place (chars text) i → at < length text
@@ -104,35 +82,20 @@ module _ (text : List ℕ) (text_is : IsUtf8 text) (at : ℕ) (some : 0 < length
       let b = (boundary_at_place text text_is (length (chars text))).0 in
       omega (arith, place, b)
 
--- parts by the empty separator, if the limit allows more than one
-front_any : (t : List ℕ) (limit : Option ℕ) (parts : List (List ℕ)) → LeavesMore limit → parts ≡ by_element t limit → ArePartsFromFront t [] limit parts
-front_any t None parts more are = are
-front_any t (Some zero) parts more are = absurd (omega (arith, more))
-front_any t (Some (suc n)) parts more are = are
-
-back_any : (t : List ℕ) (limit : Option ℕ) (parts : List (List ℕ)) → LeavesMore limit → parts ≡ by_element_backward t limit → ArePartsFromBack t [] limit parts
-back_any t None parts more are = are
-back_any t (Some zero) parts more are = absurd (omega (arith, more))
-back_any t (Some (suc n)) parts more are = are
-
 -- the first part is empty
 pub gives_empty : (from : Direction) (text part : List ℕ) → part ≡ [] → (limit : Option ℕ) → LeavesMore limit
     → GivesFirst (ArePartsToCome from) (before (Some text) limit) (chars part) (following (Some text) (one_less limit))
 gives_empty Forward text part none limit more = rw (none, chars-nil) record {
   some = (
     after_first (chars text) limit,
-    front_from (chars text) (one_less limit) _
-        (sym (by_element-first (chars text) limit more) ∙ ap (by_element (chars text)) (sym (suc-less limit more))),
+    sym (by_element-first (chars text) limit more) ∙ ap (by_element (chars text)) (sym (suc-less limit more)),
   );
-  each = λ others are. rw chars-nil (front_any (chars text) limit ([] ∷ others) more
-      (front_to (chars text) (one_less limit) ([] ∷ others) are ∙ ap (by_element (chars text)) (suc-less limit more)));
+  each = λ others are. rw chars-nil (are ∙ ap (by_element (chars text)) (suc-less limit more));
 }
 gives_empty Backward text part none limit more = rw (none, chars-nil) record {
   some = (
     map reverse (after_first (reverse (chars text)) limit),
-    back_from (chars text) (one_less limit) _
-        (ap (map reverse) (sym (by_element-first (reverse (chars text)) limit more)) ∙ ap (by_element_backward (chars text)) (sym (suc-less limit more))),
+    ap (map reverse) (sym (by_element-first (reverse (chars text)) limit more)) ∙ ap (by_element_backward (chars text)) (sym (suc-less limit more)),
   );
-  each = λ others are. rw chars-nil (back_any (chars text) limit ([] ∷ others) more
-      (back_to (chars text) (one_less limit) ([] ∷ others) are ∙ ap (by_element_backward (chars text)) (suc-less limit more)));
+  each = λ others are. rw chars-nil (are ∙ ap (by_element_backward (chars text)) (suc-less limit more));
 }

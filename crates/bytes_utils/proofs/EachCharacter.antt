@@ -1,53 +1,21 @@
 -- The parts by the empty separator, one after another.
-use Rattle.std.proofs.Common.{◌≡◌, refl, sym, ap, ◌∙◌, ℕ, zero, suc, ◌+◌, ◌-◌, ◌<◌, ◌≤◌, List, [], ◌∷◌, ◌++◌, Option, None, Some, length, map, take, drop, reverse, arith, length-append, length-drop, take-append-drop, ◌⊎◌, inl, inr}
+use Rattle.std.proofs.Common.{◌≡◌, refl, sym, ap, ◌∙◌, ℕ, zero, suc, ◌-◌, ◌<◌, ◌≤◌, List, [], ◌∷◌, ◌++◌, Option, None, Some, length, map, take, drop, reverse, arith, length-append, length-drop, take-append-drop, ◌⊎◌, inl, inr}
 use Rattle.std.specs.Option.{option_map, IfSome}
-use Rattle.std.proofs.lemmas.List.{length-map, reverse-append, reverse-reverse, length-reverse, take_at, drop_at}
-use Rattle.std.proofs.lemmas.Bool.{lt-ltb, le-ltb, cond-true, cond-false}
-use Rattle.bytes_utils.specs.EmptySeparator.{single, by_element, by_element_backward}
+use Rattle.std.proofs.lemmas.Bool.{cases_lt, lt-ltb, le-ltb, cond-true, cond-false}
+use Rattle.std.proofs.lemmas.List.{reverse-append, reverse-reverse, length-reverse, take_at, drop_at}
+use Rattle.bytes_utils.specs.EmptySeparator.{elements, by_element, by_element_backward}
 use Rattle.bytes_utils.specs.Splitting.{LeavesMore, one_less}
 
 -- the parts after the first one by the empty separator
 abbrev pub after_first : {X : Type 0} → List X → Option ℕ → List (List X)
 after_first t limit = drop 1 (by_element t limit)
 
-length-single : {X : Type 0} (t : List X) → length (single t) ≡ length t + 2
-length-single {X} t = omega (arith, length-append (map (λ x. x ∷ []) t) ([] ∷ []), length-map t (λ (x : X). x ∷ []))
-
-limited : {X : Type 0} (t : List X) (n : ℕ) → n < length t + 2 → by_element t (Some n) ≡ take (n - 1) (single t) ++ (drop (n - 2) t ∷ [])
-limited t n below = cond-true _ _ _ (lt-ltb n (length (single t)) (omega (arith, below, length-single t)))
-
-pub limited_more : {X : Type 0} (t : List X) (n : ℕ) → suc (suc n) < length t + 2 → by_element t (Some (suc (suc n))) ≡ take (suc n) (single t) ++ (drop n t ∷ [])
-limited_more t n below =
-    let most : suc (suc n) - 1 ≡ suc n = omega arith in
-    let left : suc (suc n) - 2 ≡ n = omega arith in
-    limited t (suc (suc n)) below ∙ (λ k. take (most k) (single t) ++ (drop (left k) t ∷ []))
-
-pub unlimited : {X : Type 0} (t : List X) (n : ℕ) → length t + 2 ≤ n → by_element t (Some n) ≡ single t
-unlimited t n enough = cond-false _ _ _ (le-ltb n (length (single t)) (omega (arith, enough, length-single t)))
-
--- the limit is less than the number of parts, or isn't
-pub below_or_enough : (n m : ℕ) → (n < m) ⊎ (m ≤ n)
-below_or_enough n zero = inr (omega arith)
-below_or_enough zero (suc m) = inl (omega arith)
-below_or_enough (suc n) (suc m) = step (below_or_enough n m)
-  where
-    step : (n < m) ⊎ (m ≤ n) → (suc n < suc m) ⊎ (suc m ≤ suc n)
-    step (inl l) = inl (omega (arith, l))
-    step (inr l) = inr (omega (arith, l))
-
-begins_with : {Y : Type 0} (xs ys : List Y) (x : Y) → xs ≡ x ∷ ys → xs ≡ x ∷ drop 1 xs
-begins_with xs ys x e = e ∙ ap (λ z. x ∷ drop 1 z) (sym e)
-
 -- the first part is empty, if there may be more than one
 pub by_element-first : {X : Type 0} (t : List X) (limit : Option ℕ) → LeavesMore limit → by_element t limit ≡ [] ∷ after_first t limit
 by_element-first t None more = refl
 by_element-first t (Some zero) more = absurd (omega (arith, more))
 by_element-first t (Some (suc zero)) more = absurd (omega (arith, more))
-by_element-first t (Some (suc (suc n))) more = from (below_or_enough (suc (suc n)) (length t + 2))
-  where
-    from : (suc (suc n) < length t + 2) ⊎ (length t + 2 ≤ suc (suc n)) → by_element t (Some (suc (suc n))) ≡ [] ∷ after_first t (Some (suc (suc n)))
-    from (inl below) = begins_with _ _ _ (limited_more t n below)
-    from (inr enough) = begins_with _ _ _ (unlimited t (suc (suc n)) enough)
+by_element-first t (Some (suc (suc n))) more = refl
 
 -- after it come the first character, and then what comes after the empty part in the rest
 pub by_element-more : {X : Type 0} (x : X) (t : List X) (limit : Option ℕ) → LeavesMore limit
@@ -55,25 +23,22 @@ pub by_element-more : {X : Type 0} (x : X) (t : List X) (limit : Option ℕ) →
 by_element-more x t None more = refl
 by_element-more x t (Some zero) more = absurd (omega (arith, more))
 by_element-more x t (Some (suc zero)) more = absurd (omega (arith, more))
-by_element-more x t (Some (suc (suc n))) more = from (below_or_enough (suc (suc n)) (length t + 2))
+by_element-more x t (Some (suc (suc n))) more = ap (λ z. [] ∷ z) (from (cases_lt n (length t)))
   where
-    from : (suc (suc n) < length t + 2) ⊎ (length t + 2 ≤ suc (suc n)) → by_element (x ∷ t) (Some (suc (suc (suc n)))) ≡ [] ∷ (x ∷ []) ∷ after_first t (Some (suc (suc n)))
-    from (inl below) = limited_more (x ∷ t) (suc n) (omega (arith, below)) ∙ ap (λ z. [] ∷ (x ∷ []) ∷ drop 1 z) (sym (limited_more t n below))
-    from (inr enough) = unlimited (x ∷ t) (suc (suc (suc n))) (omega (arith, enough)) ∙ ap (λ z. [] ∷ (x ∷ []) ∷ drop 1 z) (sym (unlimited t (suc (suc n)) enough))
+    from : (n < length t) ⊎ (length t ≤ n) → drop 1 (by_element (x ∷ t) (Some (suc (suc (suc n))))) ≡ (x ∷ []) ∷ after_first t (Some (suc (suc n)))
+    from (inl below) = cond-true _ _ _ (lt-ltb (suc n) (length (x ∷ t)) (omega (arith, below))) ∙ ap (λ z. (x ∷ []) ∷ z) (sym (cond-true _ _ _ (lt-ltb n (length t) below)))
+    from (inr enough) = cond-false _ _ _ (le-ltb (suc n) (length (x ∷ t)) (omega (arith, enough))) ∙ ap (λ z. (x ∷ []) ∷ z) (sym (cond-false _ _ _ (le-ltb n (length t) enough)))
 
 -- after all characters the last part is empty
 pub by_element-nothing_left : {X : Type 0} (limit : Option ℕ) → LeavesMore limit → by_element {X = X} [] (option_map suc limit) ≡ [] ∷ [] ∷ []
 by_element-nothing_left None more = refl
-by_element-nothing_left (Some n) more = unlimited [] (suc n) (omega (arith, more))
-
--- a limit of one part leaves the text
-pub by_element-one : {X : Type 0} (t : List X) → by_element t (Some 1) ≡ t ∷ []
-by_element-one t = limited t 1 (omega arith)
+by_element-nothing_left (Some zero) more = absurd (omega (arith, more))
+by_element-nothing_left (Some (suc n)) more = ap (λ z. [] ∷ z) (cond-false _ _ _ (le-ltb n 0 (omega arith)))
 
 -- a limit of two leaves the text after the empty part
 pub by_element-two : {X : Type 0} (t : List X) → by_element t (Some 2) ≡ [] ∷ t ∷ []
 by_element-two [] = refl
-by_element-two (x ∷ t) = limited (x ∷ t) 2 (omega arith)
+by_element-two (x ∷ t) = ap (λ z. [] ∷ z) (cond-true _ _ _ (lt-ltb 0 (length (x ∷ t)) (omega arith)))
 
 -- a limit of at least 1 allows one part, or more
 pub one_or_more : (limit : Option ℕ) → IfSome limit (λ most. 0 < most) → (limit ≡ Some 1) ⊎ LeavesMore limit
@@ -84,11 +49,10 @@ one_or_more (Some (suc (suc n))) some = inr (omega arith)
 
 -- there is at least one part
 pub by_element-some : {X : Type 0} (t : List X) (limit : Option ℕ) → IfSome limit (λ most. 0 < most) → 0 < length (by_element t limit)
-by_element-some t limit some = from (one_or_more limit some)
-  where
-    from : (limit ≡ Some 1) ⊎ LeavesMore limit → 0 < length (by_element t limit)
-    from (inl one) = omega (arith, ap length (ap (by_element t) one ∙ by_element-one t))
-    from (inr more) = omega (arith, ap length (by_element-first t limit more))
+by_element-some t None some = omega arith
+by_element-some t (Some zero) some = absurd (omega (arith, some))
+by_element-some t (Some (suc zero)) some = omega arith
+by_element-some t (Some (suc (suc n))) some = omega arith
 
 -- and one after the first
 pub by_element-following : {X : Type 0} (t : List X) (limit : Option ℕ) → IfSome limit (λ most. 0 < most) → 1 < length (by_element t (option_map suc limit))

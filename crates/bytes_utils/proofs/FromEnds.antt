@@ -1,5 +1,5 @@
 -- Parts from the front and from the back, by a separator that isn't empty.
-use Rattle.std.proofs.Common.{refl, ℕ, zero, suc, ◌<◌, List, [], ◌∷◌, Option, None, Some, length, arith}
+use Rattle.std.proofs.Common.{◌≡◌, ◌↔◌, refl, ℕ, zero, suc, ◌<◌, List, [], ◌∷◌, Option, None, Some, length, arith}
 use Rattle.std.specs.Option.{IfSome}
 use Rattle.bytes_utils.specs.Parts.{AreForwardParts, AreBackwardParts, ArePartsFromFront, ArePartsFromBack}
 use Rattle.bytes_utils.specs.EmptySeparator.{by_element, by_element_backward}
@@ -16,6 +16,15 @@ positive-less None more = tt
 positive-less (Some most) more = omega (arith, more)
 
 module _ {X : Type 0} (t : List X) where
+  -- a limit of 0 gives no parts
+  pub front-none : (p : List X) (parts : List (List X)) → ArePartsFromFront t p (Some 0) parts ↔ (parts ≡ [])
+  front-none [] parts = (λ are. are, λ none. none)
+  front-none (x ∷ p) parts = (λ are. are, λ none. none)
+
+  pub back-none : (p : List X) (parts : List (List X)) → parts ≡ [] → ArePartsFromBack t p (Some 0) parts
+  back-none [] parts none = none
+  back-none (x ∷ p) parts none = none
+
   pub front-from : (p : List X) (limit : Option ℕ) (parts : List (List X)) → 0 < length p → IfSome limit (λ most. 0 < most)
       → AreForwardParts t p limit parts → ArePartsFromFront t p limit parts
   front-from [] limit parts some more are = absurd (omega (arith, some))
@@ -46,16 +55,14 @@ module _ {X : Type 0} (t : List X) where
 
 -- every text has parts from the front, for every separator and every limit
 pub has_front : (t p : List ℕ) (limit : Option ℕ) → (parts : List (List ℕ)) × ArePartsFromFront t p limit parts
-has_front t p (Some zero) = ([], refl)
-has_front t [] None = (by_element t None, refl)
-has_front t [] (Some (suc most)) = (by_element t (Some (suc most)), refl)
+has_front t [] limit = (by_element t limit, refl)
+has_front t (x ∷ p) (Some zero) = ([], refl)
 has_front t (x ∷ p) None = has_forward_parts (x ∷ p) t None (omega arith) tt
 has_front t (x ∷ p) (Some (suc most)) = has_forward_parts (x ∷ p) t (Some (suc most)) (omega arith) (omega arith)
 
 -- and from the back
 pub has_back : (t p : List ℕ) (limit : Option ℕ) → (parts : List (List ℕ)) × ArePartsFromBack t p limit parts
-has_back t p (Some zero) = ([], refl)
-has_back t [] None = (by_element_backward t None, refl)
-has_back t [] (Some (suc most)) = (by_element_backward t (Some (suc most)), refl)
+has_back t [] limit = (by_element_backward t limit, refl)
+has_back t (x ∷ p) (Some zero) = ([], refl)
 has_back t (x ∷ p) None = has_backward_parts (x ∷ p) t None (omega arith) tt
 has_back t (x ∷ p) (Some (suc most)) = has_backward_parts (x ∷ p) t (Some (suc most)) (omega arith) (omega arith)

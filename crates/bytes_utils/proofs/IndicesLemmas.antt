@@ -12,6 +12,7 @@ use Rattle.bytes_utils.specs.Splitting.{Splitting, splitting, AreForwardPartsToC
 use Rattle.bytes_utils.specs.Step.{GivesFirst, GivesItem, IsStepOf}
 use Rattle.bytes_utils.specs.declared.split.direction.Direction.{Direction}
 use Rattle.bytes_utils.specs.declared.split.direction.Direction.TheVariants.{Forward}
+use Rattle.bytes_utils.proofs.FromEnds.{front-none}
 use Rattle.bytes_utils.proofs.NextPart.{no_chars}
 use Rattle.bytes_utils.proofs.OccurrenceLemmas.{OccursAt-between}
 use Rattle.bytes_utils.proofs.Rejoining.{front_rejoins}
@@ -26,7 +27,7 @@ left_joined : (rest separator : List ℕ) (limit : Option ℕ) (begun : Bool) (p
 left_joined rest separator limit true part others empty are =
     ap (λ p. join p (part ∷ others)) (no_chars separator empty) ∙ front_rejoins (chars rest) [] (option_map suc limit) ([] ∷ part ∷ others) (positive-suc limit) are
 left_joined rest separator None false part others empty are = front_rejoins (chars rest) (chars separator) None (part ∷ others) tt are
-left_joined rest separator (Some zero) false part others empty are = absurd (omega (arith, ap length are))
+left_joined rest separator (Some zero) false part others empty are = absurd (omega (arith, ap length ((front-none (chars rest) (chars separator) (part ∷ others)).0 are)))
 left_joined rest separator (Some (suc most)) false part others empty are =
     front_rejoins (chars rest) (chars separator) (Some (suc most)) (part ∷ others) (omega arith) are
 
@@ -172,5 +173,5 @@ module _ (separator : List ℕ) (separator_is : IsUtf8 separator) where
 
     pub part_places : (limit : Option ℕ) (parts : List (List ℕ)) → ArePartsFromFront (chars text) (chars separator) limit parts → All (Stands text) (indexed separator 0 parts)
     part_places None parts are = stand_joined parts (front_rejoins (chars text) (chars separator) None parts tt are)
-    part_places (Some zero) parts are = subst (λ l. All (Stands text) (indexed separator 0 l)) (sym are) (All-nil (Stands text))
+    part_places (Some zero) parts are = subst (λ l. All (Stands text) (indexed separator 0 l)) (sym ((front-none (chars text) (chars separator) parts).0 are)) (All-nil (Stands text))
     part_places (Some (suc most)) parts are = stand_joined parts (front_rejoins (chars text) (chars separator) (Some (suc most)) parts (omega arith) are)

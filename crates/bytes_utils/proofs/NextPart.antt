@@ -27,30 +27,23 @@ some-limit (Some (suc most)) not = omega arith
 
 -- if the limit allows a part, a part of what is left is to come
 some_from_front : (t p : List ℕ) (limit : Option ℕ) → IfSome limit (λ most. 0 < most) → ArePartsFromFront t p limit [] → ⊥
-some_from_front t [] None some are = omega (arith, ap length are, by_element-some t None tt)
-some_from_front t [] (Some zero) some are = omega (arith, some)
-some_from_front t [] (Some (suc most)) some are = omega (arith, ap length are, by_element-some t (Some (suc most)) some)
+some_from_front t [] limit some are = omega (arith, ap length are, by_element-some t limit some)
 some_from_front t (x ∷ p) None some are = omega (arith, are.some)
 some_from_front t (x ∷ p) (Some zero) some are = omega (arith, some)
 some_from_front t (x ∷ p) (Some (suc most)) some are = omega (arith, are.some)
 
 some_from_back : (t p : List ℕ) (limit : Option ℕ) → IfSome limit (λ most. 0 < most) → ArePartsFromBack t p limit [] → ⊥
-some_from_back t [] None some are = omega (arith, ap length are, by_element-some (reverse t) None tt, length-map (by_element (reverse t) None) reverse)
-some_from_back t [] (Some zero) some are = omega (arith, some)
-some_from_back t [] (Some (suc most)) some are =
-    omega (arith, ap length are, by_element-some (reverse t) (Some (suc most)) some, length-map (by_element (reverse t) (Some (suc most))) reverse)
+some_from_back t [] limit some are = omega (arith, ap length are, by_element-some (reverse t) limit some, length-map (by_element (reverse t) limit) reverse)
 some_from_back t (x ∷ p) None some are = omega (arith, are.some)
 some_from_back t (x ∷ p) (Some zero) some are = omega (arith, some)
 some_from_back t (x ∷ p) (Some (suc most)) some are = omega (arith, are.some)
 
 after_front : (t : List ℕ) (limit : Option ℕ) → IfSome limit (λ most. 0 < most) → ArePartsFromFront t [] (option_map suc limit) ([] ∷ []) → ⊥
-after_front t None some are = omega (arith, ap length are, by_element-following t None tt)
-after_front t (Some most) some are = omega (arith, ap length are, by_element-following t (Some most) some)
+after_front t limit some are = omega (arith, ap length are, by_element-following t limit some)
 
 after_back : (t : List ℕ) (limit : Option ℕ) → IfSome limit (λ most. 0 < most) → ArePartsFromBack t [] (option_map suc limit) ([] ∷ []) → ⊥
-after_back t None some are = omega (arith, ap length are, by_element-following (reverse t) None tt, length-map (by_element (reverse t) None) reverse)
-after_back t (Some most) some are =
-    omega (arith, ap length are, by_element-following (reverse t) (Some most) some, length-map (by_element (reverse t) (Some (suc most))) reverse)
+after_back t limit some are =
+    omega (arith, ap length are, by_element-following (reverse t) limit some, length-map (by_element (reverse t) (option_map suc limit)) reverse)
 
 pub some_to_come : (from : Direction) (text sep : List ℕ) (limit : Option ℕ) (begun : Bool) → limit ≢ Some 0
     → ¬ ArePartsToCome from (record { rest = Some text; separator = sep; limit = limit; begun = begun }) []

@@ -12,17 +12,15 @@ use Rattle.bytes_utils.proofs.Unique.{forward_same, backward_same, inclusive_sam
 
 -- at most one list is the parts from the front
 pub front_same : {X : Type 0} (t p : List X) (limit : Option ℕ) (parts others : List (List X)) → ArePartsFromFront t p limit parts → ArePartsFromFront t p limit others → parts ≡ others
-front_same t p (Some zero) parts others are also = are ∙ sym also
-front_same t [] None parts others are also = are ∙ sym also
-front_same t [] (Some (suc most)) parts others are also = are ∙ sym also
+front_same t [] limit parts others are also = are ∙ sym also
+front_same t (x ∷ p) (Some zero) parts others are also = are ∙ sym also
 front_same t (x ∷ p) None parts others are also = forward_same (x ∷ p) (omega arith) t None parts others are also
 front_same t (x ∷ p) (Some (suc most)) parts others are also = forward_same (x ∷ p) (omega arith) t (Some (suc most)) parts others are also
 
 -- and from the back
 pub back_same : {X : Type 0} (t p : List X) (limit : Option ℕ) (parts others : List (List X)) → ArePartsFromBack t p limit parts → ArePartsFromBack t p limit others → parts ≡ others
-back_same t p (Some zero) parts others are also = are ∙ sym also
-back_same t [] None parts others are also = are ∙ sym also
-back_same t [] (Some (suc most)) parts others are also = are ∙ sym also
+back_same t [] limit parts others are also = are ∙ sym also
+back_same t (x ∷ p) (Some zero) parts others are also = are ∙ sym also
 back_same t (x ∷ p) None parts others are also = backward_same (x ∷ p) (omega arith) t None parts others are also
 back_same t (x ∷ p) (Some (suc most)) parts others are also = backward_same (x ∷ p) (omega arith) t (Some (suc most)) parts others are also
 

@@ -67,25 +67,17 @@ pub record AreInclusiveParts {X : Type 0} (t p : List X) (parts : List (List X))
   pub cut_after_first : EachButLast (EndsAtFirst p) parts
   pub last : OfLast (λ part. EndsAtFirst p part ⊎ (¬ Occurs p part)) parts
 
--- the parts from the front for a limit that isn't 0: the empty separator has its own definition
-abbrev AreSomeFromFront : {X : Type 0} → List X → List X → Option ℕ → List (List X) → Type 0
-AreSomeFromFront t [] limit parts = parts ≡ by_element t limit
-AreSomeFromFront t (x ∷ p) limit parts = AreForwardParts t (x ∷ p) limit parts
-
 -- The parts of t from the front, for every separator and every limit: Rust's `str::split` and `str::splitn`. A limit of
--- 0 gives no parts.
+-- 0 gives no parts; the empty separator has its own definition.
 abbrev pub ArePartsFromFront : {X : Type 0} → List X → List X → Option ℕ → List (List X) → Type 0
-ArePartsFromFront t p None parts = AreSomeFromFront t p None parts
-ArePartsFromFront t p (Some zero) parts = parts ≡ []
-ArePartsFromFront t p (Some (suc most)) parts = AreSomeFromFront t p (Some (suc most)) parts
-
--- the parts from the back for a limit that isn't 0
-abbrev AreSomeFromBack : {X : Type 0} → List X → List X → Option ℕ → List (List X) → Type 0
-AreSomeFromBack t [] limit parts = parts ≡ by_element_backward t limit
-AreSomeFromBack t (x ∷ p) limit parts = AreBackwardParts t (x ∷ p) limit parts
+ArePartsFromFront t [] limit parts = parts ≡ by_element t limit
+ArePartsFromFront t (x ∷ p) None parts = AreForwardParts t (x ∷ p) None parts
+ArePartsFromFront t (x ∷ p) (Some zero) parts = parts ≡ []
+ArePartsFromFront t (x ∷ p) (Some (suc most)) parts = AreForwardParts t (x ∷ p) (Some (suc most)) parts
 
 -- The parts of t from the back, for every separator and every limit: Rust's `str::rsplit` and `str::rsplitn`.
 abbrev pub ArePartsFromBack : {X : Type 0} → List X → List X → Option ℕ → List (List X) → Type 0
-ArePartsFromBack t p None parts = AreSomeFromBack t p None parts
-ArePartsFromBack t p (Some zero) parts = parts ≡ []
-ArePartsFromBack t p (Some (suc most)) parts = AreSomeFromBack t p (Some (suc most)) parts
+ArePartsFromBack t [] limit parts = parts ≡ by_element_backward t limit
+ArePartsFromBack t (x ∷ p) None parts = AreBackwardParts t (x ∷ p) None parts
+ArePartsFromBack t (x ∷ p) (Some zero) parts = parts ≡ []
+ArePartsFromBack t (x ∷ p) (Some (suc most)) parts = AreBackwardParts t (x ∷ p) (Some (suc most)) parts

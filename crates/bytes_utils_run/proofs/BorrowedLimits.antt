@@ -8,7 +8,7 @@ use Rattle.std.specs.declared.str.RSplitN.{RSplitN}
 use Rattle.bytes_utils.specs.Parts.{ArePartsFromFront, ArePartsFromBack}
 use Rattle.bytes_utils.proofs.Forward.{AreForwardParts-rest}
 use Rattle.bytes_utils.proofs.Backward.{AreBackwardParts-rest}
-use Rattle.bytes_utils.proofs.FromEnds.{front-from, back-from, has_front, has_back}
+use Rattle.bytes_utils.proofs.FromEnds.{front-none, back-none, front-from, back-from, has_front, has_back}
 use Rattle.bytes_utils_run.specs.Borrowed.{GivesParts}
 use Rattle.bytes_utils_run.proofs.BorrowedRuns.{GivesParts-from_steps, GivesParts-map}
 use Rattle.bytes_utils_run.proofs.BorrowedCuts.{First, Last, Seeks}
@@ -84,7 +84,7 @@ module _ {P : Type 0} (finds : P → List ℕ → Option (ℕ × ℕ) → Type 0
       subst (λ t. GivesParts (splitn_steps finds keeps) s (ArePartsFromFront (chars t) p (Some most))) text_is
       (subst (λ n. GivesParts (splitn_steps finds keeps) s (ArePartsFromFront (chars (split_text (splitn_parts s))) p (Some n))) count
       (GivesParts-map (splitn_steps finds keeps) s (ToCome (splitn_more s) (splitn_right s)) (splitn_right s)
-      (at_start (from_front p (chars (split_text (splitn_parts s)))) (λ parts none. none) (splitn_count s) (split_has_more (splitn_parts s)) more)
+      (at_start (from_front p (chars (split_text (splitn_parts s)))) (λ parts. (front-none (chars (split_text (splitn_parts s))) p parts).1) (splitn_count s) (split_has_more (splitn_parts s)) more)
       (splitn-to_come seeks s (λ _. (subst IsUtf8 (sym text_is) utf8, pattern_is)))))
 
   abbrev rsplitn_more : RSplitN P → Bool
@@ -123,5 +123,5 @@ module _ {P : Type 0} (finds : P → List ℕ → Option (ℕ × ℕ) → Type 0
       subst (λ t. GivesParts (rsplitn_steps finds keeps) s (ArePartsFromBack (chars t) p (Some most))) text_is
       (subst (λ n. GivesParts (rsplitn_steps finds keeps) s (ArePartsFromBack (chars (rsplit_text (rsplitn_parts s))) p (Some n))) count
       (GivesParts-map (rsplitn_steps finds keeps) s (ToCome (rsplitn_more s) (rsplitn_right s)) (rsplitn_right s)
-      (at_start (from_back p (chars (rsplit_text (rsplitn_parts s)))) (λ parts none. none) (rsplitn_count s) (rsplit_has_more (rsplitn_parts s)) more)
+      (at_start (from_back p (chars (rsplit_text (rsplitn_parts s)))) (back-none (chars (rsplit_text (rsplitn_parts s))) p) (rsplitn_count s) (rsplit_has_more (rsplitn_parts s)) more)
       (rsplitn-to_come seeks s (λ _. (subst IsUtf8 (sym text_is) utf8, pattern_is)))))

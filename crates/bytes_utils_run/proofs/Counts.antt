@@ -1,12 +1,12 @@
 -- The greatest number of parts that a text can have: two more than it has characters.
-use Rattle.std.proofs.Common.{◌≡◌, ap, ℕ, zero, suc, ◌+◌, ◌-◌, ◌<◌, ◌≤◌, Bool, List, [], ◌∷◌, ◌++◌, Option, None, Some, All, length, map, take, drop, reverse, arith, length-append, length-take}
+use Rattle.std.proofs.Common.{◌≡◌, ap, ℕ, zero, suc, ◌+◌, ◌<◌, ◌≤◌, Bool, List, [], ◌∷◌, ◌++◌, Option, None, Some, All, length, map, take, drop, reverse, arith, length-append, length-take}
 use Rattle.std.specs.Char.{is_whitespace, is_ascii_whitespace}
 use Rattle.std.specs.List.{starts_with}
 use Rattle.std.specs.Prelude.{nat_lt, nat_eq, ◌==◌, ◌&&◌, if◌then◌else◌}
 use Rattle.std.proofs.lemmas.Bool.{cond_both, ltb-true}
 use Rattle.std.proofs.lemmas.List.{length-map, length-reverse}
 use Rattle.std.proofs.lemmas.List.Elements.{All-head, All-tail}
-use Rattle.bytes_utils.specs.EmptySeparator.{single, by_element, by_element_backward}
+use Rattle.bytes_utils.specs.EmptySeparator.{elements, by_element, by_element_backward}
 use Rattle.bytes_utils.specs.Lines.{line_feed, carriage_return, lines, first_led_by}
 use Rattle.bytes_utils.specs.Outcome.{Outcome}
 use Rattle.bytes_utils.specs.Parts.{ArePartsFromFront, ArePartsFromBack, join}
@@ -32,21 +32,21 @@ length-join_nothing (part ∷ next ∷ parts) some =
       length-append part (join [] (next ∷ parts)),
     )
 
-length-single : {X : Type 0} (t : List X) → length (single t) ≡ length t + 2
-length-single {X} t = omega (arith, length-append (map (λ x. x ∷ []) t) ([] ∷ []), length-map t (λ (x : X). x ∷ []))
+length-elements : {X : Type 0} (t : List X) → length (elements t) ≡ length t + 1
+length-elements {X} t = omega (arith, length-append (map (λ x. x ∷ []) t) ([] ∷ []), length-map t (λ (x : X). x ∷ []))
 
 -- the empty separator gives an empty part, the characters, and an empty part, or fewer parts
 length-by_element : {X : Type 0} (t : List X) (limit : Option ℕ) → length (by_element t limit) ≤ length t + 2
-length-by_element t None = omega (arith, length-single t)
-length-by_element t (Some most) =
-    cond_both (nat_lt most (length (single t))) (take (most - 1) (single t) ++ (drop (most - 2) t ∷ [])) (single t) (λ parts. length parts ≤ length t + 2)
-    (λ below. omega (arith, ltb-true most (length (single t)) below, length-single t, length-append (take (most - 1) (single t)) (drop (most - 2) t ∷ []), length-take (most - 1) (single t)))
-    (λ enough. omega (arith, length-single t))
+length-by_element t None = omega (arith, length-elements t)
+length-by_element t (Some zero) = omega arith
+length-by_element t (Some (suc zero)) = omega arith
+length-by_element t (Some (suc (suc most))) =
+    cond_both (nat_lt most (length t)) (take most (elements t) ++ (drop most t ∷ [])) (elements t) (λ parts. length parts + 1 ≤ length t + 2)
+    (λ below. omega (arith, ltb-true most (length t) below, length-append (take most (elements t)) (drop most t ∷ []), length-take most (elements t)))
+    (λ _. omega (arith, length-elements t))
 
 length-front : (t p : List ℕ) (limit : Option ℕ) (parts : List (List ℕ)) → ArePartsFromFront t p limit parts → length parts ≤ length t + 2
-length-front t [] None parts are = omega (arith, ap length are, length-by_element t None)
-length-front t [] (Some zero) parts are = omega (arith, ap length are)
-length-front t [] (Some (suc most)) parts are = omega (arith, ap length are, length-by_element t (Some (suc most)))
+length-front t [] limit parts are = omega (arith, ap length are, length-by_element t limit)
 length-front t (c ∷ p) None parts are = omega (arith, ap length are.joined, length-join (c ∷ p) parts (omega arith))
 length-front t (c ∷ p) (Some zero) parts are = omega (arith, ap length are)
 length-front t (c ∷ p) (Some (suc most)) parts are = omega (arith, ap length are.joined, length-join (c ∷ p) parts (omega arith))
@@ -55,9 +55,7 @@ length-backward : (t : List ℕ) (limit : Option ℕ) → length (by_element_bac
 length-backward t limit = omega (arith, length-map (by_element (reverse t) limit) reverse, length-by_element (reverse t) limit, length-reverse t)
 
 length-back : (t p : List ℕ) (limit : Option ℕ) (parts : List (List ℕ)) → ArePartsFromBack t p limit parts → length parts ≤ length t + 2
-length-back t [] None parts are = omega (arith, ap length are, length-backward t None)
-length-back t [] (Some zero) parts are = omega (arith, ap length are)
-length-back t [] (Some (suc most)) parts are = omega (arith, ap length are, length-backward t (Some (suc most)))
+length-back t [] limit parts are = omega (arith, ap length are, length-backward t limit)
 length-back t (c ∷ p) None parts are = omega (arith, ap length are.joined, length-join (c ∷ p) (reverse parts) (omega arith), length-reverse parts)
 length-back t (c ∷ p) (Some zero) parts are = omega (arith, ap length are)
 length-back t (c ∷ p) (Some (suc most)) parts are = omega (arith, ap length are.joined, length-join (c ∷ p) (reverse parts) (omega arith), length-reverse parts)
