@@ -41,7 +41,7 @@ length-by_element t None = omega (arith, length-elements t)
 length-by_element t (Some zero) = omega arith
 length-by_element t (Some (suc zero)) = omega arith
 length-by_element t (Some (suc (suc most))) =
-    cond_both (nat_lt most (length t)) (take most (elements t) ++ (drop most t ∷ [])) (elements t) (λ parts. length parts + 1 ≤ length t + 2)
+    cond_both (nat_lt most (length t)) (take most (elements t) ++ (drop most t ∷ [])) (elements t) (λ parts. length ([] ∷ parts) ≤ length t + 2)
     (λ below. omega (arith, ltb-true most (length t) below, length-append (take most (elements t)) (drop most t ∷ []), length-take most (elements t)))
     (λ _. omega (arith, length-elements t))
 
