@@ -195,7 +195,7 @@ module _ {Y : Type 0} (like : Vec Y) where
         record {
           reply = Piece (take n (concat old.segments));
           next = counted count.0 old left.0;
-          is = ((within, refl, left.1), count.1);
+          is = (((within, refl), left.1), count.1);
           whole = refl;
           fits = fits-skip n _ _ left.1 fits;
         })

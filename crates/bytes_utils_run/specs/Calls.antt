@@ -1,7 +1,7 @@
 -- Lists of calls on a buffer, and the replies to them. The lists of bytes below are the unread bytes of each segment of
 -- a `SegmentedBuf`, first segment first. For `read_calls` every buffer, segmented or not, is one list, or none if it is
 -- empty.
-use Rattle.std.specs.Prelude.{◌≡◌, ℕ, ◌+◌, ◌^◌, ◌<◌, ◌≤◌, List, [], ◌∷◌, length, map, take}
+use Rattle.std.specs.Prelude.{◌≡◌, ℕ, ◌+◌, ◌^◌, ◌<◌, ◌≤◌, List, [], ◌∷◌, Option, None, Some, length, map, take, ⊤}
 use Rattle.std.specs.List.{concat}
 use Rattle.bytes.specs.Unread.{IsChunkOf}
 use Rattle.bytes_utils_buf.specs.Copies.{CountsCopy}
@@ -25,19 +25,35 @@ pub record AreSlices (n : ℕ) (slices : List (List ℕ)) (unread : List ℕ) : 
   pub front : concat slices ≡ take (length (concat slices)) unread
   pub whole : length slices < n → concat slices ≡ unread
 
+-- the reply to a read of these unread bytes
+abbrev pub IsReply : ReadCall → List ℕ → Reply → Type 0
+IsReply Remaining unread (Number n) = n ≡ length unread
+IsReply Chunk unread (Shown chunk) = IsChunkOf chunk.items unread
+IsReply Chunk unread NoMemory = ⊤
+IsReply (Advance n) unread Done = n ≤ length unread
+IsReply (Advance n) unread PastEnd = length unread < n
+IsReply (CopyOut n) unread (Piece piece) = (n ≤ length unread) × (piece ≡ take n unread)
+IsReply (CopyOut n) unread (CopyStopped taken) = (n ≤ length unread) × (taken ≤ n)
+IsReply (CopyOut n) unread PastEnd = length unread < n
+IsReply (Chunks n) unread (Slices slices) = AreSlices n (map (λ s. s.items) slices.items) unread
+IsReply (Chunks n) unread NoMemory = ⊤
+IsReply call unread reply = ⊥
+
+-- how many bytes a read with this reply skipped, or `None` if it left the buffer as it was
+abbrev pub skipped_by_read : ReadCall → Reply → Option ℕ
+skipped_by_read (Advance n) Done = Some n
+skipped_by_read (CopyOut n) (Piece piece) = Some n
+skipped_by_read (CopyOut n) (CopyStopped taken) = Some taken
+skipped_by_read call reply = None
+
+-- n bytes are skipped, or nothing changes
+abbrev pub SkipsOrKeeps : Option ℕ → List (List ℕ) → List (List ℕ) → Type 0
+SkipsOrKeeps (Some n) old new = Skips n old new
+SkipsOrKeeps None old new = new ≡ old
+
 -- the reply to a read of these lists, and the lists after it
 abbrev pub IsRead : ReadCall → List (List ℕ) → Reply → List (List ℕ) → Type 0
-IsRead Remaining old (Number n) new = (n ≡ length (concat old)) × (new ≡ old)
-IsRead Chunk old (Shown chunk) new = IsChunkOf chunk.items (concat old) × (new ≡ old)
-IsRead Chunk old NoMemory new = new ≡ old
-IsRead (Advance n) old Done new = (n ≤ length (concat old)) × Skips n old new
-IsRead (Advance n) old PastEnd new = (length (concat old) < n) × (new ≡ old)
-IsRead (CopyOut n) old (Piece piece) new = (n ≤ length (concat old)) × (piece ≡ take n (concat old)) × Skips n old new
-IsRead (CopyOut n) old (CopyStopped taken) new = (n ≤ length (concat old)) × (taken ≤ n) × Skips taken old new
-IsRead (CopyOut n) old PastEnd new = (length (concat old) < n) × (new ≡ old)
-IsRead (Chunks n) old (Slices slices) new = AreSlices n (map (λ s. s.items) slices.items) (concat old) × (new ≡ old)
-IsRead (Chunks n) old NoMemory new = new ≡ old
-IsRead call old reply new = ⊥
+IsRead call old reply new = IsReply call (concat old) reply × SkipsOrKeeps (skipped_by_read call reply) old new
 
 -- What a read adds to the tally. An advance that was done counts as a call, with one turn for each segment that it
 -- passed. A copy that was made or stopped counts as `CountsCopy` says. Nothing else counts.

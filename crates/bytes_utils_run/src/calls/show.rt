@@ -1,7 +1,6 @@
 //! Copies of the bytes that a buffer shows.
-ghost use Rattle.std.specs.Prelude.{◌≡◌, List, ℕ, map, IfOk};
-ghost use Rattle.std.specs.List.{concat};
-ghost use Rattle.bytes_utils_run.specs.Calls.{AreSlices, IsRead};
+ghost use Rattle.std.specs.Prelude.{◌≡◌, map, IfOk};
+ghost use Rattle.bytes_utils_run.specs.Calls.{AreSlices, IsReply};
 ghost use Rattle.bytes_utils_run.specs.declared.calls.ReadCall.{ReadCall as Reading};
 
 use super::Reply;
@@ -11,8 +10,7 @@ use std::alloc::{AllocError, Global};
 
 /// Copies the first chunk.
 pub(super) fn chunk<B: Buf>(alloc: Global, buf: &B) -> Reply
-    ensures { (lists : List (List ℕ)) → concat lists ≡ B.unread buf.now
-        → IsRead Reading.Chunk lists result lists }
+    ensures { IsReply Reading.Chunk (B.unread buf.now) result }
 {
     match buf.chunk().to_vec(alloc) {
         Ok(copy) => Reply::Shown(copy),
@@ -22,8 +20,7 @@ pub(super) fn chunk<B: Buf>(alloc: Global, buf: &B) -> Reply
 
 /// Copies the slices that a table of `places` places is filled with.
 pub(super) fn slices<B: BufParts>(alloc: Global, buf: &B, places: usize) -> Reply
-    ensures { (lists : List (List ℕ)) → concat lists ≡ B.unread buf.now
-        → IsRead (Reading.Chunks places) lists result lists }
+    ensures { IsReply (Reading.Chunks places) (B.unread buf.now) result }
 {
     match copies_of_slices(alloc, buf, places) {
         Ok(slices) => Reply::Slices(slices),
