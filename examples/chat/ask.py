@@ -1,5 +1,9 @@
 """Talks with the chat over sockets, and compares each reply with the right one."""
-import contextlib, os, socket, time
+import contextlib, os, re, socket, struct, subprocess, time
+from concurrent.futures import ThreadPoolExecutor
+
+# how many bytes a line or a frame has at most, and what the chat may have held after all of this
+MOST, HELD = 1 << 20, 64 << 20
 
 
 class Caller:
@@ -15,14 +19,15 @@ class Caller:
             line.setsockopt(socket.IPPROTO_TCP, socket.TCP_NODELAY, 1)
             yield line
 
-    def reply(self, *pieces):
+    def reply(self, *pieces, pause=0.002):
         """What comes back until the chat ends the connection, after these pieces and then the end of the input."""
         got = []
         with self.called() as line, contextlib.suppress(ConnectionError):
             for piece in pieces:
                 line.sendall(piece)
-                time.sleep(0.002)
-            line.shutdown(socket.SHUT_WR)
+                time.sleep(pause)
+            with contextlib.suppress(OSError):  # the chat may have ended the connection
+                line.shutdown(socket.SHUT_WR)
             got += iter(lambda: line.recv(1 << 16), b"")
         return b"".join(got)
 
@@ -33,7 +38,38 @@ class Caller:
         self.judge(what, cut and single)
 
 
+def crowd(caller, said, wanted):
+    """Many callers at once: those that speak wait for none of the others."""
+    with contextlib.ExitStack() as stack, ThreadPoolExecutor(50) as pool:
+        callers = [stack.enter_context(caller.called()) for _ in range(50)]
+        for it in callers[:30]:
+            it.sendall(said[:-1] * 2)
+        for it in callers[20:30]:  # these vanish with a reset
+            it.setsockopt(socket.SOL_SOCKET, socket.SO_LINGER, struct.pack("ii", 1, 0))
+            it.close()
+        for it in callers[30:35]:  # these never read
+            it.settimeout(0.5)
+            with contextlib.suppress(TimeoutError):
+                it.sendall(said * 4_000_000)
+
+        def took(_):
+            began = time.monotonic()
+            return time.monotonic() - began if caller.reply(said) == wanted else 60
+
+        most = max(pool.map(took, range(50)))
+    caller.judge(f"100 callers, of which half are silent, vanish or never read: {most:.2f} s, within 2", most < 2)
+
+
+def memory(caller, chat, sent):
+    """What comes in many small reads isn't held in a block for each."""
+    caller.reply(*(sent[at : at + 1] for at in range(len(sent))), pause=0)
+    held = int(re.search(r"VmHWM:\s+(\d+) kB", open(f"/proc/{chat.pid}/status").read())[1]) << 10
+    caller.judge(f"resident memory of {held >> 20} MiB, within {HELD >> 20}", held <= HELD)
+
+
 def lines(judge, room, at, chat):
+    refused = subprocess.run([chat.args[0], ""], capture_output=True, timeout=10)
+    judge("an empty separator", refused.returncode != 0 and b"the separator is empty" in refused.stderr)
     caller = Caller(judge, at)
     with caller.called() as line:
         replies = []
@@ -48,6 +84,10 @@ def lines(judge, room, at, chat):
     with caller.called() as cut:
         cut.sendall(b"half of a")
     caller.judge("a chat after one that broke off", caller.reply(b"next\n") == b"4\n")
+    caller.judge("a line of a MiB", caller.reply(bytes(MOST) + b"\n") == b"%d\n" % MOST)
+    caller.judge("a line of 64 MiB", caller.reply(b"one\n", bytes(64 * MOST)) in (b"3\n", b""))
+    crowd(caller, b"four\n", b"4\n")
+    memory(caller, chat, bytes(100_000) + b"\n")
 
 
 def frames(judge, room, at, chat):
@@ -57,6 +97,12 @@ def frames(judge, room, at, chat):
     big = [os.urandom(size).replace(b";", b",") for size in (1, 70_000, 0, 300_000)]
     lengths = "".join(f"{len(it)}\n" for it in big).encode()
     caller.judge("long frames", caller.reply(*(it + b";;" for it in big)) == lengths)
+    caller.judge("a frame of a MiB", caller.reply(bytes(MOST) + b";;") == b"%d\n" % MOST)
+    caller.judge("a frame of one byte more", caller.reply(b"one;;", bytes(MOST + 1) + b";;") in (b"3\n", b""))
+    many = b";;".join(b"a" * (i % 50) for i in range(20_000)) + b";;"
+    caller.judge("20,000 frames at once", caller.reply(many) == "".join(f"{i % 50}\n" for i in range(20_000)).encode())
+    crowd(caller, b"four;;", b"4\n")
+    memory(caller, chat, bytes(100_000) + b";;")
 
 
 # the program's arguments, and what is said to it then

@@ -1,5 +1,6 @@
 """Asks the service by curl, which has to be installed, and compares each response with the right one."""
-import csv, io, os, re, socket, subprocess
+import contextlib, csv, io, os, re, resource, socket, subprocess, time
+from concurrent.futures import ThreadPoolExecutor
 
 BODY = 50_000_000
 # what the service may have held after all these requests: its longest body, and this much more
@@ -66,6 +67,9 @@ def parts(client):
     client.expect("records of one to three fields", "/records", b"50000\n\n200", *chunked, given=text)
     client.expect("records of no text", "/records", b"2\n\n200", "--data-binary", "@-", given=b"\xff,1\r\n\"\n\",2")
     client.expect("records of an empty body", "/records", b"0\n\n200", "--data-binary", "")
+    marked = b'\xef\xbb\xbf"a""\n",b\r\n\r\n,\n"'
+    client.expect("records after a mark, the last one open", "/records", b"3\n\n200", "--data-binary", "@-", given=marked)
+    client.expect("a record of 16 MiB of commas", "/records", b"1\n\n200", *chunked, given=b"," * (16 << 20))
     head = "GET /a?b=é HTTP/1.1\r\nHost: h\r\n\r\nGET /other".encode()
     client.expect("the target of a head", "/target", "/a?b=é\n200".encode(), "--data-binary", "@-", given=head)
     client.expect("a head that breaks off", "/target", b"\n400", "--data-binary", "@-", given=head[:30])
@@ -106,17 +110,106 @@ def connections(client):
     client.judge("64 connections at once", same and said == 64 * [(b"\n200", 0)])
 
 
-def memory(client, service):
+def half_closed(client):
+    """Clients that end their side before they have the response get all of it."""
+    host, _, port = client.at.rpartition(":")
+    body, whole = os.urandom(10_000_000), 0
+    for _ in range(30):
+        with socket.create_connection((host, int(port)), 60) as it:
+            it.sendall(b"POST /echo HTTP/1.1\r\nHost: h\r\nContent-Length: %d\r\n\r\n" % len(body) + body)
+            it.shutdown(socket.SHUT_WR)
+            whole += b"".join(iter(lambda: it.recv(1 << 20), b"")).endswith(b"\r\n\r\n" + body)
+    client.judge(f"{whole} of 30 responses of 10 MB to half-closed connections whole", whole == 30)
+
+
+def crowd(client):
+    """Requests beside connections that are idle, slow or never read."""
+    host, _, port = client.at.rpartition(":")
+    request = b"POST /echo HTTP/1.1\r\nHost: h\r\nConnection: close\r\nContent-Length: %d\r\n\r\n%s"
+
+    def called():
+        return socket.create_connection((host, int(port)), 60)
+
+    def read(it):
+        return b"".join(iter(lambda: it.recv(1 << 16), b""))
+
+    def took(_):
+        began = time.monotonic()
+        with called() as it:
+            it.sendall(request % (4, b"fast"))
+            return time.monotonic() - began if read(it).endswith(b"\r\n\r\nfast") else 60
+
+    with contextlib.ExitStack() as stack, ThreadPoolExecutor(50) as pool:
+        _idle, slow, deaf = ([stack.enter_context(called()) for _ in range(count)] for count in (50, 10, 5))
+        for it in deaf:
+            it.sendall(request % (8 << 20, bytes(8 << 20)))
+        for it in slow:
+            it.sendall(request % (100, b"a"))
+        most = max(pool.map(took, range(135)))
+        beside = "65 connections that are idle, slow or never read"
+        client.judge(f"135 requests beside {beside}: {most:.2f} s, within 2", most < 2)
+        for it in slow:
+            it.sendall(b"a" * 99)
+        client.judge("then the slow ones too", all(read(it).endswith(b"\r\n\r\n" + b"a" * 100) for it in slow))
+
+
+def descriptors(client, service):
+    """Without a free file descriptor the service waits, and goes on once there is one."""
+    host, _, port = client.at.rpartition(":")
+
+    def used():
+        ticks = open(f"/proc/{service.pid}/stat").read().rpartition(")")[2].split()[11:13]
+        return sum(map(int, ticks)) / os.sysconf("SC_CLK_TCK")
+
+    soft, hard = resource.prlimit(service.pid, resource.RLIMIT_NOFILE)
+    resource.prlimit(service.pid, resource.RLIMIT_NOFILE, (20, hard))
+    with contextlib.ExitStack() as stack:
+        for _ in range(50):
+            stack.enter_context(socket.create_connection((host, int(port)), 60))
+        began = used()
+        time.sleep(1)
+        client.judge("no free file descriptor: the service waits", used() - began < 0.5)
+        held = len(os.listdir(f"/proc/{service.pid}/fd"))
+        client.judge(f"50 callers and {held} descriptors of 20", held == 20)
+    client.expect("a request once there is one", "/echo", b"next\n200", "--data-binary", "next")
+    resource.prlimit(service.pid, resource.RLIMIT_NOFILE, (soft, hard))
+
+
+def drips(client, service):
+    """Bodies in small pieces, each sent alone, and the most memory held so far."""
+    host, _, port = client.at.rpartition(":")
+    one, link = b"a" * 100_000, os.urandom(1_448) * 20_000
+    length = b"Content-Length: %d\r\n\r\n"
+    for what, head, pieces, body, most in (
+        ("single bytes", length % len(one), [b"a"] * len(one), one, 16 << 20),
+        ("chunks of one byte", b"Transfer-Encoding: chunked\r\n\r\n", [b"1\r\na\r\n"] * len(one) + [b"0\r\n\r\n"], one, 16 << 20),
+        ("1,448 bytes", length % len(link), [link[:1_448]] * 20_000, link, 128 << 20),
+    ):
+        with socket.create_connection((host, int(port)), 60) as it:
+            it.setsockopt(socket.IPPROTO_TCP, socket.TCP_NODELAY, 1)
+            it.sendall(b"POST /echo HTTP/1.1\r\nHost: h\r\nConnection: close\r\n" + head)
+            for piece in pieces:
+                it.sendall(piece)
+            response = b"".join(iter(lambda: it.recv(1 << 20), b""))
+        client.judge(f"a body in {what}", response.endswith(b"\r\n\r\n" + body))
+        memory(client, service, most)
+
+
+def memory(client, service, most):
     held = int(re.search(r"VmHWM:\s+(\d+) kB", open(f"/proc/{service.pid}/status").read())[1]) << 10
-    client.judge(f"resident memory of {held >> 20} MiB, within {(LIMIT + BESIDE) >> 20}", held <= LIMIT + BESIDE)
+    client.judge(f"resident memory of {held >> 20} MiB, within {most >> 20}", held <= most)
 
 
 def ask(judge, room, at, service):
     """Asks the service at an address, with files of the asker's in a folder."""
     client = Client(judge, room, at)
-    for part in echoes, counts, parts, heads, connections:
+    drips(client, service)
+    parts(client)
+    memory(client, service, BESIDE)
+    for part in echoes, counts, heads, connections, half_closed, crowd:
         part(client)
-    memory(client, service)
+    descriptors(client, service)
+    memory(client, service, LIMIT + BESIDE)
 
 
 # the program's arguments, and what is asked of it then

@@ -3,7 +3,10 @@ use Rattle.std.proofs.Common.{◌≡◌, ℕ, List, [], ◌∷◌, ◌++◌, map
 use Rattle.std.specs.List.{concat}
 use Rattle.std.proofs.lemmas.List.{append_assoc, append-nil, map_push}
 use Rattle.std.proofs.lemmas.List.Folds.{concat-append}
-use Rattle.std.proofs.lemmas.Str.{encodes-append}
+use Rattle.std.proofs.lemmas.Str.{encodes-append, IsUtf8-between, IsUtf8-drop, IsUtf8-take}
+
+-- a text that is split between characters gives texts
+pub ruleset pieces = (IsUtf8-between, IsUtf8-drop, IsUtf8-take)
 
 -- a character after the characters so far
 pub characters_push : (old cs : List ℕ) (c : ℕ) → (old ++ encode_utf8_all cs) ++ encode_utf8 c ≡ old ++ encode_utf8_all (cs ++ c ∷ [])

@@ -1,7 +1,6 @@
 -- A text split by the empty separator: after its first character, or before its last one.
-use Rattle.std.proofs.Common.{◌≡◌, sym, ap, subst, ◌∙◌, ℕ, zero, suc, ◌-◌, ◌<◌, List, [], ◌∷◌, Option, None, Some, length, map, take, drop, reverse, true, false, arith, length-drop, length-take, IsUtf8, IsCharBoundary}
+use Rattle.std.proofs.Common.{◌≡◌, sym, ap, subst, ◌∙◌, ℕ, ◌-◌, ◌<◌, List, [], ◌∷◌, Option, Some, length, map, take, drop, reverse, true, false, arith, length-drop, length-take, IsUtf8, IsCharBoundary}
 use Rattle.std.proofs.lemmas.Str.{chars-nil}
-use Rattle.std.specs.Option.{option_map}
 use Rattle.std.specs.Str.{chars}
 use Rattle.bytes_utils.specs.Text.{byte_place}
 use Rattle.bytes_utils.specs.EmptySeparator.{by_element, by_element_backward}

@@ -1,5 +1,5 @@
 -- The first place of a needle in segments, from the needles that begin in each segment.
-use Rattle.std.proofs.Common.{◌≡◌, ℕ, zero, suc, ◌+◌, ◌-◌, ◌<◌, ◌≤◌, List, [], ◌∷◌, ◌++◌, length, take, drop, get_or, slice_get, Some, None, ap, ◌∙◌, sym, refl, arith, length-append, length-drop, length-take, append_assoc, append-nil, take-append-drop, drop_at, ⊎_elim}
+use Rattle.std.proofs.Common.{◌≡◌, ℕ, zero, suc, ◌+◌, ◌-◌, ◌<◌, ◌≤◌, max, List, [], ◌∷◌, ◌++◌, length, take, drop, get_or, slice_get, Some, None, ap, ◌∙◌, sym, refl, arith, length-append, length-drop, length-take, append_assoc, append-nil, take-append-drop, drop_at, ⊎_elim}
 use Rattle.std.proofs.lemmas.Bool.{cases_lt}
 use Rattle.std.proofs.lemmas.List.{drop-append-le, drop_more}
 use Rattle.std.proofs.lemmas.Option.{get_or_from_slice_get, slice_get_within}
@@ -44,6 +44,30 @@ Fills-more size all xs filled segment next i h inside is same =
           ∙ ap (λ m. take m (filled ++ (segment ++ rest))) (sym total) ∙ ap (λ l. take size (filled ++ l)) lists ∙ h.bytes;
     }
 
+-- The window over the border after a segment: it has, from place `tail` on, the bytes of a needle that begins there.
+pub record IsBorder (p segment following : List ℕ) (from tail : ℕ) (window : List ℕ) : Type 0 where
+  pub size : ℕ
+  pub low : from ≤ tail
+  pub high : tail ≤ length segment
+  pub reach : from < tail → tail + length p ≤ length segment + 1
+  pub sized : tail + size + 1 ≡ length segment + length p
+  pub is : window ≡ take size (drop tail (segment ++ following))
+
+pub border_at : (p needle segment following : List ℕ) (from tail : ℕ) {room : ℕ} {piece window : List ℕ} → 0 < length p → from ≤ length segment → needle ≡ p
+    → tail ≡ max from (length segment - (length needle - 1)) → piece ≡ drop tail segment → room ≡ length segment - tail + (length needle - 1) → window ≡ take room (piece ++ following)
+    → IsBorder p segment following from tail window
+border_at p needle segment following from tail {room} {piece} {window} some inside same at piece_is room_is is =
+    let long = ap length same in
+    let high : tail ≤ length segment = omega (arith, at, inside) in
+    record {
+      size = room;
+      low = omega (arith, at);
+      high = high;
+      reach = λ less. omega (arith, less, at, long, some);
+      sized = omega (arith, room_is, long, some, high);
+      is = is ∙ ap (λ l. take room (l ++ following)) piece_is ∙ ap (take room) (sym (drop-append-le tail segment following high));
+    }
+
 -- ---- a needle that begins in a segment, from place `from` of it on
 
 module _ (p segment following : List ℕ) (from : ℕ) (some : 0 < length p) (inside : from ≤ length segment) where
@@ -70,50 +94,42 @@ module _ (p segment following : List ℕ) (from : ℕ) (some : 0 < length p) (in
   missed_inside missed j low fits here =
       missed_in_part (segment ++ following) p (drop from segment) following from within_all part missed j low (omega (arith, fits, inside, length-drop from segment)) here
 
-  -- The window over the border after the segment: it has, from place `tail` on, the bytes of a needle that begins there.
-  module _ (tail size : ℕ) (window : List ℕ) (low : from ≤ tail) (high : tail ≤ length segment) (reach : from < tail → tail + length p ≤ length segment + 1)
-      (sized : tail + size + 1 ≡ length segment + length p) (is : window ≡ take size (drop tail (segment ++ following))) where
+  module _ {tail : ℕ} {window : List ℕ} (border : IsBorder p segment following from tail window) where
     tail_within : tail ≤ length (segment ++ following)
-    tail_within = omega (arith, high, length-append segment following)
+    tail_within = omega (arith, border.high, length-append segment following)
 
-    split : drop tail (segment ++ following) ≡ window ++ drop size (drop tail (segment ++ following))
-    split = sym (take-append-drop size (drop tail (segment ++ following))) ∙ ap (λ l. l ++ drop size (drop tail (segment ++ following))) (sym is)
+    split : drop tail (segment ++ following) ≡ window ++ drop border.size (drop tail (segment ++ following))
+    split = sym (take-append-drop border.size (drop tail (segment ++ following))) ∙ ap (λ l. l ++ drop border.size (drop tail (segment ++ following))) (sym border.is)
 
-    wide : length window ≤ size
-    wide = omega (arith, ap length is, length-take size (drop tail (segment ++ following)))
+    wide : length window ≤ border.size
+    wide = omega (arith, ap length border.is, length-take border.size (drop tail (segment ++ following)))
 
     before_tail : FindsNeedle (drop from segment) p 0 None → (j : ℕ) → from ≤ j → j < tail → ¬ OccursAt (segment ++ following) p j
-    before_tail missed j from_on below here = missed_inside missed j from_on (omega (arith, below, reach (omega (arith, from_on, below)))) here
+    before_tail missed j from_on below here = missed_inside missed j from_on (omega (arith, below, border.reach (omega (arith, from_on, below)))) here
 
     pub begun_across : (k at : ℕ) → at ≡ tail + k → FindsNeedle (drop from segment) p 0 None → FindsNeedle window p 0 (Some k)
         → IsFirst (OccursAt (segment ++ following) p) from (length segment) (Some at)
     begun_across k at same missed found =
         let fits = found.1.fits in (
           record {
-            low = omega (arith, same, low);
-            high = omega (arith, same, fits, wide, sized);
+            low = omega (arith, same, border.low);
+            high = omega (arith, same, fits, wide, border.sized);
             before = λ j from_on below here.
                 ⊎_elim (λ front. before_tail missed j from_on front here)
                 (λ on. found.0.before (j - tail) (omega arith) (omega (arith, below, same, on))
-                (occurs_in_part (segment ++ following) p window (drop size (drop tail (segment ++ following))) tail tail_within split j on (omega (arith, below, same, fits)) here))
+                (occurs_in_part (segment ++ following) p window (drop border.size (drop tail (segment ++ following))) tail tail_within split j on (omega (arith, below, same, fits)) here))
                 (cases_lt j tail);
           },
-          rw same (occurs_in_all (segment ++ following) p window (drop size (drop tail (segment ++ following))) tail tail_within split k found.1),
+          rw same (occurs_in_all (segment ++ following) p window (drop border.size (drop tail (segment ++ following))) tail tail_within split k found.1),
         )
 
     pub missed_begun : FindsNeedle (drop from segment) p 0 None → FindsNeedle window p 0 None → Nowhere (OccursAt (segment ++ following) p) from (length segment)
     missed_begun missed none j from_on below here =
         let fits = here.fits in
         ⊎_elim (λ front. before_tail missed j from_on front here)
-        (λ on. missed_in_part (segment ++ following) p window (drop size (drop tail (segment ++ following))) tail tail_within split none j on
-        (omega (arith, fits, below, sized, tail_within, ap length is, length-take size (drop tail (segment ++ following)), length-drop tail (segment ++ following))) here)
+        (λ on. missed_in_part (segment ++ following) p window (drop border.size (drop tail (segment ++ following))) tail tail_within split none j on
+        (omega (arith, fits, below, border.sized, tail_within, ap length border.is, length-take border.size (drop tail (segment ++ following)), length-drop tail (segment ++ following))) here)
         (cases_lt j tail)
-
--- the bytes of such a window
-pub border_bytes : (segment following piece window : List ℕ) (tail room size : ℕ) → tail ≤ length segment → piece ≡ drop tail segment → room ≡ size → window ≡ take room (piece ++ following)
-    → window ≡ take size (drop tail (segment ++ following))
-border_bytes segment following piece window tail room size within from same is =
-    is ∙ ap (λ n. take n (piece ++ following)) same ∙ ap (λ l. take size (l ++ following)) from ∙ ap (take size) (sym (drop-append-le tail segment following within))
 
 -- ---- a segment after those in which the needle does not begin
 

@@ -1,9 +1,16 @@
 -- A search in a part of the bytes, and what follows for all of them.
-use Rattle.std.proofs.Common.{◌≡◌, ◌≢◌, ℕ, ◌+◌, ◌-◌, ◌<◌, ◌≤◌, List, [], ◌++◌, length, take, drop, get_or, slice_index, None, Some, ap, ◌∙◌, sym, refl, subst, arith, length-append, length-drop, length-take, append_assoc, append-nil, drop-drop, drop_at, get_or-drop, take-append-drop, ⊎_elim}
-use Rattle.std.proofs.lemmas.List.{drop_all, get_or_append_left, drop-append-le, nil_from_length}
-use Rattle.std.proofs.lemmas.Bool.{cases_lt}
-use Rattle.memchr.specs.Find.{Nowhere, OccursAt, FindsNeedle}
-use Rattle.bytes_utils.specs.FrameSearch.{HoldsBack, Searched}
+use Rattle.std.proofs.Common.{◌≡◌, ◌≢◌, ℕ, ◌+◌, ◌-◌, ◌<◌, ◌≤◌, List, [], ◌∷◌, ◌++◌, zero, suc, inl, inr, length, take, drop, get_or, slice_index, Bool, false, Option, None, Some, Result, Ok, Err, OnOk, OnErr, ap, ◌∙◌, sym, refl, subst, arith, length-append, length-drop, length-take, append_assoc, append-nil, drop-drop, drop_at, get_or-drop, take-append-drop, ⊎_elim}
+use Rattle.std.proofs.lemmas.List.{drop_all, take-append-le, get_or_append_left, drop-append-le, nil_from_length}
+use Rattle.std.proofs.lemmas.Bool.{cases_lt, cases_eq, cases_Bool, cond-true, cond-false, eq-eqb, false≢true}
+use Rattle.std.specs.List.{concat}
+use Rattle.memchr.specs.Find.{Nowhere, NoneBefore, IsFirstByte, OccursAt, Passes, FindsNeedle, TakesFirst, is_byte, places, places_from}
+use Rattle.memchr.proofs.lemmas.FindLemmas.{OccursAt-byte, byte-OccursAt}
+use Rattle.bytes_utils_buf.specs.Packing.{Packs, grow_last}
+use Rattle.bytes_utils_buf.specs.Segments.{Held, IsInside, after_accepting, without_empty}
+use Rattle.bytes_utils_buf.proofs.PackingLemmas.{length-grow_last}
+use Rattle.bytes_utils.specs.FrameSearch.{HoldsBack, Searched, SearchedPieces, bytes_before}
+use Rattle.bytes_utils.specs.declared.frame.search.SearchState.{SearchState}
+use Rattle.bytes_utils.proofs.Pieces.{bytes_before-all}
 
 -- a part of all bytes that begins at place `base`, with more bytes after it
 module _ (all p part more : List ℕ) (base : ℕ) (within : base ≤ length all) (bytes : drop base all ≡ part ++ more) where
@@ -69,6 +76,87 @@ module _ (p piece : List ℕ) (from : ℕ) (within : from ≤ length piece) (som
       ⊎_elim (λ below. none_before_first j low below here)
       (λ following. missed_in_part piece p (drop from piece) [] from within rest_of missed j following (omega (arith, fits, within, length-drop from piece)) here)
       (cases_lt j from)
+
+-- the first place of the first byte of the needle, or that there is none
+pub none_before_byte : (p piece : List ℕ) (from : ℕ) → NoneBefore (Passes (is_byte (get_or p 0 0)) piece) 0 (length piece) from
+    → (k : ℕ) → k < from → slice_index piece k ≢ slice_index p 0
+none_before_byte p piece from h k below same = h.before k (omega arith) below (eq-eqb _ _ same)
+
+pub missed_by_byte : (p piece : List ℕ) → 0 < length p → Nowhere (Passes (is_byte (get_or p 0 0)) piece) 0 (length piece) → FindsNeedle piece p 0 None
+missed_by_byte p piece some missed j low high here =
+    let fits = here.fits in
+    let same : j ≡ j + 0 = omega arith in
+    missed j low (omega (arith, fits, some)) (eq-eqb _ _ (ap (λ n. get_or piece n 0) same ∙ here.reads 0 some))
+
+pub found_by_byte : (p piece : List ℕ) (k : ℕ) → length p ≡ 1 → NoneBefore (Passes (is_byte (get_or p 0 0)) piece) 0 (length piece) k × Passes (is_byte (get_or p 0 0)) piece k
+    → FindsNeedle piece p 0 (Some k)
+found_by_byte p piece k one h =
+    let high = h.0.high in (
+      record { low = omega arith; high = omega (arith, high); before = λ j low below here. h.0.before j low below (byte-OccursAt piece p one j here) },
+      OccursAt-byte piece p one k high h.1,
+    )
+
+-- a needle at the start is the first
+pub found_at_start : (p bytes : List ℕ) → OccursAt bytes p 0 → FindsNeedle bytes p 0 (Some 0)
+found_at_start p bytes here = (record { low = omega arith; high = omega arith; before = λ j low high there. absurd (omega arith) }, here)
+
+-- the first of all places of a byte
+module _ (test : ℕ → Bool) (bytes : List ℕ) where
+  step_here : (i n : ℕ) → Passes test bytes i → places_from test bytes i (suc n) ≡ i ∷ places_from test bytes (i + 1) n
+  unfolding places_from
+  step_here i n h = cond-true _ _ _ h
+
+  step_past : (i n : ℕ) → test (slice_index bytes i) ≡ false → places_from test bytes i (suc n) ≡ places_from test bytes (i + 1) n
+  unfolding places_from
+  step_past i n h = cond-false _ _ _ h
+
+  no_places : (i : ℕ) → places_from test bytes i 0 ≡ []
+  unfolding places_from
+  no_places i = refl
+
+  none_from_places : (n i : ℕ) → places_from test bytes i n ≡ [] → Nowhere (Passes test bytes) i (i + n)
+  none_from_places zero i e = λ k low high. absurd (omega arith)
+  none_from_places (suc n) i e =
+      ⊎_elim (λ here k low high p. let no : [] ≡ i ∷ places_from test bytes (i + 1) n = sym e ∙ step_here i n here in cc)
+      (λ past k low high p.
+      ⊎_elim (λ same. absurd (false≢true (sym past ∙ ap (λ m. test (slice_index bytes m)) (sym same) ∙ p)))
+      (λ other. none_from_places n (i + 1) (sym (step_past i n past) ∙ e) k (omega arith) (omega arith) p)
+      (cases_eq k i))
+      (cases_Bool (test (slice_index bytes i)))
+
+  first_from_places : (n i k : ℕ) (rest : List ℕ) → places_from test bytes i n ≡ k ∷ rest → NoneBefore (Passes test bytes) i (i + n) k × Passes test bytes k
+  first_from_places zero i k rest e = let no : [] ≡ k ∷ rest = sym (no_places i) ∙ e in absurd cc
+  first_from_places (suc n) i k rest e =
+      ⊎_elim
+      (λ here.
+      let same : k ≡ i = let both : i ∷ places_from test bytes (i + 1) n ≡ k ∷ rest = sym (step_here i n here) ∙ e in cc in (
+        record { low = omega arith; high = omega arith; before = λ m low high p. absurd (omega arith) },
+        subst (Passes test bytes) (sym same) here,
+      ))
+      (λ past.
+      let next = first_from_places n (i + 1) k rest (sym (step_past i n past) ∙ e) in
+      let low = next.0.low in
+      let high = next.0.high in (
+        record {
+          low = omega arith;
+          high = omega arith;
+          before = λ m from below p.
+              ⊎_elim (λ same. absurd (false≢true (sym past ∙ ap (λ n. test (slice_index bytes n)) (sym same) ∙ p))) (λ other. next.0.before m (omega arith) below p) (cases_eq m i);
+        },
+        next.1,
+      ))
+      (cases_Bool (test (slice_index bytes i)))
+
+  all : places_from test bytes 0 (length bytes) ≡ places test bytes
+  all = let whole : length bytes ≡ length bytes - 0 = omega arith in ap (places_from test bytes 0) whole
+
+  pub first_byte_from_places : (s t : List ℕ) (r : Option ℕ) → s ≡ places test bytes → TakesFirst s r t → IsFirstByte test bytes r
+  first_byte_from_places s t None same h =
+      let end : 0 + length bytes ≡ length bytes = omega arith in
+      subst (λ n. Nowhere (Passes test bytes) 0 n) end (none_from_places (length bytes) 0 (all ∙ sym same ∙ h.0))
+  first_byte_from_places s t (Some k) same h =
+      let end : 0 + length bytes ≡ length bytes = omega arith in
+      subst (λ n. NoneBefore (Passes test bytes) 0 n k × Passes test bytes k) end (first_from_places (length bytes) 0 k t (all ∙ sym same ∙ h))
 
 -- The kept tail and the next piece. A needle that begins in the tail ends by place `most` of the piece.
 module _ (p held piece : List ℕ) (most : ℕ) (longest : length p ≡ most + 1) where
@@ -164,6 +252,20 @@ module _ (p bytes held piece : List ℕ) (base : ℕ) (s : Searched p bytes base
       Searched-missed (length piece) next held some same (subst (λ l. FindsNeedle l p 0 None) alone missed) (subst (λ l. HoldsBack p l (length piece)) alone back)
       (none ∙ sym (ap (drop (length piece)) (sym alone) ∙ drop_all (length piece) piece within))
 
+-- A piece in which a needle of one byte is looked for; no tail is kept.
+module _ (p bytes held piece : List ℕ) (base : ℕ) (s : Searched p bytes base held) (one : length p ≡ 1) (empty : length held ≡ 0) where
+  pub Searched-found_byte : (more : List ℕ) (k at : ℕ) → at ≡ base + k
+      → NoneBefore (Passes (is_byte (get_or p 0 0)) piece) 0 (length piece) k × Passes (is_byte (get_or p 0 0)) piece k
+      → FindsNeedle ((bytes ++ piece) ++ more) p 0 (Some at)
+  Searched-found_byte more k at same h =
+      let none : held ≡ [] = nil_from_length held empty in
+      let alone : piece ≡ held ++ piece = sym (ap (λ l. l ++ piece) none) in
+      Searched-found p bytes held piece base s more k at same (subst (λ l. FindsNeedle l p 0 (Some k)) alone (found_by_byte p piece k one h))
+
+  pub Searched-missed_byte : (next : ℕ) → next ≡ base + length piece → Nowhere (Passes (is_byte (get_or p 0 0)) piece) 0 (length piece) → Searched p (bytes ++ piece) next held
+  Searched-missed_byte next same missed =
+      Searched-passed p bytes held piece base s next (omega (arith, one)) same empty (λ k low is. missed k (omega arith) low (eq-eqb _ _ is))
+
 -- all bytes were searched
 pub Searched-all : (p bytes held : List ℕ) (base : ℕ) → Searched p bytes base held → FindsNeedle bytes p 0 None
 Searched-all p bytes held base s j low high here =
@@ -171,3 +273,74 @@ Searched-all p bytes held base s j low high here =
     let within = s.within in
     let short = s.short in
     s.none [] j low (omega (arith, fits, within, short, ap length s.tail, length-drop base bytes)) (subst (λ l. OccursAt l p j) (sym (append-nil bytes)) here)
+
+-- the bytes before the kept tail are forgotten
+pub Searched-kept : (p bytes held : List ℕ) (base : ℕ) → Searched p bytes base held → Searched p held 0 held
+Searched-kept p bytes held base s = record { within = omega arith; tail = refl; short = s.short; none = λ more j low high here. omega arith }
+
+-- all pieces were searched
+pub SearchedPieces-all : (p : List ℕ) (pieces : List (List ℕ)) (s : SearchState) → SearchedPieces p pieces s → length pieces ≤ s.pieces
+    → Searched p (concat pieces) s.base s.held.items
+SearchedPieces-all p pieces s searched past = rw (bytes_before-all pieces s.pieces s.offset past) at searched.searched
+
+-- ---- pieces that grow
+
+-- pieces come after these
+pub SearchedPieces-more : (p : List ℕ) (pieces next : List (List ℕ)) (s : SearchState) → SearchedPieces p pieces s → SearchedPieces p (pieces ++ next) s
+SearchedPieces-more p pieces next s searched =
+    let same = by pieces s.pieces s.offset searched.within searched.inside in
+    record {
+      within = omega (arith, searched.within, length-append pieces next);
+      inside = same.0;
+      searched = rw same.1 searched.searched;
+    }
+  where
+    by : (xs : List (List ℕ)) (k n : ℕ) → k ≤ length xs → IsInside k n xs → IsInside k n (xs ++ next) × (bytes_before k n (xs ++ next) ≡ bytes_before k n xs)
+    by [] zero zero within inside = (omega arith, refl)
+    by [] zero (suc n) within inside = absurd (omega (arith, inside))
+    by [] (suc k) n within inside = absurd (omega (arith, within))
+    by (x ∷ xs) zero n within inside = (inside, refl)
+    by (x ∷ xs) (suc k) n within inside =
+        let rest = by xs k n (omega (arith, within)) inside in (
+          rest.0,
+          append_assoc x (concat (take k (xs ++ next))) _ ∙ ap (λ l. x ++ l) rest.1 ∙ sym (append_assoc x (concat (take k xs)) _),
+        )
+
+-- the last piece grows, of which not all was searched
+pub SearchedPieces-grown : (p more : List ℕ) (pieces : List (List ℕ)) (s : SearchState) → s.pieces < length pieces → SearchedPieces p pieces s → SearchedPieces p (grow_last more pieces) s
+SearchedPieces-grown p more pieces s partly searched =
+    let same = by pieces s.pieces s.offset partly searched.inside in
+    record {
+      within = omega (arith, partly, length-grow_last more pieces);
+      inside = same.0;
+      searched = rw same.1 searched.searched;
+    }
+  where
+    by : (xs : List (List ℕ)) (k n : ℕ) → k < length xs → IsInside k n xs → IsInside k n (grow_last more xs) × (bytes_before k n (grow_last more xs) ≡ bytes_before k n xs)
+    by [] k n partly inside = absurd (omega (arith, partly))
+    by (x ∷ []) zero n partly inside = (omega (arith, inside, length-append x more), take-append-le n x more inside)
+    by (x ∷ []) (suc k) n partly inside = absurd (omega (arith, partly))
+    by (x ∷ y ∷ xs) zero n partly inside = (inside, refl)
+    by (x ∷ y ∷ xs) (suc k) n partly inside =
+        let rest = by (y ∷ xs) k n (omega (arith, partly)) inside in (
+          rest.0,
+          append_assoc x (concat (take k (grow_last more (y ∷ xs)))) _ ∙ ap (λ l. x ++ l) rest.1 ∙ sym (append_assoc x (concat (take k (y ∷ xs))) _),
+        )
+
+-- a piece was accepted
+pub SearchedPieces-accepted : (p piece : List ℕ) (old new : Held) (s : SearchState) → new ≡ after_accepting old (piece ∷ [])
+    → SearchedPieces p old.segments s → SearchedPieces p new.segments s
+SearchedPieces-accepted p piece old new s accepted searched = rw accepted (SearchedPieces-more p old.segments (without_empty (piece ∷ [])) s searched)
+
+-- the same of a call that may be refused
+pub searched_accepted : {T E : Type 0} (p piece : List ℕ) (old new : Held) (s : SearchState) (r : Result T E) → OnOk r (new ≡ after_accepting old (piece ∷ []))
+    → OnErr r (new ≡ old) → SearchedPieces p old.segments s → SearchedPieces p new.segments s
+searched_accepted p piece old new s (Ok _) accepted same searched = SearchedPieces-accepted p piece old new s accepted searched
+searched_accepted p piece old new s (Err _) accepted same searched = rw same searched
+
+-- a piece was pushed: if it was copied to the last one, not all of that was searched
+pub SearchedPieces-pushed : (p piece : List ℕ) (old new : Held) (s : SearchState) → Packs piece old new
+    → (length new.segments ≡ length old.segments → 0 < length old.segments → s.pieces < length old.segments) → SearchedPieces p old.segments s → SearchedPieces p new.segments s
+SearchedPieces-pushed p piece old new s (inl accepted) partly searched = SearchedPieces-accepted p piece old new s accepted searched
+SearchedPieces-pushed p piece old new s (inr grown) partly searched =
+    rw grown.1 (SearchedPieces-grown p piece old.segments s (partly (ap (λ held. length held.segments) grown.1 ∙ length-grow_last piece old.segments) grown.0) searched)

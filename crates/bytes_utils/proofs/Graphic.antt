@@ -69,3 +69,5 @@ module _ (bytes : List ℕ) (at : ℕ) (room : at + 16 ≤ length bytes) where
   passes_block whole =
       let same : front block ≡ length block = omega (arith, whole, prefix_len-le-length is_ascii_graphic block, long) in
       by_block ∙ ap (λ b. cond b (length block + front (drop (at + 16) bytes)) (front block)) (eq-eqb _ _ same) ∙ ap (λ n. n + front (drop (at + 16) bytes)) long
+
+pub ruleset blocks = (block_whole, block_some, ends_in_block, passes_block)

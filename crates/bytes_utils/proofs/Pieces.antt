@@ -1,10 +1,13 @@
 -- Pieces in a row, joined.
-use Rattle.std.proofs.Common.{◌≡◌, ℕ, ◌+◌, ◌-◌, List, ◌++◌, length, take, drop, get_or, Some, ap, ◌∙◌, sym, arith, length-drop}
-use Rattle.std.proofs.lemmas.List.{take_more, take_all}
+use Rattle.std.proofs.Common.{◌≡◌, ℕ, ◌+◌, ◌-◌, ◌≤◌, List, [], ◌∷◌, ◌++◌, zero, suc, length, take, drop, get_or, Some, ap, ◌∙◌, sym, arith, length-drop, append_assoc, append-nil, take-append-drop}
+use Rattle.std.proofs.lemmas.List.{get_or_past, take_more, take_all}
 use Rattle.std.proofs.lemmas.Option.{get_or_from_slice_get, slice_get_within}
 use Rattle.std.specs.List.{concat, slice_get}
 use Rattle.bytes.proofs.Chunks.{concat_push}
+use Rattle.bytes_utils_buf.specs.Packing.{last_of}
+use Rattle.bytes_utils_buf.specs.Segments.{IsInside}
 use Rattle.bytes_utils_buf.proofs.Lists.{concat_split}
+use Rattle.bytes_utils.specs.FrameSearch.{bytes_before}
 
 -- all bytes from a place on, as a range
 pub range_rest : (bytes : List ℕ) (from : ℕ) → take (length bytes - from) (drop from bytes) ≡ drop from bytes
@@ -17,5 +20,39 @@ module _ (pieces : List (List ℕ)) (i : ℕ) (piece : List ℕ) (there : Some p
       ap concat (take_more pieces i piece (slice_get_within pieces i piece (sym there))) ∙ concat_push (take i pieces) (get_or pieces i piece)
       ∙ ap (λ l. concat (take i pieces) ++ l) (get_or_from_slice_get pieces i piece piece (sym there))
 
+  pub piece_at : get_or pieces i [] ≡ piece
+  piece_at = get_or_from_slice_get pieces i piece [] (sym there)
+
+  -- the bytes before a place in it, and the others
+  pub bytes_before-rest : (n : ℕ) → bytes_before i n pieces ++ drop n piece ≡ concat (take (i + 1) pieces)
+  bytes_before-rest n =
+      ap (λ l. (concat (take i pieces) ++ take n l) ++ drop n piece) piece_at ∙ append_assoc (concat (take i pieces)) (take n piece) (drop n piece)
+      ∙ ap (λ l. concat (take i pieces) ++ l) (take-append-drop n piece) ∙ sym concat-take_next
+
+  pub bytes_before-around : (n : ℕ) → concat pieces ≡ (bytes_before i n pieces ++ drop n piece) ++ concat (drop (i + 1) pieces)
+  bytes_before-around n = concat_split (i + 1) pieces ∙ ap (λ l. l ++ concat (drop (i + 1) pieces)) (sym (bytes_before-rest n))
+
   pub concat_around : concat pieces ≡ (concat (take i pieces) ++ piece) ++ concat (drop (i + 1) pieces)
   concat_around = concat_split (i + 1) pieces ∙ ap (λ l. l ++ concat (drop (i + 1) pieces)) concat-take_next
+
+-- the bytes before a place past all pieces, and before the first byte of a piece
+pub bytes_before-all : (pieces : List (List ℕ)) (i n : ℕ) → length pieces ≤ i → bytes_before i n pieces ≡ concat pieces
+bytes_before-all pieces i n past =
+    let none : take n (get_or pieces i []) ≡ [] = ap (take n) (get_or_past pieces i [] past) ∙ take_all n [] (omega arith) in
+    ap (λ l. concat (take i pieces) ++ l) none ∙ append-nil (concat (take i pieces)) ∙ ap concat (take_all i pieces past)
+
+pub bytes_before-first : (pieces : List (List ℕ)) (i : ℕ) → bytes_before i 0 pieces ≡ concat (take i pieces)
+bytes_before-first pieces i = append-nil (concat (take i pieces))
+
+-- the bytes before the end of the last piece
+pub bytes_before-last : (pieces : List (List ℕ)) (i n : ℕ) → i + 1 ≡ length pieces → n ≡ length (last_of pieces)
+    → IsInside i n pieces × (bytes_before i n pieces ≡ concat pieces)
+bytes_before-last [] i n last size = absurd (omega arith)
+bytes_before-last (x ∷ []) zero n last size = (omega (arith, size), take_all n x (omega (arith, size)) ∙ sym (append-nil x))
+bytes_before-last (x ∷ []) (suc i) n last size = absurd (omega arith)
+bytes_before-last (x ∷ y ∷ pieces) zero n last size = absurd (omega arith)
+bytes_before-last (x ∷ y ∷ pieces) (suc i) n last size =
+    let rest = bytes_before-last (y ∷ pieces) i n (omega arith) size in (
+      rest.0,
+      append_assoc x (concat (take i (y ∷ pieces))) _ ∙ ap (λ l. x ++ l) rest.1,
+    )

@@ -1,8 +1,10 @@
 -- What a search for bytes says of characters, by the law of boundaries.
-use Rattle.std.proofs.Common.{◌≡◌, ◌↔◌, refl, sym, ap, subst, ℕ, ◌<◌, ◌≤◌, List, [], ◌∷◌, Option, None, Some, length, arith, IsUtf8}
+use Rattle.std.proofs.Common.{◌≡◌, ◌↔◌, ◌+◌, ◌-◌, ◌∙◌, get_or, take, length-take, refl, sym, ap, subst, ℕ, ◌<◌, ◌≤◌, List, [], ◌∷◌, Option, None, Some, length, arith, IsUtf8}
 use Rattle.std.proofs.lemmas.Str.{encodes-chars, chars-nil}
 use Rattle.std.specs.Str.{chars, encode_utf8_all as encodes}
-use Rattle.memchr.specs.Find.{OccursAt as HasNeedleAt, FindsNeedle, FindsLastNeedle}
+use Rattle.std.proofs.lemmas.Bool.{eq-eqb}
+use Rattle.std.proofs.lemmas.List.{get_or-take}
+use Rattle.memchr.specs.Find.{OccursAt as HasNeedleAt, FindsNeedle, FindsLastNeedle, Nowhere, NoneAfter, Passes, is_byte}
 use Rattle.memchr.proofs.lemmas.MatchLemmas.{OccursAt-part}
 use Rattle.bytes_utils.specs.Text.{byte_place}
 use Rattle.bytes_utils.specs.Occurrence.{OccursAt, FindsFirst, FindsLast}
@@ -105,3 +107,50 @@ FindsLastNeedle-empty text [] none (Some k) found =
     let high = found.0.high in
     let at_end : k < length text → ⊥ = λ before. found.0.after (length text) (omega (arith, before)) (omega arith) (needle-empty text (length text) (omega arith)) in
     ap Some (omega (arith, high, at_end))
+
+-- a needle at the end is the last
+pub found_at_end : (p bytes : List ℕ) (at : ℕ) → at ≡ length bytes - length p → (length p ≤ length bytes) × HasNeedleAt bytes p (length bytes - length p) → FindsLastNeedle bytes p (Some at)
+found_at_end p bytes at same h =
+    let within = h.0 in (
+      record { low = omega arith; high = omega arith; after = λ j low high there. let fits = there.fits in absurd (omega (arith, fits, within, low, same)) },
+      subst (HasNeedleAt bytes p) (sym same) h.1,
+    )
+
+-- the last byte of the needle is nowhere
+pub missed_by_last_byte : (p bytes : List ℕ) → 0 < length p → Nowhere (Passes (is_byte (get_or p (length p - 1) 0)) bytes) 0 (length bytes) → FindsLastNeedle bytes p None
+missed_by_last_byte p bytes some missed j low high here =
+    let fits = here.fits in
+    missed (j + (length p - 1)) (omega arith) (omega (arith, fits, some)) (eq-eqb _ _ (here.reads (length p - 1) (omega (arith, some))))
+
+-- The last place of the needle's last byte. Each occurrence ends there or before.
+module _ (p bytes : List ℕ) (at : ℕ) (some : 0 < length p) (last : NoneAfter (Passes (is_byte (get_or p (length p - 1) 0)) bytes) 0 (length bytes) at) where
+  ends_by : (j : ℕ) → HasNeedleAt bytes p j → j + length p ≤ at + 1
+  ends_by j here =
+      let fits = here.fits in
+      let not_after : at < j + (length p - 1) → ⊥ = λ l.
+      last.after (j + (length p - 1)) (omega (arith, l)) (omega (arith, fits, some)) (eq-eqb _ _ (here.reads (length p - 1) (omega (arith, some)))) in
+      omega (arith, not_after, some)
+
+  size : length (take (at + 1) bytes) ≡ at + 1
+  size = omega (arith, length-take (at + 1) bytes, last.high)
+
+  in_front : (j : ℕ) → HasNeedleAt bytes p j → HasNeedleAt (take (at + 1) bytes) p j
+  in_front j here =
+      let ends = ends_by j here in
+      record { fits = omega (arith, ends, size); reads = λ i l. get_or-take (at + 1) bytes (j + i) 0 (omega (arith, ends, l)) ∙ here.reads i l }
+
+  in_all : (j : ℕ) → HasNeedleAt (take (at + 1) bytes) p j → HasNeedleAt bytes p j
+  in_all j here =
+      let fits = here.fits in
+      record { fits = omega (arith, fits, size, last.high); reads = λ i l. sym (get_or-take (at + 1) bytes (j + i) 0 (omega (arith, fits, size, l))) ∙ here.reads i l }
+
+  pub FindsLastNeedle-from_front : (r : Option ℕ) → FindsLastNeedle (take (at + 1) bytes) p r → FindsLastNeedle bytes p r
+  FindsLastNeedle-from_front None missed = λ j low high here. missed j low (omega (arith, ends_by j here, size)) (in_front j here)
+  FindsLastNeedle-from_front (Some k) found = (
+    record {
+      low = omega arith;
+      high = omega (arith, found.0.high, size, last.high);
+      after = λ j low high here. found.0.after j low (omega (arith, ends_by j here, size)) (in_front j here);
+    },
+    in_all k found.1,
+  )

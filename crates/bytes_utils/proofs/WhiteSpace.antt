@@ -28,3 +28,5 @@ graphic-no_ascii_whitespace c is = simp (
   le-leb 32 c (omega (arith, is.0)),
   lt-leb c 32 (omega (arith, is.0)),
 )
+
+pub ruleset none_graphic = (graphic-no_whitespace, graphic-no_ascii_whitespace)

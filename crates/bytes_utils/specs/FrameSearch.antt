@@ -1,6 +1,7 @@
 -- How far a search over pieces in a row has come.
-use Rattle.std.specs.Prelude.{◌≡◌, ◌≢◌, ℕ, ◌+◌, ◌<◌, ◌≤◌, List, ◌++◌, length, take, drop, slice_index}
+use Rattle.std.specs.Prelude.{◌≡◌, ◌≢◌, ℕ, ◌+◌, ◌<◌, ◌≤◌, List, [], ◌++◌, length, take, drop, get_or, slice_index}
 use Rattle.std.specs.List.{concat}
+use Rattle.bytes_utils_buf.specs.Segments.{IsInside}
 use Rattle.memchr.specs.Find.{Nowhere, OccursAt}
 use Rattle.bytes_utils.specs.declared.frame.search.SearchState.{SearchState}
 
@@ -18,10 +19,15 @@ pub record Searched (needle bytes : List ℕ) (base : ℕ) (held : List ℕ) : T
   pub short : length held < length needle
   pub none : (more : List ℕ) → Nowhere (OccursAt (bytes ++ more) needle) 0 base
 
--- the first `progress.pieces` pieces were searched
+-- the bytes of the first k pieces, and the first n of the next one
+abbrev pub bytes_before : ℕ → ℕ → List (List ℕ) → List ℕ
+bytes_before k n pieces = concat (take k pieces) ++ take n (get_or pieces k [])
+
+-- the first `progress.pieces` pieces were searched, and the first `progress.offset` bytes of the next one
 pub record SearchedPieces (needle : List ℕ) (pieces : List (List ℕ)) (progress : SearchState) : Type 0 where
   pub within : progress.pieces ≤ length pieces
-  pub searched : Searched needle (concat (take progress.pieces pieces)) progress.base progress.held.items
+  pub inside : IsInside progress.pieces progress.offset pieces
+  pub searched : Searched needle (bytes_before progress.pieces progress.offset pieces) progress.base progress.held.items
 
 -- the search has not come further
 pub record StaysAt (old new : SearchState) : Type 0 where

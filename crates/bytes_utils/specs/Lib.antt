@@ -19,10 +19,12 @@ pub mod Frames
 pub mod FrameSearch
 pub mod LimitedFrames
 pub mod StreamLines
+pub mod LimitedLines
 pub mod ReadError
 pub mod ReadFrame
 -- the definitions about buffers, for callers that use their names
 pub use Rattle.bytes_utils_buf.specs.Segments
+pub use Rattle.bytes_utils_buf.specs.Packing
 pub use Rattle.bytes_utils_buf.specs.Tally
 pub use Rattle.bytes_utils_buf.specs.Lent
 pub use Rattle.bytes_utils_buf.specs.Copies

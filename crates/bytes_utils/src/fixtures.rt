@@ -39,15 +39,21 @@ pub(crate) fn assert_text(rt: &impl Abort, text: &str, want: &str) {
     assert_eq!(rt; text, want);
 }
 
-/// Asserts what an error prints.
+/// What an error prints, and what it prints in other styles.
+pub(crate) fn styled<E: Error>(alloc: Global, error: &E) -> Result<String, AllocError> {
+    format!(in alloc; "{error}|{error:#}|{error:>99}")
+}
+
+/// Asserts what an error prints. It is the same in every style.
 pub(crate) fn assert_says<E: Error>(
     rt: &impl Abort,
     alloc: Global,
     error: &E,
     text: &str,
 ) -> Result<(), Fail> {
-    let said = format!(in alloc; "{error}")?;
-    assert_text(rt, said.as_str(), text);
+    let said = styled(alloc, error)?;
+    let want = format!(in alloc; "{text}|{text}|{text}")?;
+    assert_text(rt, said.as_str(), want.as_str());
     Ok(())
 }
 

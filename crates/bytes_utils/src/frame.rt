@@ -7,22 +7,27 @@ ghost use Rattle.bytes_utils.specs.Frames.{AllFramesLaw, FramePartsLaw, FramesAn
 ghost use Rattle.bytes_utils.specs.LimitedFrames.{LosesFront};
 
 mod limited;
+mod limited_lines;
 mod lines;
 mod read;
 pub(crate) mod search;
 #[cfg(test)]
 mod tests;
 
-use bytes::{Buf, Bytes};
-use bytes_utils_buf::segmented::SegmentedBuf;
-use bytes_utils_buf::{Reason, Refused};
+use bytes::{Buf, Bytes, BytesMut};
+use bytes_utils_buf::segmented::{PackedBuf, SegmentedBuf};
+use bytes_utils_buf::{EitherBuf, Reason, Refused};
 pub use limited::{LimitedFrames, limited_frame_laws};
+pub use limited_lines::LimitedLines;
 pub use lines::{LineError, Lines, line_laws};
 use memchr::memmem::Finder;
 pub use read::{ReadError, read_frame, read_frame_laws};
 use search::SearchState;
 use std::alloc::Global;
 use std::marker::Model;
+
+/// A piece of at most this many bytes is copied to those before it.
+const SMALL: usize = 512;
 
 /// A reader of frames, each ended by a separator. The stream comes in pieces that are cut anywhere.
 ///
@@ -36,14 +41,16 @@ use std::marker::Model;
 ///
 /// Pieces that wait for a separator are not searched again. After each frame that ends in a piece,
 /// that piece is searched once more; after `split_to` the whole search starts again. The bytes of a
-/// frame that lies in one piece are shared.
+/// frame that lies in one piece are shared. Pieces of at most 512 bytes are copied together, so that
+/// a peer that sends single bytes doesn't fill the memory with blocks: see [`PackedBuf`].
 ///
 /// There is no limit on the length of a frame. For a peer that is not trusted take
-/// [`LimitedFrames`].
+/// [`LimitedFrames`], or [`LimitedLines`] for lines.
 #[derive(Debug, Drop)]
 pub struct Frames {
+    alloc: Global,
     finder: Finder<'static>,
-    pieces: SegmentedBuf<Bytes>,
+    pieces: PackedBuf,
     progress: SearchState,
 }
 
@@ -55,10 +62,10 @@ impl Model for Frames {
 
     ghost Value = { Framing };
 
-    ghost view = { λ f. record { separator = f.finder; held = concat f.pieces.segments } };
+    ghost view = { λ f. record { separator = f.finder; held = concat f.pieces.held.segments } };
 
-    ghost invariant = { λ f. (0 < length f.finder) × (length (concat f.pieces.segments) < 2 ^ 64)
-        × SearchedPieces f.finder f.pieces.segments f.progress };
+    ghost invariant = { λ f. (0 < length f.finder) × (length (concat f.pieces.held.segments) < 2 ^ 64)
+        × SearchedPieces f.finder f.pieces.held.segments f.progress × (f.pieces.threshold ≡ 512) };
 }
 
 impl Frames {
@@ -70,13 +77,15 @@ impl Frames {
         ensures reason { IfErr result (λ reason. reason ≡ Reason.OutOfMemory) }
     {
         Ok(Frames {
+            alloc,
             finder: Finder::new(separator).into_owned(alloc)?,
-            pieces: SegmentedBuf::new(alloc),
+            pieces: PackedBuf::new(alloc, SMALL),
             progress: SearchState::new(alloc),
         })
     }
 
-    /// Appends `piece` without a copy. Fails with `TooLong` if the number of held bytes would pass
+    /// Appends `piece`. If it has at most 512 bytes, it is copied to the end of those before it; if
+    /// not, it is held as it is. Fails with `TooLong` if the number of held bytes would pass
     /// `usize::MAX`, and with `OutOfMemory` if memory is refused; then nothing has changed and
     /// `piece` comes back.
     #[inline(always)]
@@ -89,7 +98,36 @@ impl Frames {
             ↔ (2 ^ 64 ≤ length self.old.held + length e.back)) }
         ensures empty { piece ≡ [] → IsOk result }
     {
-        self.pieces.try_push(piece)
+        if piece.len() <= SMALL {
+            return match self.push_slice(piece.as_slice()) {
+                Ok(()) => Ok(()),
+                Err(reason) => Err(Refused {
+                    reason,
+                    back: piece,
+                }),
+            };
+        }
+        self.pieces.push(self.alloc, piece)?;
+        Ok(())
+    }
+
+    /// Appends a copy of `bytes`, in a block that it shares with other small pieces: for a caller
+    /// that reads into a buffer of its own. Fails as `push` does; then nothing has changed.
+    pub fn push_slice(&mut self, bytes: &[u8]) -> Result<(), Reason>
+        ensures ok { OnOk result (self.new.held ≡ self.old.held ++ bytes.now) }
+        ensures separator { self.new.separator ≡ self.old.separator }
+        ensures err { OnErr result (self.new ≡ self.old) }
+        ensures too_long { IfErr result (λ reason. (reason ≡ Reason.TooLong)
+            ↔ (2 ^ 64 ≤ length self.old.held + length bytes.now)) }
+        ensures empty { bytes.now ≡ [] → IsOk result }
+    {
+        let count = self.pieces.segments();
+        let len = self.pieces.last_segment().len();
+        self.pieces.push_slice(self.alloc, bytes)?;
+        if self.pieces.segments() == count {
+            self.progress.reopen_last(count, len);
+        }
+        Ok(())
     }
 
     /// Returns the number of held bytes: those pushed and not yet taken.
@@ -98,6 +136,15 @@ impl Frames {
         ensures some { 0 < length self.now.separator }
     {
         self.pieces.remaining()
+    }
+
+    /// Returns the held bytes as they are held. There are at most two segments, and one more for
+    /// each 256 bytes (clause `few` of `PackedBuf::segments`).
+    pub fn pieces(&self) -> &PackedBuf
+        ensures bytes { concat result.now.held.segments ≡ self.now.held }
+        ensures threshold { result.now.threshold ≡ 512 }
+    {
+        &self.pieces
     }
 
     /// Returns the separator.
@@ -110,6 +157,7 @@ impl Frames {
     /// Returns the next frame without its separator, or `None` if its end has not come yet. The
     /// frame is shared if it lies in one piece, and copied into one block if not. Fails with
     /// `OutOfMemory` if memory is refused; then nothing has changed.
+    #[inline]
     pub fn next_frame(&mut self, alloc: Global) -> Result<Option<Bytes>, Reason>
         ensures frame { IfOk result (λ next. IfSome next (λ frame.
             TakesFrame self.old.separator self.old.held frame self.new.held)) }
@@ -125,7 +173,8 @@ impl Frames {
         Ok(Some(self.take_frame(alloc, len)?))
     }
 
-    /// As `next_frame`, but in the pieces in which the frame came. No byte is copied.
+    /// As `next_frame`, but in pieces: those that were held as they came are shared, and bytes that
+    /// were copied together are copied once more.
     pub fn next_frame_segments(
         &mut self,
         alloc: Global,
@@ -144,8 +193,8 @@ impl Frames {
         Ok(Some(self.take_frame_segments(alloc, len)?))
     }
 
-    /// Removes and returns the first `len` bytes, whatever they are, in the pieces in which they
-    /// came: a body whose length a frame reported. Requires that `len` is at most the number of
+    /// Removes and returns the first `len` bytes, whatever they are, in pieces as those of
+    /// `next_frame_segments`: a body whose length a frame reported. Requires that `len` is at most the number of
     /// held bytes (test: `remaining`). Fails with `OutOfMemory` if memory is refused; then nothing
     /// has changed.
     pub fn split_to(&mut self, alloc: Global, len: usize) -> Result<SegmentedBuf<Bytes>, Reason>
@@ -162,6 +211,7 @@ impl Frames {
     }
 
     /// The length of the next frame in bytes, or `None` if its end has not come yet.
+    #[inline]
     fn next_len(&mut self) -> Result<Option<usize>, Reason>
         ensures frame { IfOk result (λ end. IfSome end (λ len. TakesFrame self.old.separator self.old.held
             (take len self.old.held) (drop (len + length self.old.separator) self.old.held))) }
@@ -171,10 +221,11 @@ impl Frames {
         ensures same { self.new ≡ self.old }
         ensures reason { IfErr result (λ reason. reason ≡ Reason.OutOfMemory) }
     {
-        Ok(search::find(&self.finder, &self.pieces, &mut self.progress)?)
+        Ok(search::find(&self.finder, self.pieces.as_segmented(), &mut self.progress)?)
     }
 
     /// Removes a frame of `len` bytes and its separator, and returns the frame.
+    #[inline]
     fn take_frame(&mut self, alloc: Global, len: usize) -> Result<Bytes, Reason>
         requires { len + length self.old.separator ≤ length self.old.held }
         ensures frame { IfOk result (λ frame. frame ≡ take len self.old.held) }
@@ -184,8 +235,9 @@ impl Frames {
         ensures err { OnErr result (self.new ≡ self.old) }
         ensures reason { IfErr result (λ reason. reason ≡ Reason.OutOfMemory) }
     {
-        let frame = self.pieces.peek_bytes(alloc, len)?;
-        self.discard_frame(len);
+        let frame = self.pieces.take_bytes(alloc, len)?;
+        self.progress.restart();
+        self.discard_frame(0);
         Ok(frame)
     }
 
@@ -208,6 +260,19 @@ impl Frames {
         Ok(frame)
     }
 
+    /// Removes all held bytes and returns them.
+    fn take_held(&mut self, alloc: Global) -> Result<Bytes, Reason>
+        ensures held { IfOk result (λ held. held ≡ self.old.held) }
+        ensures ok { OnOk result (self.new ≡ record self.old { held = [] }) }
+        ensures err { OnErr result (self.new ≡ self.old) }
+        ensures reason { IfErr result (λ reason. reason ≡ Reason.OutOfMemory) }
+    {
+        let len = self.remaining();
+        let held = self.pieces.take_bytes(alloc, len)?;
+        self.progress.restart();
+        Ok(held)
+    }
+
     /// Drops all bytes up to the end of the next separator and returns `true`. If that has not come
     /// yet, drops the bytes in which no separator can begin and returns `false`.
     fn discard_to_separator(&mut self) -> Result<bool, Reason>
@@ -221,7 +286,11 @@ impl Frames {
         ensures err { OnErr result (self.new ≡ self.old) }
         ensures reason { IfErr result (λ reason. reason ≡ Reason.OutOfMemory) }
     {
-        if let Some(len) = search::find(&self.finder, &self.pieces, &mut self.progress)? {
+        if let Some(len) = search::find(
+            &self.finder,
+            self.pieces.as_segmented(),
+            &mut self.progress,
+        )? {
             self.discard_frame(len);
             return Ok(true);
         }
@@ -232,6 +301,7 @@ impl Frames {
     }
 
     /// Drops a frame of `len` bytes and its separator, and restarts the search.
+    #[inline]
     fn discard_frame(&mut self, len: usize)
         requires { len + length self.old.separator ≤ length self.old.held }
         ensures { self.new ≡ record self.old {
@@ -245,10 +315,10 @@ impl Frames {
 
     /// Returns the held bytes. Call it at the end of the stream: they are the last frame, if it has
     /// no separator, and any frames not asked for.
-    pub fn finish(self) -> SegmentedBuf<Bytes>
+    pub fn finish(self) -> SegmentedBuf<EitherBuf<Bytes, BytesMut>>
         ensures { concat result.segments ≡ self.held }
     {
-        self.pieces
+        self.pieces.into_segmented()
     }
 }
 

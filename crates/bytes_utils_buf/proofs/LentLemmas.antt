@@ -4,7 +4,7 @@ use Rattle.std.proofs.lemmas.List.{length-map, length-replicate, map-append, tak
 use Rattle.std.proofs.Math.Seq.{take-add}
 use Rattle.std.specs.List.{concat}
 use borrow.Rule.Slice.PartMut.{put_mid}
-use Rattle.bytes_utils_buf.specs.Lent.{Lent, lists_of, lent_at, IsPassedOnce, Passes, SkipsLent, IsLent}
+use Rattle.bytes_utils_buf.specs.Lent.{Lent, lent_at, IsPassedOnce, Passes, SkipsLent, IsLent}
 use Rattle.bytes.specs.Unread.{IsChunkOf}
 use Rattle.bytes_utils_buf.specs.Segments.{cut_front, front_of, FrontUnread, Skips}
 use Rattle.bytes_utils_buf.specs.Tally.{Tallied}
@@ -16,9 +16,9 @@ pub drop_read_out : (p : ℕ) (xs : List (List ℕ)) → drop p (replicate p [] 
 drop_read_out p xs = drop_at (replicate p []) xs p (length-replicate p [])
 
 -- the bytes of all lists are the bytes to read
-pub concat-read_out : (place : ℕ) (segments : List (List ℕ)) → concat (replicate place [] ++ segments) ≡ concat segments
-concat-read_out zero segments = refl
-concat-read_out (suc place) segments = concat-read_out place segments
+pub concat_read_out : (place : ℕ) (segments : List (List ℕ)) → concat (replicate place [] ++ segments) ≡ concat segments
+concat_read_out zero segments = refl
+concat_read_out (suc place) segments = concat_read_out place segments
 
 -- the first k of these lists are empty
 pub take_read_out : (k : ℕ) (now : List (List ℕ)) → now ≡ replicate k [] ++ drop k now → take k now ≡ replicate k []
@@ -46,49 +46,45 @@ map-put_mid f xs ys a h =
 
 -- ---- the invariant of every value is kept
 
--- a call that skips n bytes, and takes one turn for each passed buffer
-pub IsLent-skip : (n remaining : ℕ) (now next : List (List ℕ)) (old new : Lent) → IsLent now remaining old → SkipsLent n old new
-    → next ≡ lists_of new → IsPassedOnce new → IsLent next (remaining - n) new
-IsLent-skip n remaining now next old new is skips lists passed =
-    record {
-      lists = lists;
-      sum = omega (arith, is.sum, ap length skips.segments.bytes, length-drop n (concat old.segments));
-      reading = record {
-        read = is.reading.read + n;
-        skips = rw skips.handed_in (Skips-more is.reading.read n old.handed_in old.segments new.segments is.reading.skips skips.segments);
-        place = omega (arith, is.reading.place, skips.place, ap length skips.handed_in);
-      };
-      passed = passed;
-    }
-
 -- the unread lists of the buffers from place k on
 pub map-part : {X : Type 0} (f : X → List ℕ) (xs : List X) (k : ℕ) → map f (take (length xs - k) (drop k xs)) ≡ drop k (map f xs)
 map-part f xs k = ap (map f) (take_rest xs k) ∙ sym (drop-map f k xs)
 
--- of the buffers from place k on, p more became empty
-pub SkipsLent-part : {X : Type 0} (f : X → List ℕ) (xs ys : List X) (n k p : ℕ) (handed_in : List (List ℕ)) (old new : Tallied) (name : ℕ) → map f xs ≡ replicate k [] ++ drop k (map f xs)
-    → (let part = take (length xs - k) (drop k xs) in
-    p ≤ length part → length ys ≡ length part → take p (map f ys) ≡ replicate p [] → Skips n (map f part) (drop p (map f ys))
-    → SkipsLent n (lent_at k handed_in (map f xs) old name) (lent_at (k + p) handed_in (map f (put_mid k (length xs - k) xs ys)) new name))
-SkipsLent-part f xs ys n k p handed_in old new name is inside size out skips =
-    let lists = map-put_mid f xs ys k (place_inside f xs k is) ∙ more_read_out k p (map f xs) (map f ys) (take_read_out k (map f xs) is) out in
-    let following = ap (drop (k + p)) lists ∙ drop_read_out (k + p) (drop p (map f ys)) in
-    let part = map-part f xs k in
-    record {
-      segments = rw (following, ← part) skips;
-      place = omega (arith, ap length following, length-drop p (map f ys), length-map ys f, length-map (take (length xs - k) (drop k xs)) f, ap length part, inside, size);
-      handed_in = refl;
-      name = refl;
-    }
+-- a call skips n bytes of the buffers from place k on, of which p more become empty, and takes one turn for each of these
+module _ {X : Type 0} (f : X → List ℕ) (xs ys : List X) {n k p remaining name : ℕ} {handed_in : List (List ℕ)} {old : Tallied}
+    (is : IsLent (map f xs) remaining (lent_at k handed_in (map f xs) old name)) (inside : p ≤ length (take (length xs - k) (drop k xs)))
+    (size : length ys ≡ length (take (length xs - k) (drop k xs))) (out : take p (map f ys) ≡ replicate p [])
+    (skips : Skips n (map f (take (length xs - k) (drop k xs))) (drop p (map f ys))) where
+  lists : map f (put_mid k (length xs - k) xs ys) ≡ replicate (k + p) [] ++ drop p (map f ys)
+  lists = map-put_mid f xs ys k (place_inside f xs k is.lists) ∙ more_read_out k p (map f xs) (map f ys) (take_read_out k (map f xs) is.lists) out
 
--- the passed buffers are still empty
-pub lists_of-part : {X : Type 0} (f : X → List ℕ) (xs ys : List X) (k p : ℕ) (handed_in : List (List ℕ)) (new : Tallied) (name : ℕ) → map f xs ≡ replicate k [] ++ drop k (map f xs)
-    → take p (map f ys) ≡ replicate p []
-    → (let table = map f (put_mid k (length xs - k) xs ys) in table ≡ lists_of (lent_at (k + p) handed_in table new name))
-lists_of-part f xs ys k p handed_in new name is out =
-    let lists = map-put_mid f xs ys k (place_inside f xs k is) ∙ more_read_out k p (map f xs) (map f ys) (take_read_out k (map f xs) is) out in
-    let following = ap (drop (k + p)) lists ∙ drop_read_out (k + p) (drop p (map f ys)) in
-    lists ∙ ap (λ l. replicate (k + p) [] ++ l) (sym following)
+  following : drop (k + p) (map f (put_mid k (length xs - k) xs ys)) ≡ drop p (map f ys)
+  following = ap (drop (k + p)) lists ∙ drop_read_out (k + p) (drop p (map f ys))
+
+  pub SkipsLent-part : {new : Tallied} → SkipsLent n (lent_at k handed_in (map f xs) old name) (lent_at (k + p) handed_in (map f (put_mid k (length xs - k) xs ys)) new name)
+  SkipsLent-part =
+      let part = map-part f xs k in
+      record {
+        segments = rw (following, ← part) skips;
+        place = omega (arith, ap length following, length-drop p (map f ys), length-map ys f, length-map (take (length xs - k) (drop k xs)) f, ap length part, inside, size);
+        handed_in = refl;
+        name = refl;
+      }
+
+  pub IsLent-part : {new : Tallied} {calls : ℕ} → new ≡ record { given = old.given; dropped = old.dropped; calls = calls; turns = old.turns + p }
+      → IsLent (map f (put_mid k (length xs - k) xs ys)) (remaining - n) (lent_at (k + p) handed_in (map f (put_mid k (length xs - k) xs ys)) new name)
+  IsLent-part {new} counted =
+      let s = SkipsLent-part {new = new} in
+      record {
+        lists = lists ∙ ap (λ l. replicate (k + p) [] ++ l) (sym following);
+        sum = omega (arith, is.sum, ap length s.segments.bytes, length-drop n (concat (drop k (map f xs))));
+        reading = record {
+          read = is.reading.read + n;
+          skips = Skips-more is.reading.read n handed_in (drop k (map f xs)) _ is.reading.skips s.segments;
+          place = omega (arith, is.reading.place, s.place);
+        };
+        passed = rw counted (record { given = is.passed.given; dropped = is.passed.dropped; turns = omega (arith, is.passed.turns) });
+      }
 
 -- one skip after another
 pub Passes-more : (n m : ℕ) (old mid new : Lent) → Passes n old mid → Passes m mid new → Passes (n + m) old new

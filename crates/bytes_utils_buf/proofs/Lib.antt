@@ -1,6 +1,7 @@
 pub mod SegmentsLemmas
 mod TallyLemmas
 pub mod Lists
+pub mod PackingLemmas
 mod Pieces
 mod Queues
 pub mod SlicesLemmas

@@ -255,7 +255,7 @@ count_unread-some : (x : List ℕ) (xs : List (List ℕ)) → 0 < length x → c
 count_unread-some [] xs some = absurd (omega arith)
 count_unread-some (b ∷ x) xs some = omega arith
 
-length-concat-cut_le : (xs : List (List ℕ)) (p k : ℕ) → length (concat (cut_front k (drop p xs))) ≤ length (concat xs)
+pub length-concat-cut_le : (xs : List (List ℕ)) (p k : ℕ) → length (concat (cut_front k (drop p xs))) ≤ length (concat xs)
 length-concat-cut_le [] zero k = omega arith
 length-concat-cut_le [] (suc p) k = omega arith
 length-concat-cut_le (x ∷ xs) zero k =

@@ -1,10 +1,10 @@
 -- The next bytes of many lists, list by list.
-use Rattle.std.proofs.Common.{◌≡◌, ◌≢◌, ℕ, ◌+◌, ◌-◌, ◌<◌, ◌≤◌, List, [], ◌∷◌, ◌++◌, zero, suc, length, take, drop, min, get_or, ap, ◌∙◌, sym, refl, arith, append_assoc, length-append, length-drop, length-take}
-use Rattle.std.proofs.lemmas.List.{append_cancel_left, drop_all, drop-drop, take-append-le, take_min}
+use Rattle.std.proofs.Common.{◌≡◌, ◌≢◌, ℕ, ◌+◌, ◌-◌, ◌<◌, ◌≤◌, List, [], ◌∷◌, ◌++◌, zero, suc, length, map, take, drop, min, get_or, ap, subst, ◌∙◌, sym, refl, arith, append_assoc, length-append, length-drop, length-take}
+use Rattle.std.proofs.lemmas.List.{length-map, append_cancel_left, drop_all, drop-drop, take_all}
 use Rattle.std.proofs.lemmas.List.Elements.{All-nil, All-cons, All-head, All-tail}
 use Rattle.std.specs.List.{concat}
 use Rattle.bytes.proofs.Chunks.{concat_some}
-use Rattle.bytes_utils_buf.specs.Segments.{cut_front, front_of, IsInside, lists_from, take_bytes, NoneEmpty, Skips}
+use Rattle.bytes_utils_buf.specs.Segments.{cut_front, front_of, lists_from, take_bytes, NoneEmpty}
 use Rattle.bytes_utils_buf.proofs.Lists.{cut_front-none, front_of_drop, length-cut_front}
 
 -- the wanted bytes of the first list, and then those of the lists after it
@@ -17,10 +17,11 @@ take_prefix (suc n) (b ∷ x) ys =
 
 -- ---- lists from a place on
 
--- bytes are wanted from the place on, so there is a list
-pub inside : (xs : List (List ℕ)) (passed offset n : ℕ) → 0 < n → n ≤ length (concat (lists_from passed offset xs)) → passed < length xs
-inside xs passed offset n some enough =
-    omega (arith, concat_some (lists_from passed offset xs) (omega (arith, some, enough)), length-cut_front offset (drop passed xs), length-drop passed xs)
+-- bytes are wanted from the place on, so there is an element
+pub inside : {X : Type 0} (f : X → List ℕ) (items : List X) (passed offset n : ℕ) → 0 < n → n ≤ length (concat (lists_from passed offset (map f items))) → passed < length items
+inside f items passed offset n some enough =
+    let xs = map f items in
+    omega (arith, concat_some (lists_from passed offset xs) (omega (arith, some, enough)), length-cut_front offset (drop passed xs), length-drop passed xs, length-map items f)
 
 -- the first of these lists
 pub front_from : (xs : List (List ℕ)) (passed offset : ℕ) → front_of (lists_from passed offset xs) ≡ drop offset (get_or xs passed [])
@@ -31,7 +32,7 @@ front_from xs passed offset = cut (drop passed xs) ∙ ap (drop offset) (front_o
     cut (y ∷ ys) = refl
 
 -- the lists after it
-pub next_from : (xs : List (List ℕ)) (passed offset : ℕ) → drop 1 (lists_from passed offset xs) ≡ lists_from (passed + 1) 0 xs
+next_from : (xs : List (List ℕ)) (passed offset : ℕ) → drop 1 (lists_from passed offset xs) ≡ lists_from (passed + 1) 0 xs
 next_from xs passed offset = cut (drop passed xs) ∙ drop-drop 1 passed xs ∙ cut_front-none (drop (passed + 1) xs)
   where
     cut : (ys : List (List ℕ)) → drop 1 (cut_front offset ys) ≡ drop 1 ys
@@ -42,26 +43,6 @@ next_from xs passed offset = cut (drop passed xs) ∙ drop-drop 1 passed xs ∙ 
 pub all_from : (xs : List (List ℕ)) → lists_from 0 0 xs ≡ xs
 all_from xs = sym (cut_front-none xs)
 
--- a search for the place after `at` bytes has come to its list, or past all lists
-pub IsInside-found : (xs : List (List ℕ)) (passed offset at : ℕ) → length (concat (take passed xs)) + offset ≡ at → at ≤ length (concat xs)
-    → (passed < length xs → offset < length (get_or xs passed [])) → IsInside passed offset xs
-IsInside-found [] zero offset at sum fits next = omega arith
-IsInside-found [] (suc passed) offset at sum fits next = omega arith
-IsInside-found (x ∷ xs) zero offset at sum fits next = omega (arith, next (omega arith))
-IsInside-found (x ∷ xs) (suc passed) offset at sum fits next =
-    IsInside-found xs passed offset (length (concat (take passed xs)) + offset) refl
-    (omega (arith, sum, fits, length-append x (concat (take passed xs)), length-append x (concat xs))) (λ h. next (omega arith))
-
--- there are bytes after the place, so there is a list
-pub Skips-inside : (xs : List (List ℕ)) (passed offset at : ℕ) → Skips at xs (lists_from passed offset xs) → at < length (concat xs) → passed < length xs
-Skips-inside xs passed offset at skips more =
-    inside xs passed offset 1 (omega arith) (omega (arith, more, ap length skips.bytes, length-drop at (concat xs)))
-
--- the first list alone has these bytes
-pub front_alone : (following : List (List ℕ)) (n : ℕ) → n ≤ length (front_of following) → take n (concat following) ≡ take n (front_of following)
-front_alone [] n fits = refl
-front_alone (x ∷ xs) n fits = take-append-le n x (concat xs) fits
-
 -- ---- a number of bytes is wanted
 
 -- the bytes so far are the first of those wanted, and with the rest, which are in the lists, they are all
@@ -70,20 +51,25 @@ pub record Has (lists : List (List ℕ)) (wanted : ℕ) (all had : List ℕ) : T
   pub enough : wanted - length had ≤ length (concat lists)
   pub bytes : had ++ take (wanted - length had) (concat lists) ≡ all
 
-pub Has-more : (lists : List (List ℕ)) (wanted : ℕ) (all had piece : List ℕ) → Has lists wanted all had → length had < wanted
-    → piece ≡ take (wanted - length had) (front_of lists) → Has (drop 1 lists) wanted all (had ++ piece)
-Has-more [] wanted all had piece h more is = absurd (omega (arith, more, h.enough))
-Has-more (x ∷ rest) wanted all had piece h more is =
-    let n = wanted - length had in
-    let size = length-append had piece in
-    let part : length piece ≡ min n (length x) = ap length is ∙ length-take n x in
-    let left : wanted - length (had ++ piece) ≡ n - length piece = omega (arith, size) in
-    record {
-      within = omega (arith, size, part, h.within);
-      enough = omega (arith, left, part, h.enough, length-append x (concat rest));
-      bytes = append_assoc had piece _ ∙ ap (λ m. had ++ (piece ++ take m (concat rest))) left
-          ∙ ap (λ l. had ++ (l ++ take (n - length l) (concat rest))) is ∙ ap (λ l. had ++ l) (sym (take_prefix n x (concat rest))) ∙ h.bytes;
-    }
+-- the wanted bytes of the next list are added, and the lists after it are left
+pub Has-more : (lists : List (List ℕ)) (passed offset wanted : ℕ) (all had piece : List ℕ) → Has (lists_from passed offset lists) wanted all had → length had < wanted
+    → piece ≡ take (wanted - length had) (front_of (lists_from passed offset lists)) → Has (lists_from (passed + 1) 0 lists) wanted all (had ++ piece)
+Has-more lists passed offset wanted all had piece h more is =
+    subst (λ (left : List (List ℕ)). Has left wanted all (had ++ piece)) (next_from lists passed offset) (by (lists_from passed offset lists) h is)
+  where
+    by : (here : List (List ℕ)) → Has here wanted all had → piece ≡ take (wanted - length had) (front_of here) → Has (drop 1 here) wanted all (had ++ piece)
+    by [] h is = absurd (omega (arith, more, h.enough))
+    by (x ∷ rest) h is =
+        let n = wanted - length had in
+        let size = length-append had piece in
+        let part : length piece ≡ min n (length x) = ap length is ∙ length-take n x in
+        let left : wanted - length (had ++ piece) ≡ n - length piece = omega (arith, size) in
+        record {
+          within = omega (arith, size, part, h.within);
+          enough = omega (arith, left, part, h.enough, length-append x (concat rest));
+          bytes = append_assoc had piece _ ∙ ap (λ m. had ++ (piece ++ take m (concat rest))) left
+              ∙ ap (λ l. had ++ (l ++ take (n - length l) (concat rest))) is ∙ ap (λ l. had ++ l) (sym (take_prefix n x (concat rest))) ∙ h.bytes;
+        }
 
 -- ---- a text that the lists may start with
 
@@ -93,29 +79,26 @@ pub record Matches (lists : List (List ℕ)) (text all rest : List ℕ) : Type 0
   pub split : text ≡ front ++ rest
   pub has : Has lists (length text) all front
 
-Matches-piece : (lists : List (List ℕ)) (text all rest piece : List ℕ) (m : Matches lists text all rest) → 0 < length rest
-    → piece ≡ take (length rest) (front_of lists) → Has (drop 1 lists) (length text) all (m.front ++ piece)
-Matches-piece lists text all rest piece m some is =
-    let size = ap length m.split ∙ length-append m.front rest in
-    let left : length rest ≡ length text - length m.front = omega (arith, size) in
-    Has-more lists (length text) all m.front piece m.has (omega (arith, size, some)) (is ∙ ap (λ n. take n (front_of lists)) left)
+module _ (lists : List (List ℕ)) (passed offset : ℕ) (text all rest piece : List ℕ) (m : Matches (lists_from passed offset lists) text all rest)
+    (some : 0 < length rest) (is : piece ≡ take (length rest) (front_of (lists_from passed offset lists))) where
+  with_piece : Has (lists_from (passed + 1) 0 lists) (length text) all (m.front ++ piece)
+  with_piece =
+      let size = ap length m.split ∙ length-append m.front rest in
+      let left : length rest ≡ length text - length m.front = omega (arith, size) in
+      Has-more lists passed offset (length text) all m.front piece m.has (omega (arith, size, some)) (is ∙ ap (λ n. take n (front_of (lists_from passed offset lists))) left)
 
-pub Matches-more : (lists : List (List ℕ)) (text all rest piece following : List ℕ) → Matches lists text all rest → 0 < length rest
-    → piece ≡ take (length rest) (front_of lists) → rest ≡ piece ++ following → Matches (drop 1 lists) text all following
-Matches-more lists text all rest piece following m some is same =
-    record {
-      front = m.front ++ piece;
-      split = m.split ∙ ap (λ l. m.front ++ l) same ∙ sym (append_assoc m.front piece following);
-      has = Matches-piece lists text all rest piece m some is;
-    }
+  pub Matches-more : (following : List ℕ) → rest ≡ piece ++ following → Matches (lists_from (passed + 1) 0 lists) text all following
+  Matches-more following same =
+      record {
+        front = m.front ++ piece;
+        split = m.split ∙ ap (λ l. m.front ++ l) same ∙ sym (append_assoc m.front piece following);
+        has = with_piece;
+      }
 
--- if the rest does not start with the next piece, the lists do not start with the text
-pub Matches-differs : (lists : List (List ℕ)) (text all rest piece : List ℕ) → Matches lists text all rest → 0 < length rest
-    → piece ≡ take (length rest) (front_of lists) → ((following : List ℕ) → rest ≢ piece ++ following) → all ≢ text
-Matches-differs lists text all rest piece m some is none same =
-    let h = Matches-piece lists text all rest piece m some is in
-    let following = take (length text - length (m.front ++ piece)) (concat (drop 1 lists)) in
-    none following (append_cancel_left m.front rest (piece ++ following) (sym m.split ∙ sym same ∙ sym h.bytes ∙ append_assoc m.front piece following))
+  -- if the rest does not start with the next piece, the lists do not start with the text
+  pub Matches-differs : ((following : List ℕ) → rest ≢ piece ++ following) → all ≢ text
+  Matches-differs none same =
+      none _ (append_cancel_left m.front rest _ (sym m.split ∙ sym same ∙ sym with_piece.bytes ∙ append_assoc m.front piece _))
 
 -- ---- pieces, list by list
 
@@ -124,22 +107,21 @@ pub record Gives (ahead : List (List ℕ)) (left : ℕ) (all given : List (List 
   pub enough : left ≤ length (concat ahead)
   pub lists : given ++ take_bytes left ahead ≡ all
 
-pub Gives-more : (lists : List (List ℕ)) (left count : ℕ) (all given : List (List ℕ)) → Gives lists left all given → 0 < left
-    → count ≡ min (length (front_of lists)) left → Gives (drop 1 lists) (left - count) all (given ++ take count (front_of lists) ∷ [])
-Gives-more [] left count all given h some is = absurd (omega (arith, some, h.enough))
-Gives-more (x ∷ rest) left count all given h some is =
-    record {
-      enough = omega (arith, is, h.enough, length-append x (concat rest));
-      lists = append_assoc given (take count x ∷ []) (take_bytes (left - count) rest) ∙ ap (λ l. given ++ l) (sym (by left x rest count some is)) ∙ h.lists;
-    }
+pub Gives-more : (lists : List (List ℕ)) (passed offset left : ℕ) (all given : List (List ℕ)) (piece : List ℕ) → Gives (lists_from passed offset lists) left all given → 0 < left
+    → piece ≡ take left (front_of (lists_from passed offset lists)) → Gives (lists_from (passed + 1) 0 lists) (left - length piece) all (given ++ piece ∷ [])
+Gives-more lists passed offset left all given piece h some is =
+    subst (λ (ahead : List (List ℕ)). Gives ahead (left - length piece) all (given ++ piece ∷ [])) (next_from lists passed offset) (by (lists_from passed offset lists) left h some is)
   where
-    by : (n : ℕ) (x : List ℕ) (ys : List (List ℕ)) (count : ℕ) → 0 < n → count ≡ min (length x) n → take_bytes n (x ∷ ys) ≡ take count x ∷ take_bytes (n - count) ys
-    by zero x ys count some is = absurd (omega arith)
-    by (suc n) x ys count some is =
-        let same : count ≡ min (suc n) (length x) = omega (arith, is) in
-        let left : suc n - length x ≡ suc n - count = omega (arith, is) in
-        let part : take (suc n) x ≡ take count x = sym (ap (λ m. take m x) same ∙ take_min (suc n) x) in
-        (λ j. part j ∷ take_bytes (left j) ys)
+    by : (here : List (List ℕ)) (n : ℕ) → Gives here n all given → 0 < n → piece ≡ take n (front_of here) → Gives (drop 1 here) (n - length piece) all (given ++ piece ∷ [])
+    by here zero h some is = absurd (omega arith)
+    by [] (suc n) h some is = absurd (omega (arith, h.enough))
+    by (x ∷ rest) (suc n) h some is =
+        let size = ap length is ∙ length-take (suc n) x in
+        let left : suc n - length piece ≡ suc n - length x = omega (arith, size) in
+        record {
+          enough = omega (arith, size, h.enough, length-append x (concat rest));
+          lists = append_assoc given (piece ∷ []) _ ∙ (λ j. given ++ is j ∷ take_bytes (left j) rest) ∙ h.lists;
+        }
 
 pub concat-take_bytes : (n : ℕ) (xs : List (List ℕ)) → concat (take_bytes n xs) ≡ take n (concat xs)
 concat-take_bytes zero xs = refl
@@ -155,3 +137,14 @@ NoneEmpty-take_bytes (suc n) (x ∷ xs) all =
     All-cons (λ s. 0 < length s) (take (suc n) x) (take_bytes (suc n - length x) xs)
     (omega (arith, length-take (suc n) x, All-head (λ s. 0 < length s) x xs all))
     (NoneEmpty-take_bytes (suc n - length x) xs (All-tail (λ s. 0 < length s) x xs all))
+
+-- all bytes are all lists
+pub take_bytes-all : (xs : List (List ℕ)) (n : ℕ) → NoneEmpty xs → n ≡ length (concat xs) → take_bytes n xs ≡ xs
+take_bytes-all [] zero all e = refl
+take_bytes-all [] (suc n) all e = absurd (omega (arith, e))
+take_bytes-all (x ∷ xs) zero all e = absurd (omega (arith, e, All-head (λ s. 0 < length s) x xs all, length-append x (concat xs)))
+take_bytes-all (x ∷ xs) (suc n) all e =
+    let size = length-append x (concat xs) in
+    let first : take (suc n) x ≡ x = take_all (suc n) x (omega (arith, e, size)) in
+    let others = take_bytes-all xs (suc n - length x) (All-tail (λ s. 0 < length s) x xs all) (omega (arith, e, size)) in
+    (λ i. first i ∷ others i)

@@ -7,23 +7,21 @@ use Rattle.bytes_utils_buf.specs.Slices.{joined, FillsTable}
 use Rattle.bytes_utils_buf.proofs.Lists.{drop-append_past}
 
 -- one slice in the first place of a table
-pub FillsTable-first : (dst : List (Bor (List ℕ))) (x : Bor (List ℕ)) (all : List ℕ) → 0 < length dst → x.now ≡ all → 0 < length all
-    → FillsTable 1 dst (set dst 0 x) all
-FillsTable-first [] x all room is some = absurd (omega arith)
-FillsTable-first (d ∷ ds) x all room is some =
-    let bytes : joined (take 1 (set (d ∷ ds) 0 x)) ≡ all = append-nil x.now ∙ is in
+pub joined-first : (dst : List (Bor (List ℕ))) (x : Bor (List ℕ)) → 0 < length dst → joined (take 1 (set dst 0 x)) ≡ x.now
+joined-first [] x room = absurd (omega arith)
+joined-first (d ∷ ds) x room = append-nil x.now
+
+pub FillsTable-first : (dst : List (Bor (List ℕ))) (x : Bor (List ℕ)) → 0 < length dst → 0 < length x.now → FillsTable 1 dst (set dst 0 x) x.now
+FillsTable-first [] x room some = absurd (omega arith)
+FillsTable-first (d ∷ ds) x room some =
+    let bytes = joined-first (d ∷ ds) x room in
     record {
       count = omega arith;
-      some = All-cons (λ s. 0 < length s.now) x [] (omega (arith, ap length is)) (All-nil (λ s. 0 < length s.now));
-      front = ap (λ l. l ++ drop (length l) all) bytes ∙ ap (λ l. all ++ l) (drop_all (length all) all (omega arith)) ∙ append-nil all;
+      some = All-cons (λ s. 0 < length s.now) x [] some (All-nil (λ s. 0 < length s.now));
+      front = ap (λ l. l ++ drop (length l) x.now) bytes ∙ ap (λ l. x.now ++ l) (drop_all (length x.now) x.now (omega arith)) ∙ append-nil x.now;
       whole = λ _. bytes;
       tail = refl;
     }
-
--- the slice has all bytes
-pub joined-first : (dst : List (Bor (List ℕ))) (x : Bor (List ℕ)) (all : List ℕ) → 0 < length dst → x.now ≡ all → joined (take 1 (set dst 0 x)) ≡ all
-joined-first [] x all room is = absurd (omega arith)
-joined-first (d ∷ ds) x all room is = append-nil x.now ∙ is
 
 joined-append : (xs ys : List (Bor (List ℕ))) → joined (xs ++ ys) ≡ joined xs ++ joined ys
 joined-append [] ys = refl

@@ -8,3 +8,4 @@ pub mod Refusals
 pub mod Either
 pub mod Chunks
 pub mod Write
+pub mod Packing

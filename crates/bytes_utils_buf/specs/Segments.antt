@@ -1,5 +1,5 @@
 -- Many buffers as one. Their unread lists, front first, are a list of byte lists, and the bytes to read are these joined.
-use Rattle.std.specs.Prelude.{◌≡◌, ℕ, zero, suc, ◌+◌, ◌-◌, ◌<◌, ◌≤◌, List, [], ◌∷◌, ◌++◌, length, take, drop, All}
+use Rattle.std.specs.Prelude.{◌≡◌, ℕ, zero, suc, ◌+◌, ◌-◌, ◌<◌, ◌≤◌, List, [], ◌∷◌, ◌++◌, length, take, drop, get_or, All}
 use Rattle.std.specs.List.{concat}
 use Rattle.bytes_utils_buf.specs.Tally.{Tallied, cost_of, lined_up, nothing_counted, pay_of}
 
@@ -58,7 +58,7 @@ lists_from passed offset segments = cut_front offset (drop passed segments)
 
 -- the place is inside that list, or after all of them
 abbrev pub IsInside : ℕ → ℕ → List (List ℕ) → Type 0
-IsInside passed offset segments = offset ≤ length (front_of (drop passed segments))
+IsInside passed offset segments = offset ≤ length (get_or segments passed [])
 
 -- a value after a counted call that accepts buffers with these unread lists, in order: empty ones are given too, but dropped and not held
 abbrev pub after_accepting : Held → List (List ℕ) → Held

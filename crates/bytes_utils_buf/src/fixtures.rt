@@ -57,6 +57,22 @@ pub(crate) fn thousand(alloc: Global) -> Result<Vec<Asked>, AllocError> {
     Ok(bufs)
 }
 
+/// A hundred thousand bytes.
+pub(crate) fn long(alloc: Global) -> Result<Vec<u8>, AllocError> {
+    vec![in alloc; b'x'; 100_000]
+}
+
+/// A hundred thousand bytes are taken out of a buffer of any type.
+pub(crate) fn assert_copies_long<B: BufParts>(
+    rt: &impl Abort,
+    alloc: Global,
+    buf: &mut B,
+) -> Result<(), Fail> {
+    let copy = take_out(rt, alloc, buf, 100_000)?;
+    assert!(rt; copy.len() == 100_000);
+    Ok(())
+}
+
 /// Puts buffers of any type into one.
 pub(crate) fn gather<B: Buf + Drop>(alloc: Global, bufs: Vec<B>) -> Result<SegmentedBuf<B>, Fail> {
     Ok(SegmentedBuf::from_vec(alloc, bufs).ok().ok_or("too long")?)

@@ -1,9 +1,11 @@
 //! Many byte buffers that read as one, without copying them together.
 //!
 //! [`SegmentedBuf`](segmented::SegmentedBuf) holds its buffers, and
-//! [`SegmentedSlice`](segmented::SegmentedSlice) borrows them. [`EitherBuf`] is a buffer of one of
-//! two types. [`BufParts`](parts::BufParts) and [`ContiguousBuf`](contiguous::ContiguousBuf) are
-//! the traits of buffers that copy their bytes out or show them as slices.
+//! [`SegmentedSlice`](segmented::SegmentedSlice) borrows them.
+//! [`PackedBuf`](segmented::PackedBuf) holds pieces, and copies small ones together. [`EitherBuf`]
+//! is a buffer of one of two types. [`BufParts`](parts::BufParts) and
+//! [`ContiguousBuf`](contiguous::ContiguousBuf) are the traits of buffers that copy their bytes out
+//! or show them as slices.
 //! [`write_all_of`](write::write_all_of) writes a buffer in few calls. Errors are a [`Reason`], a
 //! [`Refused`], which gives back a value, or a [`CopyRefused`](parts::CopyRefused).
 #![tactic(auto)]

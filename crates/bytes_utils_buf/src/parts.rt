@@ -65,11 +65,7 @@ impl BufParts for Bytes {
         ensures one { result ≤ 1 }
         ensures all { 0 < length dst.old → joined (take result dst.new) ≡ self.now }
     {
-        if self.is_empty() || dst.is_empty() {
-            return 0;
-        }
-        dst[0] = self.as_slice();
-        1
+        slice_into(self.as_slice(), dst)
     }
 }
 
@@ -98,11 +94,7 @@ impl BufParts for &[u8] {
         ensures one { result ≤ 1 }
         ensures all { 0 < length dst.old → joined (take result dst.new) ≡ self.now.now }
     {
-        if self.is_empty() || dst.is_empty() {
-            return 0;
-        }
-        dst[0] = *self;
-        1
+        slice_into(*self, dst)
     }
 }
 

@@ -1,7 +1,8 @@
-//! `SegmentedBuf` and `SegmentedSlice`: many buffers that read as one.
+//! `SegmentedBuf`, `SegmentedSlice` and `PackedBuf`: many buffers that read as one.
 mod buf;
 mod copy;
 mod fill;
+mod packed;
 mod pieces;
 mod place;
 mod slice;
@@ -12,4 +13,5 @@ mod tests;
 mod walk;
 
 pub use buf::{Chunks, SegmentedBuf};
+pub use packed::PackedBuf;
 pub use slice::SegmentedSlice;

@@ -17,14 +17,17 @@ const MOST_SLICES: usize = 1_024;
 /// The length of the table that is filled first. A buffer with fewer slices needs no longer one.
 const FEW_SLICES: usize = 16;
 
-/// The most bytes of small slices that one call writes.
+/// The length of the usual block for small slices.
 const BLOCK_LEN: usize = 16_384;
 
 /// The length of the block for slices with no more bytes than this.
 const SMALL_BLOCK_LEN: usize = 2_048;
 
+/// The length of the block for slices with more than twice the bytes of the usual one.
+const LARGE_BLOCK_LEN: usize = 65_536;
+
 /// The length from which a slice is written by a call of its own, without a copy.
-const LARGE_LEN: usize = 4_096;
+const LARGE_LEN: usize = 4_097;
 
 /// Writes `bytes`, and adds the number of bytes written to `written`.
 fn write_bytes<W: Write>(writer: &mut W, bytes: &[u8], written: &mut usize) -> io::Result<()>
@@ -123,7 +126,7 @@ fn fit_in(slices: &[&[u8]], room: usize) -> bool {
     true
 }
 
-/// As `write_slices`, with a block no larger than needed. One slice needs none.
+/// As `write_slices`, with a block that is large only for many bytes. One slice needs none.
 fn write_by_block<W: Write>(writer: &mut W, slices: &[&[u8]], written: &mut usize) -> io::Result<()>
     requires { written.old + length (joined slices.now) ≤ usize.MAX }
     ensures front { WritesCounted (W.contents writer.old) (W.contents writer.new)
@@ -137,7 +140,10 @@ fn write_by_block<W: Write>(writer: &mut W, slices: &[&[u8]], written: &mut usiz
     if fit_in(slices, SMALL_BLOCK_LEN) {
         return write_slices::<W, SMALL_BLOCK_LEN>(writer, slices, written);
     }
-    write_slices::<W, BLOCK_LEN>(writer, slices, written)
+    if fit_in(slices, 2 * BLOCK_LEN) {
+        return write_slices::<W, BLOCK_LEN>(writer, slices, written);
+    }
+    write_slices::<W, LARGE_BLOCK_LEN>(writer, slices, written)
 }
 
 /// Writes the first slices of a buffer. Returns how many bytes were written, and any error.
@@ -200,10 +206,10 @@ fn write_front<W: Write, B: BufParts>(writer: &mut W, buf: &B) -> (usize, io::Re
 /// write_all_of(&mut out, &mut SegmentedSlice::new(&mut parts))?; // if `total` isn't `None`
 /// ```
 ///
-/// Slices of less than 4,096 bytes that follow one another are copied into a block of 16 KiB on the
-/// stack, and one call writes up to 1,024 of them. Each larger slice is written by a call of its
-/// own, without a copy, and so is a slice that is alone. For fewer than 16 slices the table and the
-/// block are smaller.
+/// Slices of at most 4,096 bytes that follow one another are copied into a block on the stack, and
+/// one call writes up to 1,024 of them. The block has 64 KiB if these slices have more than 32 KiB,
+/// 2 KiB if they fit it, and 16 KiB otherwise. Each larger slice is written by a call of its own,
+/// without a copy, and so is a slice that is alone. For fewer than 16 slices the table is smaller.
 ///
 /// A short write is continued. Fails with the writer's own error, after which it makes no further
 /// write, or with `WriteZero` if a write took nothing. Then `buf` has the bytes that were not

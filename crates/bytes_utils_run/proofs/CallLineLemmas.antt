@@ -1,12 +1,10 @@
 -- Call lines read one after the other.
-use Rattle.std.proofs.Common.{◌≡◌, refl, sym, ap, subst, ◌∙◌, ℕ, ◌-◌, List, [], ◌∷◌, ◌++◌, length, length-append, drop, codes, IsUtf8, IsCharBoundary, Option, Some, arith}
-use Rattle.std.proofs.lemmas.Str.{IsCharBoundary-at_seam, encodes-chars}
+use Rattle.std.proofs.Common.{◌≡◌, refl, sym, subst, ℕ, List, [], ◌∷◌, ◌++◌, Option, Some}
 use Rattle.std.specs.Str.{chars}
 use Rattle.bytes_utils.specs.Lines.{AreLinesToCome, lines}
 use Rattle.bytes_utils.specs.Step.{GivesFirst, HasGiven}
 use Rattle.bytes_utils.proofs.StepLemmas.{HasGiven-none, HasGiven-more}
 use Rattle.bytes_utils_run.specs.CallLine.{AreCallLines, IsCallLine}
-use Rattle.bytes_utils_run.proofs.CommandLemmas.{chars-push}
 use Rattle.bytes_utils_run.specs.declared.calls.Call.{Call}
 use Rattle.bytes_utils_run.specs.declared.calls.Call.TheVariants.{Push, Segments, Read}
 use Rattle.bytes_utils_run.specs.declared.calls.ReadCall.TheVariants.{Remaining, Chunk, Advance, CopyOut, Chunks}
@@ -40,21 +38,6 @@ no-kind line plain numbered pushed (Read Chunk) = plain.2
 no-kind line plain numbered pushed (Read (Advance n)) = (numbered n).0
 no-kind line plain numbered pushed (Read (CopyOut n)) = (numbered n).1
 no-kind line plain numbered pushed (Read (Chunks n)) = (numbered n).2
-
--- What follows the word of a call that pushes.
-module _ (line text : List ℕ) (following : line ≡ codes "push " ++ text) (text_is : IsUtf8 text) where
-  -- its place
-  pub pushed-place : (at : ℕ) → at ≡ length line - length text → (at ≡ 5) × IsCharBoundary line at
-  pushed-place at is =
-      let five : at ≡ 5 = omega (arith, is, ap length following, length-append (codes "push ") text) in
-      (five, subst (IsCharBoundary line) (sym five) (IsCharBoundary-at_seam line (codes "push ") text following text_is))
-
-  -- its bytes are pushed
-  pub pushed-is : (bytes : List ℕ) (at : ℕ) → at ≡ length line - length text → bytes ≡ drop at line → chars line ≡ chars (codes "push ") ++ chars text
-      → IsCallLine (Push bytes) (chars line)
-  pushed-is bytes at place is e =
-      let same : bytes ≡ text = is ∙ ap (λ k. drop k line) (pushed-place at place).0 ∙ ap (drop 5) following in
-      (chars text, same ∙ sym (encodes-chars text text_is), e ∙ ap (λ z. z ++ chars text) chars-push)
 
 -- The calls read so far: the splitter gave lines that ask for them.
 pub record HasRead (text : List ℕ) (calls : List (Call (List ℕ))) (state : Option (List ℕ)) : Type 0 where

@@ -1,7 +1,11 @@
 -- Commands read from a line, in bytes and in characters.
 use Rattle.std.proofs.Common.{◌≡◌, ◌≢◌, refl, sym, ap, subst, ◌∙◌, ℕ, suc, ◌+◌, ◌<◌, List, [], ◌∷◌, ◌++◌, Bool, true, false, Option, None, Some, MatchOption, Bor, length, take, drop, take-append-drop, length-append, get_or, codes, arith, IsUtf8, IsCharBoundary}
+use Rattle.std.proofs.lemmas.Bool.{ltb-true}
 use Rattle.std.proofs.lemmas.Fmt.{IsAscii-from_digits}
 use Rattle.std.proofs.lemmas.List.{append_cancel_left, drop_at}
+use Rattle.std.proofs.lemmas.List.Elements.{All-weaker}
+use Rattle.std.proofs.lemmas.List.Sums.{AllPass-from_list_all}
+use Rattle.std.proofs.lemmas.Str.Ascii.{IsAscii-from_all}
 use Rattle.std.proofs.lemmas.Str.{chars-append, encodes-chars, encodes-append, encodes-IsAscii, chars-IsAscii, IsUtf8-take, IsUtf8-drop, IsUtf8-append, IsCharBoundary-at_seam}
 use Rattle.std.specs.Option.{IfSome}
 use Rattle.std.specs.Str.Parse.{AllDigits}
@@ -10,7 +14,8 @@ use Rattle.std.specs.Str.{bytes_eq}
 use Rattle.std.proofs.lemmas.Slice.Eq.{bytes_eq-Decides}
 use Rattle.std.specs.Str.Pattern.{LacksTextAt, FindsText, FindsTextPrefix}
 use Rattle.std.specs.Str.{chars, encode_utf8_all as encodes}
-use Rattle.std.specs.Char.{encode_utf8, digit_value}
+use Rattle.std.specs.Char.{encode_utf8, digit_value, is_ascii}
+use Rattle.std.specs.List.{list_all}
 use Rattle.bytes_utils_run.specs.CallLine.{IsNumbered}
 use Rattle.bytes_utils_run.specs.Command.{IsCommand, IsCounted, IsCountedAfter}
 use Rattle.bytes_utils_run.specs.Cutting.{Cutting, ByWords, ByAsciiWords, ByLines, FromFront, FromBack, Keeping, IsAllowed, cutting}
@@ -39,78 +44,14 @@ reports-word line word line_is word_is false e = λ same. absurd_bool (e ∙ (by
     absurd_bool : false ≡ true → ⊥
     absurd_bool f = cc
 
--- the characters of the words of commands
-pub chars-words : chars (codes "words") ≡ codes "words"
-unfolding chars
-chars-words = refl
-
-pub chars-ascii : chars (codes "ascii") ≡ codes "ascii"
-unfolding chars
-chars-ascii = refl
-
-pub chars-lines : chars (codes "lines") ≡ codes "lines"
-unfolding chars
-chars-lines = refl
-
-pub chars-split : chars (codes "split ") ≡ codes "split "
-unfolding chars
-chars-split = refl
-
-pub chars-rsplit : chars (codes "rsplit ") ≡ codes "rsplit "
-unfolding chars
-chars-rsplit = refl
-
-pub chars-inclusive : chars (codes "inclusive ") ≡ codes "inclusive "
-unfolding chars
-chars-inclusive = refl
-
-pub chars-splitn : chars (codes "splitn ") ≡ codes "splitn "
-unfolding chars
-chars-splitn = refl
-
-pub chars-rsplitn : chars (codes "rsplitn ") ≡ codes "rsplitn "
-unfolding chars
-chars-rsplitn = refl
-
-pub chars-buf : chars (codes "buf") ≡ codes "buf"
-unfolding chars
-chars-buf = refl
-
-pub chars-segments : chars (codes "segments") ≡ codes "segments"
-unfolding chars
-chars-segments = refl
-
-pub chars-remaining : chars (codes "remaining") ≡ codes "remaining"
-unfolding chars
-chars-remaining = refl
-
-pub chars-chunk : chars (codes "chunk") ≡ codes "chunk"
-unfolding chars
-chars-chunk = refl
-
-pub chars-push : chars (codes "push ") ≡ codes "push "
-unfolding chars
-chars-push = refl
-
-pub chars-advance : chars (codes "advance ") ≡ codes "advance "
-unfolding chars
-chars-advance = refl
-
-pub chars-copy : chars (codes "copy ") ≡ codes "copy "
-unfolding chars
-chars-copy = refl
-
-pub chars-chunks : chars (codes "chunks ") ≡ codes "chunks "
-unfolding chars
-chars-chunks = refl
+-- a word of ASCII, such as one in source code, is its own characters
+pub chars_word : (word : List ℕ) → list_all is_ascii word ≡ true → chars word ≡ word
+chars_word word all =
+    chars-IsAscii word (IsAscii-from_all word (All-weaker (λ b. is_ascii b ≡ true) (λ b. b < 128) (λ b. ltb-true b 128) word (AllPass-from_list_all is_ascii word all)))
 
 space-bytes : encodes (codes " ") ≡ codes " "
 unfolding encode_utf8
 space-bytes = refl
-
-space-chars : chars (codes " ") ≡ codes " "
-unfolding chars
-space-chars = refl
 
 space-utf8 : IsUtf8 (codes " ")
 unfolding encode_utf8
@@ -175,7 +116,7 @@ module _ (text front back : List ℕ) (text_is : IsUtf8 text) (i j : ℕ) (finds
     chars front,
     is,
     ap chars whole ∙ chars-append front (codes " " ++ back) front_utf8
-        ∙ ap (λ z. chars front ++ z) (chars-append (codes " ") back space-utf8 ∙ ap (λ z. z ++ chars back) space-chars),
+        ∙ ap (λ z. chars front ++ z) (chars-append (codes " ") back space-utf8 ∙ ap (λ z. z ++ chars back) (chars_word (codes " ") refl)),
   )
 
   pub no-number : ((n : ℕ) → ¬ IsNumber (chars front) n) → (most : ℕ) (rest : List ℕ) → ¬ IsCounted (chars text) most rest

@@ -1,19 +1,20 @@
 -- The replies that are printed: those before the first one that memory was refused for.
-use Rattle.std.proofs.Common.{◌≡◌, sym, ap, subst, ℕ, zero, suc, ◌<◌, ◌≤◌, List, [], ◌∷◌, ◌++◌, length, take, get_or, inl, inr, false, None, Some, arith, lit<, All}
+use Rattle.std.proofs.Common.{◌≡◌, refl, subst, ℕ, zero, suc, ◌<◌, ◌≤◌, List, [], ◌∷◌, ◌++◌, length, take, get_or, inl, inr, false, Option, None, Some, MatchOption, arith, lit<, All}
 use Rattle.std.specs.Global.{Vec}
-use Rattle.std.specs.List.{before_first, position, position_or_len}
-use Rattle.std.specs.Option.{option_map_or}
-use Rattle.std.specs.Prelude.{Bool, true, cond, nat_lt, unwrap_or}
+use Rattle.std.specs.List.{position, position_or_len}
 use Rattle.std.proofs.lemmas.List.Elements.{All-cons, All-nil}
 use Rattle.std.proofs.lemmas.List.Quantifiers.{position-Some}
 use Rattle.std.proofs.lemmas.Bool.{cases_lt}
 use Rattle.std.proofs.lemmas.Grind.{common_steps}
 use Rattle.std.proofs.lemmas.List.{take_all}
 use Rattle.std.proofs.lemmas.List.Sums.{fails_before_first}
+use Rattle.bytes_utils.specs.Outcome.{Outcome}
 use Rattle.bytes_utils_buf.specs.Segments.{Held, nothing_held}
 use Rattle.bytes_utils_run.proofs.Ample.{stopped}
 use Rattle.bytes_utils_run.specs.Calls.{IsCall, IsRun}
-use Rattle.bytes_utils_run.specs.Request.{AreReplies, lacks_memory}
+use Rattle.bytes_utils_run.specs.Request.{AreFirstReplies, AreReplies, lacks_memory}
+use Rattle.bytes_utils_buf.specs.declared.refused.Reason.{Reason}
+use Rattle.bytes_utils_buf.specs.declared.refused.Reason.TheVariants.{OutOfMemory}
 use Rattle.bytes_utils_run.specs.declared.calls.Call.{Call}
 use Rattle.bytes_utils_run.specs.declared.calls.Reply.{Reply}
 use Rattle.bytes_utils_run.specs.declared.calls.Reply.TheVariants.{Done}
@@ -36,30 +37,29 @@ past_all replies none = elim (cases_lt (position_or_len lacks_memory replies) (l
     some : position_or_len lacks_memory replies < length replies → ⊥
     some found = grind (arith, common_steps)
 
--- then all replies are before it
-pub before-none : (replies : List Reply) → position lacks_memory replies ≡ None → replies ≡ before_first lacks_memory replies
-before-none replies none = sym (take_all (position_or_len lacks_memory replies) replies (past_all replies none))
-
--- `count` replies are before the first one that memory was refused for
-pub before-some : (replies : List Reply) (count : ℕ) → position lacks_memory replies ≡ Some count → take count replies ≡ before_first lacks_memory replies
-before-some replies count found = ap (λ n. take n replies) (sym (place_of (nat_lt (position_or_len lacks_memory replies) (length replies)) (position_or_len lacks_memory replies) found))
-  where
-    place_of : (is : Bool) (n : ℕ) → cond is (Some n) None ≡ Some count → n ≡ count
-    place_of true n some = ap (λ place. unwrap_or place 0) some
-    place_of false n some = let no : ◌≡◌ {A = ℕ} 0 1 = ap (λ place. option_map_or (λ _. 1) place 0) some in absurd (omega (arith, no))
-
 -- if memory was refused for no reply, all are right
-pub replies-all : (calls : List (Call (List ℕ))) (replies : List Reply) (left : Held) → IsRun (IsCall (λ bytes. bytes)) calls nothing_held replies left
+replies-all : (calls : List (Call (List ℕ))) (replies : List Reply) (left : Held) → IsRun (IsCall (λ bytes. bytes)) calls nothing_held replies left
     → position lacks_memory replies ≡ None → AreReplies calls replies
 replies-all calls replies left run none =
     let whole = whole-before replies (length replies) (λ k l. fails_before_first lacks_memory replies k Done (omega (arith, l, past_all replies none))) in
     record { left = left; run = run; whole = subst (All (λ reply. lacks_memory reply ≡ false)) (take_all (length replies) replies (omega arith)) whole }
 
 -- the replies before the first one that memory was refused for are the first of right replies
-pub replies-before : {Y : Type 0} (like : Vec Y) (calls : List (Call (List ℕ))) (replies : List Reply) (left : Held) (count : ℕ)
+replies-before : {Y : Type 0} (like : Vec Y) (calls : List (Call (List ℕ))) (replies : List Reply) (left : Held) (count : ℕ)
     → IsRun (IsCall (λ bytes. bytes)) calls nothing_held replies left → position lacks_memory replies ≡ Some count
     → (others : List Reply) × (0 < length others) × AreReplies calls (take count replies ++ others)
 replies-before like calls replies left count run found =
     let first = position-Some lacks_memory replies count Done found in
     let more = stopped like calls nothing_held replies left run (lit< tt) count first.0 (whole-before replies count first.2) in
     (more.0, more.1, record { left = more.2; run = more.3; whole = more.4 })
+
+-- such replies are given, and those that are missing complete them
+pub first-given : {Y : Type 0} (like : Vec Y) (calls : List (Call (List ℕ))) (given : List Reply) (refused : Option Reason)
+    → AreFirstReplies calls given refused → Outcome (AreReplies calls) given refused
+first-given like calls given refused are = by_place (position lacks_memory are.all) refl are.first
+  where
+    by_place : (place : Option ℕ) → position lacks_memory are.all ≡ place
+        → MatchOption place ((given ≡ are.all) × (refused ≡ None)) (λ count. (given ≡ take count are.all) × (refused ≡ Some OutOfMemory))
+        → Outcome (AreReplies calls) given refused
+    by_place None none is = rw (is.0, is.1) (replies-all calls are.all are.left are.run none)
+    by_place (Some count) found is = rw (is.0, is.1) (replies-before like calls are.all are.left count are.run found)

@@ -36,5 +36,6 @@ PrintsGiven answer refused held held' = (given : List (List ℕ)) × ComesOf ans
 
 -- the first bytes of some results were printed: none, some or all of the bytes
 abbrev pub PrintsBeginning : Answer → Option (List ℕ) → Option (List ℕ) → Type 0
-PrintsBeginning answer held held' =
-    (given : List (List ℕ)) × (refused : Option Reason) × ComesOf answer given refused × AppendsBeginning held held' (concat given)
+PrintsBeginning (Splitter splitter) held held' =
+    (parts : List (List ℕ)) × AreToCome splitter parts × AppendsBeginning held held' (concat (map printed_part parts))
+PrintsBeginning (Replies replies) held held' = AppendsBeginning held held' (concat (map printed_reply replies.given.items))

@@ -1,6 +1,6 @@
 -- The lines of the program's input that ask for calls on a buffer. A line is a list of characters here, and the bytes to push are bytes.
-use Rattle.std.specs.Prelude.{◌≡◌, ℕ, List, [], ◌∷◌, ◌++◌, codes, ⊤}
-use Rattle.std.specs.Str.{encode_utf8_all}
+use Rattle.std.specs.Prelude.{◌≡◌, ℕ, List, [], ◌∷◌, ◌++◌, codes, IsUtf8, ⊤}
+use Rattle.std.specs.Str.{chars}
 use Rattle.bytes_utils_run.specs.Number.{IsNumber}
 use Rattle.bytes_utils_run.specs.declared.calls.Call.{Call}
 use Rattle.bytes_utils_run.specs.declared.calls.Call.TheVariants.{Push, Segments, Read}
@@ -10,9 +10,10 @@ use Rattle.bytes_utils_run.specs.declared.calls.ReadCall.TheVariants.{Remaining,
 abbrev pub IsNumbered : List ℕ → ℕ → List ℕ → Type 0
 IsNumbered word n line = (digits : List ℕ) × IsNumber digits n × (line ≡ word ++ digits)
 
--- The line asks for this call. There is one space between a word and what follows it. The text to push is all of the line after its space.
+-- The line asks for this call. There is one space between a word and what follows it. The bytes to push are those of the
+-- text after its space.
 abbrev pub IsCallLine : Call (List ℕ) → List ℕ → Type 0
-IsCallLine (Push bytes) line = (text : List ℕ) × (bytes ≡ encode_utf8_all text) × (line ≡ codes "push " ++ text)
+IsCallLine (Push bytes) line = IsUtf8 bytes × (line ≡ codes "push " ++ chars bytes)
 IsCallLine Segments line = line ≡ codes "segments"
 IsCallLine (Read Remaining) line = line ≡ codes "remaining"
 IsCallLine (Read Chunk) line = line ≡ codes "chunk"

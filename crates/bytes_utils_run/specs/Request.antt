@@ -1,6 +1,6 @@
 -- What an input asks for, and what is right to print for it. Command lines and texts are lists of characters here.
-use Rattle.std.specs.Prelude.{◌≡◌, ℕ, List, Bool, true, false, All, map, codes}
-use Rattle.std.specs.List.{before_first}
+use Rattle.std.specs.Prelude.{◌≡◌, ℕ, List, Bool, true, false, Option, None, Some, MatchOption, All, map, take, codes}
+use Rattle.std.specs.List.{position}
 use Rattle.bytes_utils.specs.Lines.{lines}
 use Rattle.bytes_utils_buf.specs.Segments.{Held, nothing_held}
 use Rattle.bytes_utils_run.specs.CallLine.{AreCallLines}
@@ -8,6 +8,8 @@ use Rattle.bytes_utils_run.specs.Calls.{IsCall, IsRun}
 use Rattle.bytes_utils_run.specs.Command.{IsCommand}
 use Rattle.bytes_utils_run.specs.Cutting.{Cutting, ArePartsBy}
 use Rattle.bytes_utils_run.specs.Printed.{printed_part, printed_reply}
+use Rattle.bytes_utils_buf.specs.declared.refused.Reason.{Reason}
+use Rattle.bytes_utils_buf.specs.declared.refused.Reason.TheVariants.{OutOfMemory}
 use Rattle.bytes_utils_run.specs.declared.calls.Call.{Call}
 use Rattle.bytes_utils_run.specs.declared.calls.Reply.{Reply}
 use Rattle.bytes_utils_run.specs.declared.calls.Reply.TheVariants.{NoMemory, CopyStopped}
@@ -34,12 +36,13 @@ pub record AreReplies (calls : List (Call (List ℕ))) (replies : List Reply) : 
   pub run : IsRun (IsCall (λ bytes. bytes)) calls nothing_held replies left
   pub whole : All (λ reply. lacks_memory reply ≡ false) replies
 
--- of right replies to these calls on a new buffer, those before the first one that says that memory was refused, or all if none does
-pub record AreFirstReplies (calls : List (Call (List ℕ))) (replies : List Reply) : Type 0 where
+-- The replies that are given for these calls on a new buffer, and why if there are more. `all` are right replies, one for
+-- each call. If memory was refused for one of them, those before the first such reply are given; otherwise all are.
+pub record AreFirstReplies (calls : List (Call (List ℕ))) (given : List Reply) (refused : Option Reason) : Type 0 where
   pub all : List Reply
   pub left : Held
   pub run : IsRun (IsCall (λ bytes. bytes)) calls nothing_held all left
-  pub before : replies ≡ before_first lacks_memory all
+  pub first : MatchOption (position lacks_memory all) ((given ≡ all) × (refused ≡ None)) (λ count. (given ≡ take count all) × (refused ≡ Some OutOfMemory))
 
 -- these entries, parts or replies as they are printed, are right for this request on this text
 abbrev pub AreEntries : Request → List ℕ → List (List ℕ) → Type 0

@@ -65,6 +65,7 @@ pub fn limits<X>()
 
 /// The parts between separators, joined by the separator, are the text: for every separator, even
 /// the empty one, and a limit of at least 1 or none. Parts from the back are joined in reverse.
+#[tactic(auto, using(bytes_utils::proofs::Rejoining::front_rejoins, bytes_utils::proofs::Rejoining::back_rejoins))]
 pub fn rejoin<X>()
     ensures forward { JoinLaw X ArePartsFromFront (λ parts. parts) }
     ensures backward { JoinLaw X ArePartsFromBack reverse }
@@ -79,12 +80,14 @@ pub fn come_back<X>()
 {}
 
 /// The same for texts, joined by `join` and split by `split_bytes`.
+#[tactic(auto, using(bytes_utils::proofs::Separable::texts_come_back))]
 pub fn texts_come_back()
     ensures { TextsComeBackLaw }
 {}
 
 /// In each state of a splitter at most one list of parts is still to come. So the parts that a run
 /// gave are the ones that were to come when it began.
+#[tactic(auto, using(bytes_utils::proofs::ToCome::one_forward, bytes_utils::proofs::ToCome::one_indexed, bytes_utils::proofs::ToCome::one_backward, bytes_utils::proofs::ToCome::one_inclusive, bytes_utils::proofs::ToCome::one_of_lines, bytes_utils::proofs::ToCome::one_of_words))]
 pub fn one_to_come()
     ensures forward { OneToComeLaw AreForwardPartsToCome }
     ensures indexed { OneToComeLaw AreIndexedPartsToCome }
@@ -96,6 +99,7 @@ pub fn one_to_come()
 
 /// Each part of a text occurs in the text at the place that `indices` pairs with it: for every
 /// separator, even the empty one, and every limit.
+#[tactic(auto, using(bytes_utils::proofs::IndicesLemmas::part_places))]
 pub fn part_places()
     ensures { PartPlacesLaw }
 {}
@@ -108,6 +112,7 @@ pub fn ascii_characters()
 /// `cut_all` gives the same parts, in the same order, as the method of `str`; if it is refused, it
 /// gives fewer of them, from the first on. The functions of [`borrowed`] state what those methods
 /// give.
+#[tactic(auto, using(crate::proofs::OwnedAsBorrowed::owned_as_borrowed_law))]
 pub fn owned_as_borrowed()
     ensures { OwnedAsBorrowedLaw }
 {}
@@ -115,17 +120,20 @@ pub fn owned_as_borrowed()
 /// `split_once_bytes` and `rsplit_once_bytes` give the same halves as the methods of `str`, or
 /// `None` if those do, since only one result is right. The functions of [`borrowed`] state what
 /// those methods give.
+#[tactic(auto, using(crate::proofs::OnceAsBorrowed::once_at_first, crate::proofs::OnceAsBorrowed::once_at_last))]
 pub fn once_as_borrowed()
     ensures first { OnceAsBorrowedLaw AreHalvesAtFirst }
     ensures last { OnceAsBorrowedLaw AreHalvesAtLast }
 {}
 
 /// The words of a text are its maximal runs of characters that aren't white space.
+#[tactic(auto, using(crate::proofs::WordRunsLemmas::words_law))]
 pub fn words_are_runs()
     ensures { WordsLaw }
 {}
 
 /// The lines of a text, each followed by its line end, make up the text. No other lines do.
+#[tactic(auto, using(crate::proofs::LineEndsLemmas::lines_law))]
 pub fn lines_have_ends()
     ensures { LinesLaw }
 {}

@@ -1,8 +1,10 @@
 //! Frames out of pieces, as a Rust program has them today: `frames HOW END SIZE PIECE LEAST MOST ROUNDS`. HOW is
 //! `memmem_lent` or `memmem_moved`, a loop of `memmem` over one growing `BytesMut` that searches on from where it
 //! stopped, or `codec_lent` or `codec_moved`, tokio-util's `LinesCodec`, for END `lf` alone. Pieces are lent as slices
-//! of the whole, or moved as blocks of their own, which are dropped once they are copied in. END is `lf` or `crlf2`.
-//! It prints the frames, their bytes, and the least nanoseconds of all rounds.
+//! of the whole, or moved as blocks of their own, which are dropped once they are copied in. HOW `floor` has no pieces:
+//! it searches the whole stream in one block, and counts one owner for each frame. END is `lf` or `crlf2`, or one of
+//! the streams that attack a search: `returns`, `beginnings` or `run`. It prints the frames, their bytes, and the least
+//! nanoseconds of all rounds.
 use bytes::{Bytes, BytesMut};
 use memchr::memmem::Finder;
 use std::env;
@@ -10,8 +12,21 @@ use std::hint::black_box;
 use std::time::Instant;
 use tokio_util::codec::{Decoder, LinesCodec};
 
-/// So many bytes or some more, in frames of `least` to `most` letters, each with the separator behind it.
-fn stream(size: usize, least: usize, most: usize, separator: &[u8]) -> Vec<u8> {
+const RUN: &[u8] = b"aaaaaaaaaaaaaaaaaaaaaaaaaaaaaaaaaaaaaaaaaaaaaaaaaaaaaaaaaaaaaaab";
+
+/// What ends each frame, and the letters before that, which come over and over.
+fn end(word: &str) -> (&'static [u8], &'static [u8]) {
+    match word {
+        "lf" => (b"\n", b"abcdefghijklmnopqrstuvwxyz"),
+        "returns" => (b"\r\n\r\n", b"\r"),
+        "beginnings" => (b"\r\n\r\n", b"\r\n\rx"),
+        "run" => (RUN, b"a"),
+        _ => (b"\r\n\r\n", b"abcdefghijklmnopqrstuvwxyz"),
+    }
+}
+
+/// So many bytes or some more, in frames of `least` to `most` letters, each with the separator after it.
+fn stream(size: usize, least: usize, most: usize, separator: &[u8], letters: &[u8]) -> Vec<u8> {
     let mut number: u64 = 12345;
     let mut bytes = Vec::with_capacity(size + most + separator.len());
     while bytes.len() < size {
@@ -20,7 +35,7 @@ fn stream(size: usize, least: usize, most: usize, separator: &[u8]) -> Vec<u8> {
             .wrapping_add(1442695040888963407);
         let length = least + (number >> 33) as usize % (most - least + 1);
         let first = (number >> 20) as usize;
-        bytes.extend((0..length).map(|i| b'a' + (first.wrapping_add(i) % 26) as u8));
+        bytes.extend((0..length).map(|i| letters[first.wrapping_add(i) % letters.len()]));
         bytes.extend_from_slice(separator);
     }
     bytes
@@ -102,17 +117,29 @@ fn round(mut reader: impl Reader, all: &[u8], piece: usize, is_moved: bool) -> (
     (seen, start.elapsed().as_nanos())
 }
 
+/// One round without pieces.
+fn floor(finder: &Finder, whole: &Bytes) -> (Seen, u128) {
+    let mut seen = Seen::default();
+    let mut from = 0;
+    let start = Instant::now();
+    while let Some(at) = finder.find(&whole[from..]) {
+        seen.add(&whole.slice(from..from + at));
+        from += at + finder.needle().len();
+    }
+    (seen, start.elapsed().as_nanos())
+}
+
 fn main() {
     let words: Vec<String> = env::args().skip(1).collect();
-    let [how, end, numbers @ ..] = &words[..] else {
+    let [how, word, numbers @ ..] = &words[..] else {
         panic!("frames HOW END SIZE PIECE LEAST MOST ROUNDS");
     };
     let numbers: Vec<usize> = numbers.iter().map(|it| it.parse().expect("a number")).collect();
     let [size, piece, least, most, rounds] = numbers[..] else {
         panic!("five numbers");
     };
-    let separator: &'static [u8] = if end == "lf" { b"\n" } else { b"\r\n\r\n" };
-    let all = stream(size, least, most, separator);
+    let (separator, letters) = end(word);
+    let all = Bytes::from(stream(size, least, most, separator, letters));
     let is_moved = how.ends_with("_moved");
     let runs = (0..rounds).map(|_| {
         let held = BytesMut::new();
@@ -121,6 +148,9 @@ fn main() {
             return round(Codec { codec, held }, &all, piece, is_moved);
         }
         let finder = Finder::new(separator);
+        if how == "floor" {
+            return floor(&finder, &all);
+        }
         round(Memmem { finder, held, searched: 0 }, &all, piece, is_moved)
     });
     let (seen, time) = runs.min_by_key(|(_, time)| *time).expect("a round");

@@ -7,9 +7,9 @@ ghost use Rattle.bytes_utils.specs.Frames.{TakesFrame};
 ghost use Rattle.bytes_utils.specs.LimitedFrames.{Awaits, Discards, Gives, IsLimitedStep, IsOverlong, KeepsLimit, LimitedFramesLaw, Reports};
 
 use super::Frames;
-use bytes::Bytes;
-use bytes_utils_buf::segmented::SegmentedBuf;
-use bytes_utils_buf::{Reason, Refused};
+use bytes::{Bytes, BytesMut};
+use bytes_utils_buf::segmented::{PackedBuf, SegmentedBuf};
+use bytes_utils_buf::{EitherBuf, Reason, Refused};
 use std::alloc::Global;
 use std::marker::Model;
 
@@ -19,8 +19,9 @@ use std::marker::Model;
 /// one after it.
 ///
 /// If `next_frame` is called after each `push` until it returns `None`, then fewer bytes are held
-/// than `max_length` and the length of the separator together. Each held piece keeps its whole
-/// block alive.
+/// than `max_length` and the length of the separator together. They are in at most two segments,
+/// and one more for each 256 bytes, however the peer cuts what it sends (see `pieces`). A piece of
+/// more than 512 bytes keeps its whole block alive.
 #[derive(Debug, Drop)]
 pub struct LimitedFrames {
     frames: Frames,
@@ -63,8 +64,8 @@ impl LimitedFrames {
         })
     }
 
-    /// Appends `piece` without a copy. Fails with `TooLong` if the number of held bytes would pass
-    /// `usize::MAX`, and with `OutOfMemory` if memory is refused; then nothing has changed and
+    /// Appends `piece`, as `Frames` does. Fails with `TooLong` if the number of held bytes would
+    /// pass `usize::MAX`, and with `OutOfMemory` if memory is refused; then nothing has changed and
     /// `piece` comes back.
     pub fn push(&mut self, piece: Bytes) -> Result<(), Refused<Bytes>>
         ensures ok { OnOk result (self.new ≡ record self.old { held = self.old.held ++ piece }) }
@@ -75,6 +76,17 @@ impl LimitedFrames {
         ensures empty { piece ≡ [] → IsOk result }
     {
         self.frames.push(piece)
+    }
+
+    /// Appends a copy of `bytes`, as `Frames` does. Fails as `push` does; then nothing has changed.
+    pub fn push_slice(&mut self, bytes: &[u8]) -> Result<(), Reason>
+        ensures ok { OnOk result (self.new ≡ record self.old { held = self.old.held ++ bytes.now }) }
+        ensures err { OnErr result (self.new ≡ self.old) }
+        ensures too_long { IfErr result (λ reason. (reason ≡ Reason.TooLong)
+            ↔ (2 ^ 64 ≤ length self.old.held + length bytes.now)) }
+        ensures empty { bytes.now ≡ [] → IsOk result }
+    {
+        self.frames.push_slice(bytes)
     }
 
     /// Returns the next frame without its separator, or `None` if its end has not come yet. Fails
@@ -91,7 +103,7 @@ impl LimitedFrames {
         Ok(Some(self.frames.take_frame(alloc, len)?))
     }
 
-    /// As `next_frame`, but in the pieces in which the frame came. No byte is copied.
+    /// As `next_frame`, but in pieces, as `Frames` returns them.
     pub fn next_frame_segments(
         &mut self,
         alloc: Global,
@@ -184,6 +196,23 @@ impl LimitedFrames {
         size <= self.frames.remaining() && self.max_length <= self.frames.remaining() - size
     }
 
+    /// Whether a frame is skipped whose end has not been found.
+    pub(super) fn is_discarding(&self) -> bool
+        ensures { result ≡ self.now.discarding }
+    {
+        self.discarding
+    }
+
+    /// Removes all held bytes and returns them.
+    pub(super) fn take_held(&mut self, alloc: Global) -> Result<Bytes, Reason>
+        ensures held { IfOk result (λ held. held ≡ self.old.held) }
+        ensures ok { OnOk result (self.new ≡ record self.old { held = [] }) }
+        ensures err { OnErr result (self.new ≡ self.old) }
+        ensures reason { IfErr result (λ reason. reason ≡ Reason.OutOfMemory) }
+    {
+        self.frames.take_held(alloc)
+    }
+
     /// Returns the number of held bytes: those pushed and not yet taken or dropped.
     pub fn remaining(&self) -> usize
         ensures { result ≡ length self.now.held }
@@ -191,10 +220,18 @@ impl LimitedFrames {
         self.frames.remaining()
     }
 
+    /// Returns the held bytes as they are held.
+    pub fn pieces(&self) -> &PackedBuf
+        ensures bytes { concat result.now.held.segments ≡ self.now.held }
+        ensures threshold { result.now.threshold ≡ 512 }
+    {
+        self.frames.pieces()
+    }
+
     /// Returns the held bytes. Call it at the end of the stream: they are the last frame, if it has
     /// no separator, and any frames not asked for, or else the last bytes of a frame that is
     /// skipped.
-    pub fn finish(self) -> SegmentedBuf<Bytes>
+    pub fn finish(self) -> SegmentedBuf<EitherBuf<Bytes, BytesMut>>
         ensures { concat result.segments ≡ self.held }
     {
         self.frames.finish()

@@ -4,22 +4,23 @@ ghost use Rattle.std.specs.List.{concat};
 ghost use Rattle.bytes_utils.specs.Errors.{IsFaultOf, fault_of, refused_storage};
 ghost use Rattle.bytes_utils.specs.Lines.{IsWithoutReturn, line_feed};
 ghost use Rattle.bytes_utils.specs.Occurrence.{Occurs};
-ghost use Rattle.bytes_utils.specs.StreamLines.{FirstLinesLaw, LineRunLaw, SameLinesLaw, TakesLine, TextLinesLaw};
+ghost use Rattle.bytes_utils.specs.StreamLines.{FirstLinesLaw, IsLastLine, LineRunLaw, SameLinesLaw, TakesLine, TextLinesLaw};
 
 use super::Frames;
 use crate::string::{Str, Utf8Error};
-use bytes::Bytes;
-use bytes_utils_buf::segmented::SegmentedBuf;
-use bytes_utils_buf::{Reason, Refused};
+use bytes::{Bytes, BytesMut};
+use bytes_utils_buf::segmented::{PackedBuf, SegmentedBuf};
+use bytes_utils_buf::{EitherBuf, Reason, Refused};
 use std::alloc::Global;
 use std::error::Error;
 use std::fmt;
 use std::marker::Model;
 
-/// Why `Lines` returned no line.
+/// Why a reader of lines returned no line.
 #[derive(Debug, Drop)]
 pub enum LineError {
-    /// A call was refused. From `next_line` the reason is `OutOfMemory`.
+    /// A call was refused. From `next_line` the reason is `OutOfMemory`, or for a `LimitedLines`
+    /// `TooLong`.
     Refused(Reason),
     /// The line is not UTF-8. The error holds its bytes.
     NotUtf8(Utf8Error<Bytes>),
@@ -89,7 +90,7 @@ impl Error for LineError {}
 ///
 /// Pieces that wait for a line feed are not searched again. After each line that ends in a piece,
 /// that piece is searched once more. There is no limit on the length of a line. For a peer that is
-/// not trusted take `LimitedFrames` with the separator `"\n"`.
+/// not trusted take [`LimitedLines`](super::LimitedLines).
 #[derive(Debug, Drop)]
 pub struct Lines {
     frames: Frames,
@@ -117,8 +118,8 @@ impl Lines {
         })
     }
 
-    /// Appends `piece` without a copy. Fails with `TooLong` if the number of held bytes would pass
-    /// `usize::MAX`, and with `OutOfMemory` if memory is refused; then nothing has changed and
+    /// Appends `piece`, as [`Frames`] does. Fails with `TooLong` if the number of held bytes would
+    /// pass `usize::MAX`, and with `OutOfMemory` if memory is refused; then nothing has changed and
     /// `piece` comes back.
     pub fn push(&mut self, piece: Bytes) -> Result<(), Refused<Bytes>>
         ensures ok { OnOk result (self.new ≡ self.old ++ piece) }
@@ -129,6 +130,17 @@ impl Lines {
         ensures empty { piece ≡ [] → IsOk result }
     {
         self.frames.push(piece)
+    }
+
+    /// Appends a copy of `bytes`, as `Frames` does. Fails as `push` does; then nothing has changed.
+    pub fn push_slice(&mut self, bytes: &[u8]) -> Result<(), Reason>
+        ensures ok { OnOk result (self.new ≡ self.old ++ bytes.now) }
+        ensures err { OnErr result (self.new ≡ self.old) }
+        ensures too_long { IfErr result (λ reason. (reason ≡ Reason.TooLong)
+            ↔ (2 ^ 64 ≤ length self.old + length bytes.now)) }
+        ensures empty { bytes.now ≡ [] → IsOk result }
+    {
+        self.frames.push_slice(bytes)
     }
 
     /// Returns the next line without its end, or `None` if its line feed has not come yet. Fails
@@ -173,6 +185,21 @@ impl Lines {
         Ok(Some(line))
     }
 
+    /// Removes the held bytes and returns them as the last line, whole: without a line feed after it
+    /// a carriage return is part of it. Returns `None` if no byte is held. Call it at the end of the
+    /// stream, after `next_line` has returned `None`; lines not asked for would be part of it. Fails
+    /// with `NotUtf8` if the bytes are not UTF-8; they are in the error. Fails with `Refused` if
+    /// memory is refused; then nothing has changed.
+    pub fn last_line(&mut self, alloc: Global) -> Result<Option<Str>, LineError>
+        ensures { IsLastLine self.old result self.new }
+    {
+        if self.remaining() == 0 {
+            return Ok(None);
+        }
+        let held = self.frames.take_held(alloc)?;
+        Ok(Some(Str::from_inner(held)?))
+    }
+
     /// Returns the number of held bytes: those pushed and not yet taken.
     pub fn remaining(&self) -> usize
         ensures { result ≡ length self.now }
@@ -180,9 +207,17 @@ impl Lines {
         self.frames.remaining()
     }
 
+    /// Returns the held bytes as they are held.
+    pub fn pieces(&self) -> &PackedBuf
+        ensures bytes { concat result.now.held.segments ≡ self.now }
+        ensures threshold { result.now.threshold ≡ 512 }
+    {
+        self.frames.pieces()
+    }
+
     /// Returns the held bytes. Call it at the end of the stream: they are the last line, if it has
     /// no line feed, and any lines not asked for.
-    pub fn finish(self) -> SegmentedBuf<Bytes>
+    pub fn finish(self) -> SegmentedBuf<EitherBuf<Bytes, BytesMut>>
         ensures { concat result.segments ≡ self }
     {
         self.frames.finish()
@@ -190,7 +225,7 @@ impl Lines {
 }
 
 /// Removes one carriage return from the end, if there is one.
-fn drop_return(line: &mut Bytes)
+pub(super) fn drop_return(line: &mut Bytes)
     ensures { IsWithoutReturn line.new line.old }
 {
     if line.as_slice().ends_with(b"\r") {

@@ -2,20 +2,24 @@
 //! which the needle may still begin.
 ghost use Rattle.std.specs.Prelude.{◌≡◌, ◌≢◌, ℕ, ◌+◌, ◌-◌, ◌^◌, ◌<◌, ◌≤◌, List, [], ◌++◌, length, take, drop, slice_index, Some, MatchOption, IfOk, IfNone, OnErr, OnSome};
 ghost use Rattle.std.specs.List.{concat};
-ghost use Rattle.memchr.specs.Find.{FindsNeedle};
+ghost use Rattle.memchr.specs.Find.{FindsNeedle, IsFirstByte, is_byte};
+ghost use Rattle.bytes_utils_buf.specs.Packing.{last_of};
 ghost use Rattle.bytes_utils.specs.FrameSearch.{HoldsBack, Searched, SearchedPieces, StaysAt};
 
 use bytes_utils_buf::contiguous::ContiguousBuf;
 use bytes_utils_buf::segmented::SegmentedBuf;
-use memchr::memchr;
+use memchr::arch::all::is_prefix;
 use memchr::memmem::Finder;
+use memchr::{memchr, memchr_iter};
 use std::alloc::{AllocError, Global};
 
-/// How far a search over pieces has come: how many pieces were searched, and the kept tail: their
-/// last bytes, from place `base` on, in which the needle may still begin.
+/// How far a search over pieces has come: how many pieces were searched, and how many bytes of the
+/// next one, and the kept tail: the last searched bytes, from place `base` on, in which the needle
+/// may still begin.
 #[derive(Debug, Drop)]
 pub(crate) struct SearchState {
     pieces: usize,
+    offset: usize,
     base: usize,
     held: Vec<u8>,
 }
@@ -24,11 +28,13 @@ impl SearchState {
     /// The state before any search.
     pub(crate) fn new(alloc: Global) -> SearchState
         ensures pieces { result.pieces ≡ 0 }
+        ensures offset { result.offset ≡ 0 }
         ensures base { result.base ≡ 0 }
         ensures held { result.held.items ≡ [] }
     {
         SearchState {
             pieces: 0,
+            offset: 0,
             base: 0,
             held: Vec::new(alloc),
         }
@@ -38,10 +44,12 @@ impl SearchState {
     #[inline]
     pub(crate) fn restart(&mut self)
         ensures pieces { self.new.pieces ≡ 0 }
+        ensures offset { self.new.offset ≡ 0 }
         ensures base { self.new.base ≡ 0 }
         ensures held { self.new.held.items ≡ [] }
     {
         self.pieces = 0;
+        self.offset = 0;
         self.base = 0;
         self.held.clear();
     }
@@ -56,11 +64,28 @@ impl SearchState {
     /// Forgets the bytes before the kept tail, which now spans `pieces` pieces.
     pub(crate) fn forget_front(&mut self, pieces: usize)
         ensures pieces { self.new.pieces ≡ pieces }
+        ensures offset { self.new.offset ≡ 0 }
         ensures base { self.new.base ≡ 0 }
         ensures held { self.new.held.items ≡ self.old.held.items }
     {
         self.pieces = pieces;
+        self.offset = 0;
         self.base = 0;
+    }
+
+    /// Goes back into the last of `count` pieces, which had `len` bytes and may have grown, if all
+    /// were searched.
+    #[inline]
+    pub(crate) fn reopen_last(&mut self, count: usize, len: usize)
+        ensures searched { (needle : List ℕ) (pieces : List (List ℕ)) → count ≡ length pieces
+            → len ≡ length (last_of pieces) → SearchedPieces needle pieces self.old
+            → SearchedPieces needle pieces self.new }
+        ensures partly { 0 < count → self.old.pieces ≤ count → self.new.pieces < count }
+    {
+        if count > 0 && self.pieces == count {
+            self.pieces = count - 1;
+            self.offset = len;
+        }
     }
 
     /// Searches the next piece for the needle. If it isn't found, the search is at the end of the
@@ -75,9 +100,13 @@ impl SearchState {
             (Searched finder.now (bytes ++ piece.now) self.new.base self.new.held.items)
             (λ at. FindsNeedle ((bytes ++ piece.now) ++ more) finder.now 0 (Some at))) }
         ensures pieces { self.new.pieces ≡ self.old.pieces }
+        ensures offset { self.new.offset ≡ self.old.offset }
         ensures stays { IfOk result (λ found. OnSome found (StaysAt self.old self.new)) }
         ensures err { OnErr result (StaysAt self.old self.new) }
     {
+        if finder.needle().len() == 1 {
+            return Ok(self.step_by_byte(finder, piece));
+        }
         let from = prefix_without_first_byte(finder.needle(), piece);
         if from == piece.len() && self.held.is_empty() {
             self.base += from;
@@ -89,9 +118,34 @@ impl SearchState {
         self.base += keep_tail(&mut self.held, piece, finder.needle(), from)?;
         Ok(None)
     }
+
+    /// As `step`, for a needle of one byte, of which no tail is kept.
+    #[inline]
+    fn step_by_byte(&mut self, finder: &Finder, piece: &[u8]) -> Option<usize>
+        requires one { length finder.now ≡ 1 }
+        requires none { length self.old.held.items ≡ 0 }
+        requires fits { self.old.base + length piece.now < 2 ^ 64 }
+        ensures found { (bytes more : List ℕ)
+            → Searched finder.now bytes self.old.base self.old.held.items
+            → MatchOption result
+            (Searched finder.now (bytes ++ piece.now) self.new.base self.new.held.items)
+            (λ at. FindsNeedle ((bytes ++ piece.now) ++ more) finder.now 0 (Some at)) }
+        ensures pieces { self.new.pieces ≡ self.old.pieces }
+        ensures offset { self.new.offset ≡ self.old.offset }
+        ensures stays { OnSome result (StaysAt self.old self.new) }
+    {
+        match find_byte(finder.needle()[0], piece) {
+            Some(at) => Some(self.base + at),
+            None => {
+                self.base += piece.len();
+                None
+            }
+        }
+    }
 }
 
 /// The first place of the needle in the pieces, some of which were already searched.
+#[inline]
 pub(crate) fn find<B: ContiguousBuf + Drop>(
     finder: &Finder,
     pieces: &SegmentedBuf<B>,
@@ -109,25 +163,32 @@ pub(crate) fn find<B: ContiguousBuf + Drop>(
         let Some(piece) = pieces.segment(progress.pieces) else {
             unreachable!()
         };
-        if let Some(at) = progress.step(finder, piece)? {
+        if let Some(at) = progress.step(finder, rest_from(piece, progress.offset))? {
             return Ok(Some(at));
         }
         progress.pieces += 1;
+        progress.offset = 0;
     }
     Ok(None)
 }
 
+/// The bytes of the piece from place `from` on.
+#[inline(always)]
+fn rest_from(piece: &[u8], from: usize) -> &[u8]
+    requires { from ≤ length piece.now }
+    ensures { result.now ≡ drop from piece.now }
+{
+    &piece[from..]
+}
+
 /// The number of bytes at the start of the piece that are skipped at once, because the needle's
-/// first byte is not among them. A needle of one byte is left to the finder.
+/// first byte is not among them.
 #[inline]
 fn prefix_without_first_byte(needle: &[u8], piece: &[u8]) -> usize
     requires { 0 < length needle.now }
     ensures within { result ≤ length piece.now }
     ensures none { (k : ℕ) → k < result → slice_index piece.now k ≢ slice_index needle.now 0 }
 {
-    if needle.len() == 1 {
-        return 0;
-    }
     place_from(needle[0], piece, 0)
 }
 
@@ -158,18 +219,30 @@ fn find_next(
 }
 
 /// The first place of the needle in a piece, in which its first byte does not occur before place
-/// `from`.
+/// `from`. The finder searches only if the needle is not there.
 #[inline]
-fn find_in_piece(finder: &Finder, piece: &[u8], from: usize) -> Option<usize>
+pub(crate) fn find_in_piece(finder: &Finder, piece: &[u8], from: usize) -> Option<usize>
     requires some { 0 < length finder.now }
     requires within { from ≤ length piece.now }
     requires none { (k : ℕ) → k < from → slice_index piece.now k ≢ slice_index finder.now 0 }
     ensures { FindsNeedle piece.now finder.now 0 result }
 {
-    match finder.find(&piece[from..]) {
+    let rest = &piece[from..];
+    if is_prefix(rest, finder.needle()) {
+        return Some(from);
+    }
+    match finder.find(rest) {
         Some(at) => Some(from + at),
         None => None,
     }
+}
+
+/// The first place of the byte `first`, soon found if it is near the start.
+#[inline]
+pub(crate) fn find_byte(first: u8, bytes: &[u8]) -> Option<usize>
+    ensures { IsFirstByte (is_byte first) bytes.now result }
+{
+    memchr_iter(first, bytes).next()
 }
 
 /// The first place of the needle in the kept tail and those bytes of the next piece that a needle
@@ -285,6 +358,8 @@ fn drop_front(bytes: &mut Vec<u8>, len: usize)
     ensures { bytes.new.items ≡ drop len bytes.old.items }
 {
     if len > 0 {
-        bytes.drain(..len);
+        let left = bytes.len() - len;
+        bytes.copy_within(len.., 0);
+        bytes.truncate(left);
     }
 }

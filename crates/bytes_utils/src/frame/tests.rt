@@ -1,6 +1,7 @@
 //! What no clause covers: that calls succeed with ample memory, printed text, and worked cases.
 mod frames;
 mod limited;
+mod limited_lines;
 mod lines;
 mod memory;
 mod readers;

@@ -8,6 +8,7 @@ use crate::json::JsonRefused;
 use crate::string::{Storage, StorageMut, StrInner};
 use bytes::{Bytes, BytesMut};
 use std::alloc::Global;
+use std::iter::repeat_n;
 use std::process::Abort;
 use std::test::Fail;
 
@@ -111,6 +112,16 @@ fn test_de_ser_str(rt: HostRuntime) -> Result<(), Fail> {
 #[test]
 fn test_de_ser_str_mut(rt: HostRuntime) -> Result<(), Fail> {
     assert_de_ser::<BytesMut>(&rt, rt.alloc())
+}
+
+#[test]
+fn a_long_text(rt: HostRuntime) -> Result<(), Fail> {
+    let text = StrInner::<Bytes>::from_chars(rt.alloc(), repeat_n('\n', 50_000))?;
+    let json = text.to_json(rt.alloc())?;
+    assert!(rt; json.len() == 100_002);
+    let read = StrInner::<Bytes>::from_json(rt.alloc(), json.as_str())?;
+    assert_text(&rt, read.as_str(), text.as_str());
+    Ok(())
 }
 
 /// Callers can rely on these numbers of the errors.

@@ -6,6 +6,7 @@ ghost use Rattle.bytes_utils.specs.Occurrence.{BoundariesLaw};
 /// places at which its characters occur in the text. Both are UTF-8, which is self-synchronizing
 /// (RFC 3629). So a search among bytes finds each occurrence among characters, and no other. The
 /// call does nothing.
+#[tactic(auto, using(crate::proofs::Boundaries::boundaries_law))]
 pub fn boundaries()
     ensures { BoundariesLaw }
 {}

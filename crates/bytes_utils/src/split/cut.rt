@@ -1,28 +1,14 @@
 //! The steps that cut a text: each splitter cuts, returns a part and keeps the rest by these.
-ghost use Rattle.std.specs.Prelude.{◌≡◌, ◌≤◌, ◌<◌, length, take, drop, IsCharBoundary, IfOk, IfErr, OnErr, MatchOption};
+ghost use Rattle.std.specs.Prelude.{◌≡◌, ◌≤◌, ◌<◌, ◌+◌, ◌++◌, ℕ, length, take, drop, IsCharBoundary, IfOk, IfErr, OnErr, MatchOption};
+ghost use Rattle.std.specs.Str.{chars};
+ghost use Rattle.bytes_utils.specs.Occurrence.{OccursAt};
+ghost use Rattle.bytes_utils.specs.Text.{byte_place};
 
 use crate::string::{Storage, StrInner};
 use bytes_utils_buf::Reason;
 
 /// A part, and what is left of the text, if anything.
 pub(super) type Cut<S> = (StrInner<S>, Option<StrInner<S>>);
-
-/// Returns the text before the byte place `at` and the text from it on, by one split.
-#[inline(always)]
-pub(super) fn cut_at<S: Storage>(
-    text: StrInner<S>,
-    at: usize,
-) -> Result<(StrInner<S>, StrInner<S>), Reason>
-    requires { IsCharBoundary text at }
-    ensures before { IfOk result (λ pieces. pieces.0 ≡ take at text) }
-    ensures after { IfOk result (λ pieces. pieces.1 ≡ drop at text) }
-    ensures reason { IfErr result S.refuses }
-{
-    match text.split_at_bytes(at) {
-        Ok(pieces) => Ok(pieces),
-        Err(refused) => Err(refused.reason),
-    }
-}
 
 /// Returns the text before the byte place `end` and the text from `next` on. Splits at `next`, the
 /// later place, first, and then takes the part from the first piece.
@@ -39,9 +25,28 @@ pub(super) fn cut_around<S: Storage>(
     ensures after { IfOk result (λ pieces. pieces.1 ≡ drop next text) }
     ensures reason { IfErr result S.refuses }
 {
-    let (front, after) = cut_at(text, next)?;
+    let (front, after) = text.into_halves(next)?;
     let before = front.into_front(end)?;
     Ok((before, after))
+}
+
+/// Returns the text before the separator that occurs at the byte place `at`, and the text after it.
+#[inline(always)]
+pub(super) fn cut_at_separator<S: Storage>(
+    text: StrInner<S>,
+    separator: &str,
+    at: usize,
+) -> Result<(StrInner<S>, StrInner<S>), Reason>
+    requires { (i : ℕ) × (at ≡ byte_place (chars text) i)
+        × OccursAt (chars separator.now) (chars text) i }
+    ensures before { IfOk result (λ pieces. pieces.0 ≡ take at text) }
+    ensures after { IfOk result (λ pieces. pieces.1 ≡ drop (at + length separator.now) text) }
+    ensures bytes { IfOk result (λ pieces. pieces.0 ++ (separator.now ++ pieces.1) ≡ text) }
+    ensures reason { IfErr result S.refuses }
+{
+    // The contract of `as_str` says that the bytes are UTF-8.
+    let _ = text.as_str();
+    cut_around(text, at, at + separator.len())
 }
 
 /// Returns the text before the byte place `end` and the text from it on, if any: at the end of the
@@ -58,7 +63,7 @@ pub(super) fn cut_after<S: Storage>(text: StrInner<S>, end: usize) -> Result<Cut
     if end == text.as_str().len() {
         return Ok((text, None));
     }
-    let (front, rest) = cut_at(text, end)?;
+    let (front, rest) = text.into_halves(end)?;
     Ok((front, Some(rest)))
 }
 

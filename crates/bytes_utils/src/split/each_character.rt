@@ -6,7 +6,7 @@ ghost use Rattle.bytes_utils.specs.Splitting.{ArePartsToCome, AreForwardPartsToC
 ghost use Rattle.bytes_utils.specs.Step.{GivesFirst};
 
 use super::character::{first_end, last_start};
-use super::cut::{Cut, cut_around, cut_at};
+use super::cut::{Cut, cut_around};
 use super::direction::Direction;
 use crate::string::{Storage, StrInner};
 use bytes_utils_buf::Reason;
@@ -24,11 +24,11 @@ fn empty_part<S: Storage>(text: StrInner<S>, from: Direction) -> Result<Cut<S>, 
     let end = text.as_str().len();
     match from {
         Direction::Forward => {
-            let (part, rest) = cut_at(text, 0)?;
+            let (part, rest) = text.into_halves(0)?;
             Ok((part, Some(rest)))
         }
         Direction::Backward => {
-            let (rest, part) = cut_at(text, end)?;
+            let (rest, part) = text.into_halves(end)?;
             Ok((part, Some(rest)))
         }
     }

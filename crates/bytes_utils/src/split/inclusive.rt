@@ -6,7 +6,7 @@ ghost use Rattle.bytes_utils.specs.Keeping.{AreInclusivePartsToCome, CutsAfterNe
 ghost use Rattle.bytes_utils.specs.Keeping.{most_inclusive_parts};
 ghost use Rattle.bytes_utils.specs.Step.{GivesFirst, IsStep};
 
-use super::cut::{Cut, cut_at, yield_part};
+use super::cut::{Cut, yield_part};
 use super::search::find;
 use crate::string::{Storage, StrInner};
 use bytes_utils_buf::Reason;
@@ -33,7 +33,7 @@ fn part_through<S: Storage>(text: StrInner<S>, separator: &str) -> Result<Cut<S>
     if end == text.as_str().len() {
         return Ok((text, None));
     }
-    let (part, rest) = cut_at(text, end)?;
+    let (part, rest) = text.into_halves(end)?;
     Ok((part, Some(rest)))
 }
 

@@ -4,7 +4,7 @@ ghost use Rattle.std.specs.Str.{chars};
 ghost use Rattle.bytes_utils.specs.Halves.{AreHalvesAtFirst, AreHalvesAtLast};
 ghost use Rattle.bytes_utils.specs.Occurrence.{Occurs};
 
-use super::cut::cut_around;
+use super::cut::cut_at_separator;
 use super::search::{find, rfind};
 use crate::string::{Storage, StrInner};
 use bytes_utils_buf::Reason;
@@ -34,7 +34,7 @@ impl<S: Storage> StrInner<S> {
         let Some(at) = find(self.as_str(), separator) else {
             return Ok((self, None));
         };
-        let (before, following) = cut_around(self, at, at + separator.len())?;
+        let (before, following) = cut_at_separator(self, separator, at)?;
         Ok((before, Some(following)))
     }
 
@@ -61,7 +61,7 @@ impl<S: Storage> StrInner<S> {
         let Some(at) = rfind(self.as_str(), separator) else {
             return Ok((None, self));
         };
-        let (before, following) = cut_around(self, at, at + separator.len())?;
+        let (before, following) = cut_at_separator(self, separator, at)?;
         Ok((Some(before), following))
     }
 }

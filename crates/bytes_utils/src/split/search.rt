@@ -1,17 +1,24 @@
 //! The search for a separator, among bytes and by `memchr` alone.
 ghost use Rattle.std.specs.Prelude.{◌≡◌, ◌<◌, Some, length, IsUtf8};
+ghost use Rattle.memchr.specs.Find.{FindsLastNeedle};
 ghost use Rattle.std.specs.Str.{chars};
 ghost use Rattle.bytes_utils.specs.Occurrence.{FindsFirst, FindsLast};
 ghost use Rattle.bytes_utils.specs.Search.{end_of, needle_of};
 
 use super::direction::Direction;
+use crate::frame::search::{find_byte, find_in_piece};
+use memchr::arch::all::is_suffix;
 use memchr::memmem::{self, Finder, FinderRev};
+use memchr::memrchr;
 
-/// The search for one separator from one end: prepared once for all steps of a splitter.
+/// The search for one separator from one end: prepared once for all steps of a splitter. A separator
+/// of two bytes and more is searched for by one of them first.
 #[derive(Drop)]
 pub(super) enum Search<'s> {
     First(Finder<'s>),
+    FirstLong(Finder<'s>),
     Last(FinderRev<'s>),
+    LastLong(FinderRev<'s>),
 }
 
 impl<'s> Search<'s> {
@@ -20,9 +27,13 @@ impl<'s> Search<'s> {
         ensures needle { needle_of result ≡ separator.now }
         ensures end { end_of result ≡ from }
     {
+        let is_long = separator.len() > 1;
+        let bytes = separator.as_bytes();
         match from {
-            Direction::Forward => Search::First(Finder::new(separator.as_bytes())),
-            Direction::Backward => Search::Last(FinderRev::new(separator.as_bytes())),
+            Direction::Forward if is_long => Search::FirstLong(Finder::new(bytes)),
+            Direction::Forward => Search::First(Finder::new(bytes)),
+            Direction::Backward if is_long => Search::LastLong(FinderRev::new(bytes)),
+            Direction::Backward => Search::Last(FinderRev::new(bytes)),
         }
     }
 
@@ -32,30 +43,81 @@ impl<'s> Search<'s> {
         ensures { result ≡ end_of self.now }
     {
         match self {
-            Search::First(_) => Direction::Forward,
-            Search::Last(_) => Direction::Backward,
+            Search::First(_) | Search::FirstLong(_) => Direction::Forward,
+            Search::Last(_) | Search::LastLong(_) => Direction::Backward,
         }
     }
 }
 
-/// Returns the byte place of the first occurrence of the finder's separator.
-#[inline]
-pub(super) fn find_by(finder: &Finder, text: &str) -> Option<usize>
+/// Returns the byte place of the first occurrence of the finder's separator. A long separator is
+/// searched for by `find_long_by`.
+#[inline(always)]
+pub(super) fn find_by(finder: &Finder, is_long: bool, text: &str) -> Option<usize>
     requires some { 0 < length finder.now }
     requires utf8 { IsUtf8 finder.now }
     ensures { FindsFirst (chars finder.now) (chars text.now) result }
 {
+    if is_long {
+        return find_long_by(finder, text);
+    }
     finder.find(text.as_bytes())
 }
 
-/// Returns the byte place of the last occurrence of the finder's separator.
-#[inline]
-pub(super) fn rfind_by(finder: &FinderRev, text: &str) -> Option<usize>
+/// Returns the byte place of the last occurrence of the finder's separator. A long separator is
+/// searched for by `rfind_long_by`.
+#[inline(always)]
+pub(super) fn rfind_by(finder: &FinderRev, is_long: bool, text: &str) -> Option<usize>
     requires some { 0 < length finder.now }
     requires utf8 { IsUtf8 finder.now }
     ensures { FindsLast (chars finder.now) (chars text.now) result }
 {
+    if is_long {
+        return rfind_long_by(finder, text);
+    }
     finder.rfind(text.as_bytes())
+}
+
+/// As `find_by`, by the separator's first byte. The finder searches only if the separator is not at
+/// the first place of that byte.
+#[inline]
+fn find_long_by(finder: &Finder, text: &str) -> Option<usize>
+    requires some { 0 < length finder.now }
+    requires utf8 { IsUtf8 finder.now }
+    ensures { FindsFirst (chars finder.now) (chars text.now) result }
+{
+    let bytes = text.as_bytes();
+    let Some(from) = find_byte(finder.needle()[0], bytes) else {
+        return None;
+    };
+    find_in_piece(finder, bytes, from)
+}
+
+/// As `rfind_by`, by the separator's last byte. The finder searches only if the separator does not
+/// end at the last place of that byte.
+#[inline]
+fn rfind_long_by(finder: &FinderRev, text: &str) -> Option<usize>
+    requires some { 0 < length finder.now }
+    requires utf8 { IsUtf8 finder.now }
+    ensures { FindsLast (chars finder.now) (chars text.now) result }
+{
+    let bytes = text.as_bytes();
+    let needle = finder.needle();
+    let Some(at) = memrchr(needle[needle.len() - 1], bytes) else {
+        return None;
+    };
+    find_at_end(finder, &bytes[..at + 1])
+}
+
+/// The last place of the finder's needle, which is looked for at the end first.
+#[inline]
+fn find_at_end(finder: &FinderRev, bytes: &[u8]) -> Option<usize>
+    ensures { FindsLastNeedle bytes.now finder.now result }
+{
+    if is_suffix(bytes, finder.needle()) {
+        let at = bytes.len() - finder.needle().len();
+        return Some(at);
+    }
+    finder.rfind(bytes)
 }
 
 /// Returns the byte place of the first occurrence of `separator`, by a finder for this search

@@ -8,7 +8,7 @@ ghost use Rattle.bytes_utils.specs.Search.{end_of, needle_of};
 ghost use Rattle.bytes_utils.specs.Splitting.{ArePartsToCome, AreForwardPartsToCome, AreBackwardPartsToCome, CutsNext, LeavesMore, one_less, most_parts, splitting, all_of};
 ghost use Rattle.bytes_utils.specs.Step.{GivesFirst, IsStep};
 
-use super::cut::{Cut, cut_around, yield_part};
+use super::cut::{Cut, cut_at_separator, yield_part};
 use super::direction::Direction;
 use super::each_character::cut_character;
 use super::search::{Search, find_by, rfind_by};
@@ -23,6 +23,7 @@ fn first_part<S: Storage>(
     text: StrInner<S>,
     separator: &str,
     finder: &Finder,
+    is_long: bool,
 ) -> Result<Cut<S>, Reason>
     requires some { 0 < length separator.now }
     requires needle { finder.now ≡ separator.now }
@@ -34,10 +35,10 @@ fn first_part<S: Storage>(
     ensures err { OnErr result (Occurs (chars separator.now) (chars text)) }
     ensures reason { IfErr result S.refuses }
 {
-    let Some(at) = find_by(finder, text.as_str()) else {
+    let Some(at) = find_by(finder, is_long, text.as_str()) else {
         return Ok((text, None));
     };
-    let (part, rest) = cut_around(text, at, at + separator.len())?;
+    let (part, rest) = cut_at_separator(text, separator, at)?;
     Ok((part, Some(rest)))
 }
 
@@ -47,6 +48,7 @@ fn last_part<S: Storage>(
     text: StrInner<S>,
     separator: &str,
     finder: &FinderRev,
+    is_long: bool,
 ) -> Result<Cut<S>, Reason>
     requires some { 0 < length separator.now }
     requires needle { finder.now ≡ separator.now }
@@ -58,10 +60,10 @@ fn last_part<S: Storage>(
     ensures err { OnErr result (Occurs (chars separator.now) (chars text)) }
     ensures reason { IfErr result S.refuses }
 {
-    let Some(at) = rfind_by(finder, text.as_str()) else {
+    let Some(at) = rfind_by(finder, is_long, text.as_str()) else {
         return Ok((text, None));
     };
-    let (rest, part) = cut_around(text, at, at + separator.len())?;
+    let (rest, part) = cut_at_separator(text, separator, at)?;
     Ok((part, Some(rest)))
 }
 
@@ -91,8 +93,10 @@ fn cut_next<S: Storage>(
         return cut_character(text, begun, search.end());
     }
     match search {
-        Search::First(finder) => first_part(text, separator, finder),
-        Search::Last(finder) => last_part(text, separator, finder),
+        Search::First(finder) => first_part(text, separator, finder, false),
+        Search::FirstLong(finder) => first_part(text, separator, finder, true),
+        Search::Last(finder) => last_part(text, separator, finder, false),
+        Search::LastLong(finder) => last_part(text, separator, finder, true),
     }
 }
 

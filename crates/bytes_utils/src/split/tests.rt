@@ -4,6 +4,7 @@ mod closure;
 mod inclusive;
 mod indices;
 mod lines;
+mod long;
 mod memory;
 mod separator;
 mod size_hint;

@@ -39,6 +39,7 @@ impl WhiteSpace for Unicode {
         c.is_whitespace()
     }
 
+    #[tactic(auto, using(crate::proofs::WhiteSpace::none_graphic))]
     fn no_graphic() {}
 }
 
@@ -52,6 +53,7 @@ impl WhiteSpace for Ascii {
         c.is_ascii_whitespace()
     }
 
+    #[tactic(auto, using(crate::proofs::WhiteSpace::none_graphic))]
     fn no_graphic() {}
 }
 

@@ -11,6 +11,7 @@ use std::alloc::AllocError;
 impl Extend<char> for StrInner<BytesMut> {
     ghost extend_gives = { λ text cs longer. longer ≡ text ++ encode_utf8_all cs };
 
+    #[tactic(auto, using(crate::proofs::Building::characters_push))]
     fn extend<U: IntoIterator<Item = char>>(&mut self, iter: U) -> Result<(), AllocError> {
         for c in iter {
             if let Err(_) = self.push(c) {
@@ -25,6 +26,7 @@ impl Extend<char> for StrInner<BytesMut> {
 impl<'a> Extend<&'a str> for StrInner<BytesMut> {
     ghost extend_gives = { λ text items longer. longer ≡ text ++ flat_map (λ item. item.now) items };
 
+    #[tactic(auto, using(std::proofs::lemmas::List::flat_map_more))]
     fn extend<U: IntoIterator<Item = &'a str>>(&mut self, iter: U) -> Result<(), AllocError> {
         for part in iter {
             if let Err(_) = self.push_str(part) {
@@ -39,6 +41,7 @@ impl<'a> Extend<&'a str> for StrInner<BytesMut> {
 impl Extend<String> for StrInner<BytesMut> {
     ghost extend_gives = { λ text items longer. longer ≡ text ++ flat_map string_bytes items };
 
+    #[tactic(auto, using(std::proofs::lemmas::List::flat_map_more))]
     fn extend<U: IntoIterator<Item = String>>(&mut self, iter: U) -> Result<(), AllocError> {
         for string in iter {
             if let Err(_) = self.push_str(string.as_str()) {

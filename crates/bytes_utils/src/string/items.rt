@@ -15,6 +15,7 @@ impl<S: StorageMut> StrInner<S> {
     /// and the storage's reason (`OutOfMemory` for `StrMut`); then those before it are in the text.
     /// Those after it are dropped with `iter`, but an iterator passed as `&mut iter` continues
     /// right after the refused character.
+    #[tactic(auto, using(crate::proofs::Building::characters_push))]
     pub fn extend_chars<I: Iterator<Item = char> + Drop>(
         &mut self,
         iter: I,
@@ -42,6 +43,7 @@ impl<S: StorageMut> StrInner<S> {
     /// storage's reason (`OutOfMemory` for `StrMut`); then those before it are in the text. Those
     /// after it are dropped with `iter`, but an iterator passed as `&mut iter` continues right
     /// after the refused item.
+    #[tactic(auto, using(crate::proofs::Building::texts_push))]
     pub fn extend_strs<'s, I: Iterator<Item = &'s str> + Drop>(
         &mut self,
         iter: I,
@@ -69,6 +71,7 @@ impl<S: StorageMut> StrInner<S> {
     /// storage's reason (`OutOfMemory` for `StrMut`); then those before it are in the text. Those
     /// after it are dropped with `iter`, but an iterator passed as `&mut iter` continues right
     /// after the refused item.
+    #[tactic(auto, using(crate::proofs::Building::texts_push))]
     pub fn extend_strings<I: Iterator<Item = String> + Drop>(
         &mut self,
         iter: I,
@@ -111,10 +114,8 @@ where
         ensures reason { IfErr result (λ reason. S.refuses reason ⊎ S.Creator.refuses reason) }
     {
         let mut text = StrInner::<S::Creator>::new(alloc)?;
-        match text.extend_chars(iter) {
-            Ok(()) => StrInner::from_built(text),
-            Err(refused) => Err(refused.reason),
-        }
+        text.extend_chars(iter)?;
+        StrInner::from_built(text)
     }
 
     /// Concatenates the items. Requires that `iter` ends, and what `from_str` requires. Fails as
@@ -131,10 +132,8 @@ where
         ensures reason { IfErr result (λ reason. S.refuses reason ⊎ S.Creator.refuses reason) }
     {
         let mut text = StrInner::<S::Creator>::new(alloc)?;
-        match text.extend_strs(iter) {
-            Ok(()) => StrInner::from_built(text),
-            Err(refused) => Err(refused.reason),
-        }
+        text.extend_strs(iter)?;
+        StrInner::from_built(text)
     }
 
     /// Concatenates the items. Requires that `iter` ends, and what `from_str` requires. Fails as
@@ -151,9 +150,7 @@ where
         ensures reason { IfErr result (λ reason. S.refuses reason ⊎ S.Creator.refuses reason) }
     {
         let mut text = StrInner::<S::Creator>::new(alloc)?;
-        match text.extend_strings(iter) {
-            Ok(()) => StrInner::from_built(text),
-            Err(refused) => Err(refused.reason),
-        }
+        text.extend_strings(iter)?;
+        StrInner::from_built(text)
     }
 }

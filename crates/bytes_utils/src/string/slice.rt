@@ -11,6 +11,7 @@ impl StrInner<Bytes> {
     /// that the range is not reversed and that both are character boundaries (test:
     /// `as_str().is_char_boundary`). Fails with `OutOfMemory` if memory is refused, never for an
     /// empty range.
+    #[tactic(auto, using(crate::proofs::Building::pieces))]
     pub fn slice(&self, range: Range<usize>) -> Result<Str, Reason>
         requires ordered { range.start ≤ range.end }
         requires start { IsCharBoundary self.now range.start }

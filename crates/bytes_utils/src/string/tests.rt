@@ -8,6 +8,7 @@ mod compare;
 mod convert;
 mod format;
 mod items;
+mod long;
 mod memory;
 mod owned;
 mod serialize;

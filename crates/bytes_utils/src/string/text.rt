@@ -93,6 +93,7 @@ impl<S: Storage> StrInner<S> {
     /// is a character boundary (test: `as_str().is_char_boundary`). Fails with the storage's reason
     /// (`OutOfMemory` for `Str` and `StrMut`); then the text comes back.
     #[inline]
+    #[tactic(auto, using(crate::proofs::Building::pieces))]
     pub fn split_at_bytes(self, at: usize) -> Result<(Self, Self), Refused<Self>>
         requires { IsCharBoundary self at }
         ensures left { IfOk result (λ halves. halves.0 ≡ take at self) }
@@ -110,8 +111,25 @@ impl<S: Storage> StrInner<S> {
         }
     }
 
+    /// Both halves, or the reason alone of a refused split.
+    #[inline]
+    #[tactic(auto, using(crate::proofs::Building::pieces))]
+    pub(crate) fn into_halves(self, at: usize) -> Result<(Self, Self), Reason>
+        requires { IsCharBoundary self at }
+        ensures left { IfOk result (λ halves. halves.0 ≡ take at self) }
+        ensures right { IfOk result (λ halves. halves.1 ≡ drop at self) }
+        ensures reason { IfErr result S.refuses }
+    {
+        let StrInner { storage: whole } = self;
+        match whole.split_at(at) {
+            Ok((front, back)) => Ok((StrInner { storage: front }, StrInner { storage: back })),
+            Err(unsplit) => Err(unsplit.reason),
+        }
+    }
+
     /// The text before byte `at` alone.
     #[inline(always)]
+    #[tactic(auto, using(crate::proofs::Building::pieces))]
     pub(crate) fn into_front(self, at: usize) -> Result<Self, Reason>
         requires { IsCharBoundary self at }
         ensures ok { IfOk result (λ front. front ≡ take at self) }
@@ -126,6 +144,7 @@ impl<S: Storage> StrInner<S> {
 
     /// The text from byte `at` on alone.
     #[inline(always)]
+    #[tactic(auto, using(crate::proofs::Building::pieces))]
     pub(crate) fn into_back(self, at: usize) -> Result<Self, Reason>
         requires { IsCharBoundary self at }
         ensures ok { IfOk result (λ back. back ≡ drop at self) }

@@ -7,15 +7,16 @@ use std::error::Error;
 use std::process::Abort;
 use std::test::Fail;
 
-/// Asserts the text of any error.
+/// Asserts the text of any error. It is the same in every style.
 fn assert_says<E: Error>(
     rt: &impl Abort,
     alloc: Global,
     error: &E,
     text: &str,
 ) -> Result<(), Fail> {
-    let said = format!(in alloc; "{error}")?;
-    assert!(rt; said.as_str() == text, "{text}");
+    let said = format!(in alloc; "{error}|{error:#}|{error:>60}")?;
+    let want = format!(in alloc; "{text}|{text}|{text}")?;
+    assert!(rt; said == want, "{text}");
     Ok(())
 }
 
@@ -35,8 +36,8 @@ fn refusals_say_why(rt: HostRuntime) -> Result<(), Fail> {
     assert_says(
         &rt,
         alloc,
-        &CopyRefused { taken: 12 },
-        "out of memory, bytes lost: 12",
+        &CopyRefused { taken: usize::MAX },
+        "out of memory, bytes lost: 18446744073709551615",
     )
 }
 

@@ -8,12 +8,14 @@ ghost use Rattle.bytes_utils_buf.specs.Tally.{IsBalanced, IsCovered};
 mod chunks;
 mod copy;
 mod front;
+mod grow;
 mod insert;
 mod join;
 mod peek;
 mod queue;
 mod range;
 mod remove;
+mod share;
 mod split;
 
 use super::copy::Segmented;

@@ -34,6 +34,25 @@ fn piece_at<B: ContiguousBuf>(bufs: &VecDeque<B>, place: Place, most: usize) -> 
     &whole[..whole.len().min(most)]
 }
 
+/// Like `piece_at`, but shared if the buffer shares its own.
+pub(super) fn part_at<B: ContiguousBuf>(
+    bufs: &VecDeque<B>,
+    place: Place,
+    alloc: Global,
+    most: usize,
+) -> Result<Bytes, Reason>
+    requires some { place.passed < length bufs.now.items }
+    requires inside { IsInside place.passed place.offset (map B.unread bufs.now.items) }
+    ensures value { IfOk result (λ part. part ≡ take most
+        (front_of (lists_from place.passed place.offset (map B.unread bufs.now.items)))) }
+    ensures reason { IfErr result (λ reason. reason ≡ Reason.OutOfMemory) }
+    ensures none { most ≡ 0 → IsOk result }
+{
+    let buf = &bufs[place.passed];
+    let count = (buf.remaining() - place.offset).min(most);
+    buf.part(alloc, place.offset..place.offset + count)
+}
+
 /// Fills `dst` with the first bytes.
 pub(super) fn copy_into<B: ContiguousBuf>(bufs: &VecDeque<B>, dst: &mut [u8])
     requires { length dst.old ≤ length (concat (map B.unread bufs.now.items)) }
@@ -113,11 +132,9 @@ pub(super) fn share_pieces<B: ContiguousBuf>(
     let mut left = len;
     let mut place = from;
     while left > 0 {
-        let buf = &bufs[place.passed];
-        let count = (buf.remaining() - place.offset).min(left);
-        let piece = buf.part(alloc, place.offset..place.offset + count)?;
+        let piece = part_at(bufs, place, alloc, left)?;
+        left -= piece.len();
         pieces.push_back(piece)?;
-        left -= count;
         place.passed += 1;
         place.offset = 0;
     }

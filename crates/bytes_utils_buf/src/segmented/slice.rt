@@ -109,6 +109,7 @@ impl<'a, B: Buf> SegmentedSlice<'a, B> {
 
     /// Returns the borrowed buffers. The passed ones are empty, the one that is being read has what
     /// is left of it, and the others are unchanged.
+    #[tactic(auto, using(crate::proofs::LentLemmas::concat_read_out))]
     pub fn into_lent(self) -> &'a mut [B]
         ensures lists { map B.unread result.now ≡ lists_of self.entry }
         ensures bytes { concat (map B.unread result.now) ≡ concat self.entry.segments }

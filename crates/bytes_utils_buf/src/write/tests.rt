@@ -112,8 +112,9 @@ fn lent_buffers(rt: HostRuntime) -> Result<(), Fail> {
 
 const ALL: usize = usize::MAX;
 
-// One call writes up to 1,024 small buffers, in blocks of whole buffers and at most 16,384 bytes. A
-// buffer of 4,096 bytes or more is written by a call of its own.
+// One call writes up to 1,024 small buffers, in blocks of whole buffers and at most 16,384 bytes, or
+// 65,536 where there are more than 32,768. A buffer of more than 4,096 bytes is written by a call of
+// its own.
 const CALLS: &[Case] = &[
     (&[1], 15, (ALL, 0, 15, 1, None)),
     (&[1], 16, (ALL, 0, 16, 1, None)),
@@ -125,10 +126,15 @@ const CALLS: &[Case] = &[
     (&[4_095], 16_380, (ALL, 0, 16_380, 1, None)),
     (&[4_095], 16_384, (ALL, 0, 16_384, 1, None)),
     (&[4_095], 16_385, (ALL, 0, 16_385, 2, None)),
-    (&[4_096], 16_384, (ALL, 0, 16_384, 4, None)),
+    (&[4_096], 16_384, (ALL, 0, 16_384, 1, None)),
+    (&[4_096], 32_768, (ALL, 0, 32_768, 2, None)),
+    (&[4_095], 32_769, (ALL, 0, 32_769, 1, None)),
+    (&[4_096], 65_536, (ALL, 0, 65_536, 1, None)),
+    (&[4_096], 65_537, (ALL, 0, 65_537, 2, None)),
+    (&[4_097], 16_388, (ALL, 0, 16_388, 4, None)),
     (&[16_384], 32_768, (ALL, 0, 32_768, 2, None)),
     (&[16_385], 32_770, (ALL, 0, 32_770, 2, None)),
-    (&[1, 4_096, 1, 1], 8_196, (ALL, 0, 8_196, 4, None)),
+    (&[1, 4_097, 1, 1], 8_198, (ALL, 0, 8_198, 4, None)),
 ];
 
 #[test]

@@ -134,3 +134,14 @@ fn drips_are_held(rt: HostRuntime) -> Result<(), Fail> {
     assert_replies(&rt, &replies, "a|a,b,|a,b,c,|abc");
     Ok(())
 }
+
+#[test]
+fn many_calls(rt: HostRuntime) -> Result<(), Fail> {
+    let mut calls = Vec::new(rt.alloc());
+    for _ in 0..10_000 {
+        calls.push(ReadCall::CopyOut(10))?;
+    }
+    let replies = read_calls(rt.alloc(), &mut Zeros::new(100_000), calls);
+    assert!(rt; replies.refused.is_none() && replies.given.len() == 10_000);
+    Ok(())
+}

@@ -9,6 +9,7 @@ use super::{How, Parts, cut_all};
 use bytes_utils::string::{Storage, StrInner};
 use bytes_utils::{Reason, Str, StrMut};
 use std::alloc::Global;
+use std::iter::repeat_n;
 use std::process::Abort;
 use std::test::Fail;
 
@@ -133,5 +134,13 @@ fn texts_are_cut(rt: HostRuntime) -> Result<(), Fail> {
     for row in ROWS.split('~') {
         assert_cut(&rt, rt.alloc(), row_of(row))?;
     }
+    Ok(())
+}
+
+#[test]
+fn many_parts(rt: HostRuntime) -> Result<(), Fail> {
+    let text = Str::from_strs(rt.alloc(), repeat_n("β,", 10_000))?;
+    let parts = cut_all(rt.alloc(), text, How::Split(","));
+    assert!(rt; parts.refused.is_none() && parts.given.len() == 10_001);
     Ok(())
 }

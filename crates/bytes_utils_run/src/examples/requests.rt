@@ -63,7 +63,7 @@ impl Requests {
         })
     }
 
-    /// Appends a piece, without a copy.
+    /// Appends a piece, as `Frames` does.
     pub fn push(&mut self, piece: Bytes) -> Result<(), Refused<Bytes>>
         ensures ok { OnOk result (self.new ≡ self.old ++ piece) }
         ensures err { OnErr result (self.new ≡ self.old) }
@@ -87,7 +87,7 @@ impl Requests {
         self.frames.next_frame(alloc)
     }
 
-    /// Returns a body of `len` bytes, in the pieces in which it came, or `None` while some of it
+    /// Returns a body of `len` bytes, in pieces as `Frames` returns them, or `None` while some of it
     /// is to come.
     pub fn next_body(
         &mut self,

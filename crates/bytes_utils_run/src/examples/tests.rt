@@ -3,10 +3,12 @@ mod fields;
 mod files;
 mod headers;
 mod inbox;
+mod long;
 mod memory;
 mod paths;
 mod records;
 mod requests;
+mod shared;
 mod tokens;
 
 use crate::odd::RefuseAfter;

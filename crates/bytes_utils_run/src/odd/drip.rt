@@ -54,14 +54,7 @@ impl Buf for Drip {
 impl BufParts for Drip {
     ghost loses = { λ _ taken. taken ≡ 0 };
 
-    fn copy_out(&mut self, alloc: Global, len: usize) -> Result<Bytes, CopyRefused>
-        requires { len ≤ length self.old }
-        ensures value { IfOk result (λ copy. copy ≡ take len self.old) }
-        ensures taken { taken_by len result ≤ len }
-        ensures rest { self.new ≡ drop (taken_by len result) self.old }
-        ensures refused { IfErr result (λ e. e.taken ≡ 0) }
-        ensures same { OnErr result (self.new ≡ self.old) }
-    {
+    fn copy_out(&mut self, alloc: Global, len: usize) -> Result<Bytes, CopyRefused> {
         self.bytes.copy_out(alloc, len)
     }
 

@@ -7,7 +7,7 @@ ghost use Rattle.bytes_utils.specs.Outcome.{Outcome};
 ghost use Rattle.bytes_utils_buf.specs.declared.refused.Reason.{Reason as WhyRefused};
 ghost use Rattle.bytes_utils_run.specs.Answer.{ComesOf, HasParts};
 ghost use Rattle.bytes_utils_run.specs.Command.{command_line};
-ghost use Rattle.bytes_utils_run.specs.Request.{AreFirstReplies, AreReplies, IsRequest, Request, lacks_memory};
+ghost use Rattle.bytes_utils_run.specs.Request.{AreFirstReplies, IsRequest, Request, lacks_memory};
 ghost use Rattle.bytes_utils_run.specs.Run.{AsksFor};
 
 use crate::program::Fault;
@@ -38,8 +38,7 @@ fn first_lacking_memory(replies: &[Reply]) -> Option<usize>
 /// Makes the calls on a new buffer. Keeps the replies before the first refusal of memory.
 fn replies_to(alloc: Global, calls: Vec<Call<Bytes>>) -> Result<Replies, Fault>
     ensures ok { IfOk result
-        (λ replies. Outcome (AreReplies calls.items) replies.given.items replies.refused) }
-    ensures first { IfOk result (λ replies. AreFirstReplies calls.items replies.given.items) }
+        (λ replies. AreFirstReplies calls.items replies.given.items replies.refused) }
     ensures fault { IsOkUnless result Fault.OutOfMemory }
 {
     let mut buf = SegmentedBuf::new(alloc);

@@ -15,6 +15,9 @@ use bytes::Bytes;
 use bytes_utils::Str;
 use std::alloc::Global;
 
+/// The word of a call that appends, and its space.
+const PUSH: &str = "push ";
+
 /// Reads a word and the number after it.
 fn numbered(line: &str, word: &str) -> Option<usize>
     ensures { MatchOption result ((n : ℕ) → ¬ IsNumbered (chars word.now) n (chars line.now))
@@ -24,6 +27,7 @@ fn numbered(line: &str, word: &str) -> Option<usize>
 }
 
 /// Reads a call that is a word alone.
+#[tactic(auto, using(crate::proofs::CommandLemmas::chars_word))]
 fn word_call(line: &str) -> Option<Call<Bytes>>
     ensures { MatchOption result
         ((¬ IsCallLine Counting (chars line.now))
@@ -44,6 +48,7 @@ fn word_call(line: &str) -> Option<Call<Bytes>>
 }
 
 /// Reads a call that is a word and a number.
+#[tactic(auto, using(crate::proofs::CommandLemmas::chars_word))]
 fn with_number(line: &str) -> Option<Call<Bytes>>
     ensures { MatchOption result
         ((n : ℕ) → (¬ IsCallLine (Reading (Advancing n)) (chars line.now))
@@ -57,11 +62,14 @@ fn with_number(line: &str) -> Option<Call<Bytes>>
     if let Some(len) = numbered(line, "copy ") {
         return Some(Call::Read(ReadCall::CopyOut(len)));
     }
-    let places = numbered(line, "chunks ")?;
-    Some(Call::Read(ReadCall::Chunks(places)))
+    if let Some(places) = numbered(line, "chunks ") {
+        return Some(Call::Read(ReadCall::Chunks(places)));
+    }
+    None
 }
 
 /// Reads the bytes to push: all of the line after the word and its space.
+#[tactic(auto, using(crate::proofs::CommandLemmas::chars_word, std::proofs::lemmas::List::drop_at))]
 fn pushed(line: &Str) -> Result<Bytes, Fault>
     ensures ok { IfOk result (λ bytes. IsCallLine (Pushing bytes) (chars line.now)) }
     ensures unknown { IsErrOf result Fault.UnknownCommand
@@ -69,10 +77,10 @@ fn pushed(line: &Str) -> Result<Bytes, Fault>
     ensures fault { IfErr result
         (λ fault. (fault ≡ Fault.UnknownCommand) ⊎ (fault ≡ Fault.OutOfMemory)) }
 {
-    let Some(text) = rest_after(line.as_str(), "push ") else {
+    let Some(_) = rest_after(line.as_str(), PUSH) else {
         return Err(Fault::UnknownCommand);
     };
-    match line.slice_from(line.as_str().len() - text.len()) {
+    match line.slice_from(PUSH.len()) {
         Ok(text) => Ok(text.into_inner()),
         Err(_) => Err(Fault::OutOfMemory),
     }

@@ -42,6 +42,7 @@ fn counted_after<'l>(line: &'l str, word: &str) -> Option<(usize, &'l str)>
 }
 
 /// Reads a way to split that is a word alone.
+#[tactic(auto, using(crate::proofs::CommandLemmas::chars_word))]
 fn word_command(line: &str) -> Option<How<'_>>
     ensures { MatchOption result
         ((chars line.now ≢ codes "words") × (chars line.now ≢ codes "ascii") × (chars line.now ≢ codes "lines"))
@@ -60,6 +61,7 @@ fn word_command(line: &str) -> Option<How<'_>>
 }
 
 /// Reads a way to split that is a word and a separator.
+#[tactic(auto, using(crate::proofs::CommandLemmas::chars_word))]
 fn by_separator(line: &str) -> Option<How<'_>>
     ensures { MatchOption result
         ((p : List ℕ) → (¬ IsCommand (FromFront p None) (chars line.now))
@@ -81,6 +83,7 @@ fn by_separator(line: &str) -> Option<How<'_>>
 }
 
 /// Reads a way to split that is a word, a number and a separator.
+#[tactic(auto, using(crate::proofs::CommandLemmas::chars_word))]
 fn by_limit(line: &str) -> Option<How<'_>>
     ensures { MatchOption result
         ((p : List ℕ) (most : ℕ) → (¬ IsCommand (FromFront p (Some most)) (chars line.now))
@@ -90,8 +93,10 @@ fn by_limit(line: &str) -> Option<How<'_>>
     if let Some((most, separator)) = counted_after(line, "splitn ") {
         return Some(How::SplitN(most, separator));
     }
-    let (most, separator) = counted_after(line, "rsplitn ")?;
-    Some(How::RSplitN(most, separator))
+    if let Some((most, separator)) = counted_after(line, "rsplitn ") {
+        return Some(How::RSplitN(most, separator));
+    }
+    None
 }
 
 /// Reads a way to split, if the line is one.
@@ -118,6 +123,7 @@ pub(super) enum Command<'l> {
 }
 
 /// Reads a command line, or returns `None` if it isn't a command.
+#[tactic(auto, using(crate::proofs::CommandLemmas::chars_word))]
 pub(super) fn read_command(line: &str) -> Option<Command<'_>>
     ensures { MatchOption result
         ((chars line.now ≢ codes "buf") × ((way : Cutting) → ¬ IsCommand way (chars line.now)))

@@ -1,7 +1,7 @@
-use Rattle.std.proofs.Common.{◌≡◌, ℕ, ◌+◌, ◌-◌, ◌≤◌, ◌++◌, length, take, drop, arith, ap, refl, length-take}
+use Rattle.std.proofs.Common.{ℕ, ◌+◌, length, drop, arith, ap, refl, length-take}
 use Rattle.std.specs.List.{concat}
 use Rattle.bytes_utils.proofs.Pieces.{range_rest}
-use Rattle.bytes_utils.proofs.FindLemmas.{begun_inside, begun_across, missed_begun, border_bytes}
+use Rattle.bytes_utils.proofs.FindLemmas.{begun_inside, begun_across, missed_begun, border_at}
 use Rattle.bytes_utils.proofs.find.find_starting_in.Goals as goal
 
 pub returns-in-Some : goal.returns-in-Some
@@ -13,28 +13,18 @@ returns-in-Some g c =
 
 pub returns-in_err-at : goal.returns-in_err-at
 returns-in_err-at g c =
-    let segment = c.args.segment.now in
-    let following = concat (drop c.args.next c.args.buf.now.segments) in
     let p = c.args.finder.now in
-    let tail = c.max-tail.result in
-    let size = length segment - tail + (length p - 1) in
-    let window = take c.fill_window-count.result c.fill_window-count.new.window in
+    let segment = c.args.segment.now in
+    let border = border_at p c.needle.result.now segment (concat (drop c.args.next c.args.buf.now.segments)) c.args.from c.max-tail.result c.requires.some (omega arith) c.needle.ensures (omega arith)
+    (range_rest segment c.max-tail.result) (omega (arith, ap length c.needle.ensures, length-take {A = ℕ})) c.fill_window-count.ensures.bytes in
     let missed = rw (range_rest segment c.args.from) at c.in_default.ensures in
-    let same = ap length c.needle.ensures in
-    let high : tail ≤ length segment = omega arith in
-    let is : window ≡ take size (drop tail (segment ++ following)) = border_bytes segment following _ window tail _ size high (range_rest segment tail) (omega (arith, same, length-take {A = ℕ})) c.fill_window-count.ensures.bytes in
-    rw c.from_residual.ensures (missed_begun p segment following c.args.from c.requires.some (omega arith) tail size window (omega arith) high (λ before. omega (arith, before, same)) (omega arith) is missed c.in_err-at.ensures)
+    rw c.from_residual.ensures (missed_begun p segment _ c.args.from c.requires.some (omega arith) border missed c.in_err-at.ensures)
 
 pub returns : goal.returns
 returns g c =
-    let segment = c.args.segment.now in
-    let following = concat (drop c.args.next c.args.buf.now.segments) in
     let p = c.args.finder.now in
-    let tail = c.max-tail.result in
-    let size = length segment - tail + (length p - 1) in
-    let window = take c.fill_window-count.result c.fill_window-count.new.window in
+    let segment = c.args.segment.now in
+    let border = border_at p c.needle.result.now segment (concat (drop c.args.next c.args.buf.now.segments)) c.args.from c.max-tail.result c.requires.some (omega arith) c.needle.ensures (omega arith)
+    (range_rest segment c.max-tail.result) (omega (arith, ap length c.needle.ensures, length-take {A = ℕ})) c.fill_window-count.ensures.bytes in
     let missed = rw (range_rest segment c.args.from) at c.in_default.ensures in
-    let same = ap length c.needle.ensures in
-    let high : tail ≤ length segment = omega arith in
-    let is : window ≡ take size (drop tail (segment ++ following)) = border_bytes segment following _ window tail _ size high (range_rest segment tail) (omega (arith, same, length-take {A = ℕ})) c.fill_window-count.ensures.bytes in
-    begun_across p segment following c.args.from c.requires.some (omega arith) tail size window (omega arith) high (λ before. omega (arith, before, same)) (omega arith) is c.in_ok-at.at (tail + c.in_ok-at.at) refl missed c.in_ok-at.ensures
+    begun_across p segment _ c.args.from c.requires.some (omega arith) border c.in_ok-at.at (c.max-tail.result + c.in_ok-at.at) refl missed c.in_ok-at.ensures

@@ -43,6 +43,18 @@ fn long_needle(rt: HostRuntime) {
     }
 }
 
+// It asks for a block of twice the needle's length, and for no more; `refusals.txt` has that number.
+#[test]
+fn a_needle_of_many_bytes(rt: HostRuntime) {
+    let mut buf = SegmentedBuf::new(rt.alloc());
+    if buf.try_push(Bytes::from_static(&[b'x'; 10_000])).is_ok() {
+        let place = find::find(&buf, rt.alloc(), &[b'x'; 10_000]);
+        if let Some(place) = given(&rt, "find", place) {
+            assert!(rt; matches!(place, Some(0)));
+        }
+    }
+}
+
 #[test]
 fn no_memory_needed_by_short_needles(rt: HostRuntime) {
     if let Some(buf) = prepared(rt.alloc()) {

@@ -1,13 +1,13 @@
 //! Frames from readers that are slow, are interrupted, fail or never end.
 mod memory;
 
-use crate::fixtures::assert_says;
 use crate::fixtures::readers::{InterruptedReader, NotingReader, SlowReader};
+use crate::fixtures::{assert_says, assert_text, styled};
 use crate::frame::Frames;
 use crate::frame::read::{ReadError, read_frame, read_frame_laws};
-use bytes::Bytes;
+use crate::{Reason, Refused};
+use bytes::{Bytes, BytesMut};
 use std::alloc::Global;
-use std::collections::VecDeque;
 use std::io::{self, ErrorKind, Read};
 use std::process::Abort;
 use std::test::Fail;
@@ -103,26 +103,14 @@ fn a_frame_and_a_rest_longer_than_a_block(rt: HostRuntime) -> Result<(), Fail> {
     Ok(())
 }
 
-/// The number of pieces that are the only owner of their block.
-fn alone(pieces: &VecDeque<Bytes>) -> usize {
-    let mut count = 0_usize;
-    for piece in pieces.iter() {
-        if piece.is_unique() {
-            count = count.saturating_add(1);
-        }
-    }
-    count
-}
-
-// Pieces of one byte fill a block, and the last is alone in another.
+// Reads of one byte are copied together: 4,096 fill a block, and the last is in another.
 #[test]
-fn pieces_share_a_block_until_it_is_full(rt: HostRuntime) -> Result<(), Fail> {
+fn single_bytes_fill_a_block(rt: HostRuntime) -> Result<(), Fail> {
     let bytes = [b'a'; 4_097];
     let mut input = SlowReader::new(&bytes, 1, 0);
     let mut frames = Frames::new(rt.alloc(), "-".as_bytes())?;
     assert!(rt; is_end(rt.alloc(), &mut input, &mut frames, 4_097));
-    let pieces: VecDeque<Bytes> = frames.finish().into_inner();
-    assert!(rt; pieces.len() == 4_097 && alone(&pieces) == 1);
+    assert!(rt; frames.pieces().segments() == 2);
     Ok(())
 }
 
@@ -159,8 +147,30 @@ fn too_many_reads(rt: HostRuntime) -> Result<(), Fail> {
     Ok(())
 }
 
+/// The longest message that an error of a reader may have.
+const MESSAGE: &str =
+    "the eighty bytes of this message are as many as the kit keeps of any one, and no";
+
 #[test]
 fn an_error_of_the_reader_says_why(rt: HostRuntime) -> Result<(), Fail> {
     let reset = ReadError::Io(io::Error::from(ErrorKind::ConnectionReset));
-    assert_says(&rt, rt.alloc(), &reset, "connection reset")
+    assert_says(&rt, rt.alloc(), &reset, "connection reset")?;
+    let other = io::Error::other(MESSAGE);
+    let want = styled(rt.alloc(), &other)?;
+    let said = styled(rt.alloc(), &ReadError::Io(other))?;
+    assert_text(&rt, said.as_str(), want.as_str());
+    Ok(())
+}
+
+#[test]
+fn other_errors_say_why(rt: HostRuntime) -> Result<(), Fail> {
+    let alloc = rt.alloc();
+    assert_says(&rt, alloc, &ReadError::TooManyReads, "too many reads")?;
+    let unshared = ReadError::Unshared(BytesMut::new(alloc));
+    assert_says(&rt, alloc, &unshared, "out of memory")?;
+    let unpushed = ReadError::Unpushed(Refused {
+        reason: Reason::TooLong,
+        back: Bytes::new(),
+    });
+    assert_says(&rt, alloc, &unpushed, "too long")
 }

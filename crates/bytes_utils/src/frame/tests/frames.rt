@@ -1,6 +1,6 @@
 //! Frames out of pieces: what is shared, what is let go, and long ones.
 use crate::frame::tests::readers::{Holds, ReadsFrames};
-use crate::frame::{Frames, LimitedFrames, Lines};
+use crate::frame::{Frames, LimitedFrames, LimitedLines, Lines};
 use bytes::Bytes;
 use std::alloc::Global;
 use std::process::Abort;
@@ -20,16 +20,28 @@ fn is_next<F: ReadsFrames>(alloc: Global, reader: &mut F, frame: &str, is_unique
     }
 }
 
-/// Asserts both frames of two pieces. The first is in one piece, and the second in two.
+/// Asserts both frames of two long pieces. The first is in one piece, and the second in two.
 fn assert_shares<F: Holds + ReadsFrames>(
     rt: &impl Abort,
     alloc: Global,
     reader: &mut F,
 ) -> Result<(), Fail> {
-    put_copy(alloc, reader, "ab\ncd")?;
-    put_copy(alloc, reader, "e\n")?;
-    assert!(rt; is_next(alloc, reader, "ab", false) && is_next(alloc, reader, "cde", true));
+    reader.put(long_piece(alloc, b'\n')?)?;
+    reader.put(long_piece(alloc, b'c')?)?;
+    put_copy(alloc, reader, "\n")?;
+    assert!(rt; is_next(alloc, reader, "aa", false));
+    match reader.frame(alloc) {
+        Ok(Some(given)) => assert!(rt; given.len() == 1_197 && given.is_unique()),
+        _ => assert!(rt; false, "no frame ends"),
+    }
     Ok(())
+}
+
+/// A piece of 600 bytes, which is not copied. Its third byte is given.
+fn long_piece(alloc: Global, third: u8) -> Result<Bytes, Fail> {
+    let mut bytes = [b'a'; 600];
+    bytes[2] = third;
+    Ok(Bytes::copy_from_slice(alloc, &bytes)?)
 }
 
 /// A frame in one piece shares that piece's block with what is left of it.
@@ -39,13 +51,48 @@ fn frame_in_one_piece_is_shared(rt: HostRuntime) -> Result<(), Fail> {
     assert_shares(&rt, rt.alloc(), &mut frames)
 }
 
+/// Frames of small pieces share the block to which these were copied.
+#[test]
+fn frames_in_small_pieces_are_shared(rt: HostRuntime) -> Result<(), Fail> {
+    let alloc = rt.alloc();
+    let mut frames = Frames::new(alloc, b"-")?;
+    for piece in "a|b-c|-d".split('|') {
+        put_copy(alloc, &mut frames, piece)?;
+    }
+    assert!(rt; frames.pieces().segments() == 1);
+    assert!(rt;
+        is_next(alloc, &mut frames, "ab", false) && is_next(alloc, &mut frames, "c", false)
+    );
+    Ok(())
+}
+
 /// Whether a piece is shared while a reader holds it, and not any more once the reader is dropped.
 fn is_let_go<F: Holds + Drop>(alloc: Global, mut reader: F) -> Result<bool, Fail> {
-    let piece = Bytes::copy_from_slice(alloc, b"ab\ncd")?;
+    let piece = long_piece(alloc, b'\n')?;
     reader.put(piece.clone()?)?;
     let held = !piece.is_unique();
     drop(reader);
     Ok(held && piece.is_unique())
+}
+
+/// The same of a reader that is finished.
+fn is_let_go_at_the_end<F: Holds + Drop>(alloc: Global, mut reader: F) -> Result<bool, Fail> {
+    let piece = long_piece(alloc, b'\n')?;
+    reader.put(piece.clone()?)?;
+    let left = reader.end();
+    let held = !piece.is_unique();
+    drop(left);
+    Ok(held && piece.is_unique())
+}
+
+#[test]
+fn a_finished_reader_lets_its_pieces_go(rt: HostRuntime) -> Result<(), Fail> {
+    let alloc = rt.alloc();
+    assert!(rt; is_let_go_at_the_end(alloc, Frames::new(alloc, b"\n")?)?);
+    assert!(rt; is_let_go_at_the_end(alloc, LimitedFrames::new(alloc, b"\n", 9)?)?);
+    assert!(rt; is_let_go_at_the_end(alloc, Lines::new(alloc)?)?);
+    assert!(rt; is_let_go_at_the_end(alloc, LimitedLines::new(alloc, 9)?)?);
+    Ok(())
 }
 
 #[test]
@@ -54,13 +101,14 @@ fn a_dropped_reader_lets_its_pieces_go(rt: HostRuntime) -> Result<(), Fail> {
     assert!(rt; is_let_go(alloc, Frames::new(alloc, b"\n")?)?);
     assert!(rt; is_let_go(alloc, LimitedFrames::new(alloc, b"\n", 9)?)?);
     assert!(rt; is_let_go(alloc, Lines::new(alloc)?)?);
+    assert!(rt; is_let_go(alloc, LimitedLines::new(alloc, 9)?)?);
     Ok(())
 }
 
 /// The pieces of a frame share the pushed blocks.
 #[test]
 fn frame_in_pieces_is_shared(rt: HostRuntime) -> Result<(), Fail> {
-    let piece = Bytes::copy_from_slice(rt.alloc(), b"a-b")?;
+    let piece = long_piece(rt.alloc(), b'-')?;
     let mut frames = Frames::new(rt.alloc(), b"+")?;
     for _ in 0..2 {
         frames.push(piece.clone()?)?;
@@ -74,17 +122,50 @@ fn frame_in_pieces_is_shared(rt: HostRuntime) -> Result<(), Fail> {
     Ok(())
 }
 
+/// Pushes a frame of 2,048,000 bytes in 2,000 pieces, its end of 300 bytes, and one byte.
+fn put_long<F: Holds>(alloc: Global, reader: &mut F) -> Result<(), Fail> {
+    for _ in 0..2_000 {
+        reader.put(Bytes::from_static(&[b'a'; 1_024]))?;
+    }
+    reader.put(Bytes::copy_from_slice(alloc, &[b'-'; 301])?)?;
+    Ok(())
+}
+
+/// Asserts this frame in one piece, and then in segments.
+fn assert_long<F: Holds + ReadsFrames>(
+    rt: &impl Abort,
+    alloc: Global,
+    reader: &mut F,
+) -> Result<(), Fail> {
+    put_long(alloc, reader)?;
+    let frame = reader.frame(alloc)?.ok_or("no frame")?;
+    assert!(rt; frame.len() == 2_048_000 && reader.left() == 1);
+    drop(frame);
+    put_long(alloc, reader)?;
+    let frame = reader.segments(alloc)?.ok_or("no frame")?;
+    assert!(rt; frame.segments() == 2_001 && reader.left() == 1);
+    Ok(())
+}
+
+// A limit may be the length of the frame, or the greatest number.
 #[test]
 fn a_long_frame_in_many_pieces(rt: HostRuntime) -> Result<(), Fail> {
-    let mut frames = Frames::new(rt.alloc(), &[b'-'; 300])?;
-    let piece = Bytes::copy_from_slice(rt.alloc(), &[b'a'; 1_024])?;
-    for _ in 0..2_000 {
-        frames.push(piece.clone()?)?;
+    let alloc = rt.alloc();
+    assert_long(&rt, alloc, &mut Frames::new(alloc, &[b'-'; 300])?)?;
+    for limit in [2_048_001, usize::MAX] {
+        let mut frames = LimitedFrames::new(alloc, &[b'-'; 300], limit)?;
+        assert_long(&rt, alloc, &mut frames)?;
     }
-    frames.push(Bytes::copy_from_slice(rt.alloc(), &[b'-'; 301])?)?;
-    let Some(frame) = frames.next_frame(rt.alloc())? else {
-        panic!(rt; "no frame ends");
-    };
-    assert!(rt; frame.len() == 2_048_000 && frames.remaining() == 1);
+    Ok(())
+}
+
+// If each call searched all pieces again, this would take minutes.
+#[test]
+fn pieces_that_wait_are_not_searched_again(rt: HostRuntime) -> Result<(), Fail> {
+    let mut frames = Frames::new(rt.alloc(), b"--")?;
+    for _ in 0..400_000 {
+        frames.push(Bytes::from_static(b"a"))?;
+        assert!(rt; frames.next_frame(rt.alloc())?.is_none());
+    }
     Ok(())
 }

@@ -1,8 +1,8 @@
 //! What readers of frames and of lines have in common, so that one proof of a test serves all of them.
-use crate::frame::{Frames, LimitedFrames, Lines};
+use crate::frame::{Frames, LimitedFrames, LimitedLines, LineError, Lines};
 use crate::segmented::SegmentedBuf;
-use crate::{Reason, Refused};
-use bytes::Bytes;
+use crate::{EitherBuf, Reason, Refused, Str};
+use bytes::{Bytes, BytesMut};
 use std::alloc::Global;
 
 /// A reader that holds pieces.
@@ -10,6 +10,8 @@ pub(super) trait Holds {
     fn put(&mut self, piece: Bytes) -> Result<(), Refused<Bytes>>;
 
     fn left(&self) -> usize;
+
+    fn end(self) -> SegmentedBuf<EitherBuf<Bytes, BytesMut>>;
 }
 
 impl Holds for Frames {
@@ -19,6 +21,10 @@ impl Holds for Frames {
 
     fn left(&self) -> usize {
         self.remaining()
+    }
+
+    fn end(self) -> SegmentedBuf<EitherBuf<Bytes, BytesMut>> {
+        self.finish()
     }
 }
 
@@ -30,6 +36,10 @@ impl Holds for LimitedFrames {
     fn left(&self) -> usize {
         self.remaining()
     }
+
+    fn end(self) -> SegmentedBuf<EitherBuf<Bytes, BytesMut>> {
+        self.finish()
+    }
 }
 
 impl Holds for Lines {
@@ -39,6 +49,24 @@ impl Holds for Lines {
 
     fn left(&self) -> usize {
         self.remaining()
+    }
+
+    fn end(self) -> SegmentedBuf<EitherBuf<Bytes, BytesMut>> {
+        self.finish()
+    }
+}
+
+impl Holds for LimitedLines {
+    fn put(&mut self, piece: Bytes) -> Result<(), Refused<Bytes>> {
+        self.push(piece)
+    }
+
+    fn left(&self) -> usize {
+        self.remaining()
+    }
+
+    fn end(self) -> SegmentedBuf<EitherBuf<Bytes, BytesMut>> {
+        self.finish()
     }
 }
 
@@ -66,5 +94,32 @@ impl ReadsFrames for LimitedFrames {
 
     fn segments(&mut self, alloc: Global) -> Result<Option<SegmentedBuf<Bytes>>, Reason> {
         self.next_frame_segments(alloc)
+    }
+}
+
+/// A reader of lines.
+pub(super) trait ReadsLines {
+    fn line(&mut self, alloc: Global) -> Result<Option<Str>, LineError>;
+
+    fn last(&mut self, alloc: Global) -> Result<Option<Str>, LineError>;
+}
+
+impl ReadsLines for Lines {
+    fn line(&mut self, alloc: Global) -> Result<Option<Str>, LineError> {
+        self.next_line(alloc)
+    }
+
+    fn last(&mut self, alloc: Global) -> Result<Option<Str>, LineError> {
+        self.last_line(alloc)
+    }
+}
+
+impl ReadsLines for LimitedLines {
+    fn line(&mut self, alloc: Global) -> Result<Option<Str>, LineError> {
+        self.next_line(alloc)
+    }
+
+    fn last(&mut self, alloc: Global) -> Result<Option<Str>, LineError> {
+        self.last_line(alloc)
     }
 }

@@ -47,7 +47,7 @@ fn counted(alloc: Global, number: u32) -> Result<String, AllocError> {
 }
 
 /// Asserts that the parts of a text, by each of these separators, are those that `str` borrows.
-fn assert_each<W: StrWay, R: Abort>(
+pub(super) fn assert_each<W: StrWay, R: Abort>(
     rt: &R,
     alloc: Global,
     text: &str,

@@ -29,5 +29,19 @@ where
 #[test]
 fn bounds(rt: HostRuntime) {
     assert_hints(&rt, Str::from_static("a,b,c").split_bytes(","), 3);
+    assert_hints(&rt, Str::from_static("a,b,c").rsplit_bytes(","), 3);
+    assert_hints(&rt, Str::from_static("a,β,c").split_bytes(",").indices(), 3);
+    assert_hints(
+        &rt,
+        Str::from_static("a,b,c").splitn_bytes(2, ",").indices(),
+        2,
+    );
+    assert_hints(&rt, Str::from_static("a,b,c").split_inclusive_bytes(","), 3);
     assert_hints(&rt, Str::from_static("one\ntwo\n").lines_bytes(), 2);
+    assert_hints(&rt, Str::from_static("a b c").split_whitespace_bytes(), 3);
+    assert_hints(
+        &rt,
+        Str::from_static("a b c").split_ascii_whitespace_bytes(),
+        3,
+    );
 }

@@ -10,6 +10,7 @@ const BLOCK: usize = 16;
 
 /// Returns the number of graphic ASCII bytes at the front of a block.
 #[inline(always)]
+#[tactic(auto, using(crate::proofs::Graphic::blocks))]
 fn graphic_in_block(block: u8x16) -> usize
     ensures { result ≡ prefix_len is_ascii_graphic block }
 {
@@ -39,6 +40,7 @@ fn graphic_end_by_bytes(bytes: &[u8], from: usize) -> usize
 /// Returns the place at which the graphic ASCII at the front ends. Each of these bytes is a
 /// character.
 #[inline]
+#[tactic(auto, using(crate::proofs::Graphic::blocks))]
 pub(super) fn graphic_end(bytes: &[u8]) -> usize
     ensures { result ≡ prefix_len is_ascii_graphic bytes.now }
 {

@@ -5,6 +5,7 @@ use serde::{Deserialize, DeserializeOwned};
 use serde_json::{Value, from_str, from_value, to_string};
 use std::alloc::Global;
 use std::convert::AsStr;
+use std::iter::repeat_n;
 use std::process::Abort;
 use std::test::Fail;
 
@@ -30,6 +31,15 @@ fn assert_reads<'j, T: Deserialize<'j> + DeserializeOwned + AsStr>(
     assert_text(rt, text.as_str(), TEXT);
     let owned: T = from_value(alloc, Value::from_str(alloc, json)?)?;
     assert_text(rt, owned.as_str(), TEXT);
+    Ok(())
+}
+
+#[test]
+fn a_long_text(rt: HostRuntime) -> Result<(), Fail> {
+    let alloc = rt.alloc();
+    let json = to_string(alloc, &Str::from_chars(alloc, repeat_n('x', 100_000))?)?;
+    let text: Str = from_str(alloc, json.as_str())?;
+    assert!(rt; json.len() == 100_002 && text.len() == 100_000);
     Ok(())
 }
 

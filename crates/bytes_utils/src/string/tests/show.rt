@@ -8,9 +8,11 @@ use std::test::Fail;
 /// Texts with a bar between them. The last one has 72 bytes.
 const TEXTS: &str = "|aβ\n\"😈\0|longer than it|aβaβaβaβaβaβaβaβaβaβaβaβaβaβaβaβaβaβaβaβaβaβaβaβ";
 
-/// The value, padded, cut, and in quotes.
+/// The value, padded, cut, in quotes, and in another style.
 fn shown<T: fmt::Display + fmt::Debug>(alloc: Global, value: &T) -> Result<String, AllocError> {
-    format!(in alloc; "{value}|{value:>8}|{value:*^9}|{value:.2}|{value:?}|{value:12?}")
+    format!(in alloc;
+        "{value}|{value:>8}|{value:*^9}|{value:.2}|{value:?}|{value:12?}|{value:#}|{value:#?}"
+    )
 }
 
 #[test]

@@ -1,9 +1,9 @@
-use Rattle.std.proofs.Common.{rules, refl}
+use Rattle.std.proofs.Common.{rules}
 use Rattle.bytes_utils_buf.proofs.SlicesLemmas.{FillsTable-first, joined-first}
 use Rattle.bytes_utils_buf.proofs.parts.slice_into.Goals as goal
 
 pub returns-clause-all : goal.returns-clause-all
-returns-clause-all c room = joined-first c.args.dst.now c.args.bytes c.args.bytes.now room refl
+returns-clause-all c = joined-first c.args.dst.now c.args.bytes
 
 pub returns-clause-fills : goal.returns-clause-fills
-returns-clause-fills c = FillsTable-first c.args.dst.now c.args.bytes c.args.bytes.now (search rules) refl (search rules)
+returns-clause-fills c = FillsTable-first c.args.dst.now c.args.bytes (search rules) (search rules)

@@ -10,6 +10,7 @@ use crate::segmented::place::FRONT;
 
 impl<B: ContiguousBuf + Drop> SegmentedBuf<B> {
     /// Returns the bytes of the segment at index `place`, from 0 at the front, if there is one.
+    #[inline]
     pub fn segment(&self, place: usize) -> Option<&[u8]>
         ensures { option_map (λ bytes. bytes.now) result ≡ slice_get self.now.segments place }
     {

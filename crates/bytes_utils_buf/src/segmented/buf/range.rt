@@ -6,9 +6,9 @@ ghost use Rattle.bytes_utils_buf.specs.Segments.{newly_held, Skips, take_bytes};
 use super::SegmentedBuf;
 use crate::Reason;
 use crate::contiguous::ContiguousBuf;
-use crate::segmented::pieces::{copy_pieces, rest_at, share_pieces, starts_with};
+use crate::segmented::pieces::{copy_pieces, part_at, rest_at, share_pieces, starts_with};
 use crate::segmented::place::find_place;
-use bytes::{Buf, Bytes};
+use bytes::Bytes;
 use std::alloc::Global;
 use std::ops::Range;
 
@@ -76,9 +76,8 @@ impl<B: ContiguousBuf + Drop> SegmentedBuf<B> {
             return Ok(Bytes::new());
         }
         let from = find_place(&self.segments, range.start);
-        let segment = &self.segments[from.passed];
-        if len <= segment.remaining() - from.offset {
-            return segment.part(alloc, from.offset..from.offset + len);
+        if len <= rest_at(&self.segments, from).len() {
+            return part_at(&self.segments, from, alloc, len);
         }
         let mut copy = Vec::with_capacity(alloc, len)?;
         copy_pieces(&self.segments, from, &mut copy, len);

@@ -56,6 +56,7 @@ impl<B: ContiguousBuf + Drop> SegmentedBuf<B> {
     /// them all, its own `prefix` returns them: a `Bytes` shares them. Otherwise they are copied
     /// into one block. Requires that `len` is at most `remaining()` (test: `remaining`). Fails with
     /// `OutOfMemory` if memory is refused. With `len` 0 it never fails.
+    #[inline]
     pub fn peek_bytes(&self, alloc: Global, len: usize) -> Result<Bytes, Reason>
         requires { len ≤ length (concat self.now.segments) }
         ensures value { IfOk result (λ copy. copy ≡ take len (concat self.now.segments)) }

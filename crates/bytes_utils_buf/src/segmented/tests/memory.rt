@@ -5,6 +5,7 @@ mod buf;
 mod copy;
 mod insert;
 mod join;
+mod packed;
 mod queue;
 mod range;
 mod split;

@@ -1,6 +1,6 @@
 //! What becomes of buffers that are passed, read to the end, or empty.
 use crate::fixtures::odd::Asked;
-use crate::fixtures::{hold, lend, put_first, shared, skip, take_out};
+use crate::fixtures::{FOUR, held, hold, lend, put, put_first, shared, skip, take_out};
 use crate::parts::{BufParts, CopyRefused};
 use bytes::{Buf, Bytes};
 use std::alloc::{AllocError, Global};
@@ -84,6 +84,15 @@ fn empty_segments_are_dropped(rt: HostRuntime) -> Result<(), Fail> {
     let (empty, other) = read_out(&rt, rt.alloc())?;
     put_first(&rt, &mut held, empty)?;
     assert!(rt; held.segments() == 0 && other.is_unique());
+    Ok(())
+}
+
+#[test]
+fn empty_segments_after_others_are_dropped(rt: HostRuntime) -> Result<(), Fail> {
+    let mut three = held(rt.alloc(), &FOUR)?;
+    let (empty, other) = read_out(&rt, rt.alloc())?;
+    put(&rt, &mut three, empty)?;
+    assert!(rt; three.segments() == 3 && other.is_unique());
     Ok(())
 }
 

@@ -11,10 +11,6 @@ pub prove-unreachable-requires-2 : goal.prove-unreachable-requires-2
 prove-unreachable-requires-2 g c =
     omega (arith, length-none_empty _ c.segments-2.ensures.none_empty, c.segments-2.ensures.count, c.remaining-2.ensures, c.if-prove-2.true)
 
-pub push_reserved-requires : goal.push_reserved-requires
-push_reserved-requires g c =
-    omega (arith, c.loop-call.invariant.count, c.loop-call.invariant.room, c.in-Some.ensures.steps.1)
-
 pub loop-call-preserved : goal.loop-call-preserved
 loop-call-preserved g c =
     let old = c.loop-call.invariant in

@@ -3,10 +3,6 @@ use Rattle.bytes_utils_run.specs.Calls.{IsRead, lists_of}
 use Rattle.bytes_utils_run.proofs.CallsLemmas.{IsRun-push}
 use Rattle.bytes_utils_run.proofs.calls.read_calls.Goals as goal
 
-pub push_reserved-requires : goal.push_reserved-requires
-push_reserved-requires g c =
-    omega (arith, c.loop-call.invariant.count, c.loop-call.invariant.room, c.in-Some.ensures.steps.1)
-
 pub loop-call-preserved : goal.loop-call-preserved
 loop-call-preserved g c =
     let old = c.loop-call.invariant in

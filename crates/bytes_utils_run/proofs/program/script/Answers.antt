@@ -8,9 +8,8 @@ use Rattle.bytes_utils_run.proofs.program.script.Goals as goal
 pub returns-clause-io : goal.returns-clause-io
 returns-clause-io g c is =
     let input = c.in_ok-input.input.items in
-    let begun = c.print_answer.ensures.io is in
     let asked = rw c.in_ok-text.ensures.ok at c.in_ok-answer.ensures.ok in
-    let all = begun-asked (AsksFor (chars input)) begun.0 begun.1 (asked begun.0 begun.1 begun.2) _ _ begun.3 in
+    let all = begun-asked (AsksFor (chars input)) c.in_ok-answer.answer asked _ _ (c.print_answer.ensures.io is) in
     inr (record {
       input = input;
       entries = all.0;

@@ -92,3 +92,13 @@ fn each_call(rt: HostRuntime) -> Result<(), Fail> {
     }
     Ok(())
 }
+
+// Of a body of 4,294,967,295 bytes the length alone has come. No memory is taken for it.
+#[test]
+fn an_announced_body(rt: HostRuntime) -> Result<(), Fail> {
+    let mut inbox = Inbox::new(rt.alloc());
+    if inbox.push(Bytes::from_static(b"\xff\xff\xff\xff")).is_ok() {
+        assert!(rt; inbox.next_body(rt.alloc())?.is_none());
+    }
+    Ok(())
+}

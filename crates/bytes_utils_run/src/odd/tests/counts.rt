@@ -1,7 +1,9 @@
 //! How often a buffer was called.
-use crate::odd::Asked;
+use crate::odd::{Asked, Zeros};
 use bytes::{Buf, Bytes};
+use bytes_utils::parts::BufParts;
 use std::process::Abort;
+use std::test::Fail;
 
 /// Returns whether these bytes are shown, and after two looks these numbers of calls.
 fn is_asked(buf: &Asked, shown: &[u8], advances: usize, looks: usize) -> bool {
@@ -17,4 +19,11 @@ fn asked_counts(rt: HostRuntime) {
     assert!(rt; buf.looked() == 0 && is_asked(&buf, b"abc", 0, 2));
     buf.advance(2);
     assert!(rt; buf.looked() == 2 && is_asked(&buf, b"c", 1, 4));
+}
+
+#[test]
+fn many_zeros_are_copied(rt: HostRuntime) -> Result<(), Fail> {
+    let copy = Zeros::new(100_001).copy_out(rt.alloc(), 100_000)?;
+    assert!(rt; copy.len() == 100_000);
+    Ok(())
 }

@@ -1,47 +1,52 @@
-use Rattle.std.proofs.Common.{◌≡◌, ◌+◌, ◌++◌, [], length, take, drop, arith, ap, subst, length-append, length-drop}
-use Rattle.std.proofs.lemmas.List.{take_all}
+use Rattle.std.proofs.Common.{◌+◌, ◌++◌, [], length, drop, arith, ap, length-append, length-drop}
 use Rattle.std.specs.List.{concat}
-use Rattle.bytes_utils.specs.FrameSearch.{Searched}
-use Rattle.bytes_utils.proofs.Pieces.{concat-take_next, concat_around}
+use Rattle.bytes_utils.specs.FrameSearch.{bytes_before}
+use Rattle.bytes_utils.proofs.Pieces.{bytes_before-all, bytes_before-around, bytes_before-first, bytes_before-rest, piece_at}
 use Rattle.bytes_utils.proofs.FrameSearchLemmas.{Searched-all}
 use Rattle.bytes_utils.proofs.frame.search.find.Goals as goal
+
+pub rest_from-requires : goal.rest_from-requires
+rest_from-requires g c =
+    omega (arith, c.loop-progress.invariant.pieces.inside, ap length (piece_at c.args.pieces.now.segments c.loop-progress.progress.pieces c.in-Some.piece.now c.in-Some.ensures))
 
 pub step-requires-clause-fits : goal.step-requires-clause-fits
 step-requires-clause-fits g c =
     let pieces = c.args.pieces.now.segments in
     let l = c.loop-progress.progress in
-    let piece = c.in-Some.piece.now in
+    let before = bytes_before l.pieces l.offset pieces in
+    let rest = drop l.offset c.in-Some.piece.now in
     let s = c.loop-progress.invariant.pieces.searched in
     let within = s.within in
-    let around = concat_around pieces l.pieces piece c.in-Some.ensures in
     omega (
       arith,
       c.requires.fits,
       within,
       ap length s.tail,
-      length-drop l.base (concat (take l.pieces pieces)),
-      ap length around,
-      length-append (concat (take l.pieces pieces) ++ piece) (concat (drop (l.pieces + 1) pieces)),
-      length-append (concat (take l.pieces pieces)) piece,
+      length-drop l.base before,
+      ap length c.rest_from.ensures,
+      ap length (bytes_before-around pieces l.pieces c.in-Some.piece.now c.in-Some.ensures l.offset),
+      length-append (before ++ rest) (concat (drop (l.pieces + 1) pieces)),
+      length-append before rest,
     )
 
 pub returns-in-Some-2-clause-found : goal.returns-in-Some-2-clause-found
 returns-in-Some-2-clause-found g c =
     let pieces = c.args.pieces.now.segments in
     let l = c.loop-progress.progress in
-    let around = concat_around pieces l.pieces c.in-Some.piece.now c.in-Some.ensures in
-    rw around (rw c.in-Some-2.is at (c.in_ok-at.ensures.found (concat (take l.pieces pieces)) (concat (drop (l.pieces + 1) pieces)) c.loop-progress.invariant.pieces.searched))
+    let around = bytes_before-around pieces l.pieces c.in-Some.piece.now c.in-Some.ensures l.offset in
+    rw around (rw (c.in-Some-2.is, c.rest_from.ensures) at (c.in_ok-at.ensures.found (bytes_before l.pieces l.offset pieces) (concat (drop (l.pieces + 1) pieces)) c.loop-progress.invariant.pieces.searched))
 
 pub loop-progress-preserved : goal.loop-progress-preserved
 loop-progress-preserved g c =
     let pieces = c.args.pieces.now.segments in
     let l = c.loop-progress.progress in
-    let next = concat-take_next pieces l.pieces c.in-Some.piece.now c.in-Some.ensures in
-    let searched = rw c.in_default-2.is at (c.in_ok-at.ensures.found (concat (take l.pieces pieces)) [] c.loop-progress.invariant.pieces.searched) in
+    let next = bytes_before-rest pieces l.pieces c.in-Some.piece.now c.in-Some.ensures l.offset in
+    let searched = rw (c.in_default-2.is, c.rest_from.ensures) at (c.in_ok-at.ensures.found (bytes_before l.pieces l.offset pieces) [] c.loop-progress.invariant.pieces.searched) in
     record {
       pieces = record {
         within = omega (arith, c.loop-progress-test.true, c.segments.ensures.count, c.in_ok-at.ensures.pieces);
-        searched = rw (c.in_ok-at.ensures.pieces, next) searched;
+        inside = omega arith;
+        searched = rw (c.in_ok-at.ensures.pieces, bytes_before-first pieces (l.pieces + 1), ← next) searched;
       };
       further = omega (arith, c.loop-progress.invariant.further, c.in_ok-at.ensures.pieces);
     }
@@ -50,6 +55,5 @@ pub returns-clause-found : goal.returns-clause-found
 returns-clause-found g c =
     let pieces = c.args.pieces.now.segments in
     let l = c.loop-progress.progress in
-    let all : take l.pieces pieces ≡ pieces = take_all l.pieces pieces (omega (arith, c.loop-progress-test.false, c.segments.ensures.count)) in
-    let s = subst (λ ps. Searched c.args.finder.now (concat ps) l.base l.held.items) all c.loop-progress.invariant.pieces.searched in
-    Searched-all c.args.finder.now (concat pieces) l.held.items l.base s
+    let all = bytes_before-all pieces l.pieces l.offset (omega (arith, c.loop-progress-test.false, c.segments.ensures.count)) in
+    Searched-all c.args.finder.now (concat pieces) l.held.items l.base (rw all at c.loop-progress.invariant.pieces.searched)

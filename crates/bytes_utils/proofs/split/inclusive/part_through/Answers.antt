@@ -22,8 +22,8 @@ returns-then-end-as_str-clause-gives g c =
     let whole = rw c.as_str-2.ensures.value at c.if-end-as_str.true in
     gives_whole _ _ text_is c.requires.text (inl (ends_text _ _ text_is c.utf8.separator _ found c.requires.separator whole))
 
-pub cut_at-requires : goal.cut_at-requires
-cut_at-requires g c = rw (← c.as_str.ensures.value) (next_boundary _ _ c.as_str.utf8 c.utf8.separator _ _ c.in-Some.ensures.1 c.in-Some.ensures.2.here)
+pub into_halves-requires : goal.into_halves-requires
+into_halves-requires g c = rw (← c.as_str.ensures.value) (next_boundary _ _ c.as_str.utf8 c.utf8.separator _ _ c.in-Some.ensures.1 c.in-Some.ensures.2.here)
 
 pub returns-in_err-part-clause-err : goal.returns-in_err-part-clause-err
 returns-in_err-part-clause-err g c =

@@ -1,6 +1,5 @@
-use Rattle.std.proofs.Common.{rules, ◌+◌, ◌≤◌, length}
 use Rattle.bytes_utils.proofs.SearchLemmas.{chars-some}
-use Rattle.bytes_utils.proofs.PartCut.{end_boundary, next_boundary, after_shorter, gives_first, gives_whole}
+use Rattle.bytes_utils.proofs.PartCut.{gives_first, gives_whole}
 use Rattle.bytes_utils.proofs.split.separated.first_part.Goals as goal
 
 pub find_by-requires-clause-some : goal.find_by-requires-clause-some
@@ -9,22 +8,10 @@ find_by-requires-clause-some g c = rw c.requires.needle c.requires.some
 pub find_by-requires-clause-utf8 : goal.find_by-requires-clause-utf8
 find_by-requires-clause-utf8 g c = rw c.requires.needle c.utf8.separator
 
-pub overflow_add-at : goal.overflow_add-at
-overflow_add-at g c =
-    let found = rw c.requires.needle at c.in-Some.ensures in
-    let fits : c.in-Some.at + length c.args.separator.now ≤ length c.as_str.result.now =
-    (next_boundary _ _ c.as_str.utf8 c.utf8.separator _ _ found.1 found.2.here).0 in
-    search rules
-
-pub cut_around-requires-clause-end : goal.cut_around-requires-clause-end
-cut_around-requires-clause-end g c =
-    let found = rw c.requires.needle at c.in-Some.ensures in
-    rw (← c.as_str.ensures.value) (end_boundary _ _ c.as_str.utf8 c.utf8.separator _ _ found.1 found.2.here)
-
-pub cut_around-requires-clause-next : goal.cut_around-requires-clause-next
-cut_around-requires-clause-next g c =
-    let found = rw c.requires.needle at c.in-Some.ensures in
-    rw (← c.as_str.ensures.value) (next_boundary _ _ c.as_str.utf8 c.utf8.separator _ _ found.1 found.2.here)
+pub cut_at_separator-requires : goal.cut_at_separator-requires
+cut_at_separator-requires g c =
+    let found = rw (c.requires.needle, c.as_str.ensures.value) at c.in-Some.ensures in
+    (found.0, found.1, found.2.here)
 
 pub returns-in_default-clause-gives : goal.returns-in_default-clause-gives
 returns-in_default-clause-gives g c =
@@ -37,9 +24,3 @@ returns-clause-gives g c =
     let part_is = rw (← c.as_str.ensures.value) at c.in_ok-part.ensures.before in
     let rest_is = rw (← c.as_str.ensures.value) at c.in_ok-part.ensures.after in
     rw (← c.as_str.ensures.value) (gives_first _ _ c.as_str.utf8 c.utf8.separator _ _ found.1 found.2.here found.2.none_before _ _ c.requires.some part_is rest_is)
-
-pub returns-clause-shorter : goal.returns-clause-shorter
-returns-clause-shorter g c =
-    let found = rw c.requires.needle at c.in-Some.ensures in
-    let rest_is = rw (← c.as_str.ensures.value) at c.in_ok-part.ensures.after in
-    rw (← c.as_str.ensures.value) (after_shorter _ _ c.as_str.utf8 c.utf8.separator _ _ found.1 found.2.here _ c.requires.some rest_is)

@@ -1,22 +1,16 @@
-use Rattle.std.proofs.Common.{◌≡◌, ◌+◌, ◌-◌, ◌<◌, ◌++◌, List, ℕ, length, map, take, arith, rules, ap, ◌∙◌, length-take, length-take-le, subst}
-use Rattle.std.proofs.lemmas.List.{length-map}
+use Rattle.std.proofs.Common.{◌≡◌, ◌+◌, ◌-◌, ◌<◌, ◌++◌, length, map, take, arith, rules, ap, ◌∙◌, length-take, length-take-le}
 use Rattle.std.proofs.lemmas.Slice.{take-put_mid}
 use Rattle.std.specs.List.{concat}
 use Rattle.bytes_utils_buf.specs.Segments.{front_of, lists_from}
-use Rattle.bytes_utils_buf.proofs.Pieces.{Has, Has-more, inside, next_from}
+use Rattle.bytes_utils_buf.proofs.Pieces.{Has-more, inside}
 use Rattle.bytes_utils_buf.proofs.segmented.pieces.copy_into.Goals as goal
 
-pub piece_at-piece-requires : goal.piece_at-piece-requires
-piece_at-piece-requires g c =
-    let items = c.args.bufs.now.items in
+pub piece_at-piece-requires-clause-some : goal.piece_at-piece-requires-clause-some
+piece_at-piece-requires-clause-some g c =
     let l = c.loop-copied in
-    let more : l.copied < length l.dst = c.loop-copied-test.true in
-    let size = length-take-le l.copied l.dst (omega (arith, more)) in
-    let wanted = length c.args.dst.now - length (take l.copied l.dst) in
-    record {
-      some = omega (arith, inside (map g.B.Buf.unread items) l.place.passed l.place.offset wanted (omega (arith, more, size, l.auto.dst)) l.invariant.has.enough, length-map items g.B.Buf.unread);
-      inside = l.invariant.inside;
-    }
+    let size = length-take-le l.copied l.dst (omega (arith, c.loop-copied-test.true)) in
+    inside g.B.Buf.unread c.args.bufs.now.items l.place.passed l.place.offset (length c.args.dst.now - length (take l.copied l.dst))
+    (omega (arith, c.loop-copied-test.true, size, l.auto.dst)) l.invariant.has.enough
 
 pub loop-copied-preserved : goal.loop-copied-preserved
 loop-copied-preserved g c =
@@ -24,7 +18,6 @@ loop-copied-preserved g c =
     let l = c.loop-copied in
     let here = lists_from l.place.passed l.place.offset lists in
     let wanted = length c.args.dst.now in
-    let all = take wanted (concat (lists_from 0 0 lists)) in
     let had = take l.copied l.dst in
     let piece = c.piece_at-piece.result.now in
     let same = l.auto.dst in
@@ -36,9 +29,9 @@ loop-copied-preserved g c =
     let new = c.copy_from_slice.new.self in
     let whole : new ≡ piece = search rules in
     let front = take-put_mid l.copied (l.copied + length piece - l.copied) l.dst new (l.copied + length piece) (omega (arith, ap length whole)) (omega (arith, more)) in
-    let has = Has-more here wanted all had piece l.invariant.has (omega (arith, size, more, same)) is in
     record {
       within = omega (arith, part, same, more);
       inside = omega arith;
-      has = rw (front ∙ ap (λ p. had ++ p) whole) (subst (λ (following : List (List ℕ)). Has following wanted all (had ++ piece)) (next_from lists l.place.passed l.place.offset) has);
+      has = rw (front ∙ ap (λ p. had ++ p) whole)
+          (Has-more lists l.place.passed l.place.offset wanted (take wanted (concat (lists_from 0 0 lists))) had piece l.invariant.has (omega (arith, size, more, same)) is);
     }

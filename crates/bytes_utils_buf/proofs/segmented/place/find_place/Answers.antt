@@ -1,7 +1,6 @@
 use Rattle.std.proofs.Common.{map, arith, refl}
 use Rattle.std.proofs.lemmas.List.{length-map}
 use Rattle.bytes_utils_buf.proofs.Lists.{length-concat-take_more, Skips-from_count}
-use Rattle.bytes_utils_buf.proofs.Pieces.{IsInside-found}
 use Rattle.bytes_utils_buf.proofs.segmented.place.find_place.Goals as goal
 
 pub loop-size-preserved : goal.loop-size-preserved
@@ -23,12 +22,3 @@ returns-clause-skips g c =
     let kept = c.loop-size.invariant in
     Skips-from_count lists _ c.loop-size.passed c.loop-size.offset c.args.at (omega (arith, size, kept.within)) kept.left c.requires
     (λ h. c.in_default.ensures.none (omega (arith, h, size))) refl
-
-pub returns-clause-inside : goal.returns-clause-inside
-returns-clause-inside g c =
-    let items = c.args.bufs.now.items in
-    let lists = map g.B.Buf.unread items in
-    let size = length-map items g.B.Buf.unread in
-    let kept = c.loop-size.invariant in
-    IsInside-found lists c.loop-size.passed c.loop-size.offset c.args.at kept.left c.requires
-    (λ h. c.in_default.ensures.none (omega (arith, h, size)))

@@ -10,7 +10,7 @@ returns-then-is_empty-clause-found c = λ bytes more s.
     let all : c.prefix_without_first_byte-from.result ≡ length piece = search rules in
     let empty : length c.args.self.now.held.items ≡ 0 = search rules in
     Searched-passed p bytes c.args.self.now.held.items piece c.args.self.now.base s _ (omega (arith, short)) (omega (arith, all)) empty
-    (λ k low. rw (c.needle.ensures) at (c.prefix_without_first_byte-from.ensures.none k (omega (arith, all, low))))
+    (λ k low. rw (c.needle-2.ensures) at (c.prefix_without_first_byte-from.ensures.none k (omega (arith, all, low))))
 
 pub returns-in-Some-clause-found : goal.returns-in-Some-clause-found
 returns-in-Some-clause-found c = λ bytes more s.
@@ -19,4 +19,4 @@ returns-in-Some-clause-found c = λ bytes more s.
 pub returns-clause-found : goal.returns-clause-found
 returns-clause-found c = λ bytes more s.
     Searched-missed c.args.finder.now bytes c.args.self.now.held.items c.args.piece.now c.args.self.now.base s c.in_ok-self.field-0 _ _ (omega arith) refl
-    (rw c.in_default.is at c.in_ok-at.ensures.found) (rw (c.needle-2.ensures, c.find_next.ensures.held) at c.in_ok-self.ensures.cut) (rw (c.find_next.ensures.held) at c.in_ok-self.ensures.held)
+    (rw c.in_default.is at c.in_ok-at.ensures.found) (rw (c.needle-3.ensures, c.find_next.ensures.held) at c.in_ok-self.ensures.cut) (rw (c.find_next.ensures.held) at c.in_ok-self.ensures.held)

@@ -1,27 +1,14 @@
-use Rattle.std.proofs.Common.{rules, ◌+◌, ◌≤◌, length, Some}
+use Rattle.std.proofs.Common.{Some}
 use Rattle.std.specs.Str.{chars}
 use Rattle.bytes_utils.specs.Occurrence.{Occurs}
-use Rattle.bytes_utils.proofs.PartCut.{end_boundary, next_boundary}
-use Rattle.bytes_utils.proofs.HalvesLemmas.{found_last, bytes_around, halves_at_last}
+use Rattle.bytes_utils.proofs.HalvesLemmas.{found_last, halves_at_last}
 use Rattle.bytes_utils_buf.proofs.Results.{OnErr-always}
 use Rattle.bytes_utils.proofs.string.text.StrInner.rsplit_once_bytes.Goals as goal
 
-pub overflow_add-at : goal.overflow_add-at
-overflow_add-at g c =
+pub cut_at_separator-requires : goal.cut_at_separator-requires
+cut_at_separator-requires g c =
     let found = found_last _ _ c.as_str.utf8 c.utf8.separator (Some c.in-Some.at) c.in-Some.ensures.last c.in-Some.ensures.empty in
-    let fits : c.in-Some.at + length c.args.separator.now ≤ length c.as_str.result.now =
-    (next_boundary _ _ c.as_str.utf8 c.utf8.separator _ _ found.at_is found.here).0 in
-    search rules
-
-pub cut_around-requires-clause-end : goal.cut_around-requires-clause-end
-cut_around-requires-clause-end g c =
-    let found = found_last _ _ c.as_str.utf8 c.utf8.separator (Some c.in-Some.at) c.in-Some.ensures.last c.in-Some.ensures.empty in
-    rw (← c.as_str.ensures.value) (end_boundary _ _ c.as_str.utf8 c.utf8.separator _ _ found.at_is found.here)
-
-pub cut_around-requires-clause-next : goal.cut_around-requires-clause-next
-cut_around-requires-clause-next g c =
-    let found = found_last _ _ c.as_str.utf8 c.utf8.separator (Some c.in-Some.at) c.in-Some.ensures.last c.in-Some.ensures.empty in
-    rw (← c.as_str.ensures.value) (next_boundary _ _ c.as_str.utf8 c.utf8.separator _ _ found.at_is found.here)
+    rw (← c.as_str.ensures.value) (found.place, found.at_is, found.here)
 
 pub returns-in_err-before-clause-err : goal.returns-in_err-before-clause-err
 returns-in_err-before-clause-err g c =
@@ -37,10 +24,3 @@ returns-clause-halves g c =
     let after_is = rw (← c.as_str.ensures.value) at c.in_ok-before.ensures.after in
     rw (← c.as_str.ensures.value)
     (halves_at_last _ _ c.as_str.utf8 c.utf8.separator _ _ found.at_is found.here _ _ before_is after_is found.none_after found.at_end)
-
-pub returns-clause-bytes : goal.returns-clause-bytes
-returns-clause-bytes g c =
-    let found = found_last _ _ c.as_str.utf8 c.utf8.separator (Some c.in-Some.at) c.in-Some.ensures.last c.in-Some.ensures.empty in
-    let before_is = rw (← c.as_str.ensures.value) at c.in_ok-before.ensures.before in
-    let after_is = rw (← c.as_str.ensures.value) at c.in_ok-before.ensures.after in
-    rw (← c.as_str.ensures.value) (bytes_around _ _ c.as_str.utf8 c.utf8.separator _ _ found.at_is found.here _ _ before_is after_is)

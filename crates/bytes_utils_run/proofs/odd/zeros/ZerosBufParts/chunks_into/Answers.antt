@@ -1,6 +1,5 @@
-use Rattle.std.proofs.Common.{◌∙◌, ap, refl, subst, arith}
+use Rattle.std.proofs.Common.{refl, subst, arith}
 use Rattle.bytes_utils_buf.specs.Slices.{FillsTable}
-use Rattle.bytes_utils_run.specs.Odd.{pieces}
 use Rattle.bytes_utils_run.proofs.OddLemmas.{FillsTable-none, FillsTable-zeros, FillsTable-all_zeros, pieces-zeros}
 use Rattle.bytes_utils_run.proofs.odd.zeros.ZerosBufParts.chunks_into.Goals as goal
 
@@ -19,6 +18,3 @@ pub returns-else-filled-dst-clause-fills : goal.returns-else-filled-dst-clause-f
 returns-else-filled-dst-clause-fills c =
     subst (FillsTable c.loop-shown.filled c.args.dst.now c.loop-shown.dst) c.self.view_is
     (FillsTable-all_zeros _ _ c.self.inside.left _ _ (omega arith) (omega arith) c.loop-shown.invariant.1)
-
-pub returns-else-filled-dst-clause-eight : goal.returns-else-filled-dst-clause-eight
-returns-else-filled-dst-clause-eight c = c.loop-shown.invariant.2 ∙ ap (pieces 8 c.loop-shown.filled) c.self.view_is

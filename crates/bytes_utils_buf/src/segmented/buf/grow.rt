@@ -1,0 +1,109 @@
+//! The last held segment, if it is a block that can grow.
+ghost use Rattle.std.specs.Prelude.{◌≡◌, ◌+◌, ◌^◌, ◌<◌, ◌≤◌, [], ◌++◌, length, map, IfErr, OnOk, OnErr};
+ghost use Rattle.std.specs.List.{concat};
+ghost use Rattle.std.specs.Bool.{OnFalse, OnTrue};
+ghost use Rattle.bytes_utils_buf.specs.Packing.{after_packing, grow_last, last_of, piece_bytes};
+
+use super::SegmentedBuf;
+use crate::contiguous::ContiguousBuf;
+use crate::{EitherBuf, Reason};
+use bytes::{Buf, Bytes, BytesMut};
+use std::alloc::Global;
+use std::collections::VecDeque;
+
+impl SegmentedBuf<EitherBuf<Bytes, BytesMut>> {
+    /// Copies `bytes` to the end of the last segment, if that is a block with room for them, and
+    /// returns whether it did.
+    pub(crate) fn extend_last(&mut self, bytes: &[u8]) -> bool
+        requires { length (concat self.old.segments) + length bytes.now < 2 ^ 64 }
+        ensures some { OnTrue result (0 < length self.old.segments) }
+        ensures packed { OnTrue result (self.new ≡ after_packing self.old bytes.now) }
+        ensures same { OnFalse result (self.new ≡ self.old) }
+    {
+        if !extend_back(&mut self.segments, bytes) {
+            return false;
+        }
+        self.remaining += bytes.len();
+        self.tally.give(1, 1);
+        self.tally.call();
+        true
+    }
+
+    /// Returns the bytes of the last segment, or none if there is no segment.
+    pub(crate) fn last_segment(&self) -> &[u8]
+        ensures bytes { result.now ≡ last_of self.now.segments }
+        ensures within { length result.now ≤ length (concat self.now.segments) }
+    {
+        match self.segments.back() {
+            Some(last) => last.as_contiguous(),
+            None => &[],
+        }
+    }
+
+    /// Copies the last segment and `bytes` into a new block of `capacity` bytes, which takes the
+    /// place of that segment.
+    pub(crate) fn replace_last(
+        &mut self,
+        alloc: Global,
+        bytes: &[u8],
+        capacity: usize,
+    ) -> Result<(), Reason>
+        requires some { 0 < length self.old.segments }
+        requires room { length (last_of self.old.segments) + length bytes.now ≤ capacity }
+        requires fits { length (concat self.old.segments) + length bytes.now < 2 ^ 64 }
+        ensures ok { OnOk result (self.new ≡ after_packing self.old bytes.now) }
+        ensures err { OnErr result (self.new ≡ self.old) }
+        ensures reason { IfErr result (λ reason. reason ≡ Reason.OutOfMemory) }
+    {
+        let block = BytesMut::with_capacity(alloc, capacity)?;
+        join_back(&mut self.segments, block, bytes);
+        self.remaining += bytes.len();
+        self.tally.give(1, 1);
+        self.tally.call();
+        Ok(())
+    }
+}
+
+/// Copies `bytes` to the end of the last segment, if that is a block with room for them.
+fn extend_back(segments: &mut VecDeque<EitherBuf<Bytes, BytesMut>>, bytes: &[u8]) -> bool
+    ensures some { OnTrue result (0 < length segments.old.items) }
+    ensures grown { OnTrue result (map piece_bytes segments.new.items
+        ≡ grow_last bytes.now (map piece_bytes segments.old.items)) }
+    ensures same { OnFalse result (segments.new.items ≡ segments.old.items) }
+{
+    match segments.back_mut() {
+        Some(last) => extend_piece(last, bytes),
+        None => false,
+    }
+}
+
+/// Copies `bytes` to the end of a piece, if that is a block with room for them.
+fn extend_piece(piece: &mut EitherBuf<Bytes, BytesMut>, bytes: &[u8]) -> bool
+    ensures grown { OnTrue result (piece_bytes piece.new ≡ piece_bytes piece.old ++ bytes.now) }
+    ensures same { OnFalse result (piece.new ≡ piece.old) }
+{
+    match piece {
+        EitherBuf::Right(block) if bytes.len() <= block.capacity() - block.len() => {
+            block.extend_reserved(bytes);
+            true
+        }
+        _ => false,
+    }
+}
+
+/// Copies the last segment and `bytes` to an empty block, which takes the place of that segment.
+fn join_back(segments: &mut VecDeque<EitherBuf<Bytes, BytesMut>>, mut block: BytesMut, bytes: &[u8])
+    requires some { 0 < length segments.old.items }
+    requires empty { block.items ≡ [] }
+    requires room { length (last_of (map piece_bytes segments.old.items)) + length bytes.now
+        ≤ block.spare }
+    ensures { map piece_bytes segments.new.items
+        ≡ grow_last bytes.now (map piece_bytes segments.old.items) }
+{
+    let Some(last) = segments.back_mut() else {
+        unreachable!()
+    };
+    block.extend_reserved(last.as_contiguous());
+    block.extend_reserved(bytes);
+    *last = EitherBuf::Right(block);
+}

@@ -1,0 +1,100 @@
+//! Parts share the bytes that they were cut from. In each test there is one more owner of these bytes,
+//! which are then the only ones of its block.
+use crate::examples::fields::fields_of;
+use crate::examples::headers::headers;
+use crate::examples::inbox::Inbox;
+use crate::examples::paths::names_of;
+use crate::examples::records::Records;
+use crate::examples::requests::Requests;
+use crate::examples::tokens::tokens;
+use bytes::Bytes;
+use bytes_utils::Str;
+use std::alloc::Global;
+use std::process::Abort;
+use std::test::Fail;
+
+/// A text, and one more owner of its bytes.
+fn shared(alloc: Global, text: &str) -> Result<(Str, Bytes), Fail> {
+    let bytes = Bytes::copy_from_slice(alloc, text.as_bytes())?;
+    Ok((Str::from_inner(bytes.clone()?)?, bytes))
+}
+
+/// Asserts that there are three parts, which share these bytes.
+fn assert_share(rt: &impl Abort, parts: Vec<Str>, bytes: &Bytes) {
+    assert!(rt; parts.len() == 3 && !bytes.is_unique());
+    for part in parts {
+        assert!(rt; !part.inner().is_unique());
+    }
+    assert!(rt; bytes.is_unique());
+}
+
+#[test]
+fn tokens_and_names_are_shared(rt: HostRuntime) -> Result<(), Fail> {
+    let (text, bytes) = shared(rt.alloc(), "a b c")?;
+    assert_share(&rt, tokens(rt.alloc(), text)?, &bytes);
+    let (path, bytes) = shared(rt.alloc(), "a/b/c")?;
+    assert_share(&rt, names_of(rt.alloc(), path)?, &bytes);
+    Ok(())
+}
+
+#[test]
+fn headers_are_shared(rt: HostRuntime) -> Result<(), Fail> {
+    let (text, bytes) = shared(rt.alloc(), "A: b\nC: d\n")?;
+    let found = headers(rt.alloc(), text).ok().ok_or("no headers")?;
+    for (name, value) in &found {
+        assert!(rt; !name.inner().is_unique() && !value.inner().is_unique());
+    }
+    drop(found);
+    assert!(rt; bytes.is_unique());
+    Ok(())
+}
+
+// The fields share one copy of the line.
+#[test]
+fn fields_are_shared(rt: HostRuntime) -> Result<(), Fail> {
+    for (_place, field) in &fields_of(rt.alloc(), "a,b,c", ",")? {
+        assert!(rt; !field.inner().is_unique());
+    }
+    Ok(())
+}
+
+/// Bytes of their own, and one more owner of them.
+fn piece(alloc: Global, bytes: &[u8]) -> Result<(Bytes, Bytes), Fail> {
+    let piece = Bytes::copy_from_slice(alloc, bytes)?;
+    Ok((piece.clone()?, piece))
+}
+
+#[test]
+fn a_body_in_one_piece_is_shared(rt: HostRuntime) -> Result<(), Fail> {
+    let mut inbox = Inbox::new(rt.alloc());
+    let (bytes, _other) = piece(rt.alloc(), b"\0\0\0\x02ab")?;
+    inbox.push(bytes)?;
+    let body = inbox.next_body(rt.alloc())?.ok_or("no body")?;
+    assert!(rt; !body.is_unique());
+    Ok(())
+}
+
+#[test]
+fn a_record_in_one_piece_is_shared(rt: HostRuntime) -> Result<(), Fail> {
+    let mut records = Records::new(rt.alloc(), 9)?;
+    let mut long = [b'a'; 600];
+    long[2..6].copy_from_slice(b"\r\n\r\n");
+    let (bytes, _other) = piece(rt.alloc(), &long)?;
+    records.push(bytes)?;
+    let record = records.next_record(rt.alloc()).ok().flatten();
+    assert!(rt; !record.ok_or("no record")?.inner().is_unique());
+    Ok(())
+}
+
+#[test]
+fn a_body_in_two_pieces_is_shared(rt: HostRuntime) -> Result<(), Fail> {
+    let mut requests = Requests::new(rt.alloc())?;
+    let (first, _first) = piece(rt.alloc(), &[b'a'; 600])?;
+    let (second, _second) = piece(rt.alloc(), &[b'b'; 600])?;
+    requests.push(first)?;
+    requests.push(second)?;
+    for piece in requests.next_body(rt.alloc(), 1_000)?.ok_or("no body")? {
+        assert!(rt; !piece.is_unique());
+    }
+    Ok(())
+}
