@@ -110,6 +110,25 @@ def connections(client):
     client.judge("64 connections at once", same and said == 64 * [(b"\n200", 0)])
 
 
+def early(client):
+    """Requests that are refused by their heads, before any byte of their bodies is sent."""
+    host, _, port = client.at.rpartition(":")
+    for what, path, fields, status in (
+        ("another path", "/other", "Content-Length: 1000", 404),
+        ("a stated length beyond the limit", "/echo", f"Content-Length: {LIMIT + 1}", 413),
+        ("a body that waits to be asked for", "/echo", f"Content-Length: {2**64 - 1}\r\nExpect: 100-continue", 413),
+        ("a coding before chunked", "/echo", "Transfer-Encoding: gzip, chunked", 501),
+        ("codings in two fields", "/echo", "Transfer-Encoding: gzip\r\ntransfer-encoding: chunked", 501),
+    ):
+        with socket.create_connection((host, int(port)), 60) as it:
+            it.sendall(f"POST {path} HTTP/1.1\r\nHost: h\r\n{fields}\r\n\r\n".encode())
+            response = it.recv(1 << 16)
+        client.judge(f"{what}: {status} before its body", response.startswith(b"HTTP/1.1 %d " % status))
+    with socket.create_connection((host, int(port)), 60) as it:
+        it.sendall(b"POST /echo HTTP/1.1\r\nHost: h\r\nTransfer-Encoding: CHUNKED\r\n\r\n3\r\nabc\r\n0\r\n\r\n")
+        client.judge("chunked in capitals", it.recv(1 << 16).startswith(b"HTTP/1.1 200 "))
+
+
 def half_closed(client):
     """Clients that end their side before they have the response get all of it."""
     host, _, port = client.at.rpartition(":")
@@ -120,6 +139,16 @@ def half_closed(client):
             it.shutdown(socket.SHUT_WR)
             whole += b"".join(iter(lambda: it.recv(1 << 20), b"")).endswith(b"\r\n\r\n" + body)
     client.judge(f"{whole} of 30 responses of 10 MB to half-closed connections whole", whole == 30)
+
+    def ended(_):
+        with socket.create_connection((host, int(port)), 10) as it:
+            it.sendall(b"POST /echo HTTP/1.1\r\nHost: h\r\nContent-Length: 5\r\n\r\nshort")
+            it.shutdown(socket.SHUT_WR)
+            return b"".join(iter(lambda: it.recv(1 << 16), b"")).endswith(b"\r\n\r\nshort")
+
+    with ThreadPoolExecutor(50) as pool:
+        whole = sum(pool.map(ended, range(500)))
+    client.judge(f"{whole} of 500 that end at once whole, and ended within 10 s", whole == 500)
 
 
 def crowd(client):
@@ -206,7 +235,7 @@ def ask(judge, room, at, service):
     drips(client, service)
     parts(client)
     memory(client, service, BESIDE)
-    for part in echoes, counts, heads, connections, half_closed, crowd:
+    for part in echoes, early, counts, heads, connections, half_closed, crowd:
         part(client)
     descriptors(client, service)
     memory(client, service, LIMIT + BESIDE)
