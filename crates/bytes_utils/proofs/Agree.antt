@@ -1,5 +1,5 @@
 -- If no two occurrences of a separator overlap, the parts from the front and the parts from the back are the same.
-use Rattle.std.proofs.Common.{◌≡◌, ◌↔◌, refl, sym, ap, subst, ◌∙◌, ℕ, ◌+◌, ◌-◌, ◌<◌, ◌≤◌, List, [], ◌∷◌, ◌++◌, None, length, map, take, drop, reverse, arith, append_assoc, length-append, ◌⊎◌, inl, inr}
+use Rattle.std.proofs.Common.{◌≡◌, ◌↔◌, refl, sym, ap, subst, ◌∙◌, ℕ, ◌+◌, ◌-◌, ◌<◌, ◌≤◌, List, [], ◌∷◌, ◌++◌, None, length, map, take, reverse, arith, append_assoc, length-append, ◌⊎◌, inl, inr}
 use Rattle.std.specs.List.{All}
 use Rattle.std.proofs.lemmas.List.{reverse-reverse, length-reverse, length-map, drop-drop, drop_at, take_all, reverse-append}
 use Rattle.std.proofs.lemmas.List.Elements.{All-nil, All-cons, All-head, All-tail, All-append, All-map, All-weaker}
@@ -40,11 +40,7 @@ module _ {X : Type 0} (p part rest : List X) (some : 0 < length p) (apart : None
   -- what occurs in the rest occurs in the whole
   OccursAt-following : (i : ℕ) → OccursAt p rest i → OccursAt p (part ++ (p ++ rest)) (length part + length p + i)
   OccursAt-following i here =
-      let place : drop (length part + length p + i) (part ++ (p ++ rest)) ≡ drop i rest =
-      sym (drop-drop i (length part + length p) (part ++ (p ++ rest)))
-      ∙ ap (λ z. drop i (drop (length part + length p) z)) (sym (append_assoc part p rest))
-      ∙ ap (drop i) (drop_at (part ++ p) rest (length part + length p) (length-append part p)) in
-      ap (take (length p)) place ∙ here
+      rw (← append_assoc part p rest, ← drop-drop i (length part + length p) ((part ++ p) ++ rest), drop_at (part ++ p) rest (length part + length p) (length-append part p)) here
 
   apart_after : NoneOverlap p rest
   apart_after i j here there less =

@@ -1,5 +1,5 @@
 -- A text stays a text if ASCII bytes are replaced by ASCII bytes, as changes of ASCII case do.
-use Rattle.std.proofs.Common.{◌≡◌, sym, ap, subst, ℕ, suc, ◌<◌, ◌≤◌, true, ◌&&◌, List, [], ◌∷◌, ◌++◌, map, length, take, drop, get_or, arith, refl, encode_utf8 as encode, encode_utf8_all as encodes, IsUtf8, inl, inr, ◌⊎◌}
+use Rattle.std.proofs.Common.{◌≡◌, sym, ap, subst, ℕ, suc, ◌<◌, ◌≤◌, true, ◌&&◌, List, [], ◌∷◌, ◌++◌, map, length, take, drop, get_or, arith, refl, encode_utf8 as encode, encode_utf8_all as encodes, IsUtf8, inl, inr, ◌⊎◌, ⊎_elim}
 use Rattle.std.specs.Str.{all_scalars as scalars}
 use Rattle.std.specs.Char.{to_ascii_uppercase, to_ascii_lowercase}
 use Rattle.std.proofs.lemmas.Bool.{cases_lt, and_parts}
@@ -7,6 +7,13 @@ use Rattle.std.proofs.lemmas.Bool.Decides.{nat_tests}
 use Rattle.std.proofs.lemmas.List.{map-append, append-nil, take_at}
 use Rattle.std.proofs.lemmas.Str.{IsUtf8-nil, IsUtf8-append, IsUtf8-from_ascii, encode_ascii, inside_one}
 use Rattle.std.proofs.lemmas.Str.Ascii.{IsAscii-cons, uppercase_ascii, lowercase_ascii}
+
+-- all bytes of a character that is not ASCII are high
+pub encode-high : (c : ℕ) → 128 ≤ c → (k : ℕ) → k < length (encode c) → 128 ≤ get_or (encode c) k 0
+encode-high c le k h = ⊎_elim
+    (λ small. let same : c ≡ get_or (encode c) k 0 = inside_one c [] (encode c) k (sym (append-nil (encode c))) h small in absurd (omega arith))
+    (λ high. high)
+    (cases_lt (get_or (encode c) k 0) 128)
 
 module _ (f : ℕ → ℕ) (low : (b : ℕ) → b < 128 → f b < 128) (high : (b : ℕ) → 128 ≤ b → f b ≡ b) where
   -- bytes that are not ASCII stay
@@ -16,11 +23,7 @@ module _ (f : ℕ → ℕ) (low : (b : ℕ) → b < 128 → f b < 128) (high : (
 
   -- the bytes of a character that is not ASCII stay too
   wide : (c : ℕ) → 128 ≤ c → map f (encode c) ≡ encode c
-  wide c le = stays (encode c) (λ k h. by k h (cases_lt (get_or (encode c) k 0) 128))
-    where
-      by : (k : ℕ) → k < length (encode c) → (get_or (encode c) k 0 < 128) ⊎ (128 ≤ get_or (encode c) k 0) → 128 ≤ get_or (encode c) k 0
-      by k h (inl small) = let same : c ≡ get_or (encode c) k 0 = inside_one c [] (encode c) k (sym (append-nil (encode c))) h small in absurd (omega arith)
-      by k h (inr large) = large
+  wide c le = stays (encode c) (encode-high c le)
 
   one : (c : ℕ) → scalars (c ∷ []) ≡ true → (c < 128) ⊎ (128 ≤ c) → IsUtf8 (map f (encode c))
   one c is (inl small) = subst (λ bs. IsUtf8 (map f bs)) (sym (encode_ascii c small)) (IsUtf8-from_ascii (f c ∷ []) (IsAscii-cons (f c) [] (low c small) (λ i. omega arith)))

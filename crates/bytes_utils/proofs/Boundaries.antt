@@ -41,7 +41,6 @@ chars_begin (c ∷ p) cs rest e =
 pub boundary_at : (text sep : List ℕ) → IsUtf8 sep → 0 < length sep → (k : ℕ) → HasNeedleAt text sep k → IsCharBoundary text k
 boundary_at text sep sep_is some k occurs =
     let start = IsCharBoundary-start sep sep_is in
-    let fits = occurs.fits in
     let same = occurs.reads 0 some in
     let here : get_or text (k + 0) 0 ≡ get_or text k 0 = ap (λ j. get_or text j 0) (omega arith) in
     (omega arith, λ l a. let lead = start.1 some (omega arith) in omega arith)
@@ -78,8 +77,7 @@ module _ (p t : List ℕ) (some : 0 < length p) (p_is : scalars p ≡ true) (t_i
       let back = drop (length p) (drop i t) in
       let whole : t ≡ front ++ (p ++ back) =
       sym (take-append-drop i t) ∙ ap (λ z. front ++ z) (sym (take-append-drop (length p) (drop i t)) ∙ ap (λ z. z ++ back) here) in
-      let bytes : encodes t ≡ encodes front ++ (encodes p ++ encodes back) =
-      ap encodes whole ∙ encodes-append front (p ++ back) ∙ ap (λ z. encodes front ++ z) (encodes-append p back) in
+      let bytes : encodes t ≡ encodes front ++ (encodes p ++ encodes back) = rw (encodes-append, encodes-append) at (ap encodes whole) in
       let after : drop k (encodes t) ≡ encodes p ++ encodes back = ap (drop k) bytes ∙ drop_at (encodes front) _ k (sym place) in
       ap (take (length (encodes p))) after ∙ take_at (encodes p) (encodes back) (length (encodes p)) refl
 

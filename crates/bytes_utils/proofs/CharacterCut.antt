@@ -61,15 +61,12 @@ module _ (text : List ℕ) (text_is : IsUtf8 text) (at : ℕ) (some : 0 < length
 
   at_byte : (i : ℕ) → i < length (chars text) → at ≡ byte_place (chars text) i → at < length text
   at_byte i l at_is =
-      let less = byte_place-less (chars text) i (length (chars text)) l (omega arith) in
-      let b = (boundary_at_place text text_is (length (chars text))).0 in
-      omega (arith, at_is, less, b)
+      omega (arith, at_is, byte_place-less (chars text) i (length (chars text)) l (omega arith), (boundary_at_place text text_is (length (chars text))).0)
 
   pub after_shorter : at ≡ byte_place (chars text) 1 → (rest : List ℕ) → rest ≡ drop at text → length rest < length text
   after_shorter at_is rest is =
       let place = byte_place-less (chars text) 0 1 (omega arith) (omega (arith, some)) in
-      let within = (boundary text text_is 1 at at_is).0 in
-      omega (arith, ap length is, length-drop at text, at_is, place, within)
+      omega (arith, ap length is, length-drop at text, at_is, place, (boundary text text_is 1 at at_is).0)
 
   pub before_shorter : at ≡ byte_place (chars text) (length (chars text) - 1) → (rest : List ℕ) → rest ≡ take at text → length rest < length text
   before_shorter at_is rest is =
@@ -77,9 +74,7 @@ module _ (text : List ℕ) (text_is : IsUtf8 text) (at : ℕ) (some : 0 < length
 
   pub text_some : 0 < length text
   text_some =
-      let place = byte_place-less (chars text) 0 (length (chars text)) some (omega arith) in
-      let b = (boundary_at_place text text_is (length (chars text))).0 in
-      omega (arith, place, b)
+      omega (arith, byte_place-less (chars text) 0 (length (chars text)) some (omega arith), (boundary_at_place text text_is (length (chars text))).0)
 
 -- the first part is empty
 pub gives_empty : (from : Direction) (text part : List ℕ) → part ≡ [] → (limit : Option ℕ) → LeavesMore limit

@@ -2,9 +2,11 @@
 use Rattle.std.proofs.Common.{◌≡◌, refl, sym, ap, ◌∙◌, ℕ, zero, suc, ◌-◌, ◌<◌, ◌≤◌, List, [], ◌∷◌, ◌++◌, Option, None, Some, length, map, take, drop, reverse, arith, length-drop, take-append-drop, ◌⊎◌, inl, inr}
 use Rattle.std.specs.Option.{option_map, IfSome}
 use Rattle.std.proofs.lemmas.Bool.{cases_lt, lt-ltb, le-ltb, cond-true, cond-false}
-use Rattle.std.proofs.lemmas.List.{reverse-append, reverse-reverse, length-reverse, take_at, drop_at}
+use Rattle.std.proofs.lemmas.List.{reverse-append, length-reverse, take_at, drop_at}
 use Rattle.bytes_utils.specs.EmptySeparator.{by_element, by_element_backward}
 use Rattle.bytes_utils.specs.Splitting.{LeavesMore, one_less}
+use Rattle.bytes_utils.proofs.Forward.{one_or_more}
+use Rattle.bytes_utils.proofs.Mirror.{reversed_twice}
 
 -- the parts after the first one by the empty separator
 abbrev pub after_first : {X : Type 0} → List X → Option ℕ → List (List X)
@@ -40,13 +42,6 @@ pub by_element-two : {X : Type 0} (t : List X) → by_element t (Some 2) ≡ [] 
 by_element-two [] = refl
 by_element-two (x ∷ t) = ap (λ z. [] ∷ z) (cond-true _ _ _ (lt-ltb 0 (length (x ∷ t)) (omega arith)))
 
--- a limit of at least 1 allows one part, or more
-pub one_or_more : (limit : Option ℕ) → IfSome limit (λ most. 0 < most) → (limit ≡ Some 1) ⊎ LeavesMore limit
-one_or_more None some = inr tt
-one_or_more (Some zero) some = absurd (omega (arith, some))
-one_or_more (Some (suc zero)) some = inl refl
-one_or_more (Some (suc (suc n))) some = inr (omega arith)
-
 -- there is at least one part
 pub by_element-some : {X : Type 0} (t : List X) (limit : Option ℕ) → IfSome limit (λ most. 0 < most) → 0 < length (by_element t limit)
 by_element-some t None some = omega arith
@@ -76,13 +71,9 @@ first_element (x ∷ t) limit others some more are = ap (λ z. [] ∷ (x ∷ [])
 
 -- The last character, and what is before it, from the back.
 module _ {X : Type 0} where
-  map-reverse_twice : (lists : List (List X)) → map reverse (map reverse lists) ≡ lists
-  map-reverse_twice [] = refl
-  map-reverse_twice (xs ∷ lists) = λ k. reverse-reverse xs k ∷ map-reverse_twice lists k
-
   -- the parts given from the back, each reversed, are those that the reverse gives from the front
   pub mirrored : (t : List X) (limit : Option ℕ) (parts : List (List X)) → parts ≡ by_element_backward t limit → map reverse parts ≡ by_element (reverse t) limit
-  mirrored t limit parts are = ap (map reverse) are ∙ map-reverse_twice (by_element (reverse t) limit)
+  mirrored t limit parts are = ap (map reverse) are ∙ reversed_twice (by_element (reverse t) limit)
 
   single_end : (t : List X) → length t ≡ 1 → reverse t ≡ t
   single_end [] one = absurd (omega (arith, one))
@@ -103,5 +94,5 @@ module _ {X : Type 0} where
       mirrored front limit ([] ∷ others) are ∙ ap (λ z. by_element z limit) (sym following) in
       let all = first_element (reverse t) limit (map reverse others) (omega (arith, some, length-reverse t)) more left in
       let parts : [] ∷ last ∷ others ≡ map reverse ([] ∷ take 1 (reverse t) ∷ map reverse others) =
-      (λ k. [] ∷ sym (single_end last size) k ∷ sym (map-reverse_twice others) k) ∙ ap (λ z. [] ∷ reverse z ∷ map reverse (map reverse others)) (sym first) in
+      (λ k. [] ∷ sym (single_end last size) k ∷ sym (reversed_twice others) k) ∙ ap (λ z. [] ∷ reverse z ∷ map reverse (map reverse others)) (sym first) in
       parts ∙ ap (map reverse) all

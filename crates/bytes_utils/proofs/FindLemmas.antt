@@ -6,7 +6,8 @@ use Rattle.std.proofs.lemmas.Option.{get_or_from_slice_get, slice_get_within}
 use Rattle.std.proofs.Math.Seq.{take-append-add}
 use Rattle.std.specs.List.{concat}
 use Rattle.memchr.specs.Find.{FindsNeedle, IsFirst, Nowhere, OccursAt}
-use Rattle.bytes_utils_buf.proofs.Lists.{concat_split}
+use Rattle.memchr.proofs.lemmas.FindLemmas.{Nowhere-then}
+use Rattle.bytes_utils_buf.proofs.Lists.{concat_split, length-concat-take_more}
 use Rattle.bytes_utils.proofs.FrameSearchLemmas.{missed_in_part, occurs_in_all, occurs_in_part}
 
 -- ---- a window that is filled from segments
@@ -33,11 +34,10 @@ pub Fills-more : (size : ℕ) (all : List ℕ) (xs : List (List ℕ)) (filled se
 Fills-more size all xs filled segment next i h inside is same =
     let n = size - length filled in
     let rest = concat (drop (i + 1) xs) in
-    let within = h.within in
-    let total : size ≡ length filled + n = omega (arith, within) in
+    let total : size ≡ length filled + n = omega (arith, h.within) in
     let lists : segment ++ rest ≡ concat (drop i xs) = ap (λ l. l ++ rest) is ∙ sym (ap concat (drop_more xs i [] inside)) in
     record {
-      within = omega (arith, within, ap length same, length-append filled (take n segment), length-take n segment);
+      within = omega (arith, h.within, ap length same, length-append filled (take n segment), length-take n segment);
       bytes = ap (λ l. take size (l ++ rest)) same ∙ ap (take size) (append_assoc filled (take n segment) rest)
           ∙ ap (λ m. take m (filled ++ (take n segment ++ rest))) total ∙ take-append-add filled (take n segment ++ rest) n
           ∙ ap (λ l. filled ++ l) (take-append_taken n segment rest) ∙ sym (take-append-add filled (segment ++ rest) n)
@@ -78,17 +78,16 @@ module _ (p segment following : List ℕ) (from : ℕ) (some : 0 < length p) (in
   part = drop-append-le from segment following inside
 
   pub begun_inside : (k at : ℕ) → at ≡ from + k → FindsNeedle (drop from segment) p 0 (Some k) → IsFirst (OccursAt (segment ++ following) p) from (length segment) (Some at)
-  begun_inside k at is found =
-      let fits = found.1.fits in (
-        record {
-          low = omega (arith, is);
-          high = omega (arith, is, fits, some, length-drop from segment);
-          before = λ j low high here.
-              found.0.before (j - from) (omega arith) (omega (arith, high, is))
-              (occurs_in_part (segment ++ following) p (drop from segment) following from within_all part j low (omega (arith, high, is, fits)) here);
-        },
-        rw is (occurs_in_all (segment ++ following) p (drop from segment) following from within_all part k found.1),
-      )
+  begun_inside k at is found = (
+    record {
+      low = omega (arith, is);
+      high = omega (arith, is, found.1.fits, some, length-drop from segment);
+      before = λ j low high here.
+          found.0.before (j - from) (omega arith) (omega (arith, high, is))
+          (occurs_in_part (segment ++ following) p (drop from segment) following from within_all part j low (omega (arith, high, is, found.1.fits)) here);
+    },
+    rw is (occurs_in_all (segment ++ following) p (drop from segment) following from within_all part k found.1),
+  )
 
   missed_inside : FindsNeedle (drop from segment) p 0 None → (j : ℕ) → from ≤ j → j + length p ≤ length segment → ¬ OccursAt (segment ++ following) p j
   missed_inside missed j low fits here =
@@ -109,81 +108,74 @@ module _ (p segment following : List ℕ) (from : ℕ) (some : 0 < length p) (in
 
     pub begun_across : (k at : ℕ) → at ≡ tail + k → FindsNeedle (drop from segment) p 0 None → FindsNeedle window p 0 (Some k)
         → IsFirst (OccursAt (segment ++ following) p) from (length segment) (Some at)
-    begun_across k at same missed found =
-        let fits = found.1.fits in (
-          record {
-            low = omega (arith, same, border.low);
-            high = omega (arith, same, fits, wide, border.sized);
-            before = λ j from_on below here.
-                ⊎_elim (λ front. before_tail missed j from_on front here)
-                (λ on. found.0.before (j - tail) (omega arith) (omega (arith, below, same, on))
-                (occurs_in_part (segment ++ following) p window (drop border.size (drop tail (segment ++ following))) tail tail_within split j on (omega (arith, below, same, fits)) here))
-                (cases_lt j tail);
-          },
-          rw same (occurs_in_all (segment ++ following) p window (drop border.size (drop tail (segment ++ following))) tail tail_within split k found.1),
-        )
+    begun_across k at same missed found = (
+      record {
+        low = omega (arith, same, border.low);
+        high = omega (arith, same, found.1.fits, wide, border.sized);
+        before = Nowhere-then (before_tail missed) (λ j on below here.
+            found.0.before (j - tail) (omega arith) (omega (arith, below, same, on))
+            (occurs_in_part (segment ++ following) p window (drop border.size (drop tail (segment ++ following))) tail tail_within split j on (omega (arith, below, same, found.1.fits)) here));
+      },
+      rw same (occurs_in_all (segment ++ following) p window (drop border.size (drop tail (segment ++ following))) tail tail_within split k found.1),
+    )
 
     pub missed_begun : FindsNeedle (drop from segment) p 0 None → FindsNeedle window p 0 None → Nowhere (OccursAt (segment ++ following) p) from (length segment)
-    missed_begun missed none j from_on below here =
-        let fits = here.fits in
-        ⊎_elim (λ front. before_tail missed j from_on front here)
-        (λ on. missed_in_part (segment ++ following) p window (drop border.size (drop tail (segment ++ following))) tail tail_within split none j on
-        (omega (arith, fits, below, border.sized, tail_within, ap length border.is, length-take border.size (drop tail (segment ++ following)), length-drop tail (segment ++ following))) here)
-        (cases_lt j tail)
+    missed_begun missed none = Nowhere-then (before_tail missed) (λ j on below here.
+        missed_in_part (segment ++ following) p window (drop border.size (drop tail (segment ++ following))) tail tail_within split none j on
+        (omega (arith, here.fits, below, border.sized, tail_within, ap length border.is, length-take border.size (drop tail (segment ++ following)), length-drop tail (segment ++ following))) here)
 
 -- ---- a segment after those in which the needle does not begin
 
-module _ (all hay p : List ℕ) (start base : ℕ) (within : base ≤ length all) (bytes : drop base all ≡ hay) (none : Nowhere (OccursAt all p) start base) where
-  parts : drop base all ≡ hay ++ []
-  parts = bytes ∙ sym (append-nil hay)
+-- what a loop knows after it read the segment at index i, which begins at place `base` of all bytes
+pub record HasRead (xs : List (List ℕ)) (segment : List ℕ) (i base : ℕ) : Type 0 where
+  pub bytes : drop base (concat xs) ≡ segment ++ concat (drop (i + 1) xs)
+  pub long : base + length segment ≤ length (concat xs)
+  pub next : base + length segment ≡ length (concat (take (i + 1) xs))
 
-  before_place : (end : ℕ) → Nowhere (OccursAt hay p) (start - base) end → Nowhere (OccursAt all p) start (base + end)
+pub has_read : (xs : List (List ℕ)) {segment : List ℕ} (i : ℕ) {base : ℕ} → Some segment ≡ slice_get xs i → base ≡ length (concat (take i xs)) → HasRead xs segment i base
+has_read xs {segment} i {base} read at =
+    let inside = slice_get_within xs i segment (sym read) in
+    let is = sym (get_or_from_slice_get xs i segment [] (sym read)) in
+    let next = rw (← at, ← is) at (length-concat-take_more xs i inside) in
+    record {
+      bytes = ap (drop base) (concat_split i xs) ∙ drop_at (concat (take i xs)) (concat (drop i xs)) base (sym at) ∙ ap concat (drop_more xs i [] inside)
+          ∙ ap (λ l. l ++ concat (drop (i + 1) xs)) (sym is);
+      long = omega (arith, next, ap length (concat_split (i + 1) xs), length-append (concat (take (i + 1) xs)) (concat (drop (i + 1) xs)));
+      next = sym next;
+    }
+
+module _ {xs : List (List ℕ)} {segment p : List ℕ} {i start base : ℕ} (read : HasRead xs segment i base) (none : Nowhere (OccursAt (concat xs) p) start base) where
+  abbrev hay : List ℕ
+  hay = segment ++ concat (drop (i + 1) xs)
+
+  within : base ≤ length (concat xs)
+  within = omega (arith, read.long)
+
+  size : length hay ≡ length (concat xs) - base
+  size = sym (ap length read.bytes) ∙ length-drop base (concat xs)
+
+  parts : drop base (concat xs) ≡ hay ++ []
+  parts = read.bytes ∙ sym (append-nil hay)
+
+  before_place : (end : ℕ) → Nowhere (OccursAt hay p) (start - base) end → Nowhere (OccursAt (concat xs) p) start (base + end)
   before_place end nowhere j low high here =
-      let fits = here.fits in
       ⊎_elim (λ below. none j low below here)
       (λ on. nowhere (j - base) (omega (arith, low, on)) (omega (arith, high, on))
-      (occurs_in_part all p hay [] base within parts j on (omega (arith, fits, within, ap length bytes, length-drop base all)) here))
+      (occurs_in_part (concat xs) p hay [] base within parts j on (omega (arith, here.fits, within, size)) here))
       (cases_lt j base)
 
-  pub found_begun : (k end at : ℕ) → at ≡ base + k → IsFirst (OccursAt hay p) (start - base) end (Some k) → FindsNeedle all p start (Some at)
-  found_begun k end at is found =
-      let fits = found.1.fits in
-      let low = found.0.low in (
-        record {
-          low = omega (arith, is, low);
-          high = omega (arith, is, fits, within, ap length bytes, length-drop base all);
-          before = rw is (before_place k found.0.before);
-        },
-        rw is (occurs_in_all all p hay [] base within parts k found.1),
-      )
+  pub found_begun : (k end at : ℕ) → at ≡ base + k → IsFirst (OccursAt hay p) (start - base) end (Some k) → FindsNeedle (concat xs) p start (Some at)
+  found_begun k end at is found = (
+    record {
+      low = omega (arith, is, found.0.low);
+      high = omega (arith, is, found.1.fits, within, size);
+      before = rw is (before_place k found.0.before);
+    },
+    rw is (occurs_in_all (concat xs) p hay [] base within parts k found.1),
+  )
 
-  pub missed_segment : (end : ℕ) → IsFirst (OccursAt hay p) (start - base) end None → Nowhere (OccursAt all p) start (base + end)
+  pub missed_segment : (end : ℕ) → IsFirst (OccursAt hay p) (start - base) end None → Nowhere (OccursAt (concat xs) p) start (base + end)
   missed_segment end missed = before_place end missed
 
-pub base_within : (xs : List (List ℕ)) (i base : ℕ) → base ≡ length (concat (take i xs)) → base ≤ length (concat xs)
-base_within xs i base at = omega (arith, at, ap length (concat_split i xs), length-append (concat (take i xs)) (concat (drop i xs)))
-
--- the bytes from the segment at index i on
-pub segment_bytes : (xs : List (List ℕ)) (segment : List ℕ) (i base : ℕ) → i < length xs → segment ≡ get_or xs i [] → base ≡ length (concat (take i xs))
-    → drop base (concat xs) ≡ segment ++ concat (drop (i + 1) xs)
-segment_bytes xs segment i base inside is at =
-    ap (drop base) (concat_split i xs) ∙ drop_at (concat (take i xs)) (concat (drop i xs)) base (sym at) ∙ ap concat (drop_more xs i [] inside)
-    ∙ ap (λ l. l ++ concat (drop (i + 1) xs)) (sym is)
-
--- what a loop knows after it read the segment at its place
-pub record HasRead (xs : List (List ℕ)) (segment : List ℕ) (i base : ℕ) : Type 0 where
-  pub inside : i < length xs
-  pub is : segment ≡ get_or xs i []
-  pub bytes : drop base (concat xs) ≡ segment ++ concat (drop (i + 1) xs)
-  pub within : base ≤ length (concat xs)
-
-pub has_read : (xs : List (List ℕ)) (segment : List ℕ) (i base : ℕ) → slice_get xs i ≡ Some segment → base ≡ length (concat (take i xs)) → HasRead xs segment i base
-has_read xs segment i base read at =
-    let inside = slice_get_within xs i segment read in
-    let is = sym (get_or_from_slice_get xs i segment [] read) in
-    record { inside = inside; is = is; bytes = segment_bytes xs segment i base inside is at; within = base_within xs i base at }
-
 pub missed_all : (all p : List ℕ) (start : ℕ) → 0 < length p → Nowhere (OccursAt all p) start (length all) → FindsNeedle all p start None
-missed_all all p start some none j low high here =
-    let fits = here.fits in
-    none j low (omega (arith, fits, some)) here
+missed_all all p start some none j low high here = none j low (omega (arith, here.fits, some)) here

@@ -1,39 +1,30 @@
 -- How a list of forward parts grows at its front, and that every text has such a list.
-use Rattle.std.proofs.Common.{◌≡◌, refl, sym, ap, subst, ◌∙◌, ℕ, zero, suc, ◌+◌, ◌-◌, ◌<◌, ◌≤◌, List, [], ◌∷◌, ◌++◌, Option, None, Some, length, take, drop, arith, append_assoc, length-append, length-drop, ◌⊎◌, inl, inr}
-use Rattle.std.specs.Option.{IfSome, option_map}
+use Rattle.std.proofs.Common.{◌≡◌, ◌↔◌, refl, sym, ap, subst, ◌∙◌, ℕ, zero, suc, ◌+◌, ◌-◌, ◌<◌, ◌≤◌, List, [], ◌∷◌, ◌++◌, Option, None, Some, length, take, drop, arith, append_assoc, length-append, length-drop, ◌⊎◌, inl, inr}
+use Rattle.std.specs.Option.{IfSome}
+use Rattle.std.proofs.lemmas.Option.{IfSome_then}
 use Rattle.std.proofs.lemmas.List.{length-take-le}
 use Rattle.std.proofs.lemmas.Bool.{cases_eq}
 use Rattle.bytes_utils.specs.Occurrence.{Occurs, OccursFirstAt}
 use Rattle.bytes_utils.specs.Parts.{AreForwardParts}
+use Rattle.bytes_utils.specs.Splitting.{one_less}
 use Rattle.bytes_utils.proofs.Boundaries.{OccursAt-fits}
 use Rattle.bytes_utils.proofs.OccurrenceLemmas.{cut_whole, OccursFirstAt-front, FirstOrNowhere, first_or_nowhere}
 
--- the limit that is left after one part
-abbrev pub less_one : Option ℕ → Option ℕ
-less_one limit = option_map (λ most. most - 1) limit
-
-few_more : (limit : Option ℕ) (n : ℕ) → IfSome limit (λ most. 1 < most) → IfSome (less_one limit) (λ most. n ≤ most) → IfSome limit (λ most. suc n ≤ most)
-few_more None n room few = tt
-few_more (Some most) n room few = omega arith
-
-below_less_one : (limit : Option ℕ) (n : ℕ) → IfSome limit (λ most. suc n < most) → IfSome (less_one limit) (λ most. n < most)
-below_less_one None n below = tt
-below_less_one (Some most) n below = omega arith
-
-some_less_one : (limit : Option ℕ) → IfSome limit (λ most. 1 < most) → IfSome (less_one limit) (λ most. 0 < most)
-some_less_one None room = tt
-some_less_one (Some most) room = omega arith
+-- what is left of a limit after one part, by the limit
+pub less : (limit : Option ℕ) (P : ℕ → Type 0) → IfSome limit (λ most. P (most - 1)) ↔ IfSome (one_less limit) P
+less None P = (λ _. tt, λ _. tt)
+less (Some most) P = (λ holds. holds, λ holds. holds)
 
 -- a part whose first p is right after it comes before the parts of what follows that p
-pub AreForwardParts-led : {X : Type 0} (p part rest : List X) (limit : Option ℕ) → IfSome limit (λ most. 1 < most) → OccursFirstAt p (part ++ p) (length part)
-    → (parts : List (List X)) → AreForwardParts rest p (less_one limit) parts → AreForwardParts (part ++ (p ++ rest)) p limit (part ∷ parts)
-AreForwardParts-led p part rest limit room first [] are = absurd (omega (arith, are.some))
-AreForwardParts-led p part rest limit room first (next ∷ parts) are = record {
+pub AreForwardParts-led : {X : Type 0} (p part rest : List X) (limit : Option ℕ) → OccursFirstAt p (part ++ p) (length part)
+    → (parts : List (List X)) → AreForwardParts rest p (one_less limit) parts → AreForwardParts (part ++ (p ++ rest)) p limit (part ∷ parts)
+AreForwardParts-led p part rest limit first [] are = absurd (omega (arith, are.some))
+AreForwardParts-led p part rest limit first (next ∷ parts) are = record {
   some = omega arith;
-  few = few_more limit _ room are.few;
+  few = IfSome_then limit ((less limit _).1 are.few) (λ most few. omega arith);
   joined = ap (λ z. part ++ (p ++ z)) are.joined;
   cut_at_first = (first, are.cut_at_first);
-  last = λ below. are.last (below_less_one limit _ below);
+  last = λ below. are.last ((less limit _).0 (IfSome_then limit below (λ most below. omega arith)));
 }
 
 module _ {X : Type 0} (p t : List X) (i : ℕ) (some : 0 < length p) (first : OccursFirstAt p t i) where
@@ -50,10 +41,10 @@ module _ {X : Type 0} (p t : List X) (i : ℕ) (some : 0 < length p) (first : Oc
 
   -- a part split off at the first occurrence comes before the parts of what is after it
   pub AreForwardParts-more : (limit : Option ℕ) → IfSome limit (λ most. 1 < most) → (parts : List (List X))
-      → AreForwardParts (drop (i + length p) t) p (less_one limit) parts → AreForwardParts t p limit (take i t ∷ parts)
+      → AreForwardParts (drop (i + length p) t) p (one_less limit) parts → AreForwardParts t p limit (take i t ∷ parts)
   AreForwardParts-more limit room parts are =
       subst (λ z. AreForwardParts z p limit (take i t ∷ parts)) (cut_whole p t i first.here)
-      (AreForwardParts-led p (take i t) (drop (i + length p) t) limit room first_in_part parts are)
+      (AreForwardParts-led p (take i t) (drop (i + length p) t) limit first_in_part parts are)
 
 -- a text in which p doesn't occur is its only part
 pub AreForwardParts-last : {X : Type 0} (p t : List X) (limit : Option ℕ) → IfSome limit (λ most. 0 < most) → (¬ Occurs p t) → AreForwardParts t p limit (t ∷ [])
@@ -79,7 +70,7 @@ abbrev pub HasForwardParts : {X : Type 0} → List X → List X → Option ℕ �
 HasForwardParts {X} p t limit = (parts : List (List X)) × AreForwardParts t p limit parts
 
 -- a limit of at least 1 allows one part, or more
-one_or_more : (limit : Option ℕ) → IfSome limit (λ most. 0 < most) → (limit ≡ Some 1) ⊎ IfSome limit (λ most. 1 < most)
+pub one_or_more : (limit : Option ℕ) → IfSome limit (λ most. 0 < most) → (limit ≡ Some 1) ⊎ IfSome limit (λ most. 1 < most)
 one_or_more None positive = inr tt
 one_or_more (Some zero) positive = absurd (omega arith)
 one_or_more (Some (suc zero)) positive = inl refl
@@ -92,15 +83,11 @@ module _ {X : Type 0} (same : (x y : X) → (x ≡ y) ⊎ (¬ (x ≡ y))) (p : L
   ShorterHave t = (rest : List X) (limit : Option ℕ) → IfSome limit (λ most. 0 < most) → length rest < length t → HasForwardParts p rest limit
 
   cut_or_last : (t : List X) (limit : Option ℕ) → IfSome limit (λ most. 1 < most) → FirstOrNowhere p t → ShorterHave t → HasForwardParts p t limit
-  cut_or_last t limit room (inr lacks) later = (t ∷ [], AreForwardParts-last p t limit (positive limit room) lacks)
-    where
-      positive : (most : Option ℕ) → IfSome most (λ n. 1 < n) → IfSome most (λ n. 0 < n)
-      positive None r = tt
-      positive (Some n) r = omega arith
+  cut_or_last t limit room (inr lacks) later = (t ∷ [], AreForwardParts-last p t limit (IfSome_then limit room (λ most room. omega arith)) lacks)
   cut_or_last t limit room (inl found) later =
       let fits = OccursAt-fits p t found.0 some found.1.here in
       let rest = drop (found.0 + length p) t in
-      let more = later rest (less_one limit) (some_less_one limit room) (omega (arith, length-drop (found.0 + length p) t, some)) in
+      let more = later rest (one_less limit) ((less limit _).0 (IfSome_then limit room (λ most room. omega arith))) (omega (arith, length-drop (found.0 + length p) t, some)) in
       (take found.0 t ∷ more.0, AreForwardParts-more p t found.0 some found.1 limit room more.0 more.1)
 
   whole_or_cut : (t : List X) (limit : Option ℕ) → (limit ≡ Some 1) ⊎ IfSome limit (λ most. 1 < most) → ShorterHave t → HasForwardParts p t limit

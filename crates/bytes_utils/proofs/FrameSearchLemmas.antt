@@ -1,10 +1,11 @@
 -- A search in a part of the bytes, and what follows for all of them.
-use Rattle.std.proofs.Common.{◌≡◌, ◌≢◌, ℕ, ◌+◌, ◌-◌, ◌<◌, ◌≤◌, List, [], ◌∷◌, ◌++◌, zero, suc, inl, inr, length, take, drop, get_or, slice_index, Bool, false, Option, None, Some, Result, Ok, Err, OnOk, OnErr, ap, ◌∙◌, sym, refl, subst, arith, length-append, length-drop, length-take, append_assoc, append-nil, drop-drop, drop_at, get_or-drop, take-append-drop, ⊎_elim}
+use Rattle.std.proofs.Common.{◌≡◌, ◌≢◌, ℕ, ◌+◌, ◌-◌, ◌<◌, ◌≤◌, List, [], ◌∷◌, ◌++◌, zero, suc, inl, inr, length, take, drop, get_or, slice_index, Bool, Option, None, Some, Result, Ok, Err, OnOk, OnErr, ap, ◌∙◌, sym, refl, subst, arith, length-append, length-drop, length-take, append_assoc, append-nil, drop-drop, drop_at, get_or-drop, take-append-drop, ⊎_elim}
 use Rattle.std.proofs.lemmas.List.{drop_all, take-append-le, get_or_append_left, drop-append-le, nil_from_length}
-use Rattle.std.proofs.lemmas.Bool.{cases_lt, cases_eq, cases_Bool, cond-true, cond-false, eq-eqb, false≢true}
+use Rattle.std.proofs.lemmas.Bool.{cases_lt, cases_Bool, eq-eqb, false≢true}
 use Rattle.std.specs.List.{concat}
-use Rattle.memchr.specs.Find.{Nowhere, NoneBefore, IsFirstByte, OccursAt, Passes, FindsNeedle, TakesFirst, is_byte, places, places_from}
-use Rattle.memchr.proofs.lemmas.FindLemmas.{OccursAt-byte, byte-OccursAt}
+use Rattle.memchr.specs.Find.{Nowhere, NoneBefore, IsFirstByte, OccursAt, Passes, FindsNeedle, TakesFirst, is_byte, places}
+use Rattle.memchr.proofs.lemmas.FindLemmas.{OccursAt-byte, byte-OccursAt, Nowhere-then, Nowhere-more}
+use Rattle.memchr.proofs.lemmas.PlaceLemmas.{places_from-none, places_between-first}
 use Rattle.bytes_utils_buf.specs.Packing.{Packs, grow_last}
 use Rattle.bytes_utils_buf.specs.Segments.{Held, IsInside, after_accepting, without_empty}
 use Rattle.bytes_utils_buf.proofs.PackingLemmas.{length-grow_last}
@@ -22,9 +23,8 @@ module _ (all p part more : List ℕ) (base : ℕ) (within : base ≤ length all
 
   pub occurs_in_all : (k : ℕ) → OccursAt part p k → OccursAt all p (base + k)
   occurs_in_all k here =
-      let fits = here.fits in
       record {
-        fits = omega (arith, size, fits);
+        fits = omega (arith, size, here.fits);
         reads = λ j l.
             let at : base + k + j ≡ base + (k + j) = omega arith in
             ap (λ n. get_or all n 0) at ∙ reads_part (k + j) (omega arith) ∙ here.reads j l;
@@ -41,17 +41,14 @@ module _ (all p part more : List ℕ) (base : ℕ) (within : base ≤ length all
 
   -- the first occurrence in the part is the first of all, if none begins before the part
   pub found_in_part : (k at : ℕ) → at ≡ base + k → Nowhere (OccursAt all p) 0 base → FindsNeedle part p 0 (Some k) → FindsNeedle all p 0 (Some at)
-  found_in_part k at same none found =
-      let fits = found.1.fits in (
-        record {
-          low = omega arith;
-          high = omega (arith, size, fits, same);
-          before = λ j low high here.
-              ⊎_elim (λ below. none j low below here) (λ from. found.0.before (j - base) (omega arith) (omega arith) (occurs_in_part j from (omega (arith, fits)) here))
-              (cases_lt j base);
-        },
-        subst (OccursAt all p) (sym same) (occurs_in_all k found.1),
-      )
+  found_in_part k at same none found = (
+    record {
+      low = omega arith;
+      high = omega (arith, size, found.1.fits, same);
+      before = Nowhere-then none (λ j from high here. found.0.before (j - base) (omega arith) (omega arith) (occurs_in_part j from (omega (arith, found.1.fits)) here));
+    },
+    subst (OccursAt all p) (sym same) (occurs_in_all k found.1),
+  )
 
   -- if the needle is not in the part, none begins there that also ends there
   pub missed_in_part : FindsNeedle part p 0 None → (j : ℕ) → base ≤ j → j + length p ≤ base + length part → ¬ OccursAt all p j
@@ -71,11 +68,8 @@ module _ (p piece : List ℕ) (from : ℕ) (within : from ≤ length piece) (som
   found_from k at same found = found_in_part piece p (drop from piece) [] from within rest_of k at same none_before_first found
 
   pub missed_from : FindsNeedle (drop from piece) p 0 None → FindsNeedle piece p 0 None
-  missed_from missed j low high here =
-      let fits = here.fits in
-      ⊎_elim (λ below. none_before_first j low below here)
-      (λ following. missed_in_part piece p (drop from piece) [] from within rest_of missed j following (omega (arith, fits, within, length-drop from piece)) here)
-      (cases_lt j from)
+  missed_from missed = Nowhere-then none_before_first (λ j low high here.
+      missed_in_part piece p (drop from piece) [] from within rest_of missed j low (omega (arith, here.fits, within, length-drop from piece)) here)
 
 -- the first place of the first byte of the needle, or that there is none
 pub none_before_byte : (p piece : List ℕ) (from : ℕ) → NoneBefore (Passes (is_byte (get_or p 0 0)) piece) 0 (length piece) from
@@ -84,17 +78,15 @@ none_before_byte p piece from h k below same = h.before k (omega arith) below (e
 
 pub missed_by_byte : (p piece : List ℕ) → 0 < length p → Nowhere (Passes (is_byte (get_or p 0 0)) piece) 0 (length piece) → FindsNeedle piece p 0 None
 missed_by_byte p piece some missed j low high here =
-    let fits = here.fits in
     let same : j ≡ j + 0 = omega arith in
-    missed j low (omega (arith, fits, some)) (eq-eqb _ _ (ap (λ n. get_or piece n 0) same ∙ here.reads 0 some))
+    missed j low (omega (arith, here.fits, some)) (eq-eqb _ _ (ap (λ n. get_or piece n 0) same ∙ here.reads 0 some))
 
 pub found_by_byte : (p piece : List ℕ) (k : ℕ) → length p ≡ 1 → NoneBefore (Passes (is_byte (get_or p 0 0)) piece) 0 (length piece) k × Passes (is_byte (get_or p 0 0)) piece k
     → FindsNeedle piece p 0 (Some k)
-found_by_byte p piece k one h =
-    let high = h.0.high in (
-      record { low = omega arith; high = omega (arith, high); before = λ j low below here. h.0.before j low below (byte-OccursAt piece p one j here) },
-      OccursAt-byte piece p one k high h.1,
-    )
+found_by_byte p piece k one h = (
+  record { low = omega arith; high = omega (arith, h.0.high); before = λ j low below here. h.0.before j low below (byte-OccursAt piece p one j here) },
+  OccursAt-byte piece p one k h.0.high h.1,
+)
 
 -- a needle at the start is the first
 pub found_at_start : (p bytes : List ℕ) → OccursAt bytes p 0 → FindsNeedle bytes p 0 (Some 0)
@@ -102,61 +94,26 @@ found_at_start p bytes here = (record { low = omega arith; high = omega arith; b
 
 -- the first of all places of a byte
 module _ (test : ℕ → Bool) (bytes : List ℕ) where
-  step_here : (i n : ℕ) → Passes test bytes i → places_from test bytes i (suc n) ≡ i ∷ places_from test bytes (i + 1) n
-  unfolding places_from
-  step_here i n h = cond-true _ _ _ h
+  first_byte : (n i : ℕ) → i + n ≡ length bytes → Nowhere (Passes test bytes) 0 i → (r : Option ℕ) × IsFirstByte test bytes r
+  first_byte zero i end none = (None, λ k low high. none k low (omega arith))
+  first_byte (suc n) i end none = elim (cases_Bool (test (slice_index bytes i))) [
+    | inl here ↦ (Some i, (record { low = omega arith; high = omega arith; before = none }, here))
+    | inr past ↦ first_byte n (i + 1) (omega arith) (Nowhere-more none (λ here. false≢true (sym past ∙ here)))
+  ]
 
-  step_past : (i n : ℕ) → test (slice_index bytes i) ≡ false → places_from test bytes i (suc n) ≡ places_from test bytes (i + 1) n
-  unfolding places_from
-  step_past i n h = cond-false _ _ _ h
-
-  no_places : (i : ℕ) → places_from test bytes i 0 ≡ []
-  unfolding places_from
-  no_places i = refl
-
-  none_from_places : (n i : ℕ) → places_from test bytes i n ≡ [] → Nowhere (Passes test bytes) i (i + n)
-  none_from_places zero i e = λ k low high. absurd (omega arith)
-  none_from_places (suc n) i e =
-      ⊎_elim (λ here k low high p. let no : [] ≡ i ∷ places_from test bytes (i + 1) n = sym e ∙ step_here i n here in cc)
-      (λ past k low high p.
-      ⊎_elim (λ same. absurd (false≢true (sym past ∙ ap (λ m. test (slice_index bytes m)) (sym same) ∙ p)))
-      (λ other. none_from_places n (i + 1) (sym (step_past i n past) ∙ e) k (omega arith) (omega arith) p)
-      (cases_eq k i))
-      (cases_Bool (test (slice_index bytes i)))
-
-  first_from_places : (n i k : ℕ) (rest : List ℕ) → places_from test bytes i n ≡ k ∷ rest → NoneBefore (Passes test bytes) i (i + n) k × Passes test bytes k
-  first_from_places zero i k rest e = let no : [] ≡ k ∷ rest = sym (no_places i) ∙ e in absurd cc
-  first_from_places (suc n) i k rest e =
-      ⊎_elim
-      (λ here.
-      let same : k ≡ i = let both : i ∷ places_from test bytes (i + 1) n ≡ k ∷ rest = sym (step_here i n here) ∙ e in cc in (
-        record { low = omega arith; high = omega arith; before = λ m low high p. absurd (omega arith) },
-        subst (Passes test bytes) (sym same) here,
-      ))
-      (λ past.
-      let next = first_from_places n (i + 1) k rest (sym (step_past i n past) ∙ e) in
-      let low = next.0.low in
-      let high = next.0.high in (
-        record {
-          low = omega arith;
-          high = omega arith;
-          before = λ m from below p.
-              ⊎_elim (λ same. absurd (false≢true (sym past ∙ ap (λ n. test (slice_index bytes n)) (sym same) ∙ p))) (λ other. next.0.before m (omega arith) below p) (cases_eq m i);
-        },
-        next.1,
-      ))
-      (cases_Bool (test (slice_index bytes i)))
-
-  all : places_from test bytes 0 (length bytes) ≡ places test bytes
-  all = let whole : length bytes ≡ length bytes - 0 = omega arith in ap (places_from test bytes 0) whole
+  same_first : (found r : Option ℕ) (t : List ℕ) → IsFirstByte test bytes found → TakesFirst (places test bytes) r t → IsFirstByte test bytes r
+  same_first None None t none taken = none
+  same_first None (Some k) t none taken = let no = places_from-none test bytes 0 (length bytes - 0) (λ m low high. none m low (omega arith)) in absurd cc
+  same_first (Some k) None t first taken = let some = places_between-first test bytes 0 (length bytes) k first.0 first.1 in let no = taken.0 in absurd cc
+  same_first (Some k) (Some m) t first taken =
+      let some = places_between-first test bytes 0 (length bytes) k first.0 first.1 in
+      let same : k ≡ m = cc in
+      subst (λ n. NoneBefore (Passes test bytes) 0 (length bytes) n × Passes test bytes n) same first
 
   pub first_byte_from_places : (s t : List ℕ) (r : Option ℕ) → s ≡ places test bytes → TakesFirst s r t → IsFirstByte test bytes r
-  first_byte_from_places s t None same h =
-      let end : 0 + length bytes ≡ length bytes = omega arith in
-      subst (λ n. Nowhere (Passes test bytes) 0 n) end (none_from_places (length bytes) 0 (all ∙ sym same ∙ h.0))
-  first_byte_from_places s t (Some k) same h =
-      let end : 0 + length bytes ≡ length bytes = omega arith in
-      subst (λ n. NoneBefore (Passes test bytes) 0 n k × Passes test bytes k) end (first_from_places (length bytes) 0 k t (all ∙ sym same ∙ h))
+  first_byte_from_places s t r same taken =
+      let found = first_byte (length bytes) 0 (omega arith) (λ k low high. absurd (omega arith)) in
+      same_first found.0 r t found.1 (rw same at taken)
 
 -- The kept tail and the next piece. A needle that begins in the tail ends by place `most` of the piece.
 module _ (p held piece : List ℕ) (most : ℕ) (longest : length p ≡ most + 1) where
@@ -171,9 +128,8 @@ module _ (p held piece : List ℕ) (most : ℕ) (longest : length p ≡ most + 1
 
   missed_across : FindsNeedle (held ++ take most piece) p 0 None → Nowhere (OccursAt (held ++ piece) p) 0 (length held)
   missed_across missed j low high here =
-      let fits = here.fits in
       missed_in_part (held ++ piece) p (held ++ take most piece) (drop most piece) 0 (omega arith) split missed j low
-      (omega (arith, fits, length-append held piece, length-append held (take most piece), length-take most piece)) here
+      (omega (arith, here.fits, length-append held piece, length-append held (take most piece), length-take most piece)) here
 
   following : drop (length held) (held ++ piece) ≡ piece ++ []
   following = drop_at held piece (length held) refl ∙ sym (append-nil piece)
@@ -183,27 +139,22 @@ module _ (p held piece : List ℕ) (most : ℕ) (longest : length p ≡ most + 1
       found_in_part (held ++ piece) p piece [] (length held) (omega (arith, length-append held piece)) following k at same (missed_across missed) found
 
   pub missed_next : FindsNeedle (held ++ take most piece) p 0 None → FindsNeedle piece p 0 None → FindsNeedle (held ++ piece) p 0 None
-  missed_next missed none j low high here =
-      let fits = here.fits in
-      ⊎_elim (λ below. missed_across missed j low below here)
-      (λ from. missed_in_part (held ++ piece) p piece [] (length held) (omega (arith, length-append held piece)) following none j from
-      (omega (arith, fits, length-append held piece)) here)
-      (cases_lt j (length held))
+  missed_next missed none = Nowhere-then (missed_across missed) (λ j low high here.
+      missed_in_part (held ++ piece) p piece [] (length held) (omega (arith, length-append held piece)) following none j low
+      (omega (arith, here.fits, length-append held piece)) here)
 
 -- A step of the search: a piece follows the searched bytes.
 module _ (p bytes held piece : List ℕ) (base : ℕ) (s : Searched p bytes base held) where
   pub all_within : (more : List ℕ) → base ≤ length ((bytes ++ piece) ++ more)
   all_within more =
-      let within = s.within in
-      omega (arith, within, length-append (bytes ++ piece) more, length-append bytes piece)
+      omega (arith, s.within, length-append (bytes ++ piece) more, length-append bytes piece)
 
   held_piece : drop base (bytes ++ piece) ≡ held ++ piece
   held_piece = drop-append-le base bytes piece s.within ∙ ap (λ l. l ++ piece) s.tail
 
   pub held_more : (more : List ℕ) → drop base ((bytes ++ piece) ++ more) ≡ (held ++ piece) ++ more
   held_more more =
-      let within = s.within in
-      drop-append-le base (bytes ++ piece) more (omega (arith, within, length-append bytes piece)) ∙ ap (λ l. l ++ more) held_piece
+      drop-append-le base (bytes ++ piece) more (omega (arith, s.within, length-append bytes piece)) ∙ ap (λ l. l ++ more) held_piece
 
   none_before : (more : List ℕ) → Nowhere (OccursAt ((bytes ++ piece) ++ more) p) 0 base
   none_before more = subst (λ l. Nowhere (OccursAt l p) 0 base) (sym (append_assoc bytes piece more)) (s.none (piece ++ more))
@@ -215,27 +166,21 @@ module _ (p bytes held piece : List ℕ) (base : ℕ) (s : Searched p bytes base
   pub Searched-missed : (cut next : ℕ) (kept : List ℕ) → 0 < length p → next ≡ base + cut → FindsNeedle (held ++ piece) p 0 None → HoldsBack p (held ++ piece) cut → kept ≡ drop cut (held ++ piece)
       → Searched p (bytes ++ piece) next kept
   Searched-missed cut next kept some same missed back is =
-      let within = s.within in
-      let inside = back.within in
-      let short = back.short in
       let long = length-append held piece in
-      let sizes : base + length (held ++ piece) ≡ length (bytes ++ piece) = omega (arith, within, ap length s.tail, length-drop base bytes, length-append bytes piece, long) in
+      let sizes : base + length (held ++ piece) ≡ length (bytes ++ piece) = omega (arith, s.within, ap length s.tail, length-drop base bytes, length-append bytes piece, long) in
       record {
-        within = omega (arith, same, sizes, inside);
+        within = omega (arith, same, sizes, back.within);
         tail = ap (λ n. drop n (bytes ++ piece)) same ∙ sym (drop-drop cut base (bytes ++ piece)) ∙ ap (drop cut) held_piece ∙ sym is;
-        short = omega (arith, ap length is, length-drop cut (held ++ piece), inside, short);
-        none = λ more j low high here.
-            ⊎_elim (λ below. none_before more j low below here)
-            (λ from. ⊎_elim
+        short = omega (arith, ap length is, length-drop cut (held ++ piece), back.within, back.short);
+        none = λ more. Nowhere-then (none_before more) (λ j from high here. ⊎_elim
             (λ past.
             let same_place : base + (j - base) ≡ j + 0 = omega (arith, from) in
             let first : get_or (held ++ piece) (j - base) 0 ≡ get_or p 0 0
-            = sym (reads_part ((bytes ++ piece) ++ more) p (held ++ piece) more base (all_within more) (held_more more) (j - base) (omega (arith, same, high, from, inside)))
+            = sym (reads_part ((bytes ++ piece) ++ more) p (held ++ piece) more base (all_within more) (held_more more) (j - base) (omega (arith, same, high, from, back.within)))
             ∙ ap (λ n. get_or ((bytes ++ piece) ++ more) n 0) same_place ∙ here.reads 0 some in
             back.none (j - base) (omega (arith, same, high, from)) (omega (arith, past)) first)
             (λ fits. missed_in_part ((bytes ++ piece) ++ more) p (held ++ piece) more base (all_within more) (held_more more) missed j from fits here)
-            (cases_lt (base + length (held ++ piece)) (j + length p)))
-            (cases_lt j base);
+            (cases_lt (base + length (held ++ piece)) (j + length p)));
       }
 
   -- the kept tail is empty, and the first byte of the needle is not in the piece
@@ -246,8 +191,7 @@ module _ (p bytes held piece : List ℕ) (base : ℕ) (s : Searched p bytes base
       let alone : piece ≡ held ++ piece = sym (ap (λ l. l ++ piece) none) in
       let within : length piece ≤ length piece = omega arith in
       let missed : FindsNeedle piece p 0 None = λ j low high here.
-      let fits = here.fits in
-      none_before_first p piece (length piece) within some absent j low (omega (arith, fits, some)) here in
+      none_before_first p piece (length piece) within some absent j low (omega (arith, here.fits, some)) here in
       let back : HoldsBack p piece (length piece) = record { within = within; short = omega (arith, some); none = λ k low more. absent k low } in
       Searched-missed (length piece) next held some same (subst (λ l. FindsNeedle l p 0 None) alone missed) (subst (λ l. HoldsBack p l (length piece)) alone back)
       (none ∙ sym (ap (drop (length piece)) (sym alone) ∙ drop_all (length piece) piece within))
@@ -269,10 +213,7 @@ module _ (p bytes held piece : List ℕ) (base : ℕ) (s : Searched p bytes base
 -- all bytes were searched
 pub Searched-all : (p bytes held : List ℕ) (base : ℕ) → Searched p bytes base held → FindsNeedle bytes p 0 None
 Searched-all p bytes held base s j low high here =
-    let fits = here.fits in
-    let within = s.within in
-    let short = s.short in
-    s.none [] j low (omega (arith, fits, within, short, ap length s.tail, length-drop base bytes)) (subst (λ l. OccursAt l p j) (sym (append-nil bytes)) here)
+    s.none [] j low (omega (arith, here.fits, s.within, s.short, ap length s.tail, length-drop base bytes)) (subst (λ l. OccursAt l p j) (sym (append-nil bytes)) here)
 
 -- the bytes before the kept tail are forgotten
 pub Searched-kept : (p bytes held : List ℕ) (base : ℕ) → Searched p bytes base held → Searched p held 0 held
@@ -301,10 +242,7 @@ SearchedPieces-more p pieces next s searched =
     by [] (suc k) n within inside = absurd (omega (arith, within))
     by (x ∷ xs) zero n within inside = (inside, refl)
     by (x ∷ xs) (suc k) n within inside =
-        let rest = by xs k n (omega (arith, within)) inside in (
-          rest.0,
-          append_assoc x (concat (take k (xs ++ next))) _ ∙ ap (λ l. x ++ l) rest.1 ∙ sym (append_assoc x (concat (take k xs)) _),
-        )
+        let rest = by xs k n (omega (arith, within)) inside in (rest.0, simp append_assoc (ap (λ l. x ++ l) rest.1))
 
 -- the last piece grows, of which not all was searched
 pub SearchedPieces-grown : (p more : List ℕ) (pieces : List (List ℕ)) (s : SearchState) → s.pieces < length pieces → SearchedPieces p pieces s → SearchedPieces p (grow_last more pieces) s
@@ -322,10 +260,7 @@ SearchedPieces-grown p more pieces s partly searched =
     by (x ∷ []) (suc k) n partly inside = absurd (omega (arith, partly))
     by (x ∷ y ∷ xs) zero n partly inside = (inside, refl)
     by (x ∷ y ∷ xs) (suc k) n partly inside =
-        let rest = by (y ∷ xs) k n (omega (arith, partly)) inside in (
-          rest.0,
-          append_assoc x (concat (take k (grow_last more (y ∷ xs)))) _ ∙ ap (λ l. x ++ l) rest.1 ∙ sym (append_assoc x (concat (take k (y ∷ xs))) _),
-        )
+        let rest = by (y ∷ xs) k n (omega (arith, partly)) inside in (rest.0, simp append_assoc (ap (λ l. x ++ l) rest.1))
 
 -- a piece was accepted
 pub SearchedPieces-accepted : (p piece : List ℕ) (old new : Held) (s : SearchState) → new ≡ after_accepting old (piece ∷ [])

@@ -26,7 +26,6 @@ use Rattle.bytes_utils.proofs.SearchLemmas.{chars-some, FindsFirst-from_needle}
 module _ (p held : List ℕ) (some : 0 < length p) where
   pub TakesFrame-found : (at : ℕ) → FindsNeedle held p 0 (Some at) → TakesFrame p held (take at held) (drop (at + length p) held)
   TakesFrame-found at found =
-      let fits = found.1.fits in
       let size : length (take at held) ≡ at = length-take-le at held (omega arith) in
       record {
         bytes = sym (take-append-drop at held) ∙ ap (λ l. take at held ++ l) (OccursAt-split held p at found.1);
@@ -92,7 +91,7 @@ frame_parts p bytes (frame ∷ frames) rest some are lacks =
     let takes = are.1 in
     let first = cut-from_first p frame are.0 some (subst (λ l. OccursFirstAt p l (length frame)) takes.bytes takes.first) in
     subst (λ l. AreForwardParts l p None (frame ∷ (frames ++ rest ∷ []))) (sym takes.bytes)
-    (AreForwardParts-led p frame are.0 None tt first (frames ++ rest ∷ []) (frame_parts p are.0 frames rest some are.2 lacks))
+    (AreForwardParts-led p frame are.0 None first (frames ++ rest ∷ []) (frame_parts p are.0 frames rest some are.2 lacks))
 
 pub frame_parts_law : FramePartsLaw
 frame_parts_law [] bytes frames rest are lacks = absurd (lacks (0, refl))
@@ -177,3 +176,5 @@ module _ (p : List ℕ) (some : 0 < length p) where
 
 pub put_frames_law : PutFramesLaw
 put_frames_law p frames rest some = (each_cut p some frames rest, cut_each p some frames rest)
+
+pub ruleset frame_laws = (frames_law, frames_and_bytes_law, frame_parts_law, text_frames_law, same_frames_law, all_frames_law, put_frames_law)

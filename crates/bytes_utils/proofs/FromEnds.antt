@@ -1,19 +1,18 @@
 -- Parts from the front and from the back, by a separator that isn't empty.
 use Rattle.std.proofs.Common.{◌≡◌, ◌↔◌, refl, ℕ, zero, suc, ◌<◌, List, [], ◌∷◌, Option, None, Some, length, arith}
 use Rattle.std.specs.Option.{IfSome}
+use Rattle.std.proofs.lemmas.Option.{IfSome_then}
 use Rattle.bytes_utils.specs.Parts.{AreForwardParts, AreBackwardParts, ArePartsFromFront, ArePartsFromBack}
 use Rattle.bytes_utils.specs.EmptySeparator.{by_element, by_element_backward}
 use Rattle.bytes_utils.specs.Splitting.{LeavesMore, one_less}
-use Rattle.bytes_utils.proofs.Forward.{has_forward_parts}
+use Rattle.bytes_utils.proofs.Forward.{less, has_forward_parts}
 use Rattle.bytes_utils.proofs.Backward.{has_backward_parts}
 
 pub positive : (limit : Option ℕ) → LeavesMore limit → IfSome limit (λ most. 0 < most)
-positive None more = tt
-positive (Some most) more = omega (arith, more)
+positive limit more = IfSome_then limit more (λ most more. omega arith)
 
 pub positive-less : (limit : Option ℕ) → LeavesMore limit → IfSome (one_less limit) (λ most. 0 < most)
-positive-less None more = tt
-positive-less (Some most) more = omega (arith, more)
+positive-less limit more = (less limit _).0 (IfSome_then limit more (λ most more. omega arith))
 
 module _ {X : Type 0} (t : List X) where
   -- a limit of 0 gives no parts

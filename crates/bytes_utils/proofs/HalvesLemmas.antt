@@ -56,8 +56,7 @@ module _ {X : Type 0} (t p before following : List X) (i : ℕ) (here : OccursAt
     last = λ some. record {
       here = at_seam;
       none_after = λ j there.
-          let fits = OccursAt-fits p t j some there in
-          omega (arith, none_after some j there, fits, ap length before_is, length-take i t);
+          omega (arith, none_after some j there, OccursAt-fits p t j some there, ap length before_is, length-take i t);
     };
     at_end = at_end;
   }
@@ -79,11 +78,8 @@ module _ (text sep : List ℕ) (text_is : IsUtf8 text) (sep_is : IsUtf8 sep) (at
     -- the bytes of the halves and of the separator are those of the text
     pub bytes_around : before ++ (sep ++ following) ≡ text
     bytes_around =
-        (λ k. sym (encodes-chars before before_utf8) k ++ (sym (encodes-chars sep sep_is) k ++ sym (encodes-chars following after_utf8) k))
-        ∙ ap (λ z. encodes (chars before) ++ z) (sym (encodes-append (chars sep) (chars following)))
-        ∙ sym (encodes-append (chars before) (chars sep ++ chars following))
-        ∙ ap encodes (around (chars text) (chars sep) (chars before) (chars following) i here chars_before_is chars_after_is)
-        ∙ encodes-chars text text_is
+        rw (← encodes-chars text text_is, ← around (chars text) (chars sep) (chars before) (chars following) i here chars_before_is chars_after_is)
+        (simp (encodes-append, encodes-chars before before_utf8, encodes-chars sep sep_is, encodes-chars following after_utf8))
 
     pub halves_at_first : ((j : ℕ) → OccursAt (chars sep) (chars text) j → i ≤ j) → AreHalvesAtFirst (chars text) (chars sep) (chars before) (chars following)
     halves_at_first none_before =

@@ -36,9 +36,7 @@ module _ (rest separator left part next : List ℕ) (others : List (List ℕ)) (
     (before : join (chars separator) (part ∷ next ∷ others) ≡ chars rest) (following : join (chars separator) (next ∷ others) ≡ chars left) where
   left_bytes : encodes part ++ (separator ++ left) ≡ rest
   left_bytes =
-      (λ k. encodes part ++ (sym (encodes-chars separator separator_is) k ++ sym (encodes-chars left left_is) k))
-      ∙ ap (λ z. encodes part ++ z) (sym (encodes-append (chars separator) (chars left))) ∙ sym (encodes-append part (chars separator ++ chars left))
-      ∙ ap (λ z. encodes (part ++ (chars separator ++ z))) (sym following) ∙ ap encodes before ∙ encodes-chars rest rest_is
+      rw (← encodes-chars rest rest_is, ← before, following) (simp (encodes-append, encodes-chars separator separator_is, encodes-chars left left_is))
 
   left_length : length rest ≡ length (encodes part) + (length separator + length left)
   left_length =
@@ -155,12 +153,8 @@ module _ (separator : List ℕ) (separator_is : IsUtf8 separator) where
       (All-nil (Stands text))
   stand_after front text (part ∷ next ∷ parts) is =
       let more = encodes (join (chars separator) (next ∷ parts)) in
-      let cut : encodes (part ++ (chars separator ++ join (chars separator) (next ∷ parts))) ≡ encodes part ++ (separator ++ more) =
-      encodes-append part (chars separator ++ join (chars separator) (next ∷ parts)) ∙ ap (λ z. encodes part ++ z) (encodes-append (chars separator) (join (chars separator) (next ∷ parts)))
-      ∙ ap (λ z. encodes part ++ (z ++ more)) (encodes-chars separator separator_is) in
-      let whole : text ≡ front ++ (encodes part ++ (separator ++ more)) = is ∙ ap (λ z. front ++ z) cut in
-      let following : text ≡ (front ++ (encodes part ++ separator)) ++ more =
-      whole ∙ ap (λ z. front ++ z) (sym (append_assoc (encodes part) separator more)) ∙ sym (append_assoc front (encodes part ++ separator) more) in
+      let whole : text ≡ front ++ (encodes part ++ (separator ++ more)) = rw (encodes-append, encodes-append, encodes-chars separator separator_is) at is in
+      let following : text ≡ (front ++ (encodes part ++ separator)) ++ more = rw (append_assoc, append_assoc) whole in
       let at : length (front ++ (encodes part ++ separator)) ≡ length front + length (encodes part) + length separator =
       omega (arith, length-append front (encodes part ++ separator), length-append (encodes part) separator) in
       All-cons (Stands text) (length front, part) (indexed separator (length front + length (encodes part) + length separator) (next ∷ parts))

@@ -8,9 +8,7 @@ join-append p [] ys some others = absurd (omega arith)
 join-append p (x ∷ xs) [] some others = absurd (omega arith)
 join-append p (x ∷ []) (y ∷ ys) some others = refl
 join-append p (x ∷ z ∷ xs) (y ∷ ys) some others =
-    let more : join p (z ∷ (xs ++ y ∷ ys)) ≡ join p (z ∷ xs) ++ (p ++ join p (y ∷ ys)) = join-append p (z ∷ xs) (y ∷ ys) (omega arith) others in
-    ap (λ w. x ++ (p ++ w)) more ∙ ap (λ w. x ++ w) (sym (append_assoc p (join p (z ∷ xs)) (p ++ join p (y ∷ ys))))
-    ∙ sym (append_assoc x (p ++ join p (z ∷ xs)) (p ++ join p (y ∷ ys)))
+    rw (join-append p (z ∷ xs) (y ∷ ys) (omega arith) others) (simp append_assoc)
 
 -- the separator before the next part
 abbrev pub gap : {X : Type 0} → List X → List (List X) → List X

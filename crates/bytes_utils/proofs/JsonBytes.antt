@@ -2,7 +2,6 @@
 use Rattle.std.proofs.Common.{◌≡◌, ◌≢◌, ℕ, ◌+◌, ◌<◌, List, [], ◌∷◌, ◌++◌, length, get_or, take, map, sym, ap, ◌∙◌, arith}
 use Rattle.std.specs.Prelude.{All}
 use Rattle.std.proofs.lemmas.List.{take_more, get_or-map, length-map, map_push}
-use Rattle.serde_json.specs.Data.{Data}
 use Rattle.serde_json.specs.View.{view}
 use Rattle.serde_json.specs.declared.value.Value.{Value}
 use Rattle.bytes_utils.specs.Json.{whole_number}
@@ -11,11 +10,7 @@ use Rattle.bytes_utils.specs.Json.{whole_number}
 pub members_push : (members : List Value) (i : ℕ) (bytes : List ℕ) (member : Value) (byte : ℕ) → i < length members → member ≡ get_or members i member
     → view member ≡ whole_number byte → map view (take i members) ≡ map whole_number bytes → map view (take (i + 1) members) ≡ map whole_number (bytes ++ byte ∷ [])
 members_push members i bytes member byte within here is so_far =
-    ap (map view) (take_more members i member within)
-    ∙ map_push view (take i members) (get_or members i member)
-    ∙ ap (λ (value : Data). map view (take i members) ++ value ∷ []) (ap view (sym here) ∙ is)
-    ∙ ap (λ (values : List Data). values ++ whole_number byte ∷ []) so_far
-    ∙ sym (map_push whole_number bytes byte)
+    rw (take_more members i member within, map_push view (take i members) (get_or members i member), ← here, is, so_far) (sym (map_push whole_number bytes byte))
 
 -- a list with a member that is no whole number from 0 to 255 is not a list of bytes
 pub other_member : (members : List Value) (i : ℕ) (member : Value) → i < length members → member ≡ get_or members i member

@@ -17,18 +17,14 @@ same_members [] [] e = refl
 same_members [] (y ∷ ys) e = absurd cc
 same_members (x ∷ xs) [] e = absurd cc
 same_members (x ∷ xs) (y ∷ ys) e =
-    let rest : items_of xs ≡ items_of ys = cc in
-    let tail = same_members xs ys rest in
-    cc
+    cc (same_members xs ys (cc))
 
 same_numbers : (a b : List ℕ) → map whole_number a ≡ map whole_number b → a ≡ b
 same_numbers [] [] e = refl
 same_numbers [] (n ∷ b) e = absurd cc
 same_numbers (m ∷ a) [] e = absurd cc
 same_numbers (m ∷ a) (n ∷ b) e =
-    let rest : map whole_number a ≡ map whole_number b = cc in
-    let tail = same_numbers a b rest in
-    cc
+    cc (same_numbers a b (cc))
 
 -- a value represents at most one list of bytes
 pub same_bytes : (value : Data) (a b : List ℕ) → Represents value a → Represents value b → a ≡ b
@@ -36,9 +32,7 @@ same_bytes value a b (inl is_a) (inl is_b) = cc
 same_bytes value a b (inl is_a) (inr is_b) = let list_is = is_b.0 in absurd cc
 same_bytes value a b (inr is_a) (inl is_b) = let list_is = is_a.0 in absurd cc
 same_bytes value a b (inr is_a) (inr is_b) =
-    let list_a = is_a.0 in
-    let list_b = is_b.0 in
-    let same : items_of (map whole_number a) ≡ items_of (map whole_number b) = cc in
+    let same : items_of (map whole_number a) ≡ items_of (map whole_number b) = cc (is_a.0, is_b.0) in
     same_numbers a b (same_members _ _ same)
 
 -- the value of a JSON list is a list
@@ -55,8 +49,7 @@ pub represents_nothing : (value : Data) (members : List Data) → value ≡ arra
     → ((ns : List ℕ) → All (λ n. n < 256) ns → members ≢ map whole_number ns) → (bytes : List ℕ) → ¬ Represents value bytes
 represents_nothing value members is other bytes (inl is_string) = absurd cc
 represents_nothing value members is other bytes (inr is_list) =
-    let list_is = is_list.0 in
-    let same : items_of members ≡ items_of (map whole_number bytes) = cc in
+    let same : items_of members ≡ items_of (map whole_number bytes) = cc (is_list.0) in
     other bytes is_list.1 (same_members _ _ same)
 
 -- the error, if the only cause of one is that U fails
@@ -67,17 +60,14 @@ refused_where_not P f (Ok x) (Err e) same holds is refused = absurd cc
 refused_where_not P f (Err d) (Err e) same holds is refused = subst P (sym is) (refused (λ u. let is_ok = holds u in cc))
 
 module _ (json : List ℕ) (value : Data) (has : read json ≡ Some value) where
+  same : (other : Data) → read json ≡ Some other → other ≡ value
+  same other one = cc
+
   stands : (bytes : List ℕ) → HoldsBytes json bytes → Represents value bytes
-  stands bytes holds =
-      let one = holds.1 in
-      let same : holds.0 ≡ value = cc in
-      subst (λ v. Represents v bytes) same holds.2
+  stands bytes holds = rw (same holds.0 holds.1) at holds.2
 
   nothing : HoldsNoBytes json → (bytes : List ℕ) → ¬ Represents value bytes
-  nothing holds bytes =
-      let one = holds.1 in
-      let same : holds.0 ≡ value = cc in
-      subst (λ v. ¬ Represents v bytes) same (holds.2 bytes)
+  nothing holds bytes = rw (same holds.0 holds.1) at (holds.2 bytes)
 
   pub reads_text : (r : Result (List ℕ) JsonRefused) → IfOk r (λ text. Represents value text) → IfErr r (λ e. IsRefusedFor value e)
       → (text : List ℕ) → HoldsText json text → (r ≡ Ok text) ⊎ (r ≡ Err OutOfMemory)

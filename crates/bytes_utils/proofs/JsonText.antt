@@ -7,12 +7,13 @@ use Rattle.std.proofs.lemmas.Bool.{and_parts, cases_lt, cases_eq}
 use Rattle.std.proofs.lemmas.Bool.Decides.{nat_tests}
 use Rattle.std.proofs.lemmas.Grind.{flat_map-append}
 use Rattle.std.proofs.lemmas.Slice.Eq.{bytes_eq-Decides}
-use Rattle.std.proofs.lemmas.Str.{encodes-append, encodes-chars, encode_ascii, inside_one}
+use Rattle.std.proofs.lemmas.Str.{encodes-append, encodes-chars, encode_ascii}
 use lib.Utf8.{encode}
 use Rattle.serde_json.specs.Data.{string}
 use Rattle.serde_json.specs.Written.{compact_text}
 use Rattle.serde_json.proofs.OnLiterals.{serde_json_on_literals}
 use Rattle.bytes_utils.specs.Json.{json_character, json_string}
+use Rattle.bytes_utils.proofs.AsciiCase.{encode-high}
 
 -- The table on bytes, by which `serde_json` writes.
 
@@ -65,20 +66,13 @@ json_bytes-high (b ∷ bytes) high =
 json_bytes-encode : (c : ℕ) → flat_map json_byte (encode c) ≡ encode_utf8_all (json_character c)
 json_bytes-encode c = elim (cases_lt c 128) [
   | inl small ↦ rw (encode_ascii c small, append-nil) (json_byte-below 128 ascii_agrees c small)
-  | inr high ↦
-      let all_high : (k : ℕ) → k < length (encode c) → 128 ≤ get_or (encode c) k 0 = λ k below. elim (cases_lt (get_or (encode c) k 0) 128) [
-        | inl low ↦ absurd (omega (arith, inside_one c [] (encode c) k (sym (append-nil _)) below low))
-        | inr is_high ↦ is_high
-      ] in
-      json_bytes-high (encode c) all_high ∙ sym (append-nil (encode c)) ∙ sym (ap encode_utf8_all (json_character-high c high))
+  | inr high ↦ json_bytes-high (encode c) (encode-high c high) ∙ sym (append-nil (encode c)) ∙ sym (ap encode_utf8_all (json_character-high c high))
 ]
 
 json_bytes-encodes : (cs : List ℕ) → flat_map json_byte (encode_utf8_all cs) ≡ encode_utf8_all (flat_map json_character cs)
 json_bytes-encodes [] = refl
 json_bytes-encodes (c ∷ cs) =
-    flat_map-append json_byte (encode c) (encode_utf8_all cs)
-    ∙ ap₂ (λ (x y : List ℕ). x ++ y) (json_bytes-encode c) (json_bytes-encodes cs)
-    ∙ sym (encodes-append (json_character c) (flat_map json_character cs))
+    rw (flat_map-append json_byte (encode c) (encode_utf8_all cs), json_bytes-encode c, json_bytes-encodes cs) (sym (encodes-append (json_character c) (flat_map json_character cs)))
 
 -- the bytes of a text are written as its characters are by the table
 pub compact_text-json_string : (t : List ℕ) → IsUtf8 t → compact_text (string t) ≡ encode_utf8_all (json_string (chars t))

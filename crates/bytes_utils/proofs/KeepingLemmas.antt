@@ -1,11 +1,11 @@
 -- A text split after the first place at which a separator was found in it.
-use Rattle.std.proofs.Common.{◌≡◌, refl, sym, ap, subst, ◌∙◌, ℕ, ◌+◌, ◌<◌, ◌≤◌, List, [], ◌∷◌, Some, None, length, take, drop, arith, IsUtf8, ◌⊎◌}
+use Rattle.std.proofs.Common.{◌≡◌, refl, ap, ◌∙◌, ℕ, ◌+◌, ◌<◌, ◌≤◌, List, [], ◌∷◌, Some, None, length, take, drop, arith, IsUtf8, ◌⊎◌}
 use Rattle.std.proofs.Math.Seq.{take-length}
 use Rattle.std.proofs.lemmas.Str.{chars-nil, encodes-chars}
 use Rattle.std.specs.Str.{chars, encode_utf8_all as encodes}
 use Rattle.bytes_utils.specs.Text.{byte_place}
 use Rattle.bytes_utils.specs.Occurrence.{Occurs, OccursFirstAt}
-use Rattle.bytes_utils.specs.Parts.{AreInclusiveParts, EndsAtFirst}
+use Rattle.bytes_utils.specs.Parts.{EndsAtFirst}
 use Rattle.bytes_utils.specs.Keeping.{Keeping, AreInclusivePartsToCome, CutsAfterNext}
 use Rattle.bytes_utils.specs.Step.{GivesFirst}
 use Rattle.bytes_utils.proofs.SearchLemmas.{chars-some}
@@ -71,14 +71,10 @@ module _ (text sep : List ℕ) (text_is : IsUtf8 text) (sep_is : IsUtf8 sep) (at
       → GivesFirst AreInclusivePartsToCome (record { rest = Some text; separator = sep }) (chars part) (record { rest = Some rest; separator = sep })
   gives_through less part rest part_is rest_is =
       let end = found.0 + length (chars sep) in
-      let part_chars : chars part ≡ take end (chars text) =
-      ap chars (part_is ∙ ap (λ k. take k text) place) ∙ chars-take_place text text_is end in
-      let rest_chars : chars rest ≡ drop end (chars text) =
-      ap chars (rest_is ∙ ap (λ k. drop k text) place) ∙ chars-drop_place text text_is end in
+      let part_chars : chars part ≡ take end (chars text) = rw (part_is, place) (chars-take_place text text_is end) in
+      let rest_chars : chars rest ≡ drop end (chars text) = rw (rest_is, place) (chars-drop_place text text_is end) in
       record {
         some = has_inclusive_parts (chars sep) (chars rest) long;
         each = λ others are.
-            let following = subst (λ z. AreInclusiveParts z (chars sep) others) rest_chars are in
-            subst (λ z. AreInclusiveParts (chars text) (chars sep) (z ∷ others)) (sym part_chars)
-            (AreInclusiveParts-more (chars sep) (chars text) found.0 long found.2 (less_chars less) others following);
+            rw part_chars (AreInclusiveParts-more (chars sep) (chars text) found.0 long found.2 (less_chars less) others (rw rest_chars at are));
       }

@@ -32,7 +32,6 @@ pub mod Graphic
 pub mod WhiteSpace
 pub mod WordsLemmas
 pub mod Chunks
-pub mod Cases
 pub mod Building
 pub mod AsciiCase
 pub mod Pieces

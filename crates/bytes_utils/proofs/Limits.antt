@@ -36,7 +36,7 @@ forward_beyond p some (suc n) t (part ∷ next ∷ parts) are less =
     let more = forward_beyond p some n rest (next ∷ parts) (AreForwardParts-others p t some None part next parts are) (omega arith) in
     let shown = take n (next ∷ parts) ++ (join p (drop n (next ∷ parts)) ∷ []) in
     subst (λ z. AreForwardParts z p (Some (suc (suc n))) (part ∷ shown)) are.joined
-    (AreForwardParts-led p part rest (Some (suc (suc n))) (omega arith) are.cut_at_first.0 shown
+    (AreForwardParts-led p part rest (Some (suc (suc n))) are.cut_at_first.0 shown
     (subst (λ z. AreForwardParts rest p (Some z) shown) (omega arith) more))
 
 pub backward_beyond : {X : Type 0} (p : List X) → 0 < length p → (n : ℕ) (t : List X) (parts : List (List X)) → AreBackwardParts t p None parts → n < length parts

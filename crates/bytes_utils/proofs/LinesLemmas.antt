@@ -1,16 +1,17 @@
 -- The first line of a text, from the byte place of its first line feed.
-use Rattle.std.proofs.Common.{◌≡◌, ◌≢◌, refl, sym, ap, subst, ◌∙◌, ℕ, ◌+◌, ◌<◌, ◌≤◌, ◌==◌, ◌&&◌, if◌then◌else◌, List, [], ◌∷◌, ◌++◌, Option, None, Some, true, false, length, take, drop, take-add, take-append-drop, arith, MatchOption, unwrap_or, Bor, nat_eq, Bool, ◌⊎◌, inl, inr, length-append, append_assoc, append-nil, IsUtf8, IsCharBoundary}
-use Rattle.std.proofs.lemmas.List.{length-take-le, take_at, drop_at}
+use Rattle.std.proofs.Common.{◌≡◌, ◌≢◌, refl, sym, ap, subst, ◌∙◌, ℕ, suc, ◌+◌, ◌<◌, ◌≤◌, ◌==◌, ◌&&◌, if◌then◌else◌, List, [], ◌∷◌, ◌++◌, Option, None, Some, true, false, length, take, drop, take-add, take-append-drop, arith, MatchOption, unwrap_or, Bor, nat_eq, Bool, ◌⊎◌, inl, inr, length-append, length-take, append_assoc, append-nil, IsUtf8, IsCharBoundary}
+use Rattle.std.proofs.lemmas.List.{take_at}
 use Rattle.std.proofs.lemmas.Bool.{ne_eqb, and_left, and_right}
 use Rattle.std.proofs.lemmas.Str.{chars-nil, chars-append, encodes-append, encodes-chars, IsUtf8-take, IsCharBoundary-from_take}
 use Rattle.std.specs.List.{starts_with}
 use Rattle.std.specs.Char.{encode_utf8}
 use Rattle.std.specs.Str.{chars, encode_utf8_all as encodes}
 use Rattle.bytes_utils.specs.Text.{byte_place}
-use Rattle.bytes_utils.specs.Occurrence.{OccursAt, Occurs, OccursFirstAt}
+use Rattle.bytes_utils.specs.Occurrence.{Occurs, OccursFirstAt}
 use Rattle.bytes_utils.specs.Lines.{lines, line_feed, carriage_return, first_led_by, text_after, IsFeedEnd, IsWithoutReturn}
 use Rattle.bytes_utils.proofs.Boundaries.{OccursAt-fits}
-use Rattle.bytes_utils.proofs.OccurrenceLemmas.{cut_whole}
+use Rattle.bytes_utils.proofs.OccurrenceLemmas.{cut_whole, OccursAt-append}
+use Rattle.bytes_utils.proofs.SearchLemmas.{chars-some}
 use Rattle.bytes_utils.proofs.Places.{boundary_at_place, chars-take_place, chars-drop_place}
 
 -- what is left after one carriage return at the end was stripped, or all if there was none
@@ -21,13 +22,16 @@ IsWithoutReturn-stripped (Some x) all line line_is stripped = inl (stripped ∙ 
 
 -- no line feed is among these
 abbrev pub LacksFeed : List ℕ → Type 0
-LacksFeed cs = (front back : List ℕ) → cs ≡ front ++ line_feed ∷ back → ⊥
+LacksFeed cs = ¬ Occurs (line_feed ∷ []) cs
 
 LacksFeed-tail : (c : ℕ) (cs : List ℕ) → LacksFeed (c ∷ cs) → LacksFeed cs
-LacksFeed-tail c cs lacks front back e = lacks (c ∷ front) back (ap (λ z. c ∷ z) e)
+LacksFeed-tail c cs lacks occurs = lacks (suc occurs.0, occurs.1)
+
+pub LacksFeed-front : (front back : List ℕ) → LacksFeed (front ++ back) → LacksFeed front
+LacksFeed-front front back lacks occurs = lacks (occurs.0, OccursAt-append (line_feed ∷ []) front back occurs.0 (omega arith) occurs.1)
 
 not_feed : (c : ℕ) (cs : List ℕ) → LacksFeed (c ∷ cs) → c ≢ 10
-not_feed c cs lacks e = lacks [] cs (ap (λ z. z ∷ cs) e)
+not_feed c cs lacks e = lacks (0, ap (λ z. z ∷ []) e)
 
 -- these don't begin with a line feed
 abbrev BeginsOtherwise : List ℕ → Type 0
@@ -44,12 +48,13 @@ lines-cons c t other (inr no_feed) =
     rw (ne_eqb c 10 other, test) refl
 
 -- without a line feed, all is one line
-pub lines-whole : (c : ℕ) (cs : List ℕ) → LacksFeed (c ∷ cs) → lines (c ∷ cs) ≡ (c ∷ cs) ∷ []
-lines-whole c [] lacks = lines-cons c [] (not_feed c [] lacks) (inr refl)
-lines-whole c (d ∷ cs) lacks =
+pub lines-whole : (cs : List ℕ) → 0 < length cs → LacksFeed cs → lines cs ≡ cs ∷ []
+lines-whole [] some lacks = absurd (omega arith)
+lines-whole (c ∷ []) some lacks = lines-cons c [] (not_feed c [] lacks) (inr refl)
+lines-whole (c ∷ d ∷ cs) some lacks =
     let others = LacksFeed-tail c (d ∷ cs) lacks in
     lines-cons c (d ∷ cs) (not_feed c (d ∷ cs) lacks) (inr (BeginsOtherwise-cons d cs (not_feed d cs others)))
-    ∙ ap (first_led_by c) (lines-whole d cs others)
+    ∙ ap (first_led_by c) (lines-whole (d ∷ cs) (omega arith) others)
 
 -- a carriage return right before the line feed isn't part of the line
 pub lines-at_return : (cs t : List ℕ) → LacksFeed cs → lines (cs ++ carriage_return ∷ line_feed ∷ t) ≡ cs ∷ lines t
@@ -75,33 +80,18 @@ text_after-feed : (cs t : List ℕ) → LacksFeed cs → text_after (cs ++ line_
 text_after-feed [] t lacks = refl
 text_after-feed (c ∷ cs) t lacks = rw (ne_eqb c 10 (not_feed c cs lacks)) (text_after-feed cs t (LacksFeed-tail c cs lacks))
 
-text_after-whole : (cs : List ℕ) → LacksFeed cs → text_after cs ≡ []
-text_after-whole [] lacks = refl
-text_after-whole (c ∷ cs) lacks = rw (ne_eqb c 10 (not_feed c cs lacks)) (text_after-whole cs (LacksFeed-tail c cs lacks))
-
--- a line feed between two lists occurs at the end of the first
-OccursAt-between : (front back : List ℕ) → OccursAt (line_feed ∷ []) (front ++ line_feed ∷ back) (length front)
-OccursAt-between front back = ap (take 1) (drop_at front (10 ∷ back) (length front) refl)
-
-pub LacksFeed-none : (cs : List ℕ) → (¬ Occurs (line_feed ∷ []) cs) → LacksFeed cs
-LacksFeed-none cs none front back e = none (length front, subst (λ z. OccursAt (line_feed ∷ []) z (length front)) (sym e) (OccursAt-between front back))
+pub text_after-none : (cs : List ℕ) → LacksFeed cs → text_after cs ≡ []
+text_after-none [] lacks = refl
+text_after-none (c ∷ cs) lacks = rw (ne_eqb c 10 (not_feed c cs lacks)) (text_after-none cs (LacksFeed-tail c cs lacks))
 
 -- a line, its line feed, and what is after it
-pub lines-at_end : (line end rest : List ℕ) → (¬ Occurs (line_feed ∷ []) line) → IsFeedEnd line end → lines (line ++ (end ++ rest)) ≡ line ∷ lines rest
-lines-at_end line end rest none (inl returned) = ap (λ z. lines (line ++ (z ++ rest))) returned ∙ lines-at_return line rest (LacksFeed-none line none)
-lines-at_end line end rest none (inr fed) = ap (λ z. lines (line ++ (z ++ rest))) fed.0 ∙ lines-at_feed line rest (LacksFeed-none line none) fed.1
+pub lines-at_end : (line end rest : List ℕ) → LacksFeed line → IsFeedEnd line end → lines (line ++ (end ++ rest)) ≡ line ∷ lines rest
+lines-at_end line end rest lacks (inl returned) = ap (λ z. lines (line ++ (z ++ rest))) returned ∙ lines-at_return line rest lacks
+lines-at_end line end rest lacks (inr fed) = ap (λ z. lines (line ++ (z ++ rest))) fed.0 ∙ lines-at_feed line rest lacks fed.1
 
--- a text in which none occurs has nothing after one
-pub text_after-none : (cs : List ℕ) → (¬ Occurs (line_feed ∷ []) cs) → text_after cs ≡ []
-text_after-none cs none = text_after-whole cs (LacksFeed-none cs none)
-
--- it is its only line
-pub lines-last : (text : List ℕ) → IsUtf8 text → (¬ Occurs (line_feed ∷ []) (chars text)) → 0 < length text → lines (chars text) ≡ chars text ∷ []
-lines-last text text_is none some = only_line (chars text) (encodes-chars text text_is) (LacksFeed-none (chars text) none)
-  where
-    only_line : (cs : List ℕ) → encodes cs ≡ text → LacksFeed cs → lines cs ≡ cs ∷ []
-    only_line [] e lacks = absurd (omega (arith, ap length e, some))
-    only_line (c ∷ cs) e lacks = lines-whole c cs lacks
+-- a text without one is its only line
+pub lines-last : (text : List ℕ) → IsUtf8 text → LacksFeed (chars text) → 0 < length text → lines (chars text) ≡ chars text ∷ []
+lines-last text text_is lacks some = lines-whole (chars text) (chars-some text text_is some) lacks
 
 -- a character makes lines in one of three ways, two of which give at least one
 no_way_is_empty : (ends returns : Bool) (c : ℕ) (ls : List (List ℕ)) → (returns ≡ true → ls ≡ [] → ⊥)
@@ -115,18 +105,15 @@ and_false : (a : Bool) → (a && false) ≡ true → ⊥
 and_false true e = cc
 and_false false e = cc
 
-lines-cons_some : (c : ℕ) (t : List ℕ) → lines (c ∷ t) ≡ [] → ⊥
-lines-cons_some c [] e = no_way_is_empty (c == line_feed) (c == carriage_return && false) c [] (λ both _. and_false (c == carriage_return) both) e
-lines-cons_some c (d ∷ t) e =
-    no_way_is_empty (c == line_feed) (c == carriage_return && starts_with nat_eq (d ∷ t) (line_feed ∷ [])) c (lines (d ∷ t)) (λ _ none. lines-cons_some d t none) e
+has_line : (cs : List ℕ) → 0 < length cs → lines cs ≡ [] → ⊥
+has_line [] some e = omega arith
+has_line (c ∷ []) some e = no_way_is_empty (c == line_feed) (c == carriage_return && false) c [] (λ both _. and_false (c == carriage_return) both) e
+has_line (c ∷ d ∷ t) some e =
+    no_way_is_empty (c == line_feed) (c == carriage_return && starts_with nat_eq (d ∷ t) (line_feed ∷ [])) c (lines (d ∷ t)) (λ _ none. has_line (d ∷ t) (omega arith) none) e
 
 -- a text that isn't empty has a line
 pub lines-some : (text : List ℕ) → IsUtf8 text → 0 < length text → [] ≢ lines (chars text)
-lines-some text text_is some none = has_line (chars text) (encodes-chars text text_is) (sym none)
-  where
-    has_line : (cs : List ℕ) → encodes cs ≡ text → lines cs ≡ [] → ⊥
-    has_line [] e no_line = omega (arith, ap length e, some)
-    has_line (c ∷ cs) e no_line = lines-cons_some c cs no_line
+lines-some text text_is some none = has_line (chars text) (chars-some text text_is some) (sym none)
 
 -- an empty text has none
 pub lines-none : (text : List ℕ) → length text ≡ 0 → [] ≡ lines (chars text)
@@ -139,22 +126,17 @@ module _ (text : List ℕ) (text_is : IsUtf8 text) (at : ℕ) (found : (i : ℕ)
   around = sym (cut_whole (line_feed ∷ []) (chars text) found.0 found.2.here)
 
   front_lacks : LacksFeed (take found.0 (chars text))
-  front_lacks front back e =
-      let rest = line_feed ∷ drop (found.0 + 1) (chars text) in
-      let whole : chars text ≡ front ++ line_feed ∷ (back ++ rest) = around ∙ ap (λ z. z ++ rest) e ∙ append_assoc front (line_feed ∷ back) rest in
-      let there = subst (λ z. OccursAt (line_feed ∷ []) z (length front)) (sym whole) (OccursAt-between front (back ++ rest)) in
-      let size = ap length e ∙ length-append front (line_feed ∷ back) in
-      let fits = OccursAt-fits (line_feed ∷ []) (chars text) found.0 (omega arith) found.2.here in
-      let front_size : length (take found.0 (chars text)) ≡ found.0 = length-take-le found.0 (chars text) (omega (arith, fits)) in
-      omega (arith, found.2.none_before (length front) there, size, front_size)
+  front_lacks occurs =
+      let front = take found.0 (chars text) in
+      let fits = OccursAt-fits (line_feed ∷ []) front occurs.0 (omega arith) occurs.1 in
+      let there = OccursAt-append (line_feed ∷ []) front (drop found.0 (chars text)) occurs.0 (omega arith) occurs.1 in
+      omega (arith, fits, length-take found.0 (chars text), found.2.none_before occurs.0 (rw take-append-drop at there))
 
   next_place : at + 1 ≡ byte_place (chars text) (found.0 + 1)
   unfolding encode_utf8
   next_place =
-      let front = take found.0 (chars text) in
-      let through : take (found.0 + 1) (chars text) ≡ front ++ line_feed ∷ [] = take-add found.0 1 (chars text) ∙ ap (λ z. front ++ z) found.2.here in
       let sizes : byte_place (chars text) (found.0 + 1) ≡ byte_place (chars text) found.0 + 1 =
-      ap (λ z. length (encodes z)) through ∙ ap length (encodes-append front (line_feed ∷ [])) ∙ length-append (encodes front) (line_feed ∷ []) in
+      rw (take-add found.0 1 (chars text), found.2.here, encodes-append, length-append) refl in
       omega (arith, sizes, found.1)
 
   pub feed-boundary : IsCharBoundary text at
@@ -198,8 +180,7 @@ module _ (text : List ℕ) (text_is : IsUtf8 text) (at : ℕ) (found : (i : ℕ)
       let split : chars (take at text) ≡ chars line ++ carriage_return ∷ [] = ap chars with_return ∙ chars-append line (carriage_return ∷ []) line_is in
       let whole : chars text ≡ chars line ++ carriage_return ∷ line_feed ∷ t =
       around_text ∙ ap (λ z. z ++ line_feed ∷ t) split ∙ append_assoc (chars line) (carriage_return ∷ []) (line_feed ∷ t) in
-      let lacks : LacksFeed (chars line) = λ front back e.
-      line_lacks front (back ++ carriage_return ∷ []) (split ∙ ap (λ z. z ++ carriage_return ∷ []) e ∙ append_assoc front (line_feed ∷ back) (carriage_return ∷ [])) in
+      let lacks = LacksFeed-front (chars line) (carriage_return ∷ []) (subst LacksFeed split line_lacks) in
       ap lines whole ∙ lines-at_return (chars line) t lacks
 
   -- the line in the text, if it is the text before the line feed without one carriage return

@@ -18,7 +18,7 @@ replaced R {b} {c} {d} {u} e f g h = subst (λ z. R b d z) g (subst (λ z. R b z
 
 reverse-between : {X : Type 0} (front p back : List X) → reverse (front ++ (p ++ back)) ≡ reverse back ++ (reverse p ++ reverse front)
 reverse-between front p back =
-    reverse-append front (p ++ back) ∙ ap (λ z. z ++ reverse front) (reverse-append p back) ∙ append_assoc (reverse back) (reverse p) (reverse front)
+    simp (reverse-append, append_assoc)
 
 -- reversing each list twice changes nothing
 pub reversed_twice : {X : Type 0} (lists : List (List X)) → map reverse (map reverse lists) ≡ lists
@@ -67,52 +67,40 @@ OccursLastAt-reverse p t i some first = record {
 pub lacks-reverse : {X : Type 0} (p t : List X) → (¬ Occurs p t) → ¬ Occurs (reverse p) (reverse t)
 lacks-reverse p t lacks = λ occurs. lacks (_, OccursAt-from_reverse p t occurs.0 occurs.1)
 
-lacks-from_reverse : {X : Type 0} (p t : List X) → (¬ Occurs (reverse p) (reverse t)) → ¬ Occurs p t
-lacks-from_reverse p t lacks = λ occurs. lacks (_, OccursAt-reverse p t occurs.0 occurs.1)
+lacks_mirrored : {X : Type 0} (p t : List X) → (¬ Occurs p t) ↔ (¬ Occurs (reverse p) (reverse t))
+lacks_mirrored p t = (lacks-reverse p t, λ lacks occurs. lacks (_, OccursAt-reverse p t occurs.0 occurs.1))
 
 -- For one part.
 
-module _ {X : Type 0} (p part : List X) (some : 0 < length p) where
-  first-from_last : OccursLastAt p (p ++ part) 0 → OccursFirstAt (reverse p) (reverse part ++ reverse p) (length (reverse part))
-  first-from_last last =
-      let place : length (p ++ part) - (0 + length p) ≡ length (reverse part) = omega (arith, length-append p part, length-reverse part) in
-      replaced OccursFirstAt refl (reverse-append p part) place (OccursFirstAt-reverse p (p ++ part) 0 some last)
-
-  last-from_first : OccursFirstAt (reverse p) (reverse part ++ reverse p) (length (reverse part)) → OccursLastAt p (p ++ part) 0
-  last-from_first first =
-      let back = reverse part ++ reverse p in
-      let whole : reverse back ≡ p ++ part = reverse-append (reverse part) (reverse p) ∙ (λ k. reverse-reverse p k ++ reverse-reverse part k) in
-      let place : length back - (length (reverse part) + length (reverse p)) ≡ 0 = omega (arith, length-append (reverse part) (reverse p)) in
-      replaced OccursLastAt (reverse-reverse p) whole place (OccursLastAt-reverse (reverse p) back _ (length-some_reverse p some) first)
+cut_mirrored : {X : Type 0} (p : List X) → 0 < length p → (part : List X)
+    → OccursLastAt p (p ++ part) 0 ↔ OccursFirstAt (reverse p) (reverse part ++ reverse p) (length (reverse part))
+cut_mirrored p some part =
+    let back = reverse part ++ reverse p in
+    let place : length (p ++ part) - (0 + length p) ≡ length (reverse part) = omega (arith, length-append p part, length-reverse part) in
+    let whole : reverse back ≡ p ++ part = reverse-append (reverse part) (reverse p) ∙ (λ k. reverse-reverse p k ++ reverse-reverse part k) in
+    let start : length back - (length (reverse part) + length (reverse p)) ≡ 0 = omega (arith, length-append (reverse part) (reverse p)) in (
+      λ last. replaced OccursFirstAt refl (reverse-append p part) place (OccursFirstAt-reverse p (p ++ part) 0 some last),
+      λ first. replaced OccursLastAt (reverse-reverse p) whole start (OccursLastAt-reverse (reverse p) back _ (length-some_reverse p some) first),
+    )
 
 -- For lists of parts.
 
-module _ {X Y : Type 0} (f : X → Y) (P : X → Type 0) (Q : Y → Type 0) where
-  EachButLast-map : ((x : X) → P x → Q (f x)) → (xs : List X) → EachButLast P xs → EachButLast Q (map f xs)
-  EachButLast-map each [] holds = tt
-  EachButLast-map each (x ∷ []) holds = tt
-  EachButLast-map each (x ∷ y ∷ xs) holds = (each x holds.0, EachButLast-map each (y ∷ xs) holds.1)
+module _ {X Y : Type 0} (f : X → Y) (P : X → Type 0) (Q : Y → Type 0) (each : (x : X) → P x ↔ Q (f x)) where
+  EachButLast-map : (xs : List X) → EachButLast P xs ↔ EachButLast Q (map f xs)
+  EachButLast-map [] = (λ _. tt, λ _. tt)
+  EachButLast-map (x ∷ []) = (λ _. tt, λ _. tt)
+  EachButLast-map (x ∷ y ∷ xs) =
+      let more = EachButLast-map (y ∷ xs) in (λ holds. ((each x).0 holds.0, more.0 holds.1), λ holds. ((each x).1 holds.0, more.1 holds.1))
 
-  EachButLast-from_map : ((x : X) → Q (f x) → P x) → (xs : List X) → EachButLast Q (map f xs) → EachButLast P xs
-  EachButLast-from_map each [] holds = tt
-  EachButLast-from_map each (x ∷ []) holds = tt
-  EachButLast-from_map each (x ∷ y ∷ xs) holds = (each x holds.0, EachButLast-from_map each (y ∷ xs) holds.1)
-
-  OfLast-map : ((x : X) → P x → Q (f x)) → (xs : List X) → OfLast P xs → OfLast Q (map f xs)
-  OfLast-map each [] holds = tt
-  OfLast-map each (x ∷ []) holds = each x holds
-  OfLast-map each (x ∷ y ∷ xs) holds = OfLast-map each (y ∷ xs) holds
-
-  OfLast-from_map : ((x : X) → Q (f x) → P x) → (xs : List X) → OfLast Q (map f xs) → OfLast P xs
-  OfLast-from_map each [] holds = tt
-  OfLast-from_map each (x ∷ []) holds = each x holds
-  OfLast-from_map each (x ∷ y ∷ xs) holds = OfLast-from_map each (y ∷ xs) holds
+  OfLast-map : (xs : List X) → OfLast P xs ↔ OfLast Q (map f xs)
+  OfLast-map [] = (λ _. tt, λ _. tt)
+  OfLast-map (x ∷ []) = each x
+  OfLast-map (x ∷ y ∷ xs) = OfLast-map (y ∷ xs)
 
 pub map-reverse : {X Y : Type 0} (f : X → Y) (xs : List X) → map f (reverse xs) ≡ reverse (map f xs)
 map-reverse f [] = refl
 map-reverse f (x ∷ xs) =
-    ap (map f) (reverse-append (x ∷ []) xs) ∙ map-append f (reverse xs) (x ∷ []) ∙ ap (λ z. z ++ f x ∷ []) (map-reverse f xs)
-    ∙ sym (reverse-append (f x ∷ []) (map f xs))
+    rw (reverse-append (x ∷ []) xs, map-append f (reverse xs) (x ∷ []), map-reverse f xs) (sym (reverse-append (f x ∷ []) (map f xs)))
 
 pub reverse-join : {X : Type 0} (p : List X) (parts : List (List X)) → reverse (join p parts) ≡ join (reverse p) (reverse (map reverse parts))
 reverse-join p [] = refl
@@ -126,8 +114,7 @@ reverse-join p (part ∷ next ∷ parts) =
 -- the parts, each reversed, join to the reverse of the parts joined in the other order
 pub join-reversed : {X : Type 0} (p : List X) (parts : List (List X)) → reverse (join p (reverse parts)) ≡ join (reverse p) (map reverse parts)
 join-reversed p parts =
-    reverse-join p (reverse parts) ∙ ap (λ z. join (reverse p) (reverse z)) (map-reverse reverse parts)
-    ∙ ap (join (reverse p)) (reverse-reverse (map reverse parts))
+    rw (reverse-join p (reverse parts), map-reverse reverse parts, reverse-reverse (map reverse parts)) refl
 
 module _ {X : Type 0} (t p : List X) (limit : Option ℕ) (parts : List (List X)) (some : 0 < length p) where
   size : length (map reverse parts) ≡ length parts
@@ -138,8 +125,8 @@ module _ {X : Type 0} (t p : List X) (limit : Option ℕ) (parts : List (List X)
     some = omega (arith, size, are.some);
     few = subst (λ n. IfSome limit (λ most. n ≤ most)) (sym size) are.few;
     joined = sym (join-reversed p parts) ∙ ap reverse are.joined;
-    cut_at_first = EachButLast-map reverse _ _ (λ part. first-from_last p part some) parts are.cut_at_last;
-    last = λ below. OfLast-map reverse _ _ (lacks-reverse p) parts (are.last (subst (λ n. IfSome limit (λ most. n < most)) size below));
+    cut_at_first = (EachButLast-map reverse _ _ (cut_mirrored p some) parts).0 are.cut_at_last;
+    last = λ below. (OfLast-map reverse _ _ (lacks_mirrored p) parts).0 (are.last (subst (λ n. IfSome limit (λ most. n < most)) size below));
   }
 
   pub AreBackwardParts-from_mirror : AreForwardParts (reverse t) (reverse p) limit (map reverse parts) → AreBackwardParts t p limit parts
@@ -147,8 +134,8 @@ module _ {X : Type 0} (t p : List X) (limit : Option ℕ) (parts : List (List X)
     some = omega (arith, size, are.some);
     few = subst (λ n. IfSome limit (λ most. n ≤ most)) size are.few;
     joined = sym (reverse-reverse (join p (reverse parts))) ∙ ap reverse (join-reversed p parts ∙ are.joined) ∙ reverse-reverse t;
-    cut_at_last = EachButLast-from_map reverse _ _ (λ part. last-from_first p part some) parts are.cut_at_first;
-    last = λ below. OfLast-from_map reverse _ _ (lacks-from_reverse p) parts (are.last (subst (λ n. IfSome limit (λ most. n < most)) (sym size) below));
+    cut_at_last = (EachButLast-map reverse _ _ (cut_mirrored p some) parts).1 are.cut_at_first;
+    last = λ below. (OfLast-map reverse _ _ (lacks_mirrored p) parts).1 (are.last (subst (λ n. IfSome limit (λ most. n < most)) (sym size) below));
   }
 
   -- the backward parts are the forward parts of the reverse, each reversed

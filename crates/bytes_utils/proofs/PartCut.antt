@@ -1,7 +1,7 @@
 -- A text split at a place at which a separator was found in it.
-use Rattle.std.proofs.Common.{◌≡◌, refl, sym, ap, subst, ◌∙◌, ℕ, ◌+◌, ◌<◌, ◌≤◌, List, [], ◌∷◌, ◌++◌, Option, None, Some, length, take, drop, take-add, false, arith, length-append, length-drop, length-take, IsUtf8, IsCharBoundary}
+use Rattle.std.proofs.Common.{◌≡◌, refl, sym, ap, subst, ◌∙◌, ℕ, ◌+◌, ◌<◌, ◌≤◌, List, [], ◌∷◌, Option, None, Some, length, take, drop, take-add, false, arith, length-append, length-drop, length-take, IsUtf8, IsCharBoundary}
 use Rattle.std.proofs.lemmas.Str.{encodes-append, encodes-chars}
-use Rattle.std.specs.Str.{chars, encode_utf8_all as encodes}
+use Rattle.std.specs.Str.{chars}
 use Rattle.bytes_utils.specs.Text.{byte_place}
 use Rattle.bytes_utils.specs.Occurrence.{OccursAt, Occurs, OccursFirstAt, OccursLastAt}
 use Rattle.bytes_utils.specs.Parts.{AreForwardParts, AreBackwardParts}
@@ -21,12 +21,8 @@ module _ (text sep : List ℕ) (text_is : IsUtf8 text) (sep_is : IsUtf8 sep) (at
   -- the separator ends where its characters end
   pub next_place : at + length sep ≡ byte_place (chars text) (i + length (chars sep))
   next_place =
-      let front = take i (chars text) in
-      let through : take (i + length (chars sep)) (chars text) ≡ front ++ chars sep =
-      take-add i (length (chars sep)) (chars text) ∙ ap (λ z. front ++ z) here in
       let sizes : byte_place (chars text) (i + length (chars sep)) ≡ byte_place (chars text) i + length sep =
-      ap (λ z. length (encodes z)) through ∙ ap length (encodes-append front (chars sep)) ∙ length-append (encodes front) (encodes (chars sep))
-      ∙ ap (λ z. length (encodes front) + length z) (encodes-chars sep sep_is) in
+      rw (take-add i (length (chars sep)) (chars text), here, encodes-append, length-append, encodes-chars sep sep_is) refl in
       omega (arith, sizes, at_is)
 
   pub end_boundary : IsCharBoundary text at

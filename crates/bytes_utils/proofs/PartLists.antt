@@ -49,21 +49,21 @@ pub led : {X : Type 0} (p part rest : List X) (limit : Option ℕ) (parts : List
     → ArePartsFromFront rest p (one_less limit) parts → ArePartsFromFront (part ++ (p ++ rest)) p limit (part ∷ parts)
 led p part rest limit parts some more cut are =
     front-from (part ++ (p ++ rest)) p limit (part ∷ parts) some (positive limit more)
-    (AreForwardParts-led p part rest limit more cut parts (front-to rest p (one_less limit) parts some (positive-less limit more) are))
+    (AreForwardParts-led p part rest limit cut parts (front-to rest p (one_less limit) parts some (positive-less limit more) are))
 
 module _ {X : Type 0} (p : List X) (some : 0 < length p) where
   forward_both : (t u : List X) (xs ys : List (List X)) → AreForwardParts t p None xs → OfLast (IsCutAtFirst p) xs → AreForwardParts u p None ys
       → AreForwardParts (t ++ (p ++ u)) p None (xs ++ ys)
   forward_both t u [] ys are cut also = absurd (omega (arith, are.some))
   forward_both t u (part ∷ []) ys are cut also =
-      subst (λ z. AreForwardParts (z ++ (p ++ u)) p None (part ∷ ys)) are.joined (AreForwardParts-led p part u None tt cut ys also)
+      subst (λ z. AreForwardParts (z ++ (p ++ u)) p None (part ∷ ys)) are.joined (AreForwardParts-led p part u None cut ys also)
   forward_both t u (part ∷ next ∷ xs) ys are cut also =
       let rest = join p (next ∷ xs) in
       let whole : part ++ (p ++ (rest ++ (p ++ u))) ≡ t ++ (p ++ u) =
       ap (λ z. part ++ z) (sym (append_assoc p rest (p ++ u))) ∙ sym (append_assoc part (p ++ rest) (p ++ u)) ∙ ap (λ z. z ++ (p ++ u)) are.joined in
       let more = forward_both rest u (next ∷ xs) ys (AreForwardParts-others p t some None part next xs are) cut also in
       subst (λ z. AreForwardParts z p None (part ∷ next ∷ (xs ++ ys))) whole
-      (AreForwardParts-led p part (rest ++ (p ++ u)) None tt are.cut_at_first.0 (next ∷ (xs ++ ys)) more)
+      (AreForwardParts-led p part (rest ++ (p ++ u)) None are.cut_at_first.0 (next ∷ (xs ++ ys)) more)
 
   -- two texts with p between, if the last part of the first is cut at its first p too: the parts of the first, and then
   -- those of the second

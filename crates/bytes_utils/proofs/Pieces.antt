@@ -26,8 +26,7 @@ module _ (pieces : List (List ℕ)) (i : ℕ) (piece : List ℕ) (there : Some p
   -- the bytes before a place in it, and the others
   pub bytes_before-rest : (n : ℕ) → bytes_before i n pieces ++ drop n piece ≡ concat (take (i + 1) pieces)
   bytes_before-rest n =
-      ap (λ l. (concat (take i pieces) ++ take n l) ++ drop n piece) piece_at ∙ append_assoc (concat (take i pieces)) (take n piece) (drop n piece)
-      ∙ ap (λ l. concat (take i pieces) ++ l) (take-append-drop n piece) ∙ sym concat-take_next
+      rw (piece_at, append_assoc, take-append-drop n piece) (sym concat-take_next)
 
   pub bytes_before-around : (n : ℕ) → concat pieces ≡ (bytes_before i n pieces ++ drop n piece) ++ concat (drop (i + 1) pieces)
   bytes_before-around n = concat_split (i + 1) pieces ∙ ap (λ l. l ++ concat (drop (i + 1) pieces)) (sym (bytes_before-rest n))
@@ -52,7 +51,4 @@ bytes_before-last (x ∷ []) zero n last size = (omega (arith, size), take_all n
 bytes_before-last (x ∷ []) (suc i) n last size = absurd (omega arith)
 bytes_before-last (x ∷ y ∷ pieces) zero n last size = absurd (omega arith)
 bytes_before-last (x ∷ y ∷ pieces) (suc i) n last size =
-    let rest = bytes_before-last (y ∷ pieces) i n (omega arith) size in (
-      rest.0,
-      append_assoc x (concat (take i (y ∷ pieces))) _ ∙ ap (λ l. x ++ l) rest.1,
-    )
+    let rest = bytes_before-last (y ∷ pieces) i n (omega arith) size in (rest.0, simp append_assoc (ap (λ l. x ++ l) rest.1))

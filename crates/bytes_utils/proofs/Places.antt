@@ -33,8 +33,7 @@ byte_place-less t j i l le =
     let m : j + (i - j) ≡ i = omega arith in
     let more = take (i - j) (drop j t) in
     let split : take i t ≡ take j t ++ more = ap (λ n. take n t) (sym m) ∙ take-add j (i - j) t in
-    let sum : byte_place t i ≡ byte_place t j + length (encodes more) =
-    ap (λ z. length (encodes z)) split ∙ ap length (encodes-append (take j t) more) ∙ length-append (encodes (take j t)) (encodes more) in
+    let sum : byte_place t i ≡ byte_place t j + length (encodes more) = rw (split, encodes-append, length-append) refl in
     omega (arith, sum, length-le-encodes more, length-take (i - j) (drop j t), length-drop j t)
 
 module _ (text : List ℕ) (text_is : IsUtf8 text) (i : ℕ) where

@@ -43,7 +43,6 @@ module _ (text sep : List ℕ) (text_is : IsUtf8 text) (sep_is : IsUtf8 sep) (so
   pub FindsFirst-from_needle : (r : Option ℕ) → FindsNeedle text sep 0 r → FindsFirst (chars sep) (chars text) r
   FindsFirst-from_needle None nowhere = λ occurs.
       let here = in_bytes occurs.0 occurs.1 in
-      let fits = here.fits in
       nowhere (byte_place (chars text) occurs.0) (omega arith) (omega arith) here
   FindsFirst-from_needle (Some k) found =
       let here = in_chars k found.1 in (
@@ -63,7 +62,6 @@ module _ (text sep : List ℕ) (text_is : IsUtf8 text) (sep_is : IsUtf8 sep) (so
   pub FindsLast-from_needle : (r : Option ℕ) → FindsLastNeedle text sep r → FindsLast (chars sep) (chars text) r
   FindsLast-from_needle None nowhere = λ occurs.
       let here = in_bytes occurs.0 occurs.1 in
-      let fits = here.fits in
       nowhere (byte_place (chars text) occurs.0) (omega arith) (omega arith) here
   FindsLast-from_needle (Some k) found =
       let here = in_chars k found.1 in (
@@ -73,8 +71,7 @@ module _ (text sep : List ℕ) (text_is : IsUtf8 text) (sep_is : IsUtf8 sep) (so
           here = here.2;
           none_after = λ j there.
               let occurs = in_bytes j there in
-              let occurs_fits = occurs.fits in
-              let not_after : k < byte_place (chars text) j → ⊥ = λ l. found.0.after _ (omega (arith, l)) (omega (arith, occurs_fits)) occurs in
+              let not_after : k < byte_place (chars text) j → ⊥ = λ l. found.0.after _ (omega (arith, l)) (omega (arith, occurs.fits)) occurs in
               let fits = OccursAt-fits _ _ j long there in
               let not_above : here.0 < j → ⊥ = λ l. not_after (omega (arith, here.1, byte_place-less (chars text) here.0 j l (omega (arith, fits)))) in
               omega (arith, not_above);
@@ -104,31 +101,27 @@ pub FindsLastNeedle-empty : (text sep : List ℕ) → length sep ≡ 0 → (r : 
 FindsLastNeedle-empty text (b ∷ sep) none r found = absurd (omega (arith, none))
 FindsLastNeedle-empty text [] none None nowhere = absurd (nowhere (length text) (omega arith) (omega arith) (needle-empty text (length text) (omega arith)))
 FindsLastNeedle-empty text [] none (Some k) found =
-    let high = found.0.high in
     let at_end : k < length text → ⊥ = λ before. found.0.after (length text) (omega (arith, before)) (omega arith) (needle-empty text (length text) (omega arith)) in
-    ap Some (omega (arith, high, at_end))
+    ap Some (omega (arith, found.0.high, at_end))
 
 -- a needle at the end is the last
 pub found_at_end : (p bytes : List ℕ) (at : ℕ) → at ≡ length bytes - length p → (length p ≤ length bytes) × HasNeedleAt bytes p (length bytes - length p) → FindsLastNeedle bytes p (Some at)
-found_at_end p bytes at same h =
-    let within = h.0 in (
-      record { low = omega arith; high = omega arith; after = λ j low high there. let fits = there.fits in absurd (omega (arith, fits, within, low, same)) },
-      subst (HasNeedleAt bytes p) (sym same) h.1,
-    )
+found_at_end p bytes at same h = (
+  record { low = omega arith; high = omega arith; after = λ j low high there. let fits = there.fits in absurd (omega (arith, fits, h.0, low, same)) },
+  subst (HasNeedleAt bytes p) (sym same) h.1,
+)
 
 -- the last byte of the needle is nowhere
 pub missed_by_last_byte : (p bytes : List ℕ) → 0 < length p → Nowhere (Passes (is_byte (get_or p (length p - 1) 0)) bytes) 0 (length bytes) → FindsLastNeedle bytes p None
 missed_by_last_byte p bytes some missed j low high here =
-    let fits = here.fits in
-    missed (j + (length p - 1)) (omega arith) (omega (arith, fits, some)) (eq-eqb _ _ (here.reads (length p - 1) (omega (arith, some))))
+    missed (j + (length p - 1)) (omega arith) (omega (arith, here.fits, some)) (eq-eqb _ _ (here.reads (length p - 1) (omega (arith, some))))
 
 -- The last place of the needle's last byte. Each occurrence ends there or before.
 module _ (p bytes : List ℕ) (at : ℕ) (some : 0 < length p) (last : NoneAfter (Passes (is_byte (get_or p (length p - 1) 0)) bytes) 0 (length bytes) at) where
   ends_by : (j : ℕ) → HasNeedleAt bytes p j → j + length p ≤ at + 1
   ends_by j here =
-      let fits = here.fits in
       let not_after : at < j + (length p - 1) → ⊥ = λ l.
-      last.after (j + (length p - 1)) (omega (arith, l)) (omega (arith, fits, some)) (eq-eqb _ _ (here.reads (length p - 1) (omega (arith, some)))) in
+      last.after (j + (length p - 1)) (omega (arith, l)) (omega (arith, here.fits, some)) (eq-eqb _ _ (here.reads (length p - 1) (omega (arith, some)))) in
       omega (arith, not_after, some)
 
   size : length (take (at + 1) bytes) ≡ at + 1
@@ -141,8 +134,7 @@ module _ (p bytes : List ℕ) (at : ℕ) (some : 0 < length p) (last : NoneAfter
 
   in_all : (j : ℕ) → HasNeedleAt (take (at + 1) bytes) p j → HasNeedleAt bytes p j
   in_all j here =
-      let fits = here.fits in
-      record { fits = omega (arith, fits, size, last.high); reads = λ i l. sym (get_or-take (at + 1) bytes (j + i) 0 (omega (arith, fits, size, l))) ∙ here.reads i l }
+      record { fits = omega (arith, here.fits, size, last.high); reads = λ i l. sym (get_or-take (at + 1) bytes (j + i) 0 (omega (arith, here.fits, size, l))) ∙ here.reads i l }
 
   pub FindsLastNeedle-from_front : (r : Option ℕ) → FindsLastNeedle (take (at + 1) bytes) p r → FindsLastNeedle bytes p r
   FindsLastNeedle-from_front None missed = λ j low high here. missed j low (omega (arith, ends_by j here, size)) (in_front j here)

@@ -1,5 +1,5 @@
 -- Parts that are joined with a separator between, and split again.
-use Rattle.std.proofs.Common.{◌≡◌, ◌↔◌, refl, ap, subst, ◌∙◌, ℕ, ◌<◌, List, [], ◌∷◌, ◌++◌, None, length, map, All, IsUtf8}
+use Rattle.std.proofs.Common.{◌≡◌, ◌↔◌, refl, subst, ℕ, ◌<◌, List, [], ◌∷◌, ◌++◌, None, length, map, All, IsUtf8}
 use Rattle.std.proofs.lemmas.List.Elements.{All-head, All-tail}
 use Rattle.std.proofs.lemmas.Str.{chars-append, chars-nil}
 use Rattle.std.specs.Str.{chars}
@@ -51,9 +51,11 @@ pub chars-join : (separator : List ℕ) (parts : List (List ℕ)) → IsUtf8 sep
 chars-join separator [] is each = chars-nil
 chars-join separator (part ∷ []) is each = refl
 chars-join separator (part ∷ next ∷ parts) is each =
-    chars-append part (separator ++ join separator (next ∷ parts)) (All-head IsUtf8 part (next ∷ parts) each)
-    ∙ ap (λ l. chars part ++ l) (chars-append separator (join separator (next ∷ parts)) is)
-    ∙ ap (λ l. chars part ++ (chars separator ++ l)) (chars-join separator (next ∷ parts) is (All-tail IsUtf8 part (next ∷ parts) each))
+    rw (
+      chars-append part (separator ++ join separator (next ∷ parts)) (All-head IsUtf8 part (next ∷ parts) each),
+      chars-append separator (join separator (next ∷ parts)) is,
+      chars-join separator (next ∷ parts) is (All-tail IsUtf8 part (next ∷ parts) each),
+    ) refl
 
 -- so a split gives the joined texts back, by characters
 pub texts_come_back : (separator : List ℕ) (texts parts : List (List ℕ)) → 0 < length separator → IsUtf8 separator → All IsUtf8 texts

@@ -13,16 +13,13 @@ use Rattle.bytes_utils.specs.Frames.{TakesFrame}
 use Rattle.bytes_utils.specs.StreamLines.{TakesLine, LineRunLaw, FirstLinesLaw, last_line, TextLinesLaw, SameLinesLaw}
 use Rattle.bytes_utils.proofs.Boundaries.{OccursAt-fits}
 use Rattle.bytes_utils.proofs.OccurrenceLemmas.{OccursAt-append}
-use Rattle.bytes_utils.proofs.LinesLemmas.{lines-at_end, lines-last}
+use Rattle.bytes_utils.proofs.LinesLemmas.{LacksFeed, LacksFeed-front, lines-at_end, lines-last}
 use Rattle.bytes_utils.proofs.StreamRunsLemmas.{stream_law, same_first_law}
 use Rattle.bytes_utils.proofs.SearchLemmas.{FindsFirst-from_needle}
 
 -- ---- a line is taken
 
-front_lacks : (line more : List ℕ) → (¬ Occurs (line_feed ∷ []) (line ++ more)) → ¬ Occurs (line_feed ∷ []) line
-front_lacks line more lacks occurs = lacks (occurs.0, OccursAt-append (line_feed ∷ []) line more occurs.0 (omega arith) occurs.1)
-
-frame_lacks : (old frame rest : List ℕ) → TakesFrame (line_feed ∷ []) old frame rest → ¬ Occurs (line_feed ∷ []) frame
+frame_lacks : (old frame rest : List ℕ) → TakesFrame (line_feed ∷ []) old frame rest → LacksFeed frame
 frame_lacks old frame rest takes occurs =
     let fits = OccursAt-fits (line_feed ∷ []) frame occurs.0 (omega arith) occurs.1 in
     let there = OccursAt-append (line_feed ∷ []) frame (line_feed ∷ rest) occurs.0 (omega arith) occurs.1 in
@@ -34,13 +31,13 @@ TakesLine-framed old frame line rest takes (inl returned) = record {
   end = carriage_return ∷ line_feed ∷ [];
   bytes = takes.bytes ∙ ap (λ l. l ++ line_feed ∷ rest) returned ∙ append_assoc line (carriage_return ∷ []) (line_feed ∷ rest);
   ends = inl refl;
-  lacks = front_lacks line (carriage_return ∷ []) (subst (λ l. ¬ Occurs (line_feed ∷ []) l) returned (frame_lacks old frame rest takes));
+  lacks = LacksFeed-front line (carriage_return ∷ []) (subst LacksFeed returned (frame_lacks old frame rest takes));
 }
 TakesLine-framed old frame line rest takes (inr whole) = record {
   end = line_feed ∷ [];
   bytes = takes.bytes ∙ ap (λ l. l ++ line_feed ∷ rest) whole.0;
   ends = inr (refl, λ front e. whole.1 front (whole.0 ∙ e));
-  lacks = subst (λ l. ¬ Occurs (line_feed ∷ []) l) whole.0 (frame_lacks old frame rest takes);
+  lacks = subst LacksFeed whole.0 (frame_lacks old frame rest takes);
 }
 
 -- ---- runs
@@ -93,19 +90,13 @@ module _ (xs : List ℕ) (c : ℕ) (ys : List ℕ) (ascii : c < 128) (whole_is :
 -- the end of a line is ASCII
 line_cut : (line end rest : List ℕ) → IsFeedEnd line end → IsUtf8 (line ++ (end ++ rest)) → IsUtf8 line × IsUtf8 rest × (chars (line ++ (end ++ rest)) ≡ chars line ++ (end ++ chars rest))
 line_cut line end rest (inl returned) is =
-    let whole_is : IsUtf8 (line ++ 13 ∷ 10 ∷ rest) = subst (λ e. IsUtf8 (line ++ (e ++ rest))) returned is in
-    let fed : IsUtf8 (10 ∷ rest) = after_utf8 line 13 (10 ∷ rest) (omega arith) whole_is in (
-      before_utf8 line 13 (10 ∷ rest) (omega arith) whole_is,
-      after_utf8 [] 10 rest (omega arith) fed,
-      subst (λ e. chars (line ++ (e ++ rest)) ≡ chars line ++ (e ++ chars rest)) (sym returned)
-          (chars-around line 13 (10 ∷ rest) (omega arith) whole_is ∙ ap (λ cs. chars line ++ 13 ∷ cs) (chars-around [] 10 rest (omega arith) fed ∙ ap (λ cs. cs ++ 10 ∷ chars rest) chars-nil)),
-    )
+    let whole_is : IsUtf8 (line ++ 13 ∷ 10 ∷ rest) = rw returned at is in
+    let fed : IsUtf8 (10 ∷ rest) = after_utf8 line 13 (10 ∷ rest) (omega arith) whole_is in
+    let chars_are = chars-around line 13 (10 ∷ rest) (omega arith) whole_is ∙ ap (λ cs. chars line ++ 13 ∷ cs) (chars-around [] 10 rest (omega arith) fed) in
+    (before_utf8 line 13 (10 ∷ rest) (omega arith) whole_is, after_utf8 [] 10 rest (omega arith) fed, rw returned (rw chars-nil at chars_are))
 line_cut line end rest (inr fed) is =
-    let whole_is : IsUtf8 (line ++ 10 ∷ rest) = subst (λ e. IsUtf8 (line ++ (e ++ rest))) fed.0 is in (
-      before_utf8 line 10 rest (omega arith) whole_is,
-      after_utf8 line 10 rest (omega arith) whole_is,
-      subst (λ e. chars (line ++ (e ++ rest)) ≡ chars line ++ (e ++ chars rest)) (sym fed.0) (chars-around line 10 rest (omega arith) whole_is),
-    )
+    let whole_is : IsUtf8 (line ++ 10 ∷ rest) = rw fed.0 at is in
+    (before_utf8 line 10 rest (omega arith) whole_is, after_utf8 line 10 rest (omega arith) whole_is, rw fed.0 (chars-around line 10 rest (omega arith) whole_is))
 
 -- the characters contain no line feed
 chars-lack : (text : List ℕ) → IsUtf8 text → (¬ Occurs (line_feed ∷ []) text) → ¬ Occurs (line_feed ∷ []) (chars text)
@@ -160,14 +151,10 @@ TakesLine-same : (old line x y : List ℕ) → TakesLine old line x → TakesLin
 TakesLine-same old line x y s t = same s.end t.end s.ends t.ends (append_cancel_left line (s.end ++ x) (t.end ++ y) (sym s.bytes ∙ t.bytes))
   where
     same : (d e : List ℕ) → IsFeedEnd line d → IsFeedEnd line e → d ++ x ≡ e ++ y → x ≡ y
-    same d e (inl a) (inl b) whole = append_cancel_left (13 ∷ 10 ∷ []) x y (ap (λ l. l ++ x) (sym a) ∙ whole ∙ ap (λ l. l ++ y) b)
-    same d e (inr a) (inr b) whole = append_cancel_left (10 ∷ []) x y (ap (λ l. l ++ x) (sym a.0) ∙ whole ∙ ap (λ l. l ++ y) b.0)
-    same d e (inl a) (inr b) whole =
-        let both : 13 ∷ 10 ∷ x ≡ 10 ∷ y = ap (λ l. l ++ x) (sym a) ∙ whole ∙ ap (λ l. l ++ y) b.0 in
-        absurd (omega (arith, ap (λ l. get_or l 0 0) both))
-    same d e (inr a) (inl b) whole =
-        let both : 10 ∷ x ≡ 13 ∷ 10 ∷ y = ap (λ l. l ++ x) (sym a.0) ∙ whole ∙ ap (λ l. l ++ y) b in
-        absurd (omega (arith, ap (λ l. get_or l 0 0) both))
+    same d e (inl a) (inl b) whole = append_cancel_left (13 ∷ 10 ∷ []) x y (rw (a, b) at whole)
+    same d e (inr a) (inr b) whole = append_cancel_left (10 ∷ []) x y (rw (a.0, b.0) at whole)
+    same d e (inl a) (inr b) whole = absurd (omega (arith, ap (λ l. get_or l 0 0) (rw (a, b.0) at whole)))
+    same d e (inr a) (inl b) whole = absurd (omega (arith, ap (λ l. get_or l 0 0) (rw (a.0, b) at whole)))
 
 pub same_lines_law : SameLinesLaw
 same_lines_law = same_first_law TakesLine (λ old line other x y s t.
@@ -175,3 +162,5 @@ same_lines_law = same_first_law TakesLine (λ old line other x y s t.
     sym (first_lines_law old (line ∷ []) x (x, s, refl)) ∙ first_lines_law old (other ∷ []) y (y, t, refl) in
     let same : line ≡ other = ap (λ ls. get_or ls 0 []) first in
     (same, TakesLine-same old line x y s (subst (λ l. TakesLine old l y) (sym same) t)))
+
+pub ruleset line_laws = (line_run_law, first_lines_law, text_lines_law, same_lines_law)

@@ -1,29 +1,16 @@
 -- A list has at most one list of forward parts, one of backward parts, and one of inclusive parts.
-use Rattle.std.proofs.Common.{◌≡◌, refl, sym, ap, subst, ◌∙◌, ℕ, suc, ◌-◌, ◌<◌, ◌≤◌, List, [], ◌∷◌, ◌++◌, Option, None, Some, length, map, reverse, arith, append_assoc, length-append, ◌⊎◌, inl, inr}
-use Rattle.std.specs.Option.{IfSome}
+use Rattle.std.proofs.Common.{◌≡◌, refl, sym, ap, subst, ◌∙◌, ℕ, ◌-◌, ◌<◌, ◌≤◌, List, [], ◌∷◌, ◌++◌, Option, length, map, reverse, arith, append_assoc, length-append, ◌⊎◌, inl, inr}
+use Rattle.std.proofs.lemmas.Option.{IfSome_then}
 use Rattle.std.proofs.lemmas.List.{append_cancel_left}
 use Rattle.std.proofs.lemmas.List.Elements.{All-head, All-tail}
 use Rattle.bytes_utils.specs.Occurrence.{Occurs, OccursFirstAt}
 use Rattle.bytes_utils.specs.Parts.{join, EndsAtFirst, AreForwardParts, AreBackwardParts, AreInclusiveParts}
+use Rattle.bytes_utils.specs.Splitting.{one_less}
 use Rattle.bytes_utils.proofs.Boundaries.{OccursAt-fits}
 use Rattle.bytes_utils.proofs.OccurrenceLemmas.{OccursFirstAt-append, first_places_same}
 use Rattle.bytes_utils.proofs.Joins.{append_same}
-use Rattle.bytes_utils.proofs.Forward.{less_one}
+use Rattle.bytes_utils.proofs.Forward.{less}
 use Rattle.bytes_utils.proofs.Mirror.{length-some_reverse, reversed_twice, AreForwardParts-from_mirror}
-
--- For a limit that allows another part.
-
-room_for_two : (limit : Option ℕ) (n : ℕ) → IfSome limit (λ most. suc (suc n) ≤ most) → IfSome limit (λ most. 1 < most)
-room_for_two None n few = tt
-room_for_two (Some most) n few = omega arith
-
-few_less_one : (limit : Option ℕ) (n : ℕ) → IfSome limit (λ most. suc n ≤ most) → IfSome (less_one limit) (λ most. n ≤ most)
-few_less_one None n few = tt
-few_less_one (Some most) n few = omega arith
-
-below_more : (limit : Option ℕ) (n : ℕ) → IfSome (less_one limit) (λ most. n < most) → IfSome limit (λ most. suc n < most)
-below_more None n below = tt
-below_more (Some most) n below = omega arith
 
 -- The first of at least two forward parts.
 module _ {X : Type 0} (p t : List X) (some : 0 < length p) (limit : Option ℕ) (part next : List X) (parts : List (List X)) (are : AreForwardParts t p limit (part ∷ next ∷ parts)) where
@@ -34,19 +21,19 @@ module _ {X : Type 0} (p t : List X) (some : 0 < length p) (limit : Option ℕ) 
       subst (λ z. OccursFirstAt p z (length part)) (append_assoc part p (join p (next ∷ parts)) ∙ are.joined) longer
 
   -- and the others are the parts of what is after that p
-  pub AreForwardParts-others : AreForwardParts (join p (next ∷ parts)) p (less_one limit) (next ∷ parts)
+  pub AreForwardParts-others : AreForwardParts (join p (next ∷ parts)) p (one_less limit) (next ∷ parts)
   AreForwardParts-others = record {
     some = omega arith;
-    few = few_less_one limit _ are.few;
+    few = (less limit _).0 (IfSome_then limit are.few (λ most few. omega arith));
     joined = refl;
     cut_at_first = are.cut_at_first.1;
-    last = λ below. are.last (below_more limit _ below);
+    last = λ below. are.last (IfSome_then limit ((less limit _).1 below) (λ most below. omega arith));
   }
 
   -- so t isn't its own only part
   not_alone : (whole : List X) → AreForwardParts t p limit (whole ∷ []) → ⊥
   not_alone whole alone =
-      alone.last (room_for_two limit _ are.few) (subst (Occurs p) (sym alone.joined) (length part, first_place.here))
+      alone.last (IfSome_then limit are.few (λ most few. omega arith)) (subst (Occurs p) (sym alone.joined) (length part, first_place.here))
 
 module _ {X : Type 0} (p : List X) (some : 0 < length p) where
   pub forward_same : (t : List X) (limit : Option ℕ) (parts others : List (List X)) → AreForwardParts t p limit parts → AreForwardParts t p limit others → parts ≡ others
@@ -60,8 +47,8 @@ module _ {X : Type 0} (p : List X) (some : 0 < length p) where
       let cut = append_same part other (p ++ join p (next ∷ parts)) (p ++ join p (later ∷ others)) size (are.joined ∙ sym also.joined) in
       let rest = append_cancel_left p (join p (next ∷ parts)) (join p (later ∷ others)) cut.1 in
       let following = AreForwardParts-others p t some limit other later others also in
-      let more = forward_same (join p (next ∷ parts)) (less_one limit) (next ∷ parts) (later ∷ others) (AreForwardParts-others p t some limit part next parts are)
-      (subst (λ z. AreForwardParts z p (less_one limit) (later ∷ others)) (sym rest) following) in
+      let more = forward_same (join p (next ∷ parts)) (one_less limit) (next ∷ parts) (later ∷ others) (AreForwardParts-others p t some limit part next parts are)
+      (subst (λ z. AreForwardParts z p (one_less limit) (later ∷ others)) (sym rest) following) in
       λ k. cut.0 k ∷ more k
 
 -- the same from the back, by the mirror
@@ -113,8 +100,7 @@ module _ {X : Type 0} (p t : List X) (some : 0 < length p) (part next : List X) 
 module _ {X : Type 0} (p : List X) (some : 0 < length p) where
   none_join : (t part : List X) (parts : List (List X)) → AreInclusiveParts t p [] → AreInclusiveParts t p (part ∷ parts) → ⊥
   none_join t part parts none are =
-      let long = All-head (λ q. 0 < length q) part parts are.none_empty in
-      omega (arith, ap length none.joined, ap length are.joined, length-join part parts, long)
+      omega (arith, ap length none.joined, ap length are.joined, length-join part parts, All-head (λ q. 0 < length q) part parts are.none_empty)
 
   pub inclusive_same : (t : List X) (parts others : List (List X)) → AreInclusiveParts t p parts → AreInclusiveParts t p others → parts ≡ others
   inclusive_same t [] [] are also = refl

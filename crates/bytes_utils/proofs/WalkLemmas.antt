@@ -44,8 +44,7 @@ module _ {F E : Type 0} (f : Mut F (Bor (List ℕ) × Unit {0}) (Option (ℕ × 
   nothing_more [] s t none run = refl
   nothing_more (item ∷ items) s t none run =
       let step = subst (Steps s.direction s.closure (Some item) run.0.rest run.0.closure) none run.1.follows in
-      let no_item = step.0 in
-      cc
+      cc (step.0)
 
   module _ (direction : Direction) (lawful : IsLawfulClosure f direction) where
     -- an item that follows a result of the closure, and the run over what it left
@@ -151,13 +150,7 @@ pub record HasTaken (direction : Direction) (text : List ℕ) (chunks : List (Li
 
 -- before the first step
 pub HasTaken-none : (direction : Direction) (text : List ℕ) (rest : Option (List ℕ)) → IsUtf8 text → rest ≡ Some text → HasTaken direction text [] rest
-HasTaken-none direction text rest text_is is = let none : List (List ℕ) = [] in record {
-  cuts = [];
-  left = text;
-  left_text = text_is;
-  joined = refl;
-  taken = subst (λ r. MatchOption r (none ≡ text ∷ []) (λ more. (more ≡ text) × (none ≡ []))) (sym is) (refl, refl);
-}
+HasTaken-none direction text rest text_is is = rw is record { cuts = []; left = text; left_text = text_is; joined = refl; taken = (refl, refl) }
 
 laid_out-push : (direction : Direction) (cuts : List Taken) (cut : Taken) (left : List ℕ)
     → laid_out direction (cuts ++ (cut ∷ [])) left ≡ laid_out direction cuts (laid_out direction (cut ∷ []) left)
@@ -174,14 +167,7 @@ module _ {F : Type 0} {f : Mut F (Bor (List ℕ) × Unit {0}) (Option (ℕ × �
       let old = h.taken.0 in
       let same : chunk ≡ h.left = cc in
       let all : chunks ++ (chunk ∷ []) ≡ map (λ cut. cut.chunk) h.cuts ++ (h.left ∷ []) = λ k. h.taken.1 k ++ (same k ∷ []) in
-      record {
-        cuts = h.cuts;
-        left = h.left;
-        left_text = h.left_text;
-        joined = h.joined;
-        taken = subst (λ r. MatchOption r (chunks ++ (chunk ∷ []) ≡ map (λ cut. cut.chunk) h.cuts ++ (h.left ∷ []))
-            (λ more. (more ≡ h.left) × (chunks ++ (chunk ∷ []) ≡ map (λ cut. cut.chunk) h.cuts))) (sym follows.1) all;
-      }
+      rw follows.1 record { cuts = h.cuts; left = h.left; left_text = h.left_text; joined = h.joined; taken = all }
   one_more refuses chunk left h state after (Some (a, b)) new called follows =
       let text_is = subst IsUtf8 (sym h.taken.0) h.left_text in
       let cut = lawful.lawful state left a b after text_is called in
@@ -189,13 +175,12 @@ module _ {F : Type 0} {f : Mut F (Bor (List ℕ) × Unit {0}) (Option (ℕ × �
       let cuts : List Taken = h.cuts ++ (taken ∷ []) in
       let rest : List ℕ = rest_at direction left a b in
       let all : chunks ++ (chunk ∷ []) ≡ map (λ c. c.chunk) cuts = ap (λ l. l ++ (chunk ∷ [])) h.taken.1 ∙ sym (map-append (λ (c : Taken). c.chunk) h.cuts (taken ∷ [])) in
-      record {
+      rw follows.1 record {
         cuts = cuts;
         left = rest;
         left_text = rest-text direction left a b text_is cut;
         joined = laid_out-push direction h.cuts taken rest ∙ ap (laid_out direction h.cuts) (laid_out-more direction left a b cut chunk follows.0 [] rest refl ∙ h.taken.0) ∙ h.joined;
-        taken = subst (λ r. MatchOption r (chunks ++ (chunk ∷ []) ≡ map (λ c. c.chunk) cuts ++ (rest ∷ []))
-            (λ more. (more ≡ rest) × (chunks ++ (chunk ∷ []) ≡ map (λ c. c.chunk) cuts))) (sym follows.1) (refl, all);
+        taken = (refl, all);
       }
 
 pub HasTaken-more : {F E : Type 0} {f : Mut F (Bor (List ℕ) × Unit {0}) (Option (ℕ × ℕ))} {refuses : E → Type 0} {text : List ℕ} {chunks : List (List ℕ)} {s t : Walk F} {item : Result (List ℕ) E} {chunk : List ℕ}
@@ -214,7 +199,7 @@ HasTaken-more {F} {E} {f} {refuses} {text} {chunks} {s} {t} {item} {chunk} step 
 pub HasTaken-all : {direction : Direction} {text : List ℕ} {chunks : List (List ℕ)} {rest : Option (List ℕ)} → HasTaken direction text chunks rest → rest ≡ None
     → (cuts : List Taken) × (last : List ℕ) × (laid_out direction cuts last ≡ text) × (chunks ≡ map (λ cut. cut.chunk) cuts ++ (last ∷ []))
 HasTaken-all {chunks = chunks} h none =
-    (h.cuts, h.left, h.joined, subst (λ r. MatchOption r (chunks ≡ map (λ cut. cut.chunk) h.cuts ++ (h.left ∷ [])) (λ more. (more ≡ h.left) × (chunks ≡ map (λ cut. cut.chunk) h.cuts))) none h.taken)
+    (h.cuts, h.left, h.joined, rw none at h.taken)
 
 -- a step that gave no item had nothing left
 pub nothing-left : {F E : Type 0} {f : Mut F (Bor (List ℕ) × Unit {0}) (Option (ℕ × ℕ))} {refuses : E → Type 0} {s t : Walk F} → IsWalkStep f refuses s None t → s.rest ≡ None

@@ -326,6 +326,7 @@ impl Frames {
 /// on where these are cut or when frames are asked for, also if first bytes are taken between the
 /// frames by `split_to`. Frames written with a separator after each are returned again, exactly if
 /// the first separator in each of them is the one at its end.
+#[tactic(auto, using(crate::proofs::FramesLemmas::frame_laws))]
 pub fn frame_laws()
     ensures run { FramesLaw }
     ensures bytes { FramesAndBytesLaw }

@@ -1,5 +1,5 @@
 -- What each run of `str::lines` gives.
-use Rattle.std.proofs.Common.{◌≡◌, refl, sym, ap, subst, ◌∙◌, ℕ, ◌+◌, ◌<◌, List, [], ◌∷◌, ◌++◌, length, take, drop, get_or, take-append-drop, arith, ◌⊎◌, inl, inr, length-append, length-drop, append_assoc, IsUtf8, IsCharBoundary, eq-or-lt_of_le, eqb-true}
+use Rattle.std.proofs.Common.{◌≡◌, refl, sym, ap, subst, ◌∙◌, ℕ, zero, suc, ◌+◌, ◌<◌, List, [], ◌∷◌, ◌++◌, length, take, drop, get_or, take-append-drop, arith, ◌⊎◌, inl, inr, length-append, length-drop, append_assoc, IsUtf8, IsCharBoundary, eq-or-lt_of_le, eqb-true}
 use Rattle.std.proofs.lemmas.Bool.{eqb-false}
 use Rattle.std.proofs.lemmas.List.{take_at, get_or-drop}
 use Rattle.std.proofs.Math.Seq.{get_or-append_seam, take-length}
@@ -10,24 +10,22 @@ use Rattle.std.specs.Str.Lines.{IsFirstLine, StripsCarriageReturn}
 use Rattle.std.specs.Str.Iter.{lines_steps, lines_rest}
 use Rattle.std.specs.declared.str.Lines.{Lines}
 use Rattle.bytes_utils.specs.Lines.{lines, line_feed, carriage_return}
-use Rattle.bytes_utils.proofs.LinesLemmas.{LacksFeed, lines-whole, lines-at_return, lines-at_feed, lines-none}
+use Rattle.bytes_utils.proofs.LinesLemmas.{LacksFeed, LacksFeed-front, lines-whole, lines-at_return, lines-at_feed, lines-none}
+use Rattle.bytes_utils.proofs.Boundaries.{OccursAt-fits}
+use Rattle.bytes_utils.proofs.SearchLemmas.{chars-some}
 use Rattle.bytes_utils.proofs.WordsLemmas.{NonePass-chars}
 use Rattle.bytes_utils_run.specs.Borrowed.{GivesParts}
 use Rattle.bytes_utils_run.proofs.BorrowedRuns.{GivesParts-from_steps}
 
 -- if no character passes the test for a line feed, none is a line feed
 LacksFeed-from_none : (cs : List ℕ) → NonePass is_newline cs → LacksFeed cs
-LacksFeed-from_none [] none front back e = absurd (omega (arith, ap length e, length-append front (line_feed ∷ back)))
-LacksFeed-from_none (c ∷ cs) none [] back e = let is : c ≡ 10 = cc in eqb-false c 10 none.0 is
-LacksFeed-from_none (c ∷ cs) none (d ∷ front) back e = let rest : cs ≡ front ++ line_feed ∷ back = cc in LacksFeed-from_none cs none.1 front back rest
+LacksFeed-from_none [] none occurs = absurd (omega (arith, OccursAt-fits (line_feed ∷ []) [] occurs.0 (omega arith) occurs.1))
+LacksFeed-from_none (c ∷ cs) none (zero, here) = let is : c ≡ 10 = cc in eqb-false c 10 none.0 is
+LacksFeed-from_none (c ∷ cs) none (suc i, here) = LacksFeed-from_none cs none.1 (i, here)
 
 -- the characters of a text in which no line feed was found
 lacks_feed : (text : List ℕ) → IsUtf8 text → NoCharPasses is_newline text → LacksFeed (chars text)
 lacks_feed text text_is none = LacksFeed-from_none (chars text) (NonePass-chars is_newline text text_is none)
-
-LacksFeed-front : (front back : List ℕ) → LacksFeed (front ++ back) → LacksFeed front
-LacksFeed-front front back lacks before following e =
-    lacks before (following ++ back) (ap (λ z. z ++ back) e ∙ append_assoc before (line_feed ∷ following) back)
 
 -- if bytes end with a carriage return, their characters do
 chars-with_return : (line : List ℕ) → IsUtf8 (line ++ carriage_return ∷ []) → chars (line ++ carriage_return ∷ []) ≡ chars line ++ carriage_return ∷ []
@@ -47,12 +45,8 @@ module _ (text x rest : List ℕ) (text_is : IsUtf8 text) (some : 0 < length tex
       let all : take first.0 text ≡ text = ap (λ k. take k text) end ∙ take-length text in
       let lacks = lacks_feed text text_is (subst (NoCharPasses is_newline) all first.1) in
       let nothing : length rest ≡ 0 = omega (arith, first.3, end) in
-      (empty rest nothing, only_line (chars text) (encodes-chars text text_is) lacks ∙ ap (λ z. chars z ∷ []) (sym (first.4 end)) ∙ ap (λ z. chars x ∷ z) (lines-none rest nothing))
+      (empty rest nothing, lines-whole (chars text) (chars-some text text_is some) lacks ∙ ap (λ z. chars z ∷ []) (sym (first.4 end)) ∙ ap (λ z. chars x ∷ z) (lines-none rest nothing))
     where
-      only_line : (cs : List ℕ) → encodes cs ≡ text → LacksFeed cs → lines cs ≡ cs ∷ []
-      only_line [] e lacks = absurd (omega (arith, ap length e, some))
-      only_line (c ∷ cs) e lacks = lines-whole c cs lacks
-
       empty : (r : List ℕ) → length r ≡ 0 → IsUtf8 r
       empty [] e = IsUtf8-nil
       empty (b ∷ r) e = absurd (omega (arith, e))

@@ -1,10 +1,10 @@
 -- The lines of a text, each with its end, make up the text.
-use Rattle.std.proofs.Common.{◌≡◌, ◌≢◌, refl, sym, ap, subst, ◌∙◌, ℕ, zero, suc, ◌<◌, ◌==◌, ◌&&◌, inl, inr, if◌then◌else◌, Bool, true, false, List, [], ◌∷◌, ◌++◌, append-nil, length, length-append, arith, nat_eq, eqb-true, eq-eqb}
+use Rattle.std.proofs.Common.{◌≡◌, ◌≢◌, refl, sym, ap, subst, ◌∙◌, ℕ, zero, suc, ◌==◌, ◌&&◌, inl, inr, if◌then◌else◌, Bool, true, false, List, [], ◌∷◌, ◌++◌, append-nil, length, length-append, arith, nat_eq, eqb-true, eq-eqb}
 use Rattle.std.proofs.lemmas.Bool.{eqb-false, and_parts, and_from}
 use Rattle.std.specs.List.{starts_with}
 use Rattle.bytes_utils.specs.Lines.{lines, line_feed, carriage_return, first_led_by}
 use Rattle.bytes_utils.specs.Occurrence.{OccursAt, Occurs}
-use Rattle.bytes_utils.proofs.LinesLemmas.{LacksFeed, LacksFeed-none, lines-whole, lines-at_end}
+use Rattle.bytes_utils.proofs.LinesLemmas.{lines-whole, lines-at_end}
 use Rattle.bytes_utils_run.specs.LineEnds.{IsLineEnd, AreEndedLines, LinesLaw}
 
 -- no line feed occurs in it
@@ -89,15 +89,11 @@ AreEndedLines-lines (c ∷ t) = ended-cons c t (lines t) (c == 10) (c == 13 && s
 lines-at_any_end : (line end rest : List ℕ) → NoFeed line → IsLineEnd line end rest → lines (line ++ (end ++ rest)) ≡ line ∷ lines rest
 lines-at_any_end line end rest none ends = either ends
   where
-    only_line : (l : List ℕ) → 0 < length l → LacksFeed l → lines l ≡ l ∷ []
-    only_line [] some lacks = absurd (omega (arith, some))
-    only_line (c ∷ cs) some lacks = lines-whole c cs lacks
-
     either : IsLineEnd line end rest → lines (line ++ (end ++ rest)) ≡ line ∷ lines rest
     either (inl fed) = lines-at_end line end rest none fed
     either (inr last) =
         ap (λ z. lines (line ++ (z ++ rest))) last.0 ∙ ap (λ z. lines (line ++ z)) last.1 ∙ ap lines (append-nil line)
-        ∙ only_line line last.2 (LacksFeed-none line none) ∙ ap (λ z. line ∷ lines z) (sym last.1)
+        ∙ lines-whole line last.2 none ∙ ap (λ z. line ∷ lines z) (sym last.1)
 
 -- lines that make up the text are its lines
 lines-from_ended : (t : List ℕ) (ls : List (List ℕ)) → AreEndedLines t ls → ls ≡ lines t

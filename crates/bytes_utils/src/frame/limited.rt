@@ -240,6 +240,7 @@ impl LimitedFrames {
 
 /// The law of a run of calls. For each frame of the joined pieces it returns the frame, or the
 /// error exactly if the frame is longer than the limit.
+#[tactic(auto, using(crate::proofs::LimitedFramesLemmas::limited_frame_laws))]
 pub fn limited_frame_laws()
     ensures { LimitedFramesLaw }
 {}

@@ -235,6 +235,7 @@ pub(super) fn drop_return(line: &mut Bytes)
 
 /// The laws of a run of calls. It returns the first lines of the joined pieces, wherever these are
 /// cut and whenever lines are asked for. Over the bytes of a text these are the lines of the text.
+#[tactic(auto, using(crate::proofs::StreamLinesLemmas::line_laws))]
 pub fn line_laws()
     ensures run { LineRunLaw }
     ensures lines { FirstLinesLaw }

@@ -138,6 +138,7 @@ fn push_block(frames: &mut Frames, block: &mut BytesMut, alloc: Global) -> Resul
 
 /// The laws of a run of calls of `read_frame`. Its frames are those of the bytes that were read,
 /// however these were divided into reads.
+#[tactic(auto, using(crate::proofs::ReadFrameLemmas::run_law, crate::proofs::ReadFrameLemmas::whole_law))]
 pub fn read_frame_laws()
     ensures run { ReadFramesLaw }
     ensures whole { WholeInputLaw }

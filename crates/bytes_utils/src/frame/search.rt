@@ -239,6 +239,7 @@ pub(crate) fn find_in_piece(finder: &Finder, piece: &[u8], from: usize) -> Optio
 
 /// The first place of the byte `first`, soon found if it is near the start.
 #[inline]
+#[tactic(auto, using(crate::proofs::FrameSearchLemmas::first_byte_from_places))]
 pub(crate) fn find_byte(first: u8, bytes: &[u8]) -> Option<usize>
     ensures { IsFirstByte (is_byte first) bytes.now result }
 {

@@ -110,6 +110,7 @@ fn rfind_long_by(finder: &FinderRev, text: &str) -> Option<usize>
 
 /// The last place of the finder's needle, which is looked for at the end first.
 #[inline]
+#[tactic(auto, using(crate::proofs::SearchLemmas::found_at_end))]
 fn find_at_end(finder: &FinderRev, bytes: &[u8]) -> Option<usize>
     ensures { FindsLastNeedle bytes.now finder.now result }
 {

@@ -37,6 +37,7 @@ impl StrInner<Bytes> {
     }
 
     /// As `slice`, from the start of the text to byte `end`.
+    #[tactic(auto, using(crate::proofs::Building::start))]
     pub fn slice_to(&self, end: usize) -> Result<Str, Reason>
         requires { IsCharBoundary self.now end }
         ensures ok { IfOk result (λ part. part ≡ take end self.now) }

@@ -6,10 +6,8 @@ use Rattle.bytes_utils.proofs.find.find_starting_in.Goals as goal
 
 pub returns-in-Some : goal.returns-in-Some
 returns-in-Some g c =
-    let segment = c.args.segment.now in
-    let following = concat (drop c.args.next c.args.buf.now.segments) in
-    let p = c.args.finder.now in
-    begun_inside p segment following c.args.from c.requires.some (omega arith) c.in-Some.at (c.args.from + c.in-Some.at) refl (rw (range_rest segment c.args.from) at c.in-Some.ensures)
+    begun_inside _ _ (concat (drop c.args.next c.args.buf.now.segments)) _ c.requires.some (omega arith) c.in-Some.at (c.args.from + c.in-Some.at) refl
+    (rw (range_rest c.args.segment.now c.args.from) at c.in-Some.ensures)
 
 pub returns-in_err-at : goal.returns-in_err-at
 returns-in_err-at g c =

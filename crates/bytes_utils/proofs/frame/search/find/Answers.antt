@@ -16,11 +16,10 @@ step-requires-clause-fits g c =
     let before = bytes_before l.pieces l.offset pieces in
     let rest = drop l.offset c.in-Some.piece.now in
     let s = c.loop-progress.invariant.pieces.searched in
-    let within = s.within in
     omega (
       arith,
       c.requires.fits,
-      within,
+      s.within,
       ap length s.tail,
       length-drop l.base before,
       ap length c.rest_from.ensures,

@@ -5,18 +5,15 @@ use Rattle.bytes_utils.proofs.frame.search.find_next.Goals as goal
 pub returns-in-Some-clause-found : goal.returns-in-Some-clause-found
 returns-in-Some-clause-found c =
     let p = c.args.finder.now in
-    let short = c.requires.short in
     found_across p c.args.held.now.items c.args.piece.now (length p - 1) (omega arith) c.in-Some.at (rw c.in-Some.is at c.in_ok-at.ensures.found)
 
 pub returns-in-Some-find_in_piece-clause-found : goal.returns-in-Some-find_in_piece-clause-found
 returns-in-Some-find_in_piece-clause-found c =
     let p = c.args.finder.now in
-    let short = c.requires.short in
     found_after p c.args.held.now.items c.args.piece.now (length p - 1) (omega arith) c.in-Some-find_in_piece.at _ (omega (arith, c.len.ensures, ap length c.in_ok-at.ensures.held))
     (rw c.in_default.is at c.in_ok-at.ensures.found) c.in-Some-find_in_piece.ensures
 
 pub returns-in-None-clause-found : goal.returns-in-None-clause-found
 returns-in-None-clause-found c =
     let p = c.args.finder.now in
-    let short = c.requires.short in
     missed_next p c.args.held.now.items c.args.piece.now (length p - 1) (omega arith) (rw c.in_default.is at c.in_ok-at.ensures.found) c.in-None.ensures

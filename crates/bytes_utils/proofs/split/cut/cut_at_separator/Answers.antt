@@ -10,15 +10,14 @@ overflow_add-at g c =
     rw c.as_str.ensures.value ((next_boundary _ _ text_is c.utf8.separator _ _ c.requires.1 c.requires.2).0) in
     search rules
 
-pub cut_around-requires-clause-end : goal.cut_around-requires-clause-end
-cut_around-requires-clause-end g c =
+pub cut_around-requires : goal.cut_around-requires
+cut_around-requires g c =
     let text_is = rw c.as_str.ensures.value at c.as_str.utf8 in
-    end_boundary _ _ text_is c.utf8.separator _ _ c.requires.1 c.requires.2
-
-pub cut_around-requires-clause-next : goal.cut_around-requires-clause-next
-cut_around-requires-clause-next g c =
-    let text_is = rw c.as_str.ensures.value at c.as_str.utf8 in
-    next_boundary _ _ text_is c.utf8.separator _ _ c.requires.1 c.requires.2
+    record {
+      order = search rules;
+      end = end_boundary _ _ text_is c.utf8.separator _ _ c.requires.1 c.requires.2;
+      next = next_boundary _ _ text_is c.utf8.separator _ _ c.requires.1 c.requires.2;
+    }
 
 -- the bytes of both pieces and of the separator are those of the text
 around : {E : Type 0} (r : Result (List ℕ × List ℕ) E) (text separator : List ℕ) (at : ℕ)

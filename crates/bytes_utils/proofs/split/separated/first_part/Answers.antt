@@ -2,11 +2,8 @@ use Rattle.bytes_utils.proofs.SearchLemmas.{chars-some}
 use Rattle.bytes_utils.proofs.PartCut.{gives_first, gives_whole}
 use Rattle.bytes_utils.proofs.split.separated.first_part.Goals as goal
 
-pub find_by-requires-clause-some : goal.find_by-requires-clause-some
-find_by-requires-clause-some g c = rw c.requires.needle c.requires.some
-
-pub find_by-requires-clause-utf8 : goal.find_by-requires-clause-utf8
-find_by-requires-clause-utf8 g c = rw c.requires.needle c.utf8.separator
+pub find_by-requires : goal.find_by-requires
+find_by-requires g c = record { some = rw c.requires.needle c.requires.some; utf8 = rw c.requires.needle c.utf8.separator }
 
 pub cut_at_separator-requires : goal.cut_at_separator-requires
 cut_at_separator-requires g c =

@@ -2,11 +2,8 @@ use Rattle.bytes_utils.proofs.SearchLemmas.{chars-some}
 use Rattle.bytes_utils.proofs.PartCut.{gives_last, gives_whole_back}
 use Rattle.bytes_utils.proofs.split.separated.last_part.Goals as goal
 
-pub rfind_by-requires-clause-some : goal.rfind_by-requires-clause-some
-rfind_by-requires-clause-some g c = rw c.requires.needle c.requires.some
-
-pub rfind_by-requires-clause-utf8 : goal.rfind_by-requires-clause-utf8
-rfind_by-requires-clause-utf8 g c = rw c.requires.needle c.utf8.separator
+pub rfind_by-requires : goal.rfind_by-requires
+rfind_by-requires g c = record { some = rw c.requires.needle c.requires.some; utf8 = rw c.requires.needle c.utf8.separator }
 
 pub cut_at_separator-requires : goal.cut_at_separator-requires
 cut_at_separator-requires g c =

@@ -2,6 +2,7 @@
 -- space.
 use Rattle.std.proofs.Common.{rules, arith, drop, Some}
 use Rattle.std.proofs.lemmas.List.Sorted.{answers_always}
+use Rattle.std.proofs.lemmas.Str.{IsCharBoundary-from_rest}
 use Rattle.std.specs.Str.Pattern.{FindsBy}
 use Rattle.bytes_utils.proofs.WordsLemmas.{is_other, words-none, EndsWord, word-some, space-before, space-following, words-first}
 use Rattle.bytes_utils.proofs.split.words.word_place.Goals as goal
@@ -19,16 +20,16 @@ ends g c =
     let is = c.word_length-length.ensures in
     rw (← c.range_from.ensures.value) (record { boundary = is.boundary; none = is.none; ends = is.ends })
 
-pub returns-clause-order : goal.returns-clause-order
-returns-clause-order g c =
-    let some = word-some g.W.WhiteSpace.is_space _ c.utf8.text _ _ _ c.in_ok-start.ensures.cases.3 (found g c) (ends g c) in
-    omega arith
-
-pub returns-clause-before : goal.returns-clause-before
-returns-clause-before g c = space-before g.W.WhiteSpace.is_space _ c.utf8.text _ _ _ c.in_ok-start.ensures.cases.3 (found g c) (ends g c)
-
-pub returns-clause-after : goal.returns-clause-after
-returns-clause-after g c = space-following g.W.WhiteSpace.is_space _ c.utf8.text _ _ _ c.in_ok-start.ensures.cases.3 (found g c) (ends g c)
-
-pub returns-clause-word : goal.returns-clause-word
-returns-clause-word g c = words-first g.W.WhiteSpace.is_space _ c.utf8.text _ _ _ c.in_ok-start.ensures.cases.3 (found g c) (ends g c)
+pub returns : goal.returns
+returns g c =
+    let is_space = g.W.WhiteSpace.is_space in
+    let starts = c.in_ok-start.ensures.cases.3 in
+    let some = word-some is_space _ c.utf8.text _ _ _ starts (found g c) (ends g c) in
+    record {
+      order = omega arith;
+      start = search rules;
+      end = IsCharBoundary-from_rest _ _ _ starts.0 (ends g c).boundary;
+      before = space-before is_space _ c.utf8.text _ _ _ starts (found g c) (ends g c);
+      after = space-following is_space _ c.utf8.text _ _ _ starts (found g c) (ends g c);
+      word = words-first is_space _ c.utf8.text _ _ _ starts (found g c) (ends g c);
+    }

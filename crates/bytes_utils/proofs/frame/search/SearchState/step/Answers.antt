@@ -6,10 +6,9 @@ pub returns-then-is_empty-clause-found : goal.returns-then-is_empty-clause-found
 returns-then-is_empty-clause-found c = λ bytes more s.
     let p = c.args.finder.now in
     let piece = c.args.piece.now in
-    let short = c.requires.short in
     let all : c.prefix_without_first_byte-from.result ≡ length piece = search rules in
     let empty : length c.args.self.now.held.items ≡ 0 = search rules in
-    Searched-passed p bytes c.args.self.now.held.items piece c.args.self.now.base s _ (omega (arith, short)) (omega (arith, all)) empty
+    Searched-passed p bytes c.args.self.now.held.items piece c.args.self.now.base s _ (omega (arith, c.requires.short)) (omega (arith, all)) empty
     (λ k low. rw (c.needle-2.ensures) at (c.prefix_without_first_byte-from.ensures.none k (omega (arith, all, low))))
 
 pub returns-in-Some-clause-found : goal.returns-in-Some-clause-found
