@@ -126,15 +126,12 @@ pub record Trimmed (p : ℕ) (now : List (List ℕ)) : Type 0 where
   pub before : now ≡ replicate p [] ++ drop p now
   pub skips : Skips 0 now (drop p now)
 
-pub Trimmed-from_count : (now : List (List ℕ)) (p n : ℕ) → p ≤ length now → length (concat (take p now)) + n ≡ 0
-    → (p < length now → n < length (get_or now p [])) → Trimmed p now
-Trimmed-from_count now p n inside none next =
-    let zero_left : n ≡ 0 = omega (arith, none) in
-    record {
-      before = none_before p now inside (omega (arith, none));
-      skips = Skips-from_count now (drop p now) p n 0 inside none (omega arith) next
-          (cut_front-none (drop p now) ∙ ap (λ m. cut_front m (drop p now)) (sym zero_left));
-    }
+pub Trimmed-from_count : (now : List (List ℕ)) (p : ℕ) → p ≤ length now → length (concat (take p now)) ≡ 0
+    → (p < length now → 0 < length (get_or now p [])) → Trimmed p now
+Trimmed-from_count now p inside none next = record {
+  before = none_before p now inside none;
+  skips = Skips-from_count now (drop p now) p 0 0 inside (omega (arith, none)) (omega arith) next (cut_front-none (drop p now));
+}
 
 -- a new value
 pub IsLent-new : (p remaining : ℕ) (now handed_in : List (List ℕ)) (tally : Tallied) (name : ℕ) → p ≤ length now

@@ -1,6 +1,9 @@
 -- Lists of lists, seen from the front.
-use Rattle.std.proofs.Common.{◌≡◌, nat_lt, lt-ltb, cond, true, ◌⊎◌, inl, inr, ℕ, ◌+◌, ◌-◌, ◌<◌, ◌≤◌, List, [], ◌∷◌, ◌++◌, zero, suc, length, take, drop, map, get_or, set, replicate, ap, ◌∙◌, sym, refl, arith, length-append, append_assoc, length-drop}
-use Rattle.std.proofs.lemmas.List.{take_more, drop-append-le, drop-drop, take-append-drop, drop_all, map-append}
+use Rattle.std.proofs.Common.{◌≡◌, nat_lt, lt-ltb, cond, true, inl, inr, ℕ, ◌+◌, ◌-◌, ◌<◌, ◌≤◌, List, [], ◌∷◌, ◌++◌, zero, suc, length, take, drop, map, get_or, set, replicate, ap, ◌∙◌, sym, refl, arith, length-append, append_assoc, length-drop}
+use Rattle.std.proofs.lemmas.List.{take_more, drop-append-le, drop-drop, take-append-drop, drop_all, get_or-map, map-append}
+use Rattle.std.proofs.lemmas.List.Folds.{concat-append}
+use Rattle.std.proofs.lemmas.Bool.{cases_lt}
+use Rattle.std.proofs.Math.Seq.{drop-append-add}
 use Rattle.std.proofs.lemmas.List.Elements.{All-nil, All-cons, All-tail, All-same, All-drop, All-append}
 use Rattle.std.specs.List.{concat, filter, AllZip}
 use Rattle.bytes.proofs.Chunks.{concat_push}
@@ -17,13 +20,7 @@ length-concat-take_more xs k h =
 -- the unread list of the element at place k, as a read of it gives it
 pub read_at : {X : Type 0} (f : X → List ℕ) (xs : List X) (k : ℕ) (x : X) → k < length xs → x ≡ get_or xs k x
     → get_or (map f xs) k [] ≡ f x
-read_at f [] k x h e = absurd (omega arith)
-read_at f (y ∷ ys) zero x h e = ap f (sym e)
-read_at f (y ∷ ys) (suc k) x h e = read_at f ys k x (omega arith) e
-
-pub concat-append : (xs ys : List (List ℕ)) → concat (xs ++ ys) ≡ concat xs ++ concat ys
-concat-append [] ys = refl
-concat-append (x ∷ xs) ys = ap (λ l. x ++ l) (concat-append xs ys) ∙ sym (append_assoc x (concat xs) (concat ys))
+read_at f xs k x h e = get_or-map f xs k x [] h ∙ ap f (sym e)
 
 pub concat_split : (n : ℕ) (xs : List (List ℕ)) → concat xs ≡ concat (take n xs) ++ concat (drop n xs)
 concat_split n xs = ap concat (sym (take-append-drop n xs)) ∙ concat-append (take n xs) (drop n xs)
@@ -34,9 +31,7 @@ concat-map_parts f xs ys all parts =
     ap (λ l. concat (map f l)) (sym parts) ∙ ap concat (map-append f xs ys) ∙ concat-append (map f xs) (map f ys)
 
 pub drop-append_past : (xs ys : List ℕ) (n m : ℕ) → m ≡ length xs + n → drop m (xs ++ ys) ≡ drop n ys
-drop-append_past [] ys n m e = let same : m ≡ n = omega arith in rw same
-drop-append_past (x ∷ xs) ys n zero e = absurd (omega arith)
-drop-append_past (x ∷ xs) ys n (suc m) e = drop-append_past xs ys n m (omega arith)
+drop-append_past xs ys n m e = rw e (drop-append-add xs ys n)
 
 -- ---- the first list is cut
 
@@ -63,13 +58,10 @@ concat-cut_front (x ∷ xs) (suc p) n m h e b q =
     concat-cut_front xs p n (length (concat (take p xs)) + n) (omega arith) refl (omega arith) (λ l. q (omega arith))
     ∙ sym (drop-append_past x (concat xs) (length (concat (take p xs)) + n) m (omega arith))
 
-pub length-drop_some : (n : ℕ) (x : List ℕ) → n < length x → 0 < length (drop n x)
-length-drop_some n x h = omega (arith, length-drop n x)
-
 pub FrontUnread-cut : (xs : List (List ℕ)) (p n : ℕ) → (p < length xs → n < length (get_or xs p [])) → FrontUnread (cut_front n (drop p xs))
 FrontUnread-cut [] zero n q = λ h. absurd (omega arith)
 FrontUnread-cut [] (suc p) n q = λ h. absurd (omega arith)
-FrontUnread-cut (x ∷ xs) zero n q = λ h. length-drop_some n x (q (omega arith))
+FrontUnread-cut (x ∷ xs) zero n q = λ h. omega (arith, length-drop n x, q (omega arith))
 FrontUnread-cut (x ∷ xs) (suc p) n q = FrontUnread-cut xs p n (λ l. q (omega arith))
 
 -- what a loop that counts the passed lists has found
@@ -100,9 +92,7 @@ NoneEmpty-Skips n xs ys all s =
 
 -- the unread list of the element at place k
 pub map_at : {X : Type 0} (f : X → List ℕ) (xs : List X) (k : ℕ) (d : X) → k < length xs → f (get_or xs k d) ≡ get_or (map f xs) k []
-map_at f [] k d h = absurd (omega arith)
-map_at f (x ∷ xs) zero d h = refl
-map_at f (x ∷ xs) (suc k) d h = map_at f xs k d (omega arith)
+map_at f xs k d h = sym (get_or-map f xs k d [] h)
 
 -- ---- passed lists are empty
 
@@ -192,10 +182,6 @@ drop-cut_front [] j p h = refl
 drop-cut_front (x ∷ xs) j zero h = absurd (omega arith)
 drop-cut_front (x ∷ xs) j (suc p) h = refl
 
-cases_zero : (n : ℕ) → (n ≡ 0) ⊎ (0 < n)
-cases_zero zero = inl refl
-cases_zero (suc n) = inr (omega arith)
-
 pub cut_front-none : (xs : List (List ℕ)) → xs ≡ cut_front 0 xs
 cut_front-none [] = refl
 cut_front-none (x ∷ xs) = refl
@@ -204,8 +190,9 @@ cut_front-none (x ∷ xs) = refl
 Skips-following : (n m j p : ℕ) (xs ys zs : List (List ℕ)) → p ≤ length xs → ys ≡ cut_front j (drop p xs) → concat ys ≡ drop n (concat xs)
     → Skips m ys zs → Skips (n + m) xs zs
 Skips-following n m j p xs ys zs within same bytes s =
-    elim (cases_zero s.passed) [
-      | inl none ↦
+    elim (cases_lt 0 s.passed) [
+      | inr past ↦
+          let none : s.passed ≡ 0 = omega (arith, past) in
           record {
             passed = p;
             cut = j + s.cut;
@@ -214,7 +201,7 @@ Skips-following n m j p xs ys zs within same bytes s =
             bytes = s.bytes ∙ ap (drop m) bytes ∙ drop-drop m n (concat xs);
             front = s.front;
           }
-      | inr some ↦
+      | inl some ↦
           record {
             passed = p + s.passed;
             cut = s.cut;
@@ -268,11 +255,11 @@ count_unread-cut : (xs : List (List ℕ)) (p k n : ℕ) → length (concat xs) �
 count_unread-cut [] zero k n few = omega arith
 count_unread-cut [] (suc p) k n few = omega arith
 count_unread-cut ([] ∷ xs) zero k n few = omega (arith, count_unread-following (drop k []) xs)
-count_unread-cut ((b ∷ x) ∷ xs) zero k n few = elim (cases_zero n) [
-  | inl none ↦ (let some : 0 < length (drop k (b ∷ x)) =
+count_unread-cut ((b ∷ x) ∷ xs) zero k n few = elim (cases_lt 0 n) [
+  | inr none ↦ (let some : 0 < length (drop k (b ∷ x)) =
       omega (arith, none, few, length-append (b ∷ x) (concat xs), length-append (drop k (b ∷ x)) (concat xs)) in
       omega (arith, count_unread-some (drop k (b ∷ x)) xs some))
-  | inr some ↦ omega (arith, some, count_unread-following (drop k (b ∷ x)) xs)
+  | inl some ↦ omega (arith, some, count_unread-following (drop k (b ∷ x)) xs)
 ]
 count_unread-cut ([] ∷ xs) (suc p) k n few = count_unread-cut xs p k n few
 count_unread-cut ((b ∷ x) ∷ xs) (suc p) k n few =

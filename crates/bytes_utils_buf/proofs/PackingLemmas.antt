@@ -32,12 +32,6 @@ map-grown f (y ∷ []) (suc k) x more e grows = absurd (omega arith)
 map-grown f (y ∷ z ∷ xs) zero x more e grows = absurd (omega arith)
 map-grown f (y ∷ z ∷ xs) (suc k) x more e grows = ap (λ l. f y ∷ l) (map-grown f (z ∷ xs) k x more (omega arith) grows)
 
--- an element is replaced by one with the same bytes
-pub map-replaced : {X : Type 0} (f : X → List ℕ) (xs : List X) (k : ℕ) (old new : X) → k < length xs → old ≡ get_or xs k old → f new ≡ f old → map f (set xs k new) ≡ map f xs
-map-replaced f [] k old new h here same = absurd (omega arith)
-map-replaced f (x ∷ xs) zero old new h here same = ap (λ s. s ∷ map f xs) (same ∙ ap f here)
-map-replaced f (x ∷ xs) (suc k) old new h here same = ap (λ l. f x ∷ l) (map-replaced f xs k old new (omega arith) here same)
-
 pub concat-grow_last : (more : List ℕ) (xs : List (List ℕ)) → 0 < length xs → concat (grow_last more xs) ≡ concat xs ++ more
 concat-grow_last more [] h = absurd (omega arith)
 concat-grow_last more (s ∷ []) h = append-nil (s ++ more) ∙ ap (λ l. l ++ more) (sym (append-nil s))
@@ -137,8 +131,8 @@ packed-cut n k [] packed = tt
 packed-cut n k (s ∷ xs) packed = packed
 
 -- reading leaves packed lists packed
-pub packed-Skips : (n m : ℕ) (old new : List (List ℕ)) → Skips m old new → IsPacked n old → IsPacked n new
-packed-Skips n m old new s packed = rw s.rest (packed-cut n s.cut (drop s.passed old) (packed-drop n s.passed old packed))
+pub packed_skips : (n m : ℕ) (old new : List (List ℕ)) → Skips m old new → IsPacked n old → IsPacked n new
+packed_skips n m old new s packed = rw s.rest (packed-cut n s.cut (drop s.passed old) (packed-drop n s.passed old packed))
 
 pub packed-grow : (n : ℕ) (more : List ℕ) (xs : List (List ℕ)) → IsPacked n xs → IsPacked n (grow_last more xs)
 packed-grow n more [] packed = tt
@@ -158,9 +152,9 @@ pairs-few n (s ∷ t ∷ xs) pairs =
     let rest = pairs-few n xs (pairs-tail n t xs pairs.1) in
     omega (arith, rest, pairs.0, length-append s (t ++ concat xs), length-append t (concat xs))
 
-pub packed-few : (n : ℕ) (xs : List (List ℕ)) → IsPacked n xs → n * length xs ≤ 2 * length (concat xs) + 2 * n
-packed-few n [] packed = omega arith
-packed-few n (s ∷ xs) packed = omega (arith, pairs-few n xs packed, length-append s (concat xs))
+pub packed_few : (n : ℕ) (xs : List (List ℕ)) → IsPacked n xs → n * length xs ≤ 2 * length (concat xs) + 2 * n
+packed_few n [] packed = omega arith
+packed_few n (s ∷ xs) packed = omega (arith, pairs-few n xs packed, length-append s (concat xs))
 
 -- one more list, unless it is empty
 pub packed-accepting : (n : ℕ) (held : Held) (piece : List ℕ) → (0 < length piece → 0 < length held.segments → n < length (last_of held.segments) + length piece)

@@ -4,7 +4,7 @@ use Rattle.std.proofs.lemmas.List.{drop_all, take_rest, drop-append-le, drop-dro
 use borrow.Rule.Slice.PartMut.{put_mid}
 use Rattle.std.proofs.lemmas.List.Elements.{All-cons, All-nil, All-append, All-same}
 use Rattle.bytes_utils_buf.specs.Slices.{joined, FillsTable}
-use Rattle.bytes_utils_buf.proofs.Lists.{drop-append_past}
+use Rattle.bytes_utils_buf.proofs.Lists.{concat-map_parts, drop-append_past}
 
 -- one slice in the first place of a table
 pub joined-first : (dst : List (Bor (List ℕ))) (x : Bor (List ℕ)) → 0 < length dst → joined (take 1 (set dst 0 x)) ≡ x.now
@@ -23,9 +23,8 @@ FillsTable-first (d ∷ ds) x room some =
       tail = refl;
     }
 
-joined-append : (xs ys : List (Bor (List ℕ))) → joined (xs ++ ys) ≡ joined xs ++ joined ys
-joined-append [] ys = refl
-joined-append (x ∷ xs) ys = ap (λ l. x.now ++ l) (joined-append xs ys) ∙ sym (append_assoc x.now (joined xs) (joined ys))
+pub joined-append : (xs ys : List (Bor (List ℕ))) → joined (xs ++ ys) ≡ joined xs ++ joined ys
+joined-append xs ys = concat-map_parts (λ s. s.now) xs ys (xs ++ ys) refl
 
 pub FillsTable-same : (n : ℕ) (old new : List (Bor (List ℕ))) (xs ys : List ℕ) → ys ≡ xs → FillsTable n old new xs → FillsTable n old new ys
 FillsTable-same n old new xs ys e h = rw e h
@@ -76,5 +75,4 @@ length-put_mid xs ys n h size =
     omega (arith, h, size, length-append (take n xs) (ys ++ post), length-append ys post, length-take-le n xs h, length-drop (length xs - n) (drop n xs), length-drop n xs)
 
 pub joined-push : (xs : List (Bor (List ℕ))) (x : Bor (List ℕ)) → joined (xs ++ x ∷ []) ≡ joined xs ++ x.now
-joined-push [] x = append-nil x.now
-joined-push (y ∷ xs) x = ap (λ l. y.now ++ l) (joined-push xs x) ∙ sym (append_assoc y.now (joined xs) x.now)
+joined-push xs x = joined-append xs (x ∷ []) ∙ ap (λ l. joined xs ++ l) (append-nil x.now)

@@ -8,6 +8,7 @@ use Rattle.std.specs.Result.{OnOk}
 use Rattle.std.specs.Io.KnownBytes.{Appends}
 use Rattle.bytes_utils_buf.specs.Slices.{joined, FillsTable}
 use Rattle.bytes_utils_buf.specs.Write.{WritesCounted, WritesFront}
+use Rattle.bytes_utils_buf.proofs.SlicesLemmas.{joined-append}
 
 -- some of the bytes that come next were written
 pub WritesCounted-more : {a b c : Option (List ℕ)} {m n k : ℕ} {all part : List ℕ} (following : List ℕ) → WritesCounted a b m n all
@@ -57,9 +58,7 @@ WritesCounted-all {a} {b} {m} {n} {all} before is =
 
 -- slices in two parts
 pub joined-parts : (n : ℕ) (slices : List (Bor (List ℕ))) → joined (take n slices) ++ joined (drop n slices) ≡ joined slices
-joined-parts zero slices = refl
-joined-parts (suc n) [] = refl
-joined-parts (suc n) (x ∷ slices) = append_assoc x.now _ _ ∙ ap (λ l. x.now ++ l) (joined-parts n slices)
+joined-parts n slices = sym (joined-append (take n slices) (drop n slices)) ∙ ap joined (take-append-drop n slices)
 
 -- the bytes of some slices come next, and then those of the slices after them
 pub next-slices : (slices : List (Bor (List ℕ))) (place count : ℕ) (bytes left : List ℕ)
@@ -74,11 +73,11 @@ next-slices slices place count bytes left is all =
     ∙ all
 
 -- a table with room has a byte if there is one
-pub FillsTable-some : (n : ℕ) (old new : List (Bor (List ℕ))) (unread : List ℕ) → 0 < length old → length new ≡ length old → 0 < length unread
+pub FillsTable_some : (n : ℕ) (old new : List (Bor (List ℕ))) (unread : List ℕ) → 0 < length old → length new ≡ length old → 0 < length unread
     → FillsTable n old new unread → 0 < length (joined (take n new))
-FillsTable-some zero old new unread room same some fills = omega (arith, some, ap length (fills.whole room))
-FillsTable-some (suc n) old [] unread room same some fills = absurd (omega (arith, room, same))
-FillsTable-some (suc n) old (x ∷ new) unread room same some fills =
+FillsTable_some zero old new unread room same some fills = omega (arith, some, ap length (fills.whole room))
+FillsTable_some (suc n) old [] unread room same some fills = absurd (omega (arith, room, same))
+FillsTable_some (suc n) old (x ∷ new) unread room same some fills =
     let first = All-head (λ (s : Bor (List ℕ)). 0 < length s.now) x (take n new) fills.some in
     omega (arith, first, length-append x.now (joined (take n new)))
 

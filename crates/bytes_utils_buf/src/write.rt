@@ -170,6 +170,7 @@ fn write_first<W: Write, B: BufParts>(
 
 /// As `write_front`, with the longer table, which only this call has on its stack.
 #[inline(never)]
+#[tactic(auto, using(crate::proofs::WriteLemmas::FillsTable_some))]
 fn write_many<W: Write, B: BufParts>(writer: &mut W, buf: &B) -> (usize, io::Result<()>)
     ensures bound { result.0 ≤ length (B.unread buf.now) }
     ensures bytes { Appends (W.contents writer.old) (W.contents writer.new)
@@ -183,6 +184,7 @@ fn write_many<W: Write, B: BufParts>(writer: &mut W, buf: &B) -> (usize, io::Res
 }
 
 /// Writes the first slices of a buffer. Returns how many bytes were written, and any error.
+#[tactic(auto, using(crate::proofs::WriteLemmas::FillsTable_some))]
 fn write_front<W: Write, B: BufParts>(writer: &mut W, buf: &B) -> (usize, io::Result<()>)
     ensures bound { result.0 ≤ length (B.unread buf.now) }
     ensures bytes { Appends (W.contents writer.old) (W.contents writer.new)

@@ -1,5 +1,5 @@
 -- Replies that are right for a call on any buffer, with memory never refused.
-use Rattle.std.proofs.Common.{◌≡◌, inl, inr, refl, sym, ap, subst, ◌∙◌, ℕ, zero, suc, ◌+◌, ◌-◌, ◌*◌, ◌<◌, ◌≤◌, ◌^◌, List, [], ◌∷◌, ◌++◌, length, take, drop, get_or, map, false, length-append, length-take, length-drop, take-append-drop, take_at, append_assoc, append-nil, arith, All}
+use Rattle.std.proofs.Common.{◌≡◌, inl, inr, refl, sym, ap, ◌∙◌, ℕ, zero, suc, ◌+◌, ◌-◌, ◌*◌, ◌<◌, ◌≤◌, ◌^◌, List, [], ◌∷◌, ◌++◌, length, take, drop, get_or, map, false, length-append, length-take, length-drop, take-append-drop, take_at, append_assoc, append-nil, arith, All}
 use Rattle.std.specs.Global.{Vec}
 use Rattle.std.specs.List.{concat}
 use Rattle.std.proofs.lemmas.Bool.{cases_lt}
@@ -24,50 +24,41 @@ abbrev vec_of : {X Y : Type 0} (like : Vec Y) (xs : List X) → length xs < 2 ^ 
 vec_of like xs fits = record { ptr = like.ptr; len = length xs; cap = length xs; alloc = like.alloc; items = xs; ok = (refl, omega arith); small = fits }
 
 -- Slices of any bytes: at most n, each of at most four bytes, and all of the bytes if there are fewer than n slices.
-pieces : ℕ → List ℕ → List (List ℕ)
-pieces zero xs = []
-pieces (suc n) [] = []
-pieces (suc n) (x ∷ xs) = take 4 (x ∷ xs) ∷ pieces n (drop 3 xs)
+record Sliced (n : ℕ) (xs : List ℕ) : Type 0 where
+  all : List (Vec ℕ)
+  rest : List ℕ
+  parts : concat (map (λ s. s.items) all) ++ rest ≡ xs
+  whole : length all < n → rest ≡ []
+  count : length all ≤ n
+  size : 4 * length all ≤ length xs + 3
+  some : NoneEmpty (map (λ s. s.items) all)
 
-pieces-count : (n : ℕ) (xs : List ℕ) → length (pieces n xs) ≤ n
-unfolding pieces
-pieces-count zero xs = omega arith
-pieces-count (suc n) [] = omega arith
-pieces-count (suc n) (x ∷ xs) = let more = pieces-count n (drop 3 xs) in omega (arith, more)
-
-pieces-some : (n : ℕ) (xs : List ℕ) → NoneEmpty (pieces n xs)
-unfolding pieces
-pieces-some zero xs = All-nil (λ s. 0 < length s)
-pieces-some (suc n) [] = All-nil (λ s. 0 < length s)
-pieces-some (suc n) (x ∷ xs) = All-cons (λ s. 0 < length s) (take 4 (x ∷ xs)) (pieces n (drop 3 xs)) (omega arith) (pieces-some n (drop 3 xs))
-
-pieces-size : (n : ℕ) (xs : List ℕ) → 4 * length (pieces n xs) ≤ length xs + 3
-unfolding pieces
-pieces-size zero xs = omega arith
-pieces-size (suc n) [] = omega arith
-pieces-size (suc n) (x ∷ xs) = let more = pieces-size n (drop 3 xs) in omega (arith, more, length-drop 3 xs)
-
--- the bytes that are in no slice: none if there are fewer slices than n
-pieces-rest : (n : ℕ) (xs : List ℕ) → (rest : List ℕ) × (concat (pieces n xs) ++ rest ≡ xs) × (length (pieces n xs) < n → rest ≡ [])
-unfolding pieces
-pieces-rest zero xs = (xs, refl, λ few. absurd (omega (arith, few)))
-pieces-rest (suc n) [] = ([], refl, λ few. refl)
-pieces-rest (suc n) (x ∷ xs) =
-    let more = pieces-rest n (drop 3 xs) in (
-      more.0,
-      append_assoc (take 4 (x ∷ xs)) (concat (pieces n (drop 3 xs))) more.0 ∙ ap (λ z. take 4 (x ∷ xs) ++ z) more.1 ∙ take-append-drop 4 (x ∷ xs),
-      λ few. more.2 (omega (arith, few)),
-    )
-
-AreSlices-pieces : (n : ℕ) (xs : List ℕ) → AreSlices n (pieces n xs) xs
-AreSlices-pieces n xs =
-    let rest = pieces-rest n xs in
-    let all = concat (pieces n xs) in
+sliced : {Y : Type 0} (like : Vec Y) (n : ℕ) (xs : List ℕ) → Sliced n xs
+sliced like zero xs = record { all = []; rest = xs; parts = refl; whole = λ few. absurd (omega (arith, few)); count = omega arith; size = omega arith; some = All-nil (λ s. 0 < length s) }
+sliced like (suc n) [] = record { all = []; rest = []; parts = refl; whole = λ _. refl; count = omega arith; size = omega arith; some = All-nil (λ s. 0 < length s) }
+sliced like (suc n) (x ∷ xs) =
+    let first = take 4 (x ∷ xs) in
+    let more = sliced like n (drop 3 xs) in
+    let others = map (λ (s : Vec ℕ). s.items) more.all in
     record {
-      count = pieces-count n xs;
-      some = pieces-some n xs;
-      front = sym (take_at all rest.0 (length all) refl) ∙ ap (take (length all)) rest.1;
-      whole = λ few. sym (append-nil all) ∙ ap (λ z. all ++ z) (sym (rest.2 few)) ∙ rest.1;
+      all = vec_of like first (omega (arith, length-take 4 (x ∷ xs))) ∷ more.all;
+      rest = more.rest;
+      parts = append_assoc first (concat others) more.rest ∙ ap (λ z. first ++ z) more.parts ∙ take-append-drop 4 (x ∷ xs);
+      whole = λ few. more.whole (omega (arith, few));
+      count = omega (arith, more.count);
+      size = omega (arith, more.size, length-drop 3 xs);
+      some = All-cons (λ s. 0 < length s) first others (omega arith) more.some;
+    }
+
+AreSlices-sliced : (n : ℕ) (xs : List ℕ) (slices : Sliced n xs) → AreSlices n (map (λ s. s.items) slices.all) xs
+AreSlices-sliced n xs slices =
+    let all = concat (map (λ (s : Vec ℕ). s.items) slices.all) in
+    let size = length-map slices.all (λ (s : Vec ℕ). s.items) in
+    record {
+      count = omega (arith, slices.count, size);
+      some = slices.some;
+      front = sym (take_at all slices.rest (length all) refl) ∙ ap (take (length all)) slices.parts;
+      whole = λ few. sym (append-nil all) ∙ ap (λ z. all ++ z) (sym (slices.whole (omega (arith, few, size)))) ∙ slices.parts;
     }
 
 -- where a skip of m bytes ends: the number of lists passed, and the number of bytes skipped of the next one
@@ -121,41 +112,26 @@ cost-counted n advances old segments skips = omega (arith, length-Skips n old.se
 -- the number of advances that a copy of n bytes may be counted with
 copies : (n : ℕ) (old : Held) (segments : List (List ℕ)) → Skips n old.segments segments → (advances : ℕ) × CountsCopy n n old (counted advances old segments)
 copies n old segments skips = elim (cases_lt (length (front_of old.segments)) n) [
-  | inl across ↦ (
-    count_unread old.segments - count_unread segments,
-    record {
-      given = refl;
-      dropped = refl;
-      least = omega arith;
-      most = omega (arith, count_unread-Skips n old.segments segments skips);
-      alone = λ front. absurd (omega (arith, front, across));
-      across = λ _. omega arith;
-      turns = cost-counted n (count_unread old.segments - count_unread segments) old segments skips;
-    },
-  )
-  | inr alone ↦ (
-    0,
-    record {
-      given = refl;
-      dropped = refl;
-      least = omega arith;
-      most = omega arith;
-      alone = λ _. omega arith;
-      across = λ past. absurd (omega (arith, past, alone));
-      turns = cost-counted n 0 old segments skips;
-    },
-  )
+  | inl across ↦ (passed, counts passed (omega arith) (λ front. absurd (omega (arith, front, across))) (λ _. omega arith))
+  | inr alone ↦ (0, counts 0 (omega arith) (λ _. omega arith) (λ past. absurd (omega (arith, past, alone))))
 ]
+  where
+    passed : ℕ
+    passed = count_unread old.segments - count_unread segments
+
+    counts : (advances : ℕ) → advances ≤ passed → (n ≤ length (front_of old.segments) → advances ≡ 0)
+        → (length (front_of old.segments) < n → count_unread old.segments ≤ advances + count_unread segments) → CountsCopy n n old (counted advances old segments)
+    counts advances few alone across = record {
+      given = refl;
+      dropped = refl;
+      least = omega arith;
+      most = omega (arith, few, count_unread-Skips n old.segments segments skips);
+      alone = λ front. omega (arith, alone front);
+      across = λ past. omega (arith, across past);
+      turns = cost-counted n advances old segments skips;
+    }
 
 module _ {Y : Type 0} (like : Vec Y) where
-  slices : (n : ℕ) (xs : List ℕ) → (all : List (Vec ℕ)) × (map (λ s. s.items) all ≡ pieces n xs)
-  unfolding pieces
-  slices zero xs = ([], refl)
-  slices (suc n) [] = ([], refl)
-  slices (suc n) (x ∷ xs) =
-      let more = slices n (drop 3 xs) in
-      (vec_of like (take 4 (x ∷ xs)) (omega (arith, length-take 4 (x ∷ xs))) ∷ more.0, (λ k. take 4 (x ∷ xs) ∷ more.1 k))
-
   ample : (call : Call (List ℕ)) (old : Held) → Fits old.segments → Ample call old
   ample (Push bytes) old fits = elim (cases_lt (length (concat old.segments) + length bytes) (2 ^ 64)) [
     | inl room ↦ record { reply = Done; next = after_accepting old (bytes ∷ []); is = (room, refl); whole = refl; fits = fits-accepting old bytes room }
@@ -201,13 +177,11 @@ module _ {Y : Type 0} (like : Vec Y) where
         })
   ]
   ample (Read (Chunks n)) old fits =
-      let unread = concat old.segments in
-      let all = slices n unread in
-      let many = sym (length-map all.0 (λ (s : Vec ℕ). s.items)) ∙ ap length all.1 in
+      let slices = sliced like n (concat old.segments) in
       record {
-        reply = Slices (vec_of like all.0 (omega (arith, fits, many, pieces-size n unread)));
+        reply = Slices (vec_of like slices.all (omega (arith, fits, slices.size)));
         next = old;
-        is = ((subst (λ lists. AreSlices n lists unread) (sym all.1) (AreSlices-pieces n unread), refl), refl);
+        is = ((AreSlices-sliced n (concat old.segments) slices, refl), refl);
         whole = refl;
         fits = fits;
       }

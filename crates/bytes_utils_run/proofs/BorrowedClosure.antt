@@ -36,13 +36,13 @@ module _ (passes : ℕ → Bool) where
   by_test t limit parts = ArePartsByTest passes t parts
 
   Leads-test : (text part : List ℕ) (live : Bool) (rest : List ℕ) (F : List ℕ → Option (ℕ × ℕ) → Type 0) → ((found : Option (ℕ × ℕ)) → F text found → FindsBy passes text found)
-      → IsUtf8 text → IsSplitAtFirstMatch F text part live rest → Leads by_test text part live rest None
+      → IsUtf8 text → IsSplitAtFirstMatch F text part live rest → Leads by_test text part live rest None None
   Leads-test text part live rest F finds text_is cut = either cut.1.0 (finds cut.1.0 cut.1.1) cut.1.2
     where
       either : (found : Option (ℕ × ℕ)) → FindsBy passes text found
           → MatchOption found ((part ≡ text) × (live ≡ false)) (λ q. 0 < q.1 → (part ≡ take q.0 text) × (live ≡ true) × (rest ≡ drop q.1 text))
-          → Leads by_test text part live rest None
-      either None nowhere is = Leads-last_part by_test text part live rest None is.1 is.0 (refl, NonePass-chars passes text text_is nowhere)
+          → Leads by_test text part live rest None None
+      either None nowhere is = Leads-last_part by_test text part live rest None None is.1 is.0 (refl, NonePass-chars passes text text_is nowhere)
       either (Some (i, j)) found is =
           let at = IsCutBy-from_finds passes text i j text_is found in
           let longer = at.longer in
@@ -50,12 +50,12 @@ module _ (passes : ℕ → Bool) where
           let whole : chars text ≡ chars part ++ at.character ∷ chars rest =
           at.whole ∙ ap (λ z. chars z ++ at.character ∷ chars (drop j text)) (sym cut_is.0) ∙ ap (λ z. chars part ++ at.character ∷ chars z) (sym cut_is.2) in
           let none : NonePass passes (chars part) = subst (λ z. NonePass passes (chars z)) (sym cut_is.0) at.before_none in
-          Leads-first_part by_test text part live rest None cut_is.1 (subst IsUtf8 (sym cut_is.2) at.after_is)
+          Leads-first_part by_test text part live rest None None cut_is.1 (subst IsUtf8 (sym cut_is.2) at.after_is)
           (ByTest-more (chars text) (chars part) (chars rest) at.character whole at.passing none)
 
   -- a closure that returns the result of the test
   pub split_tested-gives : {F : Type 0} (answers : F → (ℕ → Bool) → Type 0) (s : Split F) (text : List ℕ) → split_text s ≡ text → split_has_more s ≡ true → IsUtf8 text
       → answers (split_pattern s) passes → GivesParts (split_steps (finds_tested answers) (keeps_tested answers)) s (ArePartsByTest passes (chars text))
-  split_tested-gives answers = split-gives_by (finds_tested answers) (keeps_tested answers) (λ f. answers f passes) by_test has_tested
+  split_tested-gives answers = split-gives_by (finds_tested answers) (keeps_tested answers) (λ f. answers f passes) by_test (λ t n. has_tested t)
       (λ f after is keeps. keeps passes is)
       (λ f text part live rest is text_is cut. Leads-test text part live rest (finds_tested answers f) (λ found finds. finds passes is) text_is cut)

@@ -171,7 +171,7 @@ none_before c (d ∷ front) back zero none here =
 none_before c (d ∷ front) back (suc k) none here = omega (arith, none_before c front back k none.1 here)
 
 module _ (c : ℕ) (text : List ℕ) (text_is : IsUtf8 text) where
-  lacks_character : NoCharPasses (λ d. d == c) text → ¬ Occurs (c ∷ []) (chars text)
+  pub lacks_character : NoCharPasses (λ d. d == c) text → ¬ Occurs (c ∷ []) (chars text)
   lacks_character none occurs =
       let passes = NonePass-chars (λ d. d == c) text text_is none in
       let whole = subst (λ z. OccursAt (c ∷ []) z occurs.0) (sym (append-nil (chars text))) occurs.1 in

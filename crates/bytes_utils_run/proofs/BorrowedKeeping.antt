@@ -1,8 +1,8 @@
 -- What each run of `str::split_inclusive` gives, by a pattern that finds a separator that isn't empty.
 use Rattle.std.proofs.Common.{◌≡◌, sym, ap, subst, ◌∙◌, ℕ, ◌+◌, ◌<◌, List, [], ◌∷◌, ◌++◌, Option, None, Some, MatchOption, length, take, drop, take-append-drop, arith, length-append, length-drop, IsUtf8, eq-or-lt_of_le, ◌⊎◌, inl, inr}
 use Rattle.std.proofs.Math.Seq.{take-length}
-use Rattle.std.proofs.lemmas.List.{length-take-le, take_at, drop_at}
-use Rattle.std.proofs.lemmas.Str.{IsUtf8-nil, IsUtf8-take, IsCharBoundary-from_drop, chars-nil, chars-append}
+use Rattle.std.proofs.lemmas.List.{length-take-le, nil_from_length, take_at, drop_at}
+use Rattle.std.proofs.lemmas.Str.{IsUtf8-nil, IsUtf8-take, IsCharBoundary-from_drop, chars-append}
 use Rattle.std.specs.Str.{chars}
 use Rattle.std.specs.Str.Pattern.{EndsAtFirstMatch}
 use Rattle.std.specs.Str.Iter.{split_inclusive_steps, split_inclusive_text, split_inclusive_pattern}
@@ -11,6 +11,7 @@ use Rattle.bytes_utils.specs.Occurrence.{Occurs}
 use Rattle.bytes_utils.specs.Parts.{AreInclusiveParts, EndsAtFirst}
 use Rattle.bytes_utils.proofs.Boundaries.{OccursAt-fits}
 use Rattle.bytes_utils.proofs.Inclusive.{AreInclusiveParts-none, AreInclusiveParts-more, AreInclusiveParts-last, ends_whole, has_inclusive_parts}
+use Rattle.bytes_utils.proofs.NextPart.{no_chars}
 use Rattle.bytes_utils.proofs.SearchLemmas.{chars-some}
 use Rattle.bytes_utils.proofs.Unique.{inclusive_same}
 use Rattle.bytes_utils_run.specs.Borrowed.{GivesParts}
@@ -22,8 +23,7 @@ no_parts : (p : List ℕ) → 0 < length p → (parts : List (List ℕ)) → Are
 no_parts p some parts are = inclusive_same p some [] parts [] are (AreInclusiveParts-none p)
 
 none_to_come : (p text : List ℕ) → length text ≡ 0 → AreInclusiveParts (chars text) p []
-none_to_come p [] none = subst (λ z. AreInclusiveParts z p []) (sym chars-nil) (AreInclusiveParts-none p)
-none_to_come p (b ∷ text) none = absurd (omega (arith, none))
+none_to_come p text none = subst (λ z. AreInclusiveParts z p []) (sym (no_chars text none)) (AreInclusiveParts-none p)
 
 module _ (p : List ℕ) (some : 0 < length p) where
   -- what is left after a part is text, and its parts follow that part
@@ -32,16 +32,13 @@ module _ (p : List ℕ) (some : 0 < length p) where
 
   -- the last part is all of the text
   Follows-last : (text part rest : List ℕ) → IsUtf8 text → text ≡ part ++ rest → part ≡ text → 0 < length text → EndsAtFirst p (chars text) ⊎ (¬ Occurs p (chars text)) → Follows text part rest
-  Follows-last text part rest text_is whole part_is long ends = empty rest (omega (arith, ap length whole, length-append part rest, ap length part_is))
-    where
-      empty : (r : List ℕ) → length r ≡ 0 → Follows text part r
-      empty [] e = (
-        IsUtf8-nil,
+  Follows-last text part rest text_is whole part_is long ends =
+      let nothing : length rest ≡ 0 = omega (arith, ap length whole, length-append part rest, ap length part_is) in (
+        subst IsUtf8 (sym (nil_from_length rest nothing)) IsUtf8-nil,
         λ others are.
-            let none : others ≡ [] = no_parts p some others (subst (λ z. AreInclusiveParts z p others) chars-nil are) in
+            let none : others ≡ [] = no_parts p some others (subst (λ z. AreInclusiveParts z p others) (no_chars rest nothing) are) in
             rw (part_is, none) (AreInclusiveParts-last p (chars text) (chars-some text text_is long) ends),
       )
-      empty (b ∷ r) e = absurd (omega (arith, e))
 
   module _ (text : List ℕ) (text_is : IsUtf8 text) (i j : ℕ) (cut : IsCutAt First p text i j) where
     -- the characters up to the end of the separator, and those after it
@@ -65,11 +62,7 @@ module _ (p : List ℕ) (some : 0 < length p) where
     at_end : j ≡ length text → EndsAtFirst p (chars text)
     at_end end =
         let nothing : length (drop j text) ≡ 0 = omega (arith, length-drop j text, end) in
-        ends_whole p (chars text) cut.place cut.found (omega (arith, size_after, no_characters (drop j text) nothing))
-      where
-        no_characters : (r : List ℕ) → length r ≡ 0 → length (chars r) ≡ 0
-        no_characters [] e = ap length chars-nil
-        no_characters (b ∷ r) e = absurd (omega (arith, e))
+        ends_whole p (chars text) cut.place cut.found (omega (arith, size_after, ap length (no_chars (drop j text) nothing)))
 
     Follows-through : (part rest : List ℕ) → text ≡ part ++ rest → part ≡ take j text → Follows text part rest
     Follows-through part rest whole part_is = either (eq-or-lt_of_le cut.fits)

@@ -1,5 +1,6 @@
 -- What each run of `str::split` and `str::rsplit` gives, by a pattern that finds a separator that isn't empty.
 use Rattle.std.proofs.Common.{◌≡◌, refl, sym, ap, subst, ◌∙◌, ℕ, ◌+◌, ◌<◌, List, [], ◌∷◌, Option, None, Some, Bool, true, false, length, take, drop, arith, Bor, IsUtf8, MatchBool, MatchOption}
+use Rattle.std.specs.Option.{is_some}
 use Rattle.std.specs.Str.{chars}
 use Rattle.std.specs.Str.Pattern.{IsSplitAtFirstMatch, IsSplitAtLastMatch}
 use Rattle.std.specs.Str.Iter.{split_steps, split_text, split_has_more, split_pattern, rsplit_steps, rsplit_text, rsplit_has_more, rsplit_pattern}
@@ -12,7 +13,7 @@ use Rattle.bytes_utils.proofs.Forward.{AreForwardParts-more, AreForwardParts-las
 use Rattle.bytes_utils.proofs.Backward.{AreBackwardParts-more, AreBackwardParts-last}
 use Rattle.bytes_utils.proofs.FromEnds.{positive, positive-less, front-from, front-to, back-from, back-to, has_front, has_back}
 use Rattle.bytes_utils_run.specs.Borrowed.{GivesParts}
-use Rattle.bytes_utils_run.proofs.BorrowedRuns.{GivesParts-from_steps}
+use Rattle.bytes_utils_run.proofs.BorrowedRuns.{GivesParts-from_steps, GivesParts-map}
 use Rattle.bytes_utils_run.proofs.BorrowedCuts.{FindsCut, First, Last, Seeks}
 
 -- if more is to come, the parts are right by Is; otherwise there are none
@@ -25,26 +26,26 @@ some_to_come true Is right = right
 some_to_come false Is right = ([], refl)
 
 -- By the relation Are, which says which lists are the parts of a text with a limit: if another part is to come, the rest is text, and each
--- list of parts that is then to come follows this part.
-pub record Leads (Are : List ℕ → Option ℕ → List (List ℕ) → Type 0) (text part : List ℕ) (live : Bool) (rest : List ℕ) (limit : Option ℕ) : Type 0 where
+-- list of parts that is then to come, with the limit that is left, follows this part.
+pub record Leads (Are : List ℕ → Option ℕ → List (List ℕ) → Type 0) (text part : List ℕ) (live : Bool) (rest : List ℕ) (limit next : Option ℕ) : Type 0 where
   pub left : live ≡ true → IsUtf8 rest
-  pub each : (others : List (List ℕ)) → ToCome live (Are (chars rest) (one_less limit)) others → Are (chars text) limit (chars part ∷ others)
+  pub each : (others : List (List ℕ)) → ToCome live (Are (chars rest) next) others → Are (chars text) limit (chars part ∷ others)
 
-module _ (Are : List ℕ → Option ℕ → List (List ℕ) → Type 0) (text part : List ℕ) (live : Bool) (rest : List ℕ) (limit : Option ℕ) where
+module _ (Are : List ℕ → Option ℕ → List (List ℕ) → Type 0) (text part : List ℕ) (live : Bool) (rest : List ℕ) (limit next : Option ℕ) where
   -- the part is all of the text, and no other part is to come
-  pub Leads-last_part : live ≡ false → part ≡ text → Are (chars text) limit (chars text ∷ []) → Leads Are text part live rest limit
+  pub Leads-last_part : live ≡ false → part ≡ text → Are (chars text) limit (chars text ∷ []) → Leads Are text part live rest limit next
   Leads-last_part ends whole alone = record {
     left = λ goes_on. let both : true ≡ false = sym goes_on ∙ ends in cc;
     each = λ others are.
-        let none : others ≡ [] = subst (λ b. ToCome b (Are (chars rest) (one_less limit)) others) ends are in
+        let none : others ≡ [] = subst (λ b. ToCome b (Are (chars rest) next) others) ends are in
         rw (whole, none) alone;
   }
 
-  pub Leads-first_part : live ≡ true → IsUtf8 rest → ((others : List (List ℕ)) → Are (chars rest) (one_less limit) others → Are (chars text) limit (chars part ∷ others))
-      → Leads Are text part live rest limit
+  pub Leads-first_part : live ≡ true → IsUtf8 rest → ((others : List (List ℕ)) → Are (chars rest) next others → Are (chars text) limit (chars part ∷ others))
+      → Leads Are text part live rest limit next
   Leads-first_part goes_on rest_is each = record {
     left = λ _. rest_is;
-    each = λ others are. each others (subst (λ b. ToCome b (Are (chars rest) (one_less limit)) others) goes_on are);
+    each = λ others are. each others (subst (λ b. ToCome b (Are (chars rest) next) others) goes_on are);
   }
 
 -- the parts of a text by the separator p
@@ -74,95 +75,90 @@ module _ (p : List ℕ) (some : 0 < length p) where
 
     module _ (text part : List ℕ) (live : Bool) (rest : List ℕ) where
       pub Leads-first : (F : List ℕ → Option (ℕ × ℕ) → Type 0) → ((found : Option (ℕ × ℕ)) → F text found → FindsCut First p text found)
-          → IsSplitAtFirstMatch F text part live rest → Leads (from_front p) text part live rest limit
+          → IsSplitAtFirstMatch F text part live rest → Leads (from_front p) text part live rest limit (one_less limit)
       Leads-first F cuts cut = either cut.1.0 (cuts cut.1.0 cut.1.1) cut.1.2
         where
           either : (found : Option (ℕ × ℕ)) → FindsCut First p text found
               → MatchOption found ((part ≡ text) × (live ≡ false)) (λ q. 0 < q.1 → (part ≡ take q.0 text) × (live ≡ true) × (rest ≡ drop q.1 text))
-              → Leads (from_front p) text part live rest limit
-          either None nowhere is = Leads-last_part (from_front p) text part live rest limit is.1 is.0 (front_whole (chars text) nowhere)
+              → Leads (from_front p) text part live rest limit (one_less limit)
+          either None nowhere is = Leads-last_part (from_front p) text part live rest limit (one_less limit) is.1 is.0 (front_whole (chars text) nowhere)
           either (Some (i, j)) at is =
               let longer = at.longer in
               let cut_is = is (omega (arith, longer)) in
               let part_chars : chars part ≡ take at.place (chars text) = ap chars cut_is.0 ∙ at.before in
               let rest_chars : chars rest ≡ drop (at.place + length p) (chars text) = ap chars cut_is.2 ∙ at.following in
-              Leads-first_part (from_front p) text part live rest limit cut_is.1 (subst IsUtf8 (sym cut_is.2) at.after_is)
+              Leads-first_part (from_front p) text part live rest limit (one_less limit) cut_is.1 (subst IsUtf8 (sym cut_is.2) at.after_is)
               (λ others are. subst (λ z. from_front p (chars text) limit (z ∷ others)) (sym part_chars)
               (front_more (chars text) at.place at.found others (subst (λ z. from_front p z (one_less limit) others) rest_chars are)))
 
       pub Leads-last : (F : List ℕ → Option (ℕ × ℕ) → Type 0) → ((found : Option (ℕ × ℕ)) → F text found → FindsCut Last p text found)
-          → IsSplitAtLastMatch F text part live rest → Leads (from_back p) text part live rest limit
+          → IsSplitAtLastMatch F text part live rest → Leads (from_back p) text part live rest limit (one_less limit)
       Leads-last F cuts cut = either cut.1.0 (cuts cut.1.0 cut.1.1) cut.1.2
         where
           either : (found : Option (ℕ × ℕ)) → FindsCut Last p text found
               → MatchOption found ((part ≡ text) × (live ≡ false)) (λ q. q.0 < length text → (part ≡ drop q.1 text) × (live ≡ true) × (rest ≡ take q.0 text))
-              → Leads (from_back p) text part live rest limit
-          either None nowhere is = Leads-last_part (from_back p) text part live rest limit is.1 is.0 (back_whole (chars text) nowhere)
+              → Leads (from_back p) text part live rest limit (one_less limit)
+          either None nowhere is = Leads-last_part (from_back p) text part live rest limit (one_less limit) is.1 is.0 (back_whole (chars text) nowhere)
           either (Some (i, j)) at is =
               let longer = at.longer in
               let fits = at.fits in
               let cut_is = is (omega (arith, longer, fits)) in
               let part_chars : chars part ≡ drop (at.place + length p) (chars text) = ap chars cut_is.0 ∙ at.following in
               let rest_chars : chars rest ≡ take at.place (chars text) = ap chars cut_is.2 ∙ at.before in
-              Leads-first_part (from_back p) text part live rest limit cut_is.1 (subst IsUtf8 (sym cut_is.2) at.before_is)
+              Leads-first_part (from_back p) text part live rest limit (one_less limit) cut_is.1 (subst IsUtf8 (sym cut_is.2) at.before_is)
               (λ others are. subst (λ z. from_back p (chars text) limit (z ∷ others)) (sym part_chars)
               (back_more (chars text) at.place at.found others (subst (λ z. from_back p z (one_less limit) others) rest_chars are)))
 
--- if more is to come, what is left is text, and `is` holds of the pattern
-abbrev pub IsLeft : {P : Type 0} → (P → Type 0) → Bool → List ℕ → P → Type 0
-IsLeft is live text pattern = live ≡ true → IsUtf8 text × is pattern
+-- Steps that each cut one part off. Of a state, `text` is what is left, `limit` how many parts may come of it, and `live` whether one comes.
+module _ {S P : Type 0} (steps : S → Option (Bor (List ℕ)) → S → Type 0) (text : S → List ℕ) (limit : S → Option ℕ) (live : S → Bool) (pattern : S → P) (is : P → Type 0)
+    (Are : List ℕ → Option ℕ → List (List ℕ) → Type 0) (has : (t : List ℕ) (n : Option ℕ) → (parts : List (List ℕ)) × Are t n parts)
+    (lives : (s t : S) (x : Option (Bor (List ℕ))) → steps s x t → is_some x ≡ live s)
+    (leads : (s t : S) (x : Bor (List ℕ)) → IsUtf8 (text s) → is (pattern s) → steps s (Some x) t
+    → Leads Are (text s) x.now (live t) (text t) (limit s) (limit t) × (live t ≡ true → is (pattern t))) where
+  -- the parts to come, if one comes
+  abbrev to_come : S → List (List ℕ) → Type 0
+  to_come s = ToCome (live s) (Are (chars (text s)) (limit s))
 
--- at the start more is to come, so the parts to come are right by Is
-pub GivesParts-at_start : {S : Type 0} (steps : S → Option (Bor (List ℕ)) → S → Type 0) (s : S) (live : Bool) (Is : List (List ℕ) → Type 0) → live ≡ true
-    → GivesParts steps s (ToCome live Is) → GivesParts steps s Is
-GivesParts-at_start steps s live Is more = subst (λ b. GivesParts steps s (ToCome b Is)) more
+  pub gives : (s : S) (t : List ℕ) (n : Option ℕ) → text s ≡ t → limit s ≡ n → IsUtf8 t → is (pattern s)
+      → ((parts : List (List ℕ)) → ToCome (live s) (Are (chars t) n) parts → Are (chars t) n parts) → GivesParts steps s (Are (chars t) n)
+  gives s t n text_is limit_is utf8 pattern_is all =
+      GivesParts-map steps s (ToCome (live s) (Are (chars t) n)) (Are (chars t) n) all
+      (rw (← text_is, ← limit_is) (GivesParts-from_steps steps (λ s. live s ≡ true → IsUtf8 (text s) × is (pattern s)) to_come
+      (λ s s_is. some_to_come (live s) (Are (chars (text s)) (limit s)) (has (chars (text s)) (limit s)))
+      (λ s u s_is step. subst (λ b. ToCome b (Are (chars (text s)) (limit s)) []) (lives s u None step) refl)
+      (λ s t x s_is step.
+      let more : true ≡ live s = lives s t (Some x) step in
+      let left = s_is (sym more) in
+      let led = leads s t x left.0 left.1 step in (
+        λ goes_on. (led.0.left goes_on, led.1 goes_on),
+        λ others are. subst (λ b. ToCome b (Are (chars (text s)) (limit s)) (chars x.now ∷ others)) more (led.0.each others are),
+      ))
+      s (λ _. (subst IsUtf8 (sym text_is) utf8, pattern_is))))
 
 -- `str::split` by patterns of which `is` holds, if each split at the first match leads to the other parts
 module _ {P : Type 0} (finds : P → List ℕ → Option (ℕ × ℕ) → Type 0) (keeps : P → P → Type 0) (is : P → Type 0) (Are : List ℕ → Option ℕ → List (List ℕ) → Type 0)
-    (has : (t : List ℕ) → (parts : List (List ℕ)) × Are t None parts) (kept : (pattern after : P) → is pattern → keeps pattern after → is after)
-    (leads : (pattern : P) (text part : List ℕ) (live : Bool) (rest : List ℕ) → is pattern → IsUtf8 text → IsSplitAtFirstMatch (finds pattern) text part live rest → Leads Are text part live rest None) where
-  abbrev split_coming : Split P → List (List ℕ) → Type 0
-  split_coming s = ToCome (split_has_more s) (Are (chars (split_text s)) None)
-
+    (has : (t : List ℕ) (n : Option ℕ) → (parts : List (List ℕ)) × Are t n parts) (kept : (pattern after : P) → is pattern → keeps pattern after → is after)
+    (leads : (pattern : P) (text part : List ℕ) (live : Bool) (rest : List ℕ) → is pattern → IsUtf8 text → IsSplitAtFirstMatch (finds pattern) text part live rest → Leads Are text part live rest None None) where
   pub split-gives_by : (s : Split P) → (text : List ℕ) → split_text s ≡ text → split_has_more s ≡ true → IsUtf8 text → is (split_pattern s)
       → GivesParts (split_steps finds keeps) s (Are (chars text) None)
   split-gives_by s text text_is more utf8 pattern_is =
-      subst (λ t. GivesParts (split_steps finds keeps) s (Are (chars t) None)) text_is
-      (GivesParts-at_start (split_steps finds keeps) s (split_has_more s) (Are (chars (split_text s)) None) more
-      (GivesParts-from_steps (split_steps finds keeps) (λ s. IsLeft is (split_has_more s) (split_text s) (split_pattern s)) split_coming
-      (λ s s_is. some_to_come (split_has_more s) (Are (chars (split_text s)) None) (has (chars (split_text s))))
-      (λ s u s_is step. subst (λ b. ToCome b (Are (chars (split_text s)) None) []) step.0 refl)
-      (λ s t x s_is step.
-      let left = s_is (sym step.0) in
-      let led = leads (split_pattern s) (split_text s) x.now (split_has_more t) (split_text t) left.1 left.0 step.1.1 in (
-        λ goes_on. (led.left goes_on, kept (split_pattern s) (split_pattern t) left.1 step.1.0),
-        λ others are. subst (λ b. ToCome b (Are (chars (split_text s)) None) (chars x.now ∷ others)) step.0 (led.each others are),
-      ))
-      s (λ _. (subst IsUtf8 (sym text_is) utf8, pattern_is))))
+      gives (split_steps finds keeps) split_text (λ _. None) split_has_more split_pattern is Are has (λ s t x step. step.0)
+      (λ s t x utf8 pattern_is step. (leads _ _ _ _ _ pattern_is utf8 step.1.1, λ _. kept _ _ pattern_is step.1.0))
+      s text None text_is refl utf8 pattern_is (λ parts are. subst (λ b. ToCome b (Are (chars text) None) parts) more are)
 
 module _ {P : Type 0} (finds : P → List ℕ → Option (ℕ × ℕ) → Type 0) (keeps : P → P → Type 0) (p : List ℕ) (some : 0 < length p) (is : P → Type 0) where
   pub split-gives : Seeks finds keeps First p is → (s : Split P) → (text : List ℕ) → split_text s ≡ text → split_has_more s ≡ true → IsUtf8 text → is (split_pattern s)
       → GivesParts (split_steps finds keeps) s (ArePartsFromFront (chars text) p None)
-  split-gives seeks = split-gives_by finds keeps is (from_front p) (λ t. has_front t p None) seeks.kept
+  split-gives seeks = split-gives_by finds keeps is (from_front p) (λ t. has_front t p) seeks.kept
       (λ pattern text part live rest pattern_is text_is cut.
       Leads-first p some None tt text part live rest (finds pattern) (λ found. seeks.cuts pattern text found pattern_is text_is) cut)
-
-  abbrev rsplit_coming : RSplit P → List (List ℕ) → Type 0
-  rsplit_coming s = ToCome (rsplit_has_more s) (from_back p (chars (rsplit_text s)) None)
 
   pub rsplit-gives : Seeks finds keeps Last p is → (s : RSplit P) → (text : List ℕ) → rsplit_text s ≡ text → rsplit_has_more s ≡ true → IsUtf8 text → is (rsplit_pattern s)
       → GivesParts (rsplit_steps finds keeps) s (ArePartsFromBack (chars text) p None)
   rsplit-gives seeks s text text_is more utf8 pattern_is =
-      subst (λ t. GivesParts (rsplit_steps finds keeps) s (ArePartsFromBack (chars t) p None)) text_is
-      (GivesParts-at_start (rsplit_steps finds keeps) s (rsplit_has_more s) (ArePartsFromBack (chars (rsplit_text s)) p None) more
-      (GivesParts-from_steps (rsplit_steps finds keeps) (λ s. IsLeft is (rsplit_has_more s) (rsplit_text s) (rsplit_pattern s)) rsplit_coming
-      (λ s s_is. some_to_come (rsplit_has_more s) (from_back p (chars (rsplit_text s)) None) (has_back (chars (rsplit_text s)) p None))
-      (λ s u s_is step. subst (λ b. ToCome b (from_back p (chars (rsplit_text s)) None) []) step.0 refl)
-      (λ s t x s_is step.
-      let left = s_is (sym step.0) in
-      let leads = Leads-last p some None tt (rsplit_text s) x.now (rsplit_has_more t) (rsplit_text t) (finds (rsplit_pattern s))
-      (λ found. seeks.cuts (rsplit_pattern s) (rsplit_text s) found left.1 left.0) step.1.1 in (
-        λ goes_on. (leads.left goes_on, seeks.kept (rsplit_pattern s) (rsplit_pattern t) left.1 step.1.0),
-        λ others are. subst (λ b. ToCome b (from_back p (chars (rsplit_text s)) None) (chars x.now ∷ others)) step.0 (leads.each others are),
+      gives (rsplit_steps finds keeps) rsplit_text (λ _. None) rsplit_has_more rsplit_pattern is (from_back p) (λ t. has_back t p) (λ s t x step. step.0)
+      (λ s t x utf8 pattern_is step. (
+        Leads-last p some None tt _ _ _ _ (finds (rsplit_pattern s)) (λ found. seeks.cuts _ _ found pattern_is utf8) step.1.1,
+        λ _. seeks.kept _ _ pattern_is step.1.0,
       ))
-      s (λ _. (subst IsUtf8 (sym text_is) utf8, pattern_is))))
+      s text None text_is refl utf8 pattern_is (λ parts are. subst (λ b. ToCome b (from_back p (chars text) None) parts) more are)

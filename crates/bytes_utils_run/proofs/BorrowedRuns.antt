@@ -1,5 +1,5 @@
 -- What each run of an iterator over a text gives, from its steps.
-use Rattle.std.proofs.Common.{sym, subst, ℕ, List, [], ◌∷◌, ◌++◌, append-nil, Option, None, Some, Bor}
+use Rattle.std.proofs.Common.{◌≡◌, refl, sym, ap, subst, ◌∙◌, ℕ, List, [], ◌∷◌, ◌++◌, append-nil, Option, None, Some, Bor, IsUtf8}
 use Rattle.std.specs.Iterator.{Yields}
 use Rattle.std.specs.Str.{chars}
 use Rattle.bytes_utils_run.specs.Borrowed.{characters_of, GivesParts}
@@ -38,3 +38,14 @@ GivesParts-map steps s Is Are each gives = record {
       let more = gives.stopped items t run in
       (more.0, each (characters_of items ++ more.0) more.1);
 }
+
+-- the items are those that a function of the text gives
+module _ {S : Type 0} (steps : S → Option (Bor (List ℕ)) → S → Type 0) (text : S → List ℕ) (parts_of : List ℕ → List (List ℕ))
+    (last : (s u : S) → IsUtf8 (text s) → steps s None u → [] ≡ parts_of (chars (text s)))
+    (first : (s t : S) (x : Bor (List ℕ)) → IsUtf8 (text s) → steps s (Some x) t → IsUtf8 (text t) × (parts_of (chars (text s)) ≡ chars x.now ∷ parts_of (chars (text t)))) where
+  pub gives_all_of : (s : S) (t : List ℕ) → text s ≡ t → IsUtf8 t → GivesParts steps s (λ parts. parts ≡ parts_of (chars t))
+  gives_all_of s t text_is utf8 =
+      subst (λ t. GivesParts steps s (λ parts. parts ≡ parts_of (chars t))) text_is
+      (GivesParts-from_steps steps (λ s. IsUtf8 (text s)) (λ s parts. parts ≡ parts_of (chars (text s))) (λ s s_is. (parts_of (chars (text s)), refl)) last
+      (λ s t x s_is step. let one = first s t x s_is step in (one.0, λ others are. ap (λ z. chars x.now ∷ z) are ∙ sym one.1))
+      s (subst IsUtf8 (sym text_is) utf8))

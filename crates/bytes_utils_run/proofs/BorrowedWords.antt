@@ -1,8 +1,9 @@
 -- What each run of `str::split_whitespace` and `str::split_ascii_whitespace` gives.
 use Rattle.std.proofs.Common.{◌≡◌, refl, sym, ap, subst, ◌∙◌, ℕ, ◌<◌, Bool, true, List, [], ◌∷◌, ◌++◌, length, arith, IsUtf8}
 use Rattle.std.proofs.lemmas.Bool.Decides.{nat_tests}
-use Rattle.std.proofs.lemmas.List.Elements.{All-head, All-tail}
-use Rattle.std.proofs.lemmas.Str.{chars-nil, encode_ascii, chars_past_char}
+use Rattle.std.proofs.lemmas.List.Elements.{All-head, All-weaker}
+use Rattle.std.proofs.lemmas.Str.{chars-nil, chars_past_char, encodes-IsAscii}
+use Rattle.std.proofs.lemmas.Str.Ascii.{IsAscii-from_all}
 use Rattle.std.specs.Char.{is_whitespace, is_ascii_whitespace}
 use Rattle.std.specs.List.{AllPass}
 use Rattle.std.specs.Str.{chars, encode_utf8_all as encodes, NonePass, NoCharPasses, EmptyOrStartsWithPassing}
@@ -13,7 +14,7 @@ use Rattle.bytes_utils.specs.Words.{words, ends_word}
 use Rattle.bytes_utils.proofs.SearchLemmas.{chars-some}
 use Rattle.bytes_utils.proofs.WordsLemmas.{is_other, words-none, words-after_space, words-run}
 use Rattle.bytes_utils_run.specs.Borrowed.{GivesParts}
-use Rattle.bytes_utils_run.proofs.BorrowedRuns.{GivesParts-from_steps}
+use Rattle.bytes_utils_run.proofs.BorrowedRuns.{gives_all_of}
 use Rattle.bytes_utils_run.proofs.TextBeginnings.{following, between}
 use Rattle.bytes_utils_run.proofs.WordRunsLemmas.{NonePass-spaces}
 
@@ -37,16 +38,10 @@ module _ (is_space : ℕ → Bool) where
       )
 
 pub words-gives : (s : SplitWhitespace) (text : List ℕ) → split_whitespace_rest s ≡ text → IsUtf8 text → GivesParts split_whitespace_steps s (λ parts. parts ≡ words is_whitespace (chars text))
-words-gives s text text_is utf8 =
-    subst (λ t. GivesParts split_whitespace_steps s (λ parts. parts ≡ words is_whitespace (chars t))) text_is
-    (GivesParts-from_steps split_whitespace_steps (λ s. IsUtf8 (split_whitespace_rest s)) (λ s parts. parts ≡ words is_whitespace (chars (split_whitespace_rest s)))
-    (λ s s_is. (words is_whitespace (chars (split_whitespace_rest s)), refl))
+words-gives = gives_all_of split_whitespace_steps split_whitespace_rest (words is_whitespace)
     (λ s u s_is step. sym (words-none is_whitespace (split_whitespace_rest s) s_is step.1))
-    (λ s t x s_is step.
-    let one = first_word is_whitespace (split_whitespace_rest s) step.0 x.now (split_whitespace_rest t) s_is step.1 step.2 step.3 step.4
-    (λ rest_is. ends-from_passing is_whitespace (split_whitespace_rest t) step.5.0 rest_is step.5.1) in
-    (one.0, λ others are. ap (λ z. chars x.now ∷ z) are ∙ sym one.1))
-    s (subst IsUtf8 (sym text_is) utf8))
+    (λ s t x s_is step. first_word is_whitespace (split_whitespace_rest s) step.0 x.now (split_whitespace_rest t) s_is step.1 step.2 step.3 step.4
+    (λ rest_is. ends-from_passing is_whitespace (split_whitespace_rest t) step.5.0 rest_is step.5.1))
 
 -- ---- ASCII white space: its bytes are its characters
 
@@ -57,10 +52,7 @@ spaces-low : (b : ℕ) → is_ascii_whitespace b ≡ true → b < 128
 spaces-low b is = grind (arith, nat_tests)
 
 encodes-spaces : (cs : List ℕ) → Spaces cs → encodes cs ≡ cs
-encodes-spaces [] are = refl
-encodes-spaces (c ∷ cs) are =
-    ap (λ z. z ++ encodes cs) (encode_ascii c (spaces-low c (All-head (λ b. is_ascii_whitespace b ≡ true) c cs are)))
-    ∙ ap (λ z. c ∷ z) (encodes-spaces cs (All-tail (λ b. is_ascii_whitespace b ≡ true) c cs are))
+encodes-spaces cs are = encodes-IsAscii cs (IsAscii-from_all cs (All-weaker (λ b. is_ascii_whitespace b ≡ true) (λ b. b < 128) spaces-low cs are))
 
 NoCharPasses-spaces : (bs : List ℕ) → Spaces bs → NoCharPasses (is_other is_ascii_whitespace) bs
 NoCharPasses-spaces bs all = (bs, encodes-spaces bs all, NonePass-spaces is_ascii_whitespace bs all)
@@ -78,11 +70,7 @@ after_word (c ∷ sep) rest sep_is both_is =
     )
 
 pub ascii_words-gives : (s : SplitAscii) (text : List ℕ) → split_ascii_whitespace_text s ≡ text → IsUtf8 text → GivesParts split_ascii_whitespace_steps s (λ parts. parts ≡ words is_ascii_whitespace (chars text))
-ascii_words-gives s text text_is utf8 =
-    subst (λ t. GivesParts split_ascii_whitespace_steps s (λ parts. parts ≡ words is_ascii_whitespace (chars t))) text_is
-    (GivesParts-from_steps split_ascii_whitespace_steps (λ s. IsUtf8 (split_ascii_whitespace_text s))
-    (λ s parts. parts ≡ words is_ascii_whitespace (chars (split_ascii_whitespace_text s)))
-    (λ s s_is. (words is_ascii_whitespace (chars (split_ascii_whitespace_text s)), refl))
+ascii_words-gives = gives_all_of split_ascii_whitespace_steps split_ascii_whitespace_text (words is_ascii_whitespace)
     (λ s u s_is step. sym (words-none is_ascii_whitespace (split_ascii_whitespace_text s) s_is (NoCharPasses-spaces (split_ascii_whitespace_text s) step.0)))
     (λ s t x s_is step.
     let cut = step.3 in
@@ -90,5 +78,4 @@ ascii_words-gives s text text_is utf8 =
     let one = first_word is_ascii_whitespace (split_ascii_whitespace_text s) cut.0 x.now (cut.1 ++ rest) s_is cut.2 step.0 (NoCharPasses-spaces cut.0 cut.3) step.1
     (λ both_is. (after_word cut.1 rest cut.4 both_is).1) in
     let last = after_word cut.1 rest cut.4 one.0 in
-    (last.0, λ others are. ap (λ z. chars x.now ∷ z) are ∙ sym (one.1 ∙ ap (λ z. chars x.now ∷ z) last.2)))
-    s (subst IsUtf8 (sym text_is) utf8))
+    (last.0, one.1 ∙ ap (λ z. chars x.now ∷ z) last.2))

@@ -7,12 +7,12 @@ use Rattle.bytes_utils_run.specs.Calls.{IsRun, lists_of}
 use Rattle.bytes_utils_run.specs.declared.calls.Reply.{Reply}
 
 -- the lists of a buffer, joined, are its unread bytes
-pub concat-lists_of : (unread : List ℕ) → concat (lists_of unread) ≡ unread
-concat-lists_of unread = concat-without_empty (unread ∷ []) ∙ append-nil unread
+pub concat_lists_of : (unread : List ℕ) → concat (lists_of unread) ≡ unread
+concat_lists_of unread = concat-without_empty (unread ∷ []) ∙ append-nil unread
 
 -- dropping the first n bytes skips n bytes
-pub Skips-lists_of : (n : ℕ) (old new : List ℕ) → new ≡ drop n old → Skips n (lists_of old) (lists_of new)
-Skips-lists_of n [] [] is = record {
+pub skips_lists_of : (n : ℕ) (old new : List ℕ) → new ≡ drop n old → Skips n (lists_of old) (lists_of new)
+skips_lists_of n [] [] is = record {
   passed = 0;
   cut = 0;
   within = omega arith;
@@ -20,8 +20,8 @@ Skips-lists_of n [] [] is = record {
   bytes = is;
   front = λ none. absurd (omega arith);
 }
-Skips-lists_of n [] (b ∷ new) is = absurd (omega (arith, ap length is, length-drop {A = ℕ} n []))
-Skips-lists_of n (b ∷ old) [] is = record {
+skips_lists_of n [] (b ∷ new) is = absurd (omega (arith, ap length is, length-drop {A = ℕ} n []))
+skips_lists_of n (b ∷ old) [] is = record {
   passed = 1;
   cut = 0;
   within = omega arith;
@@ -29,7 +29,7 @@ Skips-lists_of n (b ∷ old) [] is = record {
   bytes = is ∙ ap (drop n) (sym (append-nil (b ∷ old)));
   front = λ none. absurd (omega arith);
 }
-Skips-lists_of n (b ∷ old) (c ∷ new) is = record {
+skips_lists_of n (b ∷ old) (c ∷ new) is = record {
   passed = 0;
   cut = n;
   within = omega arith;

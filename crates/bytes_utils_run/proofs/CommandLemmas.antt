@@ -1,6 +1,6 @@
 -- Commands read from a line, in bytes and in characters.
 use Rattle.std.proofs.Common.{◌≡◌, ◌≢◌, refl, sym, ap, subst, ◌∙◌, ℕ, suc, ◌+◌, ◌<◌, List, [], ◌∷◌, ◌++◌, Bool, true, false, Option, None, Some, MatchOption, Bor, length, take, drop, take-append-drop, length-append, get_or, codes, arith, IsUtf8, IsCharBoundary}
-use Rattle.std.proofs.lemmas.Bool.{ltb-true}
+use Rattle.std.proofs.lemmas.Bool.{false≢true, ltb-true}
 use Rattle.std.proofs.lemmas.Fmt.{IsAscii-from_digits}
 use Rattle.std.proofs.lemmas.List.{append_cancel_left, drop_at}
 use Rattle.std.proofs.lemmas.List.Elements.{All-weaker}
@@ -37,12 +37,9 @@ pub same-bytes : (line word : List ℕ) → IsUtf8 line → IsUtf8 word → char
 same-bytes line word line_is word_is e = sym (encodes-chars line line_is) ∙ ap encodes e ∙ encodes-chars word word_is
 
 -- what a comparison of bytes says about the characters
-pub reports-word : (line word : List ℕ) → IsUtf8 line → IsUtf8 word → (r : Bool) → r ≡ bytes_eq line word → MatchBool r (chars line ≡ chars word) (chars line ≢ chars word)
-reports-word line word line_is word_is true e = ap chars ((bytes_eq-Decides line word).0 (sym e))
-reports-word line word line_is word_is false e = λ same. absurd_bool (e ∙ (bytes_eq-Decides line word).1 (same-bytes line word line_is word_is same))
-  where
-    absurd_bool : false ≡ true → ⊥
-    absurd_bool f = cc
+pub reports_word : (line word : List ℕ) → IsUtf8 line → IsUtf8 word → (r : Bool) → r ≡ bytes_eq line word → MatchBool r (chars line ≡ chars word) (chars line ≢ chars word)
+reports_word line word line_is word_is true e = ap chars ((bytes_eq-Decides line word).0 (sym e))
+reports_word line word line_is word_is false e = λ same. absurd (false≢true (e ∙ (bytes_eq-Decides line word).1 (same-bytes line word line_is word_is same)))
 
 -- a word of ASCII, such as one in source code, is its own characters
 pub chars_word : (word : List ℕ) → list_all is_ascii word ≡ true → chars word ≡ word
@@ -79,17 +76,17 @@ front-is-digits (x ∷ front) back (d ∷ digits) rest lacks all e =
     (λ k. head k ∷ more k)
 
 -- what `strip_prefix` gives, in characters
-pub rest_after-is : (line word : List ℕ) → IsUtf8 line → IsUtf8 word → (r : Option (Bor (List ℕ)))
+pub rest_after_is : (line word : List ℕ) → IsUtf8 line → IsUtf8 word → (r : Option (Bor (List ℕ)))
     → MatchOption r (FindsTextPrefix word line None) (λ x. (n : ℕ) × FindsTextPrefix word line (Some n) × (x.now ≡ drop n line) × (length x.now + n ≡ length line))
     → MatchOption r ((rest : List ℕ) → chars line ≢ chars word ++ rest) (λ x. chars line ≡ chars word ++ chars x.now)
-rest_after-is line word line_is word_is None lacks = λ rest. lacks-word word line rest word_is line_is lacks
-rest_after-is line word line_is word_is (Some x) strip = chars-following word line x.now strip.0 word_is strip.1.1 strip.2
+rest_after_is line word line_is word_is None lacks = λ rest. lacks-word word line rest word_is line_is lacks
+rest_after_is line word line_is word_is (Some x) strip = chars-following word line x.now strip.0 word_is strip.1.1 strip.2
 
-pub rest_after-utf8 : (line word : List ℕ) → IsUtf8 line → (r : Option (Bor (List ℕ)))
+pub rest_after_utf8 : (line word : List ℕ) → IsUtf8 line → (r : Option (Bor (List ℕ)))
     → MatchOption r (FindsTextPrefix word line None) (λ x. (n : ℕ) × FindsTextPrefix word line (Some n) × (x.now ≡ drop n line) × (length x.now + n ≡ length line))
     → IfSome r (λ x. IsUtf8 x.now)
-rest_after-utf8 line word line_is None lacks = tt
-rest_after-utf8 line word line_is (Some x) strip =
+rest_after_utf8 line word line_is None lacks = tt
+rest_after_utf8 line word line_is (Some x) strip =
     subst IsUtf8 (sym (strip.2 ∙ ap (λ k. drop k line) strip.1.0)) (IsUtf8-drop line (length word) line_is strip.1.2)
 
 -- a text without a space has no number before a space
@@ -151,13 +148,13 @@ no-way line plain separator limit (FromBack p (Some most)) = (limit p most).1
 no-way line plain separator limit (Keeping p) = (separator p).2
 
 -- a line that is none of the first commands is one of the others, or no command
-pub split_mode-is : (line : List ℕ) → (line ≢ codes "words") × (line ≢ codes "ascii") × (line ≢ codes "lines")
+pub split_mode_is : (line : List ℕ) → (line ≢ codes "words") × (line ≢ codes "ascii") × (line ≢ codes "lines")
     → ((p : List ℕ) → (¬ IsCommand (FromFront p None) line) × (¬ IsCommand (FromBack p None) line) × (¬ IsCommand (Keeping p) line))
     → (r : Option How) → MatchOption r ((p : List ℕ) (most : ℕ) → (¬ IsCommand (FromFront p (Some most)) line) × (¬ IsCommand (FromBack p (Some most)) line))
     (λ how. IsAllowed how × IsCommand (cutting how) line)
     → MatchOption r ((way : Cutting) → ¬ IsCommand way line) (λ how. IsAllowed how × IsCommand (cutting how) line)
-split_mode-is line plain separator None limit = no-way line plain separator limit
-split_mode-is line plain separator (Some how) is = is
+split_mode_is line plain separator None limit = no-way line plain separator limit
+split_mode_is line plain separator (Some how) is = is
 
 -- a number after a word, if the rest of the line is a number
 pub numbered-is : (line word rest : List ℕ) → chars line ≡ chars word ++ chars rest → (r : Option ℕ)

@@ -1,5 +1,5 @@
 -- The greatest number of parts that a text can have: two more than it has characters.
-use Rattle.std.proofs.Common.{◌≡◌, ap, ℕ, zero, suc, ◌+◌, ◌<◌, ◌≤◌, Bool, List, [], ◌∷◌, ◌++◌, Option, None, Some, All, length, map, take, drop, reverse, arith, length-append, length-take}
+use Rattle.std.proofs.Common.{◌≡◌, ap, ℕ, zero, suc, ◌+◌, ◌<◌, ◌≤◌, Bool, true, false, List, [], ◌∷◌, ◌++◌, Option, None, Some, All, length, map, take, drop, reverse, arith, length-append, length-take}
 use Rattle.std.specs.Char.{is_whitespace, is_ascii_whitespace}
 use Rattle.std.specs.List.{starts_with}
 use Rattle.std.specs.Prelude.{nat_lt, nat_eq, ◌==◌, ◌&&◌, if◌then◌else◌}
@@ -10,7 +10,7 @@ use Rattle.bytes_utils.specs.EmptySeparator.{elements, by_element, by_element_ba
 use Rattle.bytes_utils.specs.Lines.{line_feed, carriage_return, lines, first_led_by}
 use Rattle.bytes_utils.specs.Outcome.{Outcome}
 use Rattle.bytes_utils.specs.Parts.{ArePartsFromFront, ArePartsFromBack, join}
-use Rattle.bytes_utils.specs.Words.{words, ends_word}
+use Rattle.bytes_utils.specs.Words.{words}
 use Rattle.bytes_utils_run.specs.Cutting.{Cutting, ByWords, ByAsciiWords, ByLines, FromFront, FromBack, Keeping, ArePartsBy}
 
 -- each part but the last comes with at least the length of the separator
@@ -64,30 +64,21 @@ length-led : (c : ℕ) (parts : List (List ℕ)) → length (first_led_by c part
 length-led c [] = omega arith
 length-led c (part ∷ parts) = omega arith
 
+-- one more character makes at most one more line
+length-way : (feed returns : Bool) (c : ℕ) (ls : List (List ℕ)) → length (if feed then [] ∷ ls else if returns then ls else first_led_by c ls) ≤ length ls + 1
+length-way true returns c ls = omega arith
+length-way false true c ls = omega arith
+length-way false false c ls = length-led c ls
+
 -- a text has at most as many lines as characters, and at most as many words
 length-lines : (t : List ℕ) → length (lines t) ≤ length t
 length-lines [] = omega arith
 length-lines (c ∷ t) =
-    let more = length-lines t in
-    let led = length-led c (lines t) in
-    cond_both (c == line_feed) ([] ∷ lines t) (otherwise c t) (λ parts. length parts ≤ length (c ∷ t)) (λ _. omega (arith, more))
-    (λ _. cond_both (c == carriage_return && starts_with nat_eq t (line_feed ∷ [])) (lines t) (first_led_by c (lines t)) (λ parts. length parts ≤ length (c ∷ t))
-    (λ _. omega (arith, more)) (λ _. omega (arith, more, led)))
-  where
-    otherwise : ℕ → List ℕ → List (List ℕ)
-    otherwise d r = if d == carriage_return && starts_with nat_eq r (line_feed ∷ []) then lines r else first_led_by d (lines r)
+    omega (arith, length-lines t, length-way (c == line_feed) (c == carriage_return && starts_with nat_eq t (line_feed ∷ [])) c (lines t))
 
 length-words : (is_space : ℕ → Bool) (t : List ℕ) → length (words is_space t) ≤ length t
 length-words is_space [] = omega arith
-length-words is_space (c ∷ t) =
-    let more = length-words is_space t in
-    let led = length-led c (words is_space t) in
-    cond_both (is_space c) (words is_space t) (otherwise c t) (λ parts. length parts ≤ length (c ∷ t)) (λ _. omega (arith, more))
-    (λ _. cond_both (ends_word is_space t) ((c ∷ []) ∷ words is_space t) (first_led_by c (words is_space t)) (λ parts. length parts ≤ length (c ∷ t))
-    (λ _. omega (arith, more)) (λ _. omega (arith, more, led)))
-  where
-    otherwise : ℕ → List ℕ → List (List ℕ)
-    otherwise d r = if ends_word is_space r then (d ∷ []) ∷ words is_space r else first_led_by d (words is_space r)
+length-words is_space (c ∷ t) = grind (arith, length-words is_space t, length-led c (words is_space t))
 
 length-parts : (way : Cutting) (t : List ℕ) (parts : List (List ℕ)) → ArePartsBy way t parts → length parts ≤ length t + 2
 length-parts ByWords t parts are = omega (arith, ap length are, length-words is_whitespace t)

@@ -1,9 +1,8 @@
 -- No call leaves more bytes than a `usize` can count.
-use Rattle.std.proofs.Common.{◌≡◌, ◌∙◌, ap, ℕ, ◌+◌, ◌<◌, ◌^◌, List, [], ◌∷◌, Option, None, Some, length, length-append, length-drop, append-nil, arith}
+use Rattle.std.proofs.Common.{◌≡◌, ap, ℕ, ◌+◌, ◌<◌, ◌^◌, List, [], ◌∷◌, Option, None, Some, length, length-drop, append-nil, arith}
 use Rattle.std.specs.List.{concat}
-use Rattle.std.proofs.lemmas.List.Folds.{concat-append}
-use Rattle.bytes_utils_buf.specs.Segments.{Held, Skips, after_accepting, without_empty}
-use Rattle.bytes_utils_buf.proofs.Lists.{concat-without_empty}
+use Rattle.bytes_utils_buf.specs.Segments.{Held, Skips, after_accepting}
+use Rattle.bytes_utils_buf.proofs.Lists.{length-concat-accepted}
 use Rattle.bytes_utils_run.specs.Calls.{IsCall, SkipsOrKeeps, skipped_by_read}
 use Rattle.bytes_utils_run.specs.declared.calls.Call.{Call}
 use Rattle.bytes_utils_run.specs.declared.calls.Call.TheVariants.{Push, Segments, Read}
@@ -25,14 +24,7 @@ fits-left (Some n) old new skips = fits-skip n old new skips
 fits-left None old new same = fits-same old new same
 
 pub fits-accepting : (old : Held) (bytes : List ℕ) → length (concat old.segments) + length bytes < 2 ^ 64 → Fits (after_accepting old (bytes ∷ [])).segments
-fits-accepting old bytes room =
-    omega (
-      arith,
-      room,
-      ap length (concat-append old.segments (without_empty (bytes ∷ []))),
-      length-append (concat old.segments) (concat (without_empty (bytes ∷ []))),
-      ap length (concat-without_empty (bytes ∷ []) ∙ append-nil bytes),
-    )
+fits-accepting old bytes room = omega (arith, room, length-concat-accepted old.segments (bytes ∷ []), ap length (append-nil bytes))
 
 pub fits-call : (call : Call (List ℕ)) (old : Held) (reply : Reply) (new : Held) → IsCall (λ bytes. bytes) call old reply new → Fits old.segments → Fits new.segments
 fits-call (Push bytes) old Done new is = λ fits. fits-same _ _ (ap (λ held. held.segments) is.1) (fits-accepting old bytes is.0)

@@ -1,7 +1,7 @@
 -- Headers, line by line.
-use Rattle.std.proofs.Common.{◌≡◌, refl, sym, ap, subst, ◌∙◌, ℕ, ◌+◌, ◌<◌, List, [], ◌∷◌, ◌++◌, Option, None, Some, MatchOption, length, arith}
-use Rattle.std.proofs.lemmas.Str.{chars-nil}
+use Rattle.std.proofs.Common.{◌≡◌, refl, sym, ap, subst, ◌∙◌, ℕ, ◌+◌, ◌<◌, List, [], ◌∷◌, ◌++◌, Option, None, Some, MatchOption, length}
 use Rattle.std.specs.Str.{chars}
+use Rattle.bytes_utils.proofs.NextPart.{no_chars}
 use Rattle.bytes_utils.proofs.ToCome.{one_of_lines}
 use Rattle.bytes_utils.specs.Halves.{AreHalvesAtFirst}
 use Rattle.bytes_utils.specs.Lines.{AreLinesToCome}
@@ -17,10 +17,6 @@ pub header-split : (line name : List ℕ) (value : Option (List ℕ))
 unfolding chars
 header-split line name None lacks = lacks
 header-split line name (Some value) halves = halves
-
-no_chars : (line : List ℕ) → length line ≡ 0 → chars line ≡ []
-no_chars [] none = chars-nil
-no_chars (b ∷ line) none = absurd (omega arith)
 
 -- these headers were found, and these lines are to come
 pub record SoFar (all : List (List ℕ)) (headers : List (List ℕ × List ℕ)) (s : Option (List ℕ)) : Type 0 where

@@ -1,8 +1,8 @@
 -- Tables of slices that are filled one place after another.
 use Rattle.std.proofs.Common.{◌≡◌, ℕ, zero, suc, ◌+◌, ◌-◌, ◌*◌, ◌<◌, ◌≤◌, inl, inr, min, List, [], ◌∷◌, ◌++◌, length, take, drop, set, map, refl, sym, ap, ◌∙◌, arith, append-nil, length-append, length-drop, length-take-le, replicate, take-add, take-append-drop, take_at, Bor}
-use Rattle.std.proofs.lemmas.List.{drop_all, drop-drop, drop-replicate, drop-set-lt, length-map, map-append, take_all, take_more_set, length-replicate, replicate-append-replicate, take-replicate}
+use Rattle.std.proofs.lemmas.List.{drop_all, drop-drop, drop-replicate, drop-set-lt, length-map, map-append, take_all, take_min, take_more_set, length-replicate, replicate-append-replicate, take-replicate}
 use Rattle.std.proofs.lemmas.Bool.{cases_lt}
-use Rattle.std.proofs.lemmas.List.Elements.{All-cons, All-head, All-nil, All-push, All-same, All-tail}
+use Rattle.std.proofs.lemmas.List.Elements.{All-head, All-map, All-nil, All-push, All-same, All-tail}
 use Rattle.std.specs.List.{concat}
 use Rattle.std.specs.Prelude.{All}
 use Rattle.bytes_utils_buf.specs.Slices.{joined, FillsTable}
@@ -105,14 +105,9 @@ pieces-more size (suc count) bytes =
 
 -- the first eight of `left` zero bytes
 pub take_zeros : (size left : ℕ) → size ≡ min left 8 → take 8 (replicate left zero) ≡ replicate size zero
-take_zeros size left is = elim (cases_lt left 8) [
-  | inl less ↦
-      let all : left ≡ size = omega (arith, is, less) in
-      take_all 8 (replicate left zero) (omega (arith, less, length-replicate left zero)) ∙ ap (λ k. replicate k zero) all
-  | inr full ↦
-      let eight : 8 ≡ size = omega (arith, is, full) in
-      take-replicate 8 left zero full ∙ ap (λ k. replicate k zero) eight
-]
+take_zeros size left is =
+    sym (take_min 8 (replicate left zero)) ∙ ap (λ k. take k (replicate left zero)) (omega (arith, is, length-replicate left zero))
+    ∙ take-replicate size left zero (omega (arith, is))
 
 -- one more place has the next piece of `left` zero bytes
 pub pieces-zeros : (n left shown size : ℕ) (mid : List (Bor (List ℕ))) (x : Bor (List ℕ)) → n < length mid → shown < left
@@ -132,12 +127,6 @@ pieces-zeros n left shown size mid x room more at is shows before =
     ∙ ap (λ p. pieces 8 n (replicate left zero) ++ p ∷ []) piece
     ∙ sym (pieces-more 8 n (replicate left zero))
 
-NoneEmpty-map : (slices : List (Bor (List ℕ))) → All (λ s. 0 < length s.now) slices → NoneEmpty (map (λ s. s.now) slices)
-NoneEmpty-map [] some = All-nil (λ s. 0 < length s)
-NoneEmpty-map (s ∷ slices) some =
-    All-cons (λ s. 0 < length s) s.now (map (λ s. s.now) slices) (All-head (λ (s : Bor (List ℕ)). 0 < length s.now) s slices some)
-    (NoneEmpty-map slices (All-tail (λ (s : Bor (List ℕ)). 0 < length s.now) s slices some))
-
 -- lists that aren't empty have at least a byte each
 pub length-none_empty : (lists : List (List ℕ)) → NoneEmpty lists → length lists ≤ length (concat lists)
 length-none_empty [] some = omega arith
@@ -146,17 +135,13 @@ length-none_empty (s ∷ lists) some =
     let first = All-head (λ s. 0 < length s) s lists some in
     omega (arith, more, first, length-append s (concat lists))
 
--- a beginning that is as long as the whole is the whole
-whole_front : (front all : List ℕ) → front ≡ take (length front) all → length all ≤ length front → front ≡ all
-whole_front front all is many = is ∙ take_all (length front) all many
-
 -- the slices in a table of `min n (length unread)` places are those in a table of n places
 pub AreSlices-table : (n filled : ℕ) (old new : List (Bor (List ℕ))) (unread : List ℕ) → length old ≡ min n (length unread) → length new ≡ length old
     → FillsTable filled old new unread → AreSlices n (map (λ s. s.now) (take filled new)) unread
 AreSlices-table n filled old new unread places same fills =
     let slices = map (λ (s : Bor (List ℕ)). s.now) (take filled new) in
     let count : length slices ≡ filled = length-map (take filled new) (λ s. s.now) ∙ length-take-le filled new (omega (arith, fills.count, same)) in
-    let some = NoneEmpty-map (take filled new) fills.some in
+    let some : NoneEmpty slices = All-map (λ s. 0 < length s) (λ s. s.now) (take filled new) fills.some in
     let bytes = length-none_empty slices some in
     let front : concat slices ≡ take (length (concat slices)) unread =
     sym (take_at (concat slices) (drop (length (concat slices)) unread) (length (concat slices)) refl) ∙ ap (take (length (concat slices))) fills.front in
@@ -166,6 +151,6 @@ AreSlices-table n filled old new unread places same fills =
       front = front;
       whole = λ few. elim (cases_lt filled (length old)) [
         | inl less ↦ fills.whole less
-        | inr full ↦ whole_front (concat slices) unread front (omega (arith, full, few, count, bytes, places))
+        | inr full ↦ front ∙ take_all (length (concat slices)) unread (omega (arith, full, few, count, bytes, places))
       ];
     }

@@ -1,5 +1,6 @@
 -- The names of joined paths.
 use Rattle.std.proofs.Common.{◌≡◌, refl, sym, ap, subst, ◌∙◌, ℕ, ◌<◌, Bool, true, false, not, List, [], ◌∷◌, ◌++◌, Option, None, Some, MatchOption, length, map, arith, All, IsUtf8}
+use Rattle.std.proofs.lemmas.Bool.{false≢true}
 use Rattle.std.proofs.lemmas.List.{length-map}
 use Rattle.std.proofs.lemmas.List.Elements.{All-map, All-weaker}
 use Rattle.std.proofs.lemmas.Str.{chars-append, chars-IsAscii, IsUtf8-from_ascii}
@@ -30,9 +31,6 @@ slash-is = IsUtf8-from_ascii slash slash-ascii
 chars-slash : chars slash ≡ slash
 chars-slash = chars-IsAscii slash slash-ascii
 
-differ : false ≡ true → ⊥
-differ e = cc
-
 -- a text in which a search finds no slash is a name, and is the path of this one name
 pub name-reported : (text : List ℕ) → IsUtf8 text → (found : Option ℕ) → FindsNeedle text slash 0 found → (none : Bool) → is_some found ≡ not none
     → OnTrue none (IsName text) × OnFalse none (Occurs slash (chars text)) × OnTrue none (AreNames text (chars text ∷ []))
@@ -41,8 +39,8 @@ name-reported text is found finds none none_is = reported found none none_is (su
     reported : (r : Option ℕ) (b : Bool) → is_some r ≡ not b → FindsFirst slash (chars text) r
         → OnTrue b (IsName text) × OnFalse b (Occurs slash (chars text)) × OnTrue b (AreNames text (chars text ∷ []))
     reported None true e lacks = ((is, lacks), tt, alone slash (chars text) (omega arith) lacks)
-    reported None false e lacks = absurd (differ e)
-    reported (Some at) true e first = absurd (differ (sym e))
+    reported None false e lacks = absurd (false≢true e)
+    reported (Some at) true e first = absurd (false≢true (sym e))
     reported (Some at) false e first = (tt, (first.0, first.2.here), tt)
 
 chars-following : (back : List ℕ) → chars (slash ++ back) ≡ slash ++ chars back

@@ -1,12 +1,11 @@
 -- The replies that are printed: those before the first one that memory was refused for.
-use Rattle.std.proofs.Common.{◌≡◌, refl, subst, ℕ, zero, suc, ◌<◌, ◌≤◌, List, [], ◌∷◌, ◌++◌, length, take, get_or, inl, inr, false, Option, None, Some, MatchOption, arith, lit<, All}
+use Rattle.std.proofs.Common.{◌≡◌, refl, subst, ℕ, ◌<◌, ◌≤◌, List, ◌++◌, length, take, get_or, false, Option, None, Some, MatchOption, arith, lit<, All}
 use Rattle.std.specs.Global.{Vec}
 use Rattle.std.specs.List.{position, position_or_len}
-use Rattle.std.proofs.lemmas.List.Elements.{All-cons, All-nil}
+use Rattle.std.proofs.lemmas.List.Elements.{All-from_get_or}
 use Rattle.std.proofs.lemmas.List.Quantifiers.{position-Some}
-use Rattle.std.proofs.lemmas.Bool.{cases_lt}
 use Rattle.std.proofs.lemmas.Grind.{common_steps}
-use Rattle.std.proofs.lemmas.List.{take_all}
+use Rattle.std.proofs.lemmas.List.{get_or-take, length-take, take_all}
 use Rattle.std.proofs.lemmas.List.Sums.{fails_before_first}
 use Rattle.bytes_utils.specs.Outcome.{Outcome}
 use Rattle.bytes_utils_buf.specs.Segments.{Held, nothing_held}
@@ -20,22 +19,12 @@ use Rattle.bytes_utils_run.specs.declared.calls.Reply.{Reply}
 use Rattle.bytes_utils_run.specs.declared.calls.Reply.TheVariants.{Done}
 
 whole-before : (replies : List Reply) (count : ℕ) → ((k : ℕ) → k < count → lacks_memory (get_or replies k Done) ≡ false) → All (λ reply. lacks_memory reply ≡ false) (take count replies)
-whole-before [] zero none = All-nil (λ reply. lacks_memory reply ≡ false)
-whole-before [] (suc count) none = All-nil (λ reply. lacks_memory reply ≡ false)
-whole-before (reply ∷ replies) zero none = All-nil (λ r. lacks_memory r ≡ false)
-whole-before (reply ∷ replies) (suc count) none =
-    All-cons (λ r. lacks_memory r ≡ false) reply (take count replies) (none 0 (omega arith))
-    (whole-before replies count (λ k l. none (suc k) (omega (arith, l))))
+whole-before replies count none = All-from_get_or (λ reply. lacks_memory reply ≡ false) (take count replies) Done
+    (λ k l. let below : k < count = omega (arith, l, length-take count replies) in rw (get_or-take count replies k Done below) (none k below))
 
 -- if memory was refused for no reply, the place of the first such reply is the length of the list
 past_all : (replies : List Reply) → position lacks_memory replies ≡ None → length replies ≤ position_or_len lacks_memory replies
-past_all replies none = elim (cases_lt (position_or_len lacks_memory replies) (length replies)) [
-  | inl found ↦ absurd (some found)
-  | inr past ↦ past
-]
-  where
-    some : position_or_len lacks_memory replies < length replies → ⊥
-    some found = grind (arith, common_steps)
+past_all replies none = grind (arith, common_steps)
 
 -- if memory was refused for no reply, all are right
 replies-all : (calls : List (Call (List ℕ))) (replies : List Reply) (left : Held) → IsRun (IsCall (λ bytes. bytes)) calls nothing_held replies left

@@ -26,11 +26,11 @@ one_part p (x ∷ t) h =
     let more : length t ≤ position_or_len p t = omega (arith, rw other at h) in
     slice_split-cons_no p x t other ∙ ap (onto_first x) (one_part p t more)
 
-pub none-first : (p : ℕ → Bool) (t : List ℕ) → position p t ≡ None → slice_split p t ≡ t ∷ []
-none-first p t h = one_part p t (missing (position_or_len p t) t h)
+pub none_first : (p : ℕ → Bool) (t : List ℕ) → position p t ≡ None → slice_split p t ≡ t ∷ []
+none_first p t h = one_part p t (missing (position_or_len p t) t h)
 
-pub some-first : (p : ℕ → Bool) (t : List ℕ) (i : ℕ) → position p t ≡ Some i → slice_split p t ≡ take i t ∷ slice_split p (drop (i + 1) t)
-some-first p t i h =
+pub some_first : (p : ℕ → Bool) (t : List ℕ) (i : ℕ) → position p t ≡ Some i → slice_split p t ≡ take i t ∷ slice_split p (drop (i + 1) t)
+some_first p t i h =
     let is = position-Some p t i 0 h in
     let place : position_or_len p t ≡ i = position_or_len_is p t i 0 (omega (arith, is.0)) is.2 (λ below. is.1) in
     subst (λ n. slice_split p t ≡ take n t ∷ slice_split p (drop (n + 1) t)) place (slice_split_first p t 0 (subst (λ n. n < length t) (sym place) is.0))
@@ -38,8 +38,8 @@ some-first p t i h =
 separator-ascii : (b : ℕ) → is_separator b ≡ true → b < 128
 separator-ascii b h = grind (arith, h)
 
-pub lawful-first : (t : List ℕ) (i : ℕ) → IsUtf8 t → position is_separator t ≡ Some i → IsLawfulCut Forward t i (i + 1)
-lawful-first t i text_is h =
+pub lawful_first : (t : List ℕ) (i : ℕ) → IsUtf8 t → position is_separator t ≡ Some i → IsLawfulCut Forward t i (i + 1)
+lawful_first t i text_is h =
     let is = position-Some is_separator t i 0 h in
     let ascii = separator-ascii (get_or t i 0) is.1 in
     (IsCharBoundary-before_ascii t i is.0 ascii, IsCharBoundary-after_ascii t i text_is is.0 ascii, omega arith, omega arith)

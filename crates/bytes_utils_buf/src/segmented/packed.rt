@@ -63,6 +63,7 @@ impl PackedBuf {
     }
 
     /// Returns how many segments are held.
+    #[tactic(auto, using(crate::proofs::PackingLemmas::packed_few))]
     pub fn segments(&self) -> usize
         ensures count { result ≡ length self.now.held.segments }
 
@@ -232,6 +233,7 @@ impl PackedBuf {
     /// they are copied. Requires that `len` is at most `remaining()` (test: `remaining`). Fails
     /// with `OutOfMemory` if memory is refused; then no byte has been taken. With `len` 0 it never
     /// fails.
+    #[tactic(auto, using(crate::proofs::PackingLemmas::packed_skips))]
     pub fn take_bytes(&mut self, alloc: Global, len: usize) -> Result<Bytes, Reason>
         requires { len ≤ length (concat self.old.held.segments) }
         ensures value { IfOk result (λ front. front ≡ take len (concat self.old.held.segments)) }
@@ -266,6 +268,7 @@ impl PackedBuf {
     /// as it came, and copied from a block. Requires that `len` is at most `remaining()` (test:
     /// `remaining`). Fails with `OutOfMemory` if memory is refused; then nothing has changed. With
     /// `len` 0 it never fails.
+    #[tactic(auto, using(crate::proofs::PackingLemmas::packed_skips))]
     pub fn split_to(&mut self, alloc: Global, len: usize) -> Result<SegmentedBuf<Bytes>, Reason>
         requires { len ≤ length (concat self.old.held.segments) }
         ensures ok { IfOk result

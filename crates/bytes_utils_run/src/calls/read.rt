@@ -22,6 +22,7 @@ pub(super) fn read<B: BufParts>(alloc: Global, buf: &mut B, call: ReadCall) -> R
     }
 }
 
+#[tactic(auto, using(crate::proofs::CallsLemmas::concat_lists_of, crate::proofs::CallsLemmas::skips_lists_of))]
 fn advance<B: Buf>(buf: &mut B, cnt: usize) -> Reply
     ensures reply { IsRead (ReadCall.Advance cnt)
         (lists_of (B.unread buf.old)) result (lists_of (B.unread buf.new)) }
@@ -34,6 +35,7 @@ fn advance<B: Buf>(buf: &mut B, cnt: usize) -> Reply
     Reply::Done
 }
 
+#[tactic(auto, using(crate::proofs::CallsLemmas::concat_lists_of, crate::proofs::CallsLemmas::skips_lists_of))]
 fn copy<B: BufParts>(alloc: Global, buf: &mut B, len: usize) -> Reply
     ensures reply { IsRead (ReadCall.CopyOut len)
         (lists_of (B.unread buf.old)) result (lists_of (B.unread buf.new)) }

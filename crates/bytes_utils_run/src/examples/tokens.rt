@@ -19,6 +19,7 @@ fn first_place(bytes: &[u8]) -> Option<usize>
 }
 
 /// Finds where the first separator begins and ends.
+#[tactic(auto, using(crate::proofs::Separators::none_first, crate::proofs::Separators::some_first))]
 fn first_separator(text: &str) -> Option<(usize, usize)>
     ensures lawful { IfSome result (λ cut. IsLawfulCut Direction.Forward text.now cut.0 cut.1) }
     ensures first { CutsAtFirst text.now result }

@@ -100,6 +100,7 @@ fn by_limit(line: &str) -> Option<How<'_>>
 }
 
 /// Reads a way to split, if the line is one.
+#[tactic(auto, using(crate::proofs::CommandLemmas::split_mode_is))]
 fn split_mode(line: &str) -> Option<How<'_>>
     ensures { MatchOption result ((way : Cutting) → ¬ IsCommand way (chars line.now))
         (λ split_mode. IsAllowed split_mode × IsCommand (cutting split_mode) (chars line.now)) }

@@ -8,6 +8,7 @@ ghost use Rattle.bytes_utils_run.specs.Number.{IsNumber};
 const MOST_DIGITS: usize = 20;
 
 /// Reads a decimal number without a sign, if the text is one.
+#[tactic(auto, using(crate::proofs::NumberLemmas::number_short, crate::proofs::NumberLemmas::number_unsigned, crate::proofs::NumberLemmas::parsed_number))]
 pub(super) fn number(text: &str) -> Option<usize>
     ensures { MatchOption result ((n : ℕ) → ¬ IsNumber (chars text.now) n)
         (λ n. IsNumber (chars text.now) n) }
@@ -23,6 +24,7 @@ pub(super) fn number(text: &str) -> Option<usize>
 }
 
 /// Returns whether a line is a word.
+#[tactic(auto, using(crate::proofs::CommandLemmas::reports_word))]
 pub(super) fn is_word(line: &str, word: &str) -> bool
     ensures { MatchBool result (chars line.now ≡ chars word.now) (chars line.now ≢ chars word.now) }
 {
@@ -30,6 +32,7 @@ pub(super) fn is_word(line: &str, word: &str) -> bool
 }
 
 /// Returns what follows a word at the beginning of a line.
+#[tactic(auto, using(crate::proofs::CommandLemmas::rest_after_is, crate::proofs::CommandLemmas::rest_after_utf8))]
 pub(super) fn rest_after<'l>(line: &'l str, word: &str) -> Option<&'l str>
     ensures value { MatchOption result ((rest : List ℕ) → chars line.now ≢ chars word.now ++ rest)
         (λ rest. chars line.now ≡ chars word.now ++ chars rest.now) }

@@ -15,10 +15,7 @@ returns-clause-outcome g c =
 
 pub returns-clause-few : goal.returns-clause-few
 returns-clause-few g c =
-    let outcome = Outcome-right _ _ c.new-splitter.ensures.right _ _ c.gather.ensures.outcome in
-    omega (arith, length-outcome _ _ _ _ outcome, length-map c.gather.new.given.items chars)
+    omega (arith, length-outcome _ _ _ _ (returns-clause-outcome g c), length-map c.gather.new.given.items chars)
 
 pub returns-clause-joined : goal.returns-clause-joined
-returns-clause-joined g c =
-    outcome_joins _ _ _ _ (subst (Outcome (ArePartsBy (cutting c.args.how) (chars c.args.text)) (map chars c.gather.new.given.items)) (sym c.err-refused.ensures.value)
-    (Outcome-right _ _ c.new-splitter.ensures.right _ _ c.gather.ensures.outcome))
+returns-clause-joined g c = outcome_joins _ _ _ _ (returns-clause-outcome g c)

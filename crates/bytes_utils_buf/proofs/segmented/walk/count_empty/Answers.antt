@@ -13,16 +13,12 @@ loop-tally-preserved g c =
 
 pub returns-clause-read_out : goal.returns-clause-read_out
 returns-clause-read_out g c =
-    let f = g.B.Buf.unread in
-    let size = length-map c.args.bufs.now f in
-    let kept = c.loop-tally.invariant in
-    let trimmed = Trimmed-from_count (map f c.args.bufs.now) c.loop-tally.empty 0 (omega (arith, size, kept.0)) (omega (arith, kept.1)) (λ h. c.in_default.ensures.none (omega (arith, h, size))) in
-    trimmed.before
+    let size = length-map c.args.bufs.now g.B.Buf.unread in
+    (Trimmed-from_count _ c.loop-tally.empty (omega (arith, size, c.loop-tally.invariant.0)) (omega (arith, c.loop-tally.invariant.1))
+    (λ h. c.in_default.ensures.none (omega (arith, h, size)))).before
 
 pub returns-clause-skips : goal.returns-clause-skips
 returns-clause-skips g c =
-    let f = g.B.Buf.unread in
-    let size = length-map c.args.bufs.now f in
-    let kept = c.loop-tally.invariant in
-    let trimmed = Trimmed-from_count (map f c.args.bufs.now) c.loop-tally.empty 0 (omega (arith, size, kept.0)) (omega (arith, kept.1)) (λ h. c.in_default.ensures.none (omega (arith, h, size))) in
-    trimmed.skips
+    let size = length-map c.args.bufs.now g.B.Buf.unread in
+    (Trimmed-from_count _ c.loop-tally.empty (omega (arith, size, c.loop-tally.invariant.0)) (omega (arith, c.loop-tally.invariant.1))
+    (λ h. c.in_default.ensures.none (omega (arith, h, size)))).skips

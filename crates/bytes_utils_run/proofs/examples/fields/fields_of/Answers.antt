@@ -23,5 +23,4 @@ returns-clause-fields c = HasGiven-all AreIndexedPartsToCome (all_fields c.args.
 
 pub returns-clause-stand : goal.returns-clause-stand
 returns-clause-stand c =
-    fields_occur c.args.line.now c.args.separator.now (map index_and_chars c.loop-field.fields.items) c.utf8.line c.utf8.separator
-    (HasGiven-all AreIndexedPartsToCome (all_fields c.args.line.now c.args.separator.now) c.loop-field.invariant c.in-None.ensures.steps.0)
+    fields_occur c.args.line.now c.args.separator.now (map index_and_chars c.loop-field.fields.items) c.utf8.line c.utf8.separator (returns-clause-fields c)

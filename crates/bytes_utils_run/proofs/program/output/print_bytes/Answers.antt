@@ -1,6 +1,8 @@
 use Rattle.std.proofs.Common.{◌++◌, codes, decimal, length}
 use Rattle.std.proofs.KnownBytes.{Appends-trans}
-use Rattle.bytes_utils_run.proofs.Beginnings.{AppendsBeginning-after, AppendsBeginning-more, OnErr-always, OnErr-map}
+use Rattle.std.proofs.lemmas.Result.{on_err_weaker}
+use Rattle.bytes_utils_buf.proofs.Results.{OnErr-always}
+use Rattle.bytes_utils_run.proofs.Beginnings.{AppendsBeginning-after, AppendsBeginning-more}
 use Rattle.bytes_utils_run.proofs.program.output.print_bytes.Goals as goal
 
 -- the length was written, and none or all of the colon
@@ -30,6 +32,6 @@ returns-clause-err g c =
     let size = rw (c.as_bytes.ensures.value, c.format.ensures.text) at c.in_ok-write_out.ensures.ok in
     let head = Appends-trans _ _ _ (decimal (length part)) (codes ":") size c.in_ok-write_out-2.ensures.ok in
     let body = Appends-trans _ _ _ (decimal (length part) ++ codes ":") part head c.in_ok-write_out-3.ensures.ok in
-    OnErr-map c.write_out-4.result _ _
+    on_err_weaker c.write_out-4.result
     (λ begun. AppendsBeginning-after _ _ _ (decimal (length part) ++ codes ":" ++ part) (codes "\n") body begun)
     c.write_out-4.ensures.err

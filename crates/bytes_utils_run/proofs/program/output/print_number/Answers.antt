@@ -1,4 +1,5 @@
-use Rattle.bytes_utils_run.proofs.Beginnings.{AppendsBeginning-after, OnErr-map}
+use Rattle.std.proofs.lemmas.Result.{on_err_weaker}
+use Rattle.bytes_utils_run.proofs.Beginnings.{AppendsBeginning-after}
 use Rattle.std.proofs.Common.{codes, decimal}
 use Rattle.bytes_utils_run.proofs.program.output.print_number.Goals as goal
 
@@ -6,4 +7,4 @@ use Rattle.bytes_utils_run.proofs.program.output.print_number.Goals as goal
 pub returns-clause-err : goal.returns-clause-err
 returns-clause-err g c =
     let size = rw (c.as_bytes.ensures.value, c.format.ensures.text) at c.in_ok-write_out.ensures.ok in
-    OnErr-map c.write_out-2.result _ _ (λ begun. AppendsBeginning-after _ _ _ (decimal c.args.number) (codes "\n") size begun) c.write_out-2.ensures.err
+    on_err_weaker c.write_out-2.result (λ begun. AppendsBeginning-after _ _ _ (decimal c.args.number) (codes "\n") size begun) c.write_out-2.ensures.err

@@ -1,4 +1,4 @@
-use Rattle.bytes_utils_run.proofs.Beginnings.{OnErr-always}
+use Rattle.bytes_utils_buf.proofs.Results.{OnErr-always}
 use Rattle.bytes_utils_run.proofs.PrintedLemmas.{print_more, print_begun}
 use Rattle.bytes_utils_run.proofs.program.print.print_all.Goals as goal
 

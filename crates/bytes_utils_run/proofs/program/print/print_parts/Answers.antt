@@ -6,7 +6,7 @@ use Rattle.bytes_utils.proofs.StepLemmas.{HasGiven-none, HasGiven-more, HasGiven
 use Rattle.bytes_utils_run.specs.Coming.{AreToCome}
 use Rattle.bytes_utils_run.specs.Moves.{AppendsBeginning}
 use Rattle.bytes_utils_run.specs.Printed.{printed_part}
-use Rattle.bytes_utils_run.proofs.Beginnings.{OnErr-always}
+use Rattle.bytes_utils_buf.proofs.Results.{OnErr-always}
 use Rattle.bytes_utils_run.proofs.PrintedLemmas.{print_after, print_begun_after}
 use Rattle.bytes_utils_run.proofs.program.print.print_parts.Goals as goal
 

@@ -2,7 +2,7 @@ use Rattle.std.proofs.Common.{◌<◌, ◌++◌, length, map, arith, ap, ◌∙�
 use Rattle.std.proofs.lemmas.List.{length-map, map-append}
 use Rattle.std.proofs.lemmas.List.Elements.{All-same, All-append}
 use Rattle.std.specs.List.{concat}
-use Rattle.bytes_utils_buf.proofs.Lists.{concat-append}
+use Rattle.std.proofs.lemmas.List.Folds.{concat-append}
 use Rattle.bytes_utils_buf.proofs.segmented.buf.SegmentedBuf.append.Goals as goal
 
 pub invariant_of-self-2 : goal.invariant_of-self-2

@@ -1,7 +1,7 @@
-use Rattle.std.proofs.Common.{◌≡◌, ◌<◌, ℕ, List, length, map, ap, ◌∙◌, sym, arith}
+use Rattle.std.proofs.Math.Seq.{map-set_same}
+use Rattle.std.proofs.Common.{◌≡◌, ℕ, List, length, map, ap, ◌∙◌, sym, arith}
 use Rattle.std.proofs.lemmas.List.{length-map}
 use Rattle.bytes_utils_buf.specs.Packing.{piece_bytes}
-use Rattle.bytes_utils_buf.proofs.PackingLemmas.{map-replaced}
 use Rattle.bytes_utils_buf.proofs.segmented.buf.share.freeze_all.Goals as goal
 
 -- the elements are as many as before
@@ -14,12 +14,10 @@ index_mut-requires c =
 
 pub returns-in_err-freeze-clause-same : goal.returns-in_err-freeze-clause-same
 returns-in_err-freeze-clause-same c =
-    let items = c.loop-place.pieces.items in
-    let inside : c.loop-place.place < length items = omega (arith, size piece_bytes _ _ c.loop-place.invariant, c.loop-place-test.true, c.len-place-end.ensures) in
-    map-replaced piece_bytes items c.loop-place.place c.index_mut.result.now _ inside c.index_mut.ensures.value c.freeze.ensures.same ∙ c.loop-place.invariant
+    map-set_same piece_bytes c.loop-place.pieces.items c.loop-place.place _ c.index_mut.result.now (c.freeze.ensures.same ∙ ap piece_bytes c.index_mut.ensures.value)
+    ∙ c.loop-place.invariant
 
 pub loop-place-preserved : goal.loop-place-preserved
 loop-place-preserved c =
-    let items = c.loop-place.pieces.items in
-    let inside : c.loop-place.place < length items = omega (arith, size piece_bytes _ _ c.loop-place.invariant, c.loop-place-test.true, c.len-place-end.ensures) in
-    map-replaced piece_bytes items c.loop-place.place c.index_mut.result.now _ inside c.index_mut.ensures.value c.freeze.ensures.same ∙ c.loop-place.invariant
+    map-set_same piece_bytes c.loop-place.pieces.items c.loop-place.place _ c.index_mut.result.now (c.freeze.ensures.same ∙ ap piece_bytes c.index_mut.ensures.value)
+    ∙ c.loop-place.invariant

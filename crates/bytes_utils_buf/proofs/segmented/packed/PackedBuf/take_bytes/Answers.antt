@@ -1,11 +1,8 @@
 use Rattle.std.proofs.Common.{◌≡◌, inl, inr, ◌<◌, ◌≤◌, length, ap, ◌∙◌, rules}
 use Rattle.bytes_utils_buf.specs.Segments.{Skips, front_of}
 use Rattle.bytes_utils_buf.proofs.Results.{OnErr-always}
-use Rattle.bytes_utils_buf.proofs.PackingLemmas.{packed-Skips, same-Skips}
+use Rattle.bytes_utils_buf.proofs.PackingLemmas.{packed_skips, same-Skips}
 use Rattle.bytes_utils_buf.proofs.segmented.packed.PackedBuf.take_bytes.Goals as goal
-
-pub invariant_of-self : goal.invariant_of-self
-invariant_of-self c = packed-Skips _ _ _ _ c.copy_to_bytes.ensures.skips c.self.invariant
 
 pub returns-in_err-copy_to_bytes-clause-err : goal.returns-in_err-copy_to_bytes-clause-err
 returns-in_err-copy_to_bytes-clause-err c =
@@ -16,8 +13,5 @@ returns-in_err-copy_to_bytes-clause-err c =
     let skips : Skips 0 all c.copy_to_bytes.new.self.segments = rw (← lost) c.in_err-copy_to_bytes.ensures.skips in
     OnErr-always c.from_residual.result _ (same-Skips all _ c.segments.ensures.none_empty skips ∙ ap (λ b. b.held.segments) c.self.view_is)
 
-pub invariant_of-self-then-len-first_len : goal.invariant_of-self-then-len-first_len
-invariant_of-self-then-len-first_len c = packed-Skips _ _ _ _ c.copy_to_bytes.ensures.skips c.self.invariant
-
 pub invariant_of-self-2 : goal.invariant_of-self-2
-invariant_of-self-2 c = packed-Skips _ _ _ _ c.advance.ensures.skips c.self.invariant
+invariant_of-self-2 c = packed_skips _ _ _ _ c.advance.ensures.skips c.self.invariant

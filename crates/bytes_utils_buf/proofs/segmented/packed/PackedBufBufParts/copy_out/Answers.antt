@@ -1,10 +1,10 @@
 use Rattle.std.proofs.Common.{inl, inr}
 use Rattle.std.proofs.lemmas.Result.{IfErr-weaker}
-use Rattle.bytes_utils_buf.proofs.PackingLemmas.{packed-Skips}
+use Rattle.bytes_utils_buf.proofs.PackingLemmas.{packed_skips}
 use Rattle.bytes_utils_buf.proofs.segmented.packed.PackedBufBufParts.copy_out.Goals as goal
 
 pub invariant_of-self : goal.invariant_of-self
-invariant_of-self c = packed-Skips _ _ _ _ c.copy_out.ensures.skips c.self.invariant
+invariant_of-self c = packed_skips _ _ _ _ c.copy_out.ensures.skips c.self.invariant
 
 pub returns-clause-lost : goal.returns-clause-lost
 returns-clause-lost c =
