@@ -57,6 +57,18 @@ pub(crate) fn assert_says<E: Error>(
     Ok(())
 }
 
+/// Asserts the debug text of an error.
+pub(crate) fn assert_debugs<E: Error>(
+    rt: &impl Abort,
+    alloc: Global,
+    error: &E,
+    text: &str,
+) -> Result<(), Fail> {
+    let said = format!(in alloc; "{error:?}")?;
+    assert_text(rt, said.as_str(), text);
+    Ok(())
+}
+
 /// Returns why the part was refused. If it wasn't, asserts that it is the expected one.
 fn refusal_of<S: Storage>(
     rt: &impl Abort,

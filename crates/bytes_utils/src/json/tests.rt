@@ -3,7 +3,7 @@ mod memory;
 
 ghost use Rattle.std.specs.Prelude.{◌≡◌, IfOk, IfErr};
 
-use crate::fixtures::{assert_says, assert_text};
+use crate::fixtures::{assert_debugs, assert_says, assert_text};
 use crate::json::JsonRefused;
 use crate::string::{Storage, StorageMut, StrInner};
 use bytes::{Bytes, BytesMut};
@@ -133,6 +133,12 @@ fn numbers_of_refusals(rt: HostRuntime) {
 }
 
 #[test]
-fn a_refusal_of_json_says_why(rt: HostRuntime) -> Result<(), Fail> {
-    assert_says(&rt, rt.alloc(), &JsonRefused::NotJson, "not JSON")
+fn refusals_of_json_say_why(rt: HostRuntime) -> Result<(), Fail> {
+    let alloc = rt.alloc();
+    assert_says(&rt, alloc, &JsonRefused::OutOfMemory, "out of memory")?;
+    assert_says(&rt, alloc, &JsonRefused::NotJson, "not JSON")?;
+    let text = "neither a string nor a list of bytes";
+    assert_says(&rt, alloc, &JsonRefused::NotText, text)?;
+    assert_says(&rt, alloc, &JsonRefused::NotUtf8, "not UTF-8")?;
+    assert_debugs(&rt, alloc, &JsonRefused::NotUtf8, "NotUtf8")
 }

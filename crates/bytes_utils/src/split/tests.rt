@@ -7,6 +7,7 @@ mod lines;
 mod long;
 mod memory;
 mod separator;
+mod shared;
 mod size_hint;
 mod split_counts;
 mod ways;

@@ -145,3 +145,16 @@ fn many_calls(rt: HostRuntime) -> Result<(), Fail> {
     assert!(rt; replies.refused.is_none() && replies.given.len() == 10_000);
     Ok(())
 }
+
+#[test]
+fn many_pushes(rt: HostRuntime) -> Result<(), Fail> {
+    let mut calls = Vec::new(rt.alloc());
+    for _ in 0..10_000 {
+        calls.push(Call::Push(Zeros::new(10)))?;
+    }
+    let mut buf = SegmentedBuf::new(rt.alloc());
+    let replies = drive(rt.alloc(), &mut buf, calls);
+    assert!(rt; replies.refused.is_none() && replies.given.len() == 10_000);
+    assert!(rt; buf.segments() == 10_000);
+    Ok(())
+}

@@ -137,10 +137,24 @@ fn texts_are_cut(rt: HostRuntime) -> Result<(), Fail> {
     Ok(())
 }
 
+/// Returns whether all of a text is split, into this many parts.
+fn are_cut(alloc: Global, text: &Str, how: How<'_>, count: usize) -> Result<bool, Reason>
+    requires { IsAllowed how }
+{
+    let parts = cut_all(alloc, text.try_clone()?, how);
+    Ok(parts.refused.is_none() && parts.given.len() == count)
+}
+
 #[test]
 fn many_parts(rt: HostRuntime) -> Result<(), Fail> {
-    let text = Str::from_strs(rt.alloc(), repeat_n("β,", 10_000))?;
-    let parts = cut_all(rt.alloc(), text, How::Split(","));
-    assert!(rt; parts.refused.is_none() && parts.given.len() == 10_001);
+    let text = Str::from_strs(rt.alloc(), repeat_n("β,\n", 10_000))?;
+    assert!(rt; are_cut(rt.alloc(), &text, How::Split(","), 10_001)?);
+    assert!(rt; are_cut(rt.alloc(), &text, How::SplitN(usize::MAX, ","), 10_001)?);
+    assert!(rt; are_cut(rt.alloc(), &text, How::RSplit(","), 10_001)?);
+    assert!(rt; are_cut(rt.alloc(), &text, How::RSplitN(usize::MAX, ","), 10_001)?);
+    assert!(rt; are_cut(rt.alloc(), &text, How::Inclusive(","), 10_001)?);
+    assert!(rt; are_cut(rt.alloc(), &text, How::Words, 10_000)?);
+    assert!(rt; are_cut(rt.alloc(), &text, How::AsciiWords, 10_000)?);
+    assert!(rt; are_cut(rt.alloc(), &text, How::Lines, 10_000)?);
     Ok(())
 }

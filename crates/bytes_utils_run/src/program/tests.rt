@@ -13,11 +13,12 @@ const INPUT: &[u8] = b"split ,\na,b,,c";
 
 const PRINTED: &[u8] = b"1:a\n1:b\n0:\n1:c\n";
 
-// A fault is printed as it is: width, fill and precision change nothing.
+// A fault is printed as it is: width, fill, precision and style change nothing.
 #[test]
 fn faults_are_reported_without_padding(rt: HostRuntime) -> Result<(), Fail> {
-    let reported = format!(in rt.alloc(); "{:*^12.3}", Fault::NotUtf8)?;
-    assert!(rt; reported.as_str() == "not UTF-8");
+    let fault = Fault::NotUtf8;
+    let reported = format!(in rt.alloc(); "{fault:*^12.3}|{fault:#}|{fault:?}")?;
+    assert!(rt; reported.as_str() == "not UTF-8|not UTF-8|NotUtf8");
     Ok(())
 }
 

@@ -2,7 +2,7 @@
 mod memory;
 
 use crate::fixtures::readers::{InterruptedReader, NotingReader, SlowReader};
-use crate::fixtures::{assert_says, assert_text, styled};
+use crate::fixtures::{assert_debugs, assert_says, assert_text, styled};
 use crate::frame::Frames;
 use crate::frame::read::{ReadError, read_frame, read_frame_laws};
 use crate::{Reason, Refused};
@@ -103,6 +103,22 @@ fn a_frame_and_a_rest_longer_than_a_block(rt: HostRuntime) -> Result<(), Fail> {
     Ok(())
 }
 
+/// Whether the bytes before the last one, which is their end, are read as a frame.
+fn is_frame(alloc: Global, bytes: &[u8]) -> Result<bool, Fail> {
+    let (_end, frame) = bytes.split_last().ok_or("no end")?;
+    let mut frames = Frames::new(alloc, b"-")?;
+    Ok(is_next(alloc, &mut NotingReader::new(bytes), &mut frames, frame))
+}
+
+#[test]
+fn a_long_frame(rt: HostRuntime) -> Result<(), Fail> {
+    let mut bytes = vec![in rt.alloc(); b'a'; 300_000]?;
+    bytes.push(b'-')?;
+    let is_read = is_frame(rt.alloc(), &bytes)?;
+    assert!(rt; is_read);
+    Ok(())
+}
+
 // Reads of one byte are copied together: 4,096 fill a block, and the last is in another.
 #[test]
 fn single_bytes_fill_a_block(rt: HostRuntime) -> Result<(), Fail> {
@@ -127,6 +143,16 @@ fn a_frame_shares_the_block(rt: HostRuntime) -> Result<(), Fail> {
     let mut frames = Frames::new(rt.alloc(), "-".as_bytes())?;
     let mut input = SlowReader::new("ab-cd-".as_bytes(), 100, 0);
     assert!(rt; is_shared(rt.alloc(), &mut input, &mut frames));
+    Ok(())
+}
+
+// The first read has the first of both frames.
+#[test]
+fn no_more_is_read_than_a_frame_needs(rt: HostRuntime) -> Result<(), Fail> {
+    let mut frames = Frames::new(rt.alloc(), "-".as_bytes())?;
+    let mut input = SlowReader::new("ab-cd-".as_bytes(), 3, 0);
+    assert!(rt; is_next(rt.alloc(), &mut input, &mut frames, "ab".as_bytes()));
+    assert!(rt; input.rest() == "cd-".as_bytes());
     Ok(())
 }
 
@@ -166,6 +192,9 @@ fn an_error_of_the_reader_says_why(rt: HostRuntime) -> Result<(), Fail> {
 fn other_errors_say_why(rt: HostRuntime) -> Result<(), Fail> {
     let alloc = rt.alloc();
     assert_says(&rt, alloc, &ReadError::TooManyReads, "too many reads")?;
+    assert_debugs(&rt, alloc, &ReadError::TooManyReads, "TooManyReads")?;
+    let refused = ReadError::Refused(Reason::OutOfMemory);
+    assert_says(&rt, alloc, &refused, "out of memory")?;
     let unshared = ReadError::Unshared(BytesMut::new(alloc));
     assert_says(&rt, alloc, &unshared, "out of memory")?;
     let unpushed = ReadError::Unpushed(Refused {

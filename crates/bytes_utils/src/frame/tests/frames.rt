@@ -47,7 +47,9 @@ fn long_piece(alloc: Global, third: u8) -> Result<Bytes, Fail> {
 /// A frame in one piece shares that piece's block with what is left of it.
 #[test]
 fn frame_in_one_piece_is_shared(rt: HostRuntime) -> Result<(), Fail> {
-    let mut frames = Frames::new(rt.alloc(), "\n".as_bytes())?;
+    let mut frames = Frames::new(rt.alloc(), b"\n")?;
+    assert_shares(&rt, rt.alloc(), &mut frames)?;
+    let mut frames = LimitedFrames::new(rt.alloc(), b"\n", 1_197)?;
     assert_shares(&rt, rt.alloc(), &mut frames)
 }
 
@@ -105,20 +107,52 @@ fn a_dropped_reader_lets_its_pieces_go(rt: HostRuntime) -> Result<(), Fail> {
     Ok(())
 }
 
+/// Whether a frame in one piece is one more owner of its block, and no other one is left.
+fn is_let_go_with_a_frame<F: Holds + ReadsFrames + Drop>(
+    alloc: Global,
+    mut reader: F,
+) -> Result<bool, Fail> {
+    let piece = long_piece(alloc, b'\n')?;
+    reader.put(piece.clone()?)?;
+    let frame = reader.frame(alloc)?;
+    drop(reader);
+    let held = frame.is_some() && !piece.is_unique();
+    drop(frame);
+    Ok(held && piece.is_unique())
+}
+
+#[test]
+fn a_frame_lets_its_piece_go(rt: HostRuntime) -> Result<(), Fail> {
+    let alloc = rt.alloc();
+    assert!(rt; is_let_go_with_a_frame(alloc, Frames::new(alloc, b"\n")?)?);
+    assert!(rt; is_let_go_with_a_frame(alloc, LimitedFrames::new(alloc, b"\n", 9)?)?);
+    Ok(())
+}
+
+/// The same of a frame in two pieces, which are segments of their own.
+fn is_let_go_with_segments<F: Holds + ReadsFrames + Drop>(
+    alloc: Global,
+    mut reader: F,
+) -> Result<bool, Fail> {
+    let piece = long_piece(alloc, b'-')?;
+    for _ in 0..2 {
+        reader.put(piece.clone()?)?;
+    }
+    reader.put(Bytes::from_static(b"+"))?;
+    let frame = reader.segments(alloc)?;
+    drop(reader);
+    let held = frame.is_some() && !piece.is_unique();
+    drop(frame);
+    Ok(held && piece.is_unique())
+}
+
 /// The pieces of a frame share the pushed blocks.
 #[test]
 fn frame_in_pieces_is_shared(rt: HostRuntime) -> Result<(), Fail> {
-    let piece = long_piece(rt.alloc(), b'-')?;
-    let mut frames = Frames::new(rt.alloc(), b"+")?;
-    for _ in 0..2 {
-        frames.push(piece.clone()?)?;
-    }
-    frames.push(Bytes::from_static(b"+"))?;
-    let frame = frames.next_frame_segments(rt.alloc())?;
-    drop(frames);
-    assert!(rt; frame.is_some() && !piece.is_unique());
-    drop(frame);
-    assert!(rt; piece.is_unique());
+    let alloc = rt.alloc();
+    assert!(rt; is_let_go_with_segments(alloc, Frames::new(alloc, b"+")?)?);
+    let frames = LimitedFrames::new(alloc, b"+", 1_200)?;
+    assert!(rt; is_let_go_with_segments(alloc, frames)?);
     Ok(())
 }
 
@@ -156,6 +190,22 @@ fn a_long_frame_in_many_pieces(rt: HostRuntime) -> Result<(), Fail> {
         let mut frames = LimitedFrames::new(alloc, &[b'-'; 300], limit)?;
         assert_long(&rt, alloc, &mut frames)?;
     }
+    Ok(())
+}
+
+/// Whether a copy of 100,000 bytes is held.
+fn holds_long_copy<F: Holds + Drop>(mut reader: F, bytes: &[u8]) -> bool {
+    reader.put_copy(bytes).is_ok() && reader.left() == 100_000
+}
+
+#[test]
+fn a_long_slice_is_copied(rt: HostRuntime) -> Result<(), Fail> {
+    let alloc = rt.alloc();
+    let bytes = vec![in alloc; b'a'; 100_000]?;
+    assert!(rt; holds_long_copy(Frames::new(alloc, b"\n")?, &bytes));
+    assert!(rt; holds_long_copy(LimitedFrames::new(alloc, b"\n", 9)?, &bytes));
+    assert!(rt; holds_long_copy(Lines::new(alloc)?, &bytes));
+    assert!(rt; holds_long_copy(LimitedLines::new(alloc, 9)?, &bytes));
     Ok(())
 }
 

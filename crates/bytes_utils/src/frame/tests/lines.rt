@@ -1,5 +1,5 @@
 //! Lines from pieces.
-use crate::fixtures::assert_says;
+use crate::fixtures::{assert_debugs, assert_says};
 use crate::frame::tests::readers::{Holds, ReadsLines};
 use crate::frame::{LimitedLines, LineError, Lines};
 use crate::{Reason, Refused, Str};
@@ -82,7 +82,8 @@ fn a_last_line_that_is_no_text_is_handed_over(rt: HostRuntime) -> Result<(), Fai
 #[test]
 fn a_refusal_of_a_line_says_why(rt: HostRuntime) -> Result<(), Fail> {
     let refused = LineError::from(Reason::OutOfMemory);
-    assert_says(&rt, rt.alloc(), &refused, "out of memory")
+    assert_says(&rt, rt.alloc(), &refused, "out of memory")?;
+    assert_debugs(&rt, rt.alloc(), &refused, "Refused(OutOfMemory)")
 }
 
 // The last of its 100,001 bytes is not UTF-8.
@@ -106,29 +107,42 @@ fn a_refused_piece_is_dropped(rt: HostRuntime) -> Result<(), Fail> {
     Ok(())
 }
 
-/// Whether this is the next line, and shares its block.
-fn is_next(alloc: Global, lines: &mut Lines, want: &str) -> bool {
-    match lines.next_line(alloc) {
-        Ok(Some(line)) => line.eq_str(want) && !line.inner().is_unique(),
+/// Whether this is a line of so many bytes, and whether it is the only owner of its block.
+fn is_owned(next: Result<Option<Str>, LineError>, len: usize, is_unique: bool) -> bool {
+    match next {
+        Ok(Some(line)) => line.len() == len && line.inner().is_unique() == is_unique,
         _ => false,
     }
+}
+
+/// Asserts a line in one piece, one in two, and a last one in one. The first and the last share
+/// their pieces. Then no other owner of these is left.
+fn assert_shares<L: Holds + ReadsLines + Drop>(
+    rt: &impl Abort,
+    alloc: Global,
+    mut lines: L,
+) -> Result<(), Fail> {
+    let mut bytes = [b'd'; 600];
+    bytes[..4].copy_from_slice(b"ab\r\n");
+    let piece = Bytes::copy_from_slice(alloc, &bytes)?;
+    lines.put(piece.clone()?)?;
+    lines.put(piece.clone()?)?;
+    assert!(rt; is_owned(lines.line(alloc), 2, false));
+    assert!(rt; is_owned(lines.line(alloc), 598, true));
+    assert!(rt; is_owned(lines.last(alloc), 596, false));
+    drop(lines);
+    assert!(rt; piece.is_unique());
+    Ok(())
 }
 
 /// A line in one piece shares that piece's block with what is left of it.
 #[test]
 fn a_line_in_one_piece_is_shared(rt: HostRuntime) -> Result<(), Fail> {
-    let mut lines = Lines::new(rt.alloc())?;
-    let mut first = [b'd'; 600];
-    first[..4].copy_from_slice(b"ab\r\n");
-    lines.push(Bytes::copy_from_slice(rt.alloc(), &first)?)?;
-    lines.push(Bytes::copy_from_slice(rt.alloc(), b"e\nf")?)?;
-    assert!(rt; is_next(rt.alloc(), &mut lines, "ab"));
-    let line = lines.next_line(rt.alloc()).ok().flatten().ok_or("no line")?;
-    assert!(rt; line.len() == 597 && line.inner().is_unique());
-    Ok(())
+    assert_shares(&rt, rt.alloc(), Lines::new(rt.alloc())?)?;
+    assert_shares(&rt, rt.alloc(), LimitedLines::new(rt.alloc(), 599)?)
 }
 
-/// Asserts a line of 200,000 bytes in 2,001 pieces.
+/// Asserts a line of 200,000 bytes in 2,001 pieces, and a last one of as many in 2,000.
 fn assert_long<L: Holds + ReadsLines>(
     rt: &impl Abort,
     alloc: Global,
@@ -140,6 +154,11 @@ fn assert_long<L: Holds + ReadsLines>(
     lines.put(Bytes::from_static(b"\r\n"))?;
     let line = lines.line(alloc).ok().flatten();
     assert!(rt; line.ok_or("no line")?.len() == 200_000);
+    for _ in 0..2_000 {
+        lines.put(Bytes::from_static(&[b'a'; 100]))?;
+    }
+    let last = lines.last(alloc).ok().flatten();
+    assert!(rt; last.ok_or("no last line")?.len() == 200_000);
     Ok(())
 }
 

@@ -9,6 +9,8 @@ use std::alloc::Global;
 pub(super) trait Holds {
     fn put(&mut self, piece: Bytes) -> Result<(), Refused<Bytes>>;
 
+    fn put_copy(&mut self, bytes: &[u8]) -> Result<(), Reason>;
+
     fn left(&self) -> usize;
 
     fn end(self) -> SegmentedBuf<EitherBuf<Bytes, BytesMut>>;
@@ -17,6 +19,10 @@ pub(super) trait Holds {
 impl Holds for Frames {
     fn put(&mut self, piece: Bytes) -> Result<(), Refused<Bytes>> {
         self.push(piece)
+    }
+
+    fn put_copy(&mut self, bytes: &[u8]) -> Result<(), Reason> {
+        self.push_slice(bytes)
     }
 
     fn left(&self) -> usize {
@@ -33,6 +39,10 @@ impl Holds for LimitedFrames {
         self.push(piece)
     }
 
+    fn put_copy(&mut self, bytes: &[u8]) -> Result<(), Reason> {
+        self.push_slice(bytes)
+    }
+
     fn left(&self) -> usize {
         self.remaining()
     }
@@ -47,6 +57,10 @@ impl Holds for Lines {
         self.push(piece)
     }
 
+    fn put_copy(&mut self, bytes: &[u8]) -> Result<(), Reason> {
+        self.push_slice(bytes)
+    }
+
     fn left(&self) -> usize {
         self.remaining()
     }
@@ -59,6 +73,10 @@ impl Holds for Lines {
 impl Holds for LimitedLines {
     fn put(&mut self, piece: Bytes) -> Result<(), Refused<Bytes>> {
         self.push(piece)
+    }
+
+    fn put_copy(&mut self, bytes: &[u8]) -> Result<(), Reason> {
+        self.push_slice(bytes)
     }
 
     fn left(&self) -> usize {

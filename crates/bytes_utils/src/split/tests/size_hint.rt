@@ -3,6 +3,7 @@
 ghost use Rattle.std.specs.Prelude.{◌≤◌};
 
 use crate::Str;
+use crate::string::{BytesIter, Direction};
 use std::process::Abort;
 
 /// Whether the bounds allow `left` more items.
@@ -44,4 +45,22 @@ fn bounds(rt: HostRuntime) {
         Str::from_static("a b c").split_ascii_whitespace_bytes(),
         3,
     );
+}
+
+// With a limit, and by the empty separator.
+#[test]
+fn bounds_of_other_runs(rt: HostRuntime) {
+    assert_hints(&rt, Str::from_static("a,b,c").splitn_bytes(2, ","), 2);
+    assert_hints(&rt, Str::from_static("a,b,c").rsplitn_bytes(2, ","), 2);
+    assert_hints(&rt, Str::from_static("a,b,c").splitn_bytes(0, ","), 0);
+    assert_hints(&rt, Str::from_static("aβ").split_bytes("").indices(), 4);
+    assert_hints(&rt, Str::from_static("aβ").rsplit_bytes(""), 4);
+}
+
+#[test]
+fn bounds_of_chunks(rt: HostRuntime) {
+    let chunks = BytesIter::new(Str::from_static("a,b,c"), Direction::Forward, |s: &str| {
+        s.find(',').map(|at| (at, at + 1))
+    });
+    assert_hints(&rt, chunks, 3);
 }

@@ -2,7 +2,7 @@
 use super::queue::{append_queue, drain_into_queue};
 use crate::Reason;
 use crate::fixtures::{assert_copies_long, gather, lend, put, put_first};
-use crate::segmented::SegmentedBuf;
+use crate::segmented::{PackedBuf, SegmentedBuf};
 use bytes::{Buf, Bytes, BytesQueue};
 use std::alloc::{AllocError, Global};
 use std::process::Abort;
@@ -78,6 +78,17 @@ fn long_body_is_moved_by_a_queue(rt: HostRuntime) -> Result<(), Fail> {
     drain_into_queue(&rt, &mut body, &mut queue)?;
     append_queue(&rt, &mut body, &mut queue)?;
     assert!(rt; body.segments() == 1_000 && queue.is_empty());
+    Ok(())
+}
+
+#[test]
+fn long_body_becomes_shared(rt: HostRuntime) -> Result<(), Fail> {
+    let mut body = PackedBuf::new(rt.alloc(), 99);
+    for piece in pieces(rt.alloc())? {
+        body.push(rt.alloc(), piece)?;
+    }
+    let shared = body.into_shared(rt.alloc())?;
+    assert!(rt; shared.segments() == 1_000 && shared.remaining() == 100_000);
     Ok(())
 }
 

@@ -2,6 +2,7 @@
 use crate::fixtures::odd::Asked;
 use crate::fixtures::{FOUR, held, hold, lend, put, put_first, shared, skip, take_out};
 use crate::parts::{BufParts, CopyRefused};
+use crate::segmented::SegmentedBuf;
 use bytes::{Buf, Bytes};
 use std::alloc::{AllocError, Global};
 use std::process::Abort;
@@ -116,5 +117,33 @@ fn passed_segments_are_not_advanced(rt: HostRuntime) -> Result<(), Fail> {
     let mut bufs = numbered(rt.alloc(), &["ab", "cd"])?;
     passes(&rt, rt.alloc(), lend(&rt, &mut bufs))?;
     assert_not_advanced(&rt, &bufs);
+    Ok(())
+}
+
+// First bytes and ranges of a buffer, shared, cut off and taken out.
+fn take_parts(rt: &impl Abort, alloc: Global, buf: &mut SegmentedBuf<Bytes>) -> Result<(), Fail> {
+    assert!(rt; buf.remaining() == 11);
+    let _ = (buf.prefix(alloc, 7)?, buf.slice(alloc, 3..7)?);
+    let _ = (buf.peek_bytes(alloc, 3)?, buf.copy_range(alloc, 3..5)?);
+    let _ = buf.split_to(alloc, 2)?;
+    assert!(rt; buf.remaining() == 9);
+    let _ = buf.split_off(alloc, 6)?;
+    assert!(rt; buf.remaining() == 6);
+    let _ = (buf.copy_to_bytes(alloc, 1)?, buf.pop());
+    Ok(())
+}
+
+// The first and the second piece are of one block.
+#[test]
+fn parts_let_their_block_go(rt: HostRuntime) -> Result<(), Fail> {
+    let (mut back, other) = shared(rt.alloc())?;
+    assert!(rt; back.len() == 11);
+    let front = back.split_to(5)?;
+    let mut held = hold(&rt, rt.alloc(), front)?;
+    put(&rt, &mut held, back)?;
+    take_parts(&rt, rt.alloc(), &mut held)?;
+    assert!(rt; held.segments() == 1 && !other.is_unique());
+    drop(held);
+    assert!(rt; other.is_unique());
     Ok(())
 }

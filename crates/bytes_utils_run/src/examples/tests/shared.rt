@@ -64,37 +64,62 @@ fn piece(alloc: Global, bytes: &[u8]) -> Result<(Bytes, Bytes), Fail> {
     Ok((piece.clone()?, piece))
 }
 
+/// Asserts that a part is one more owner of its block, and no other one is left.
+fn assert_lets_go(rt: &impl Abort, part: Bytes, other: Bytes) {
+    assert!(rt; !part.is_unique());
+    drop(part);
+    assert!(rt; other.is_unique());
+}
+
 #[test]
 fn a_body_in_one_piece_is_shared(rt: HostRuntime) -> Result<(), Fail> {
     let mut inbox = Inbox::new(rt.alloc());
-    let (bytes, _other) = piece(rt.alloc(), b"\0\0\0\x02ab")?;
+    let (bytes, other) = piece(rt.alloc(), b"\0\0\0\x02ab")?;
     inbox.push(bytes)?;
     let body = inbox.next_body(rt.alloc())?.ok_or("no body")?;
-    assert!(rt; !body.is_unique());
+    assert_lets_go(&rt, body, other);
     Ok(())
+}
+
+/// Two bytes, an empty line after them, and more.
+fn two_and_an_end() -> [u8; 600] {
+    let mut bytes = [b'a'; 600];
+    bytes[2..6].copy_from_slice(b"\r\n\r\n");
+    bytes
 }
 
 #[test]
 fn a_record_in_one_piece_is_shared(rt: HostRuntime) -> Result<(), Fail> {
     let mut records = Records::new(rt.alloc(), 9)?;
-    let mut long = [b'a'; 600];
-    long[2..6].copy_from_slice(b"\r\n\r\n");
-    let (bytes, _other) = piece(rt.alloc(), &long)?;
+    let (bytes, other) = piece(rt.alloc(), &two_and_an_end())?;
     records.push(bytes)?;
     let record = records.next_record(rt.alloc()).ok().flatten();
-    assert!(rt; !record.ok_or("no record")?.inner().is_unique());
+    drop(records);
+    assert_lets_go(&rt, record.ok_or("no record")?.into_inner(), other);
+    Ok(())
+}
+
+#[test]
+fn a_head_in_one_piece_is_shared(rt: HostRuntime) -> Result<(), Fail> {
+    let mut requests = Requests::new(rt.alloc())?;
+    let (bytes, other) = piece(rt.alloc(), &two_and_an_end())?;
+    requests.push(bytes)?;
+    let head = requests.next_head(rt.alloc())?;
+    drop(requests);
+    assert_lets_go(&rt, head.ok_or("no head")?, other);
     Ok(())
 }
 
 #[test]
 fn a_body_in_two_pieces_is_shared(rt: HostRuntime) -> Result<(), Fail> {
     let mut requests = Requests::new(rt.alloc())?;
-    let (first, _first) = piece(rt.alloc(), &[b'a'; 600])?;
-    let (second, _second) = piece(rt.alloc(), &[b'b'; 600])?;
+    let (first, other) = piece(rt.alloc(), &[b'a'; 600])?;
     requests.push(first)?;
-    requests.push(second)?;
+    requests.push(other.clone()?)?;
     for piece in requests.next_body(rt.alloc(), 1_000)?.ok_or("no body")? {
         assert!(rt; !piece.is_unique());
     }
+    drop(requests);
+    assert!(rt; other.is_unique());
     Ok(())
 }
