@@ -16,6 +16,7 @@ pub mod Limits
 pub mod FromEnds
 pub mod PartCut
 pub mod HalvesLemmas
+pub mod EndsLemmas
 pub mod EachCharacter
 pub mod CharacterCut
 pub mod NextPart
@@ -41,4 +42,8 @@ pub mod StreamRunsLemmas
 pub mod FramesLemmas
 pub mod LimitedFramesLemmas
 pub mod StreamLinesLemmas
+pub mod ValidLen
+pub mod CharacterBegins
+pub mod CharacterEnds
+pub mod StreamTextsLemmas
 pub mod ReadFrameLemmas

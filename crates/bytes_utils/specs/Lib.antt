@@ -3,6 +3,7 @@ pub mod Occurrence
 pub mod EmptySeparator
 pub mod Parts
 pub mod Halves
+pub mod Ends
 pub mod Lines
 pub mod Words
 pub mod Outcome
@@ -19,6 +20,7 @@ pub mod Frames
 pub mod FrameSearch
 pub mod LimitedFrames
 pub mod StreamLines
+pub mod StreamTexts
 pub mod LimitedLines
 pub mod ReadError
 pub mod ReadFrame

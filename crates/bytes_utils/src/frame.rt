@@ -13,6 +13,7 @@ mod read;
 pub(crate) mod search;
 #[cfg(test)]
 mod tests;
+mod texts;
 
 use bytes::{Buf, Bytes, BytesMut};
 use bytes_utils_buf::segmented::{PackedBuf, SegmentedBuf};
@@ -25,6 +26,7 @@ pub use read::{ReadError, read_frame, read_frame_laws};
 use search::SearchState;
 use std::alloc::Global;
 use std::marker::Model;
+pub use texts::{TextError, Texts, text_laws};
 
 /// A piece of at most this many bytes is copied to those before it.
 const SMALL: usize = 512;

@@ -1,7 +1,7 @@
 //! Iterators that split a text into owned parts.
 
 mod boundary;
-mod character;
+pub(crate) mod character;
 mod closure;
 mod cut;
 mod direction;
@@ -13,8 +13,10 @@ mod once;
 mod search;
 mod separated;
 mod separator;
+mod strip;
 #[cfg(test)]
 mod tests;
+mod trim;
 mod words;
 
 pub use boundary::boundaries;

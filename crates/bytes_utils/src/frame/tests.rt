@@ -6,3 +6,4 @@ mod lines;
 mod memory;
 mod readers;
 mod search;
+mod texts;

@@ -81,6 +81,20 @@ pub(super) fn cut_before<S: Storage>(text: StrInner<S>, start: usize) -> Result<
     text.into_back(start)
 }
 
+/// Returns the text before the byte place `end`: at the end of the text it makes no cut.
+#[inline(always)]
+pub(super) fn cut_front<S: Storage>(text: StrInner<S>, end: usize) -> Result<StrInner<S>, Reason>
+    requires { IsCharBoundary text end }
+    ensures front { IfOk result (λ front. front ≡ take end text) }
+    ensures err { OnErr result (end < length text) }
+    ensures reason { IfErr result S.refuses }
+{
+    if end == text.as_str().len() {
+        return Ok(text);
+    }
+    text.into_front(end)
+}
+
 /// Returns the part of a cut and keeps what is left. Of a refused cut it returns the reason and
 /// keeps nothing.
 macro_rules! yield_part {

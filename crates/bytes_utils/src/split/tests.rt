@@ -1,6 +1,7 @@
 //! What no clause says: that calls succeed with enough memory, printed text, and worked cases.
 mod borrowed;
 mod closure;
+mod ends;
 mod inclusive;
 mod indices;
 mod lines;
@@ -10,5 +11,7 @@ mod separator;
 mod shared;
 mod size_hint;
 mod split_counts;
+mod strip;
+mod trim;
 mod ways;
 mod words;

@@ -5,3 +5,4 @@ mod frames;
 mod limited;
 mod lines;
 mod readers;
+mod texts;

@@ -2,6 +2,7 @@
 //! the end. A run with one refused request ends normally, whichever request it is, and prints which
 //! call was refused.
 mod closure;
+mod ends;
 mod inclusive;
 mod indices;
 mod lines;

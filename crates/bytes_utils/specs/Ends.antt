@@ -1,0 +1,17 @@
+-- What is at the ends of a text: what it begins with, what it ends with, and its white space there.
+use Rattle.std.specs.Prelude.{◌≡◌, ℕ, List, ◌++◌}
+use Rattle.std.specs.Char.{is_not_whitespace}
+use Rattle.std.specs.Str.{NoCharPasses}
+
+-- t is p and what follows it
+abbrev pub BeginsWith : {X : Type 0} → List X → List X → Type 0
+BeginsWith {X} p t = (following : List X) × (p ++ following ≡ t)
+
+-- t is what comes before p, and p
+abbrev pub EndsWith : {X : Type 0} → List X → List X → Type 0
+EndsWith {X} p t = (before : List X) × (before ++ p ≡ t)
+
+-- the text is white space, the part, and white space
+abbrev pub IsBetweenSpace : List ℕ → List ℕ → Type 0
+IsBetweenSpace part text = (before : List ℕ) × (following : List ℕ) × (before ++ (part ++ following) ≡ text)
+    × NoCharPasses is_not_whitespace before × NoCharPasses is_not_whitespace following
