@@ -1,5 +1,5 @@
 //! Frames of a stream that comes in pieces, each ended by a separator.
-ghost use Rattle.std.specs.Prelude.{◌≡◌, ℕ, ◌+◌, ◌^◌, ◌<◌, ◌≤◌, ◌↔◌, List, [], ◌++◌, length, take, drop, IfOk, IfErr, IfSome, IfNone, IsOk, OnOk, OnErr};
+ghost use Rattle.std.specs.Prelude.{◌≡◌, ℕ, ◌+◌, ◌^◌, ◌<◌, ◌≤◌, ◌↔◌, List, [], ◌++◌, length, take, drop, IfOk, IfErr, IfSome, IfNone, IsOk, IsTrue, OnOk, OnErr};
 ghost use Rattle.std.specs.List.{concat};
 ghost use Rattle.std.specs.Bool.{OnFalse, OnTrue};
 ghost use Rattle.bytes_utils.specs.Occurrence.{Occurs};
@@ -156,6 +156,13 @@ impl Frames {
         self.finder.needle()
     }
 
+    /// Returns whether the held bytes start with `prefix`.
+    pub fn starts_with(&self, prefix: &[u8]) -> bool
+        ensures { IsTrue result ↔ (take (length prefix.now) self.now.held ≡ prefix.now) }
+    {
+        self.pieces.as_segmented().starts_with(prefix)
+    }
+
     /// Returns the next frame without its separator, or `None` if its end has not come yet. The
     /// frame is shared if it lies in one piece, and copied into one block if not. Fails with
     /// `OutOfMemory` if memory is refused; then nothing has changed.
@@ -196,9 +203,9 @@ impl Frames {
     }
 
     /// Removes and returns the first `len` bytes, whatever they are, in pieces as those of
-    /// `next_frame_segments`: a body whose length a frame reported. Requires that `len` is at most the number of
-    /// held bytes (test: `remaining`). Fails with `OutOfMemory` if memory is refused; then nothing
-    /// has changed.
+    /// `next_frame_segments`: a body whose length a frame reported. Requires that `len` is at most
+    /// the number of held bytes (test: `remaining`). Fails with `OutOfMemory` if memory is refused;
+    /// then nothing has changed.
     pub fn split_to(&mut self, alloc: Global, len: usize) -> Result<SegmentedBuf<Bytes>, Reason>
         requires { len ≤ length self.old.held }
         ensures front { IfOk result (λ front. concat front.segments ≡ take len self.old.held) }
@@ -208,6 +215,23 @@ impl Frames {
         ensures reason { IfErr result (λ reason. reason ≡ Reason.OutOfMemory) }
     {
         let front = self.pieces.split_to(alloc, len)?;
+        self.progress.restart();
+        Ok(front)
+    }
+
+    /// Removes and returns the first `len` bytes, whatever they are, as one `Bytes`. It shares them
+    /// if they lie in the first segment, and else they are copied into one block. Requires that
+    /// `len` is at most the number of held bytes (test: `remaining`). Fails with `OutOfMemory` if
+    /// memory is refused; then nothing has changed.
+    pub fn take_bytes(&mut self, alloc: Global, len: usize) -> Result<Bytes, Reason>
+        requires { len ≤ length self.old.held }
+        ensures front { IfOk result (λ front. front ≡ take len self.old.held) }
+        ensures ok { OnOk result (self.new ≡ record self.old { held = drop len self.old.held }) }
+        ensures err { OnErr result (self.new ≡ self.old) }
+        ensures none { len ≡ 0 → IsOk result }
+        ensures reason { IfErr result (λ reason. reason ≡ Reason.OutOfMemory) }
+    {
+        let front = self.pieces.take_bytes(alloc, len)?;
         self.progress.restart();
         Ok(front)
     }
@@ -270,9 +294,7 @@ impl Frames {
         ensures reason { IfErr result (λ reason. reason ≡ Reason.OutOfMemory) }
     {
         let len = self.remaining();
-        let held = self.pieces.take_bytes(alloc, len)?;
-        self.progress.restart();
-        Ok(held)
+        self.take_bytes(alloc, len)
     }
 
     /// Drops all bytes up to the end of the next separator and returns `true`. If that has not come

@@ -219,3 +219,24 @@ fn pieces_that_wait_are_not_searched_again(rt: HostRuntime) -> Result<(), Fail> 
     }
     Ok(())
 }
+
+/// Asserts the first bytes of two long pieces: some of the first piece, and then some of both.
+fn assert_first_bytes(rt: &impl Abort, alloc: Global, frames: &mut Frames) -> Result<(), Fail> {
+    let part = frames.take_bytes(alloc, 3)?;
+    assert!(rt; part.as_slice() == b"aab".as_slice() && !part.is_unique());
+    assert!(rt; frames.starts_with(b"aaa") && !frames.starts_with(b"ab"));
+    let joined = frames.take_bytes(alloc, 600)?;
+    assert!(rt; joined.len() == 600 && joined[599] == b'c' && joined.is_unique());
+    assert!(rt; frames.remaining() == 597);
+    Ok(())
+}
+
+/// First bytes share the first piece if they lie in it.
+#[test]
+fn first_bytes_of_a_piece_are_shared(rt: HostRuntime) -> Result<(), Fail> {
+    let alloc = rt.alloc();
+    let mut frames = Frames::new(alloc, b"\n")?;
+    frames.put(long_piece(alloc, b'b')?)?;
+    frames.put(long_piece(alloc, b'c')?)?;
+    assert_first_bytes(&rt, alloc, &mut frames)
+}

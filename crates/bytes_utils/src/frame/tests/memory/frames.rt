@@ -2,6 +2,7 @@
 use crate::fixtures::refusals::given;
 use crate::frame::Frames;
 use crate::frame::tests::memory::readers::{assert_frames, is_held};
+use bytes::Bytes;
 use std::alloc::Global;
 use std::io::Print;
 use std::process::Abort;
@@ -28,5 +29,25 @@ fn frames(rt: HostRuntime) {
     let calls = ("Frames::next_frame", "Frames::next_frame_segments");
     if is_held(&rt, "Frames::push", &mut frames, "xa") && is_taken(&rt, alloc, &mut frames) {
         assert_frames(&rt, alloc, calls, &mut frames);
+    }
+}
+
+/// Bytes that lie in two long pieces are copied into one block.
+#[test]
+fn first_bytes(rt: HostRuntime) {
+    let alloc = rt.alloc();
+    let Ok(mut frames) = Frames::new(alloc, b"-") else {
+        return;
+    };
+    for _ in 0..2 {
+        let Ok(piece) = Bytes::copy_from_slice(alloc, &[b'a'; 600]) else {
+            return;
+        };
+        if frames.push(piece).is_err() {
+            return;
+        }
+    }
+    if let Some(first) = given(&rt, "Frames::take_bytes", frames.take_bytes(alloc, 601)) {
+        assert!(rt; first.len() == 601 && frames.remaining() == 599);
     }
 }
