@@ -17,7 +17,7 @@ either_way : (b : Bool) (x y : Option ℕ) → IsSome x → IsSome y → IsSome 
 either_way true x y p q = p
 either_way false x y p q = q
 
-some_is : (bs : List ℕ) → 0 < length bs → utf8_error_len bs ≡ error_len_of_some bs
+pub some_is : (bs : List ℕ) → 0 < length bs → utf8_error_len bs ≡ error_len_of_some bs
 unfolding utf8_error_len
 some_is bs some = ap (λ b. cond b None (error_len_of_some bs)) (ne_eqb (length bs) 0 (omega (arith, some)))
 

@@ -45,5 +45,6 @@ pub mod StreamLinesLemmas
 pub mod ValidLen
 pub mod CharacterBegins
 pub mod CharacterEnds
+pub mod CharacterCompletes
 pub mod StreamTextsLemmas
 pub mod ReadFrameLemmas

@@ -22,6 +22,7 @@ pub mod LimitedFrames
 pub mod StreamLines
 pub mod StreamTexts
 pub mod LimitedLines
+pub mod Pushing
 pub mod ReadError
 pub mod ReadFrame
 -- the definitions about buffers, for callers that use their names

@@ -1,7 +1,7 @@
 -- Texts of a stream of bytes that comes in pieces, which may be cut inside a character.
-use Rattle.std.specs.Prelude.{◌≡◌, ℕ, ◌≤◌, ◌<◌, List, [], ◌++◌, length, take, IsUtf8, None, codes}
+use Rattle.std.specs.Prelude.{◌≡◌, ℕ, ◌≤◌, ◌<◌, List, [], ◌++◌, length, take, IsUtf8, codes}
 use Rattle.std.specs.List.{concat}
-use Rattle.std.specs.Str.Lossy.{utf8_valid_len, utf8_error_len}
+use Rattle.std.specs.Str.Lossy.{utf8_valid_len}
 use Rattle.bytes_utils.specs.StreamRuns.{StreamEvent, IsStreamRun, pushed_by, given_by}
 use Rattle.bytes_utils_buf.specs.Refusals.{reason_text}
 use Rattle.bytes_utils.specs.declared.frame.texts.TextError.{TextError}
@@ -17,10 +17,10 @@ pub record TakesText (old text rest : List ℕ) : Type 0 where
 abbrev pub IsFaulty : List ℕ → Type 0
 IsFaulty bytes = (following : List ℕ) → ¬ IsUtf8 (bytes ++ following)
 
--- The bytes are the first of a character, or none: no text is in front, std's `error_len` says that they end too early, and they are few.
+-- The bytes are the first of a character, or none: no text is in front, what follows may make a text of all of them, and they are few.
 pub record IsUnfinished (bytes : List ℕ) : Type 0 where
   pub none : utf8_valid_len bytes ≡ 0
-  pub open_end : utf8_error_len bytes ≡ None
+  pub may_end : (following : List ℕ) × IsUtf8 (bytes ++ following)
   pub few : length bytes ≤ 3
 
 -- these events lead from the held bytes to the bytes held at the end

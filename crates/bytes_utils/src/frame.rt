@@ -2,6 +2,7 @@
 ghost use Rattle.std.specs.Prelude.{◌≡◌, ℕ, ◌+◌, ◌^◌, ◌<◌, ◌≤◌, ◌↔◌, List, [], ◌++◌, length, take, drop, IfOk, IfErr, IfSome, IfNone, IsOk, IsTrue, OnOk, OnErr};
 ghost use Rattle.std.specs.List.{concat};
 ghost use Rattle.std.specs.Bool.{OnFalse, OnTrue};
+ghost use Rattle.bytes_utils.specs.Pushing.{IsPush};
 ghost use Rattle.bytes_utils.specs.Occurrence.{Occurs};
 ghost use Rattle.bytes_utils.specs.Frames.{AllFramesLaw, FramePartsLaw, FramesAndBytesLaw, FramesLaw, PutFramesLaw, SameFramesLaw, TakesFrame, TextFramesLaw};
 ghost use Rattle.bytes_utils.specs.LimitedFrames.{LosesFront};
@@ -92,13 +93,9 @@ impl Frames {
     /// `piece` comes back.
     #[inline(always)]
     pub fn push(&mut self, piece: Bytes) -> Result<(), Refused<Bytes>>
-        ensures ok { OnOk result (self.new.held ≡ self.old.held ++ piece) }
+        ensures pushed { IsPush self.old.held piece result
+            (self.new.held ≡ self.old.held ++ piece) (self.new ≡ self.old) }
         ensures separator { self.new.separator ≡ self.old.separator }
-        ensures err { OnErr result (self.new ≡ self.old) }
-        ensures back { IfErr result (λ e. e.back ≡ piece) }
-        ensures too_long { IfErr result (λ e. (e.reason ≡ Reason.TooLong)
-            ↔ (2 ^ 64 ≤ length self.old.held + length e.back)) }
-        ensures empty { piece ≡ [] → IsOk result }
     {
         if piece.len() <= SMALL {
             return match self.push_slice(piece.as_slice()) {

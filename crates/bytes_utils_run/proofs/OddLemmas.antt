@@ -12,8 +12,8 @@ use Rattle.bytes_utils_run.specs.Calls.{AreSlices}
 use Rattle.bytes_utils_run.specs.Odd.{pieces}
 
 -- of no bytes, no place is filled
-pub FillsTable-none : (dst : List (Bor (List ℕ))) → FillsTable 0 dst dst []
-FillsTable-none dst = record {
+pub FillsTable_none : (dst : List (Bor (List ℕ))) → FillsTable 0 dst dst []
+FillsTable_none dst = record {
   count = omega arith;
   some = All-nil (λ s. 0 < length s.now);
   front = refl;
@@ -51,9 +51,9 @@ FillsTable-zeros n shown size old mid x room same some most is fills =
     (FillsTable-one n old mid x _ room same (omega (arith, ap length zeros, length-replicate size zero)) fills)
 
 -- a table that is full, or has all of the zero bytes
-pub FillsTable-all_zeros : (n shown left : ℕ) (old mid : List (Bor (List ℕ))) → shown ≤ left → length old ≤ n
+pub FillsTable_all_zeros : (n shown left : ℕ) (old mid : List (Bor (List ℕ))) → shown ≤ left → length old ≤ n
     → FillsTable n old mid (replicate shown 0) → FillsTable n old mid (replicate left 0)
-FillsTable-all_zeros n shown left old mid most full fills =
+FillsTable_all_zeros n shown left old mid most full fills =
     let zero : ℕ = 0 in
     let rest : shown + (left - shown) ≡ left = omega arith in
     FillsTable-same n old mid _ _ (sym (replicate-append-replicate shown (left - shown) zero ∙ ap (λ k. replicate k zero) rest))

@@ -2,6 +2,7 @@
 ghost use Rattle.std.specs.Prelude.{◌≡◌, ◌+◌, ◌^◌, ◌<◌, ◌≤◌, ◌↔◌, false, [], ◌++◌, length, take, drop, IsTrue, IsOk, IfOk, IfErr, IfSome, IfNone, OnOk, OnErr, OnSome};
 ghost use Rattle.std.specs.List.{concat};
 ghost use Rattle.std.specs.Bool.{OnTrue};
+ghost use Rattle.bytes_utils.specs.Pushing.{IsPush};
 ghost use Rattle.bytes_utils.specs.Occurrence.{Occurs};
 ghost use Rattle.bytes_utils.specs.Frames.{TakesFrame};
 ghost use Rattle.bytes_utils.specs.LimitedFrames.{Awaits, Discards, Gives, IsLimitedStep, IsOverlong, KeepsLimit, LimitedFramesLaw, Reports};
@@ -68,12 +69,8 @@ impl LimitedFrames {
     /// pass `usize::MAX`, and with `OutOfMemory` if memory is refused; then nothing has changed and
     /// `piece` comes back.
     pub fn push(&mut self, piece: Bytes) -> Result<(), Refused<Bytes>>
-        ensures ok { OnOk result (self.new ≡ record self.old { held = self.old.held ++ piece }) }
-        ensures err { OnErr result (self.new ≡ self.old) }
-        ensures back { IfErr result (λ e. e.back ≡ piece) }
-        ensures too_long { IfErr result (λ e. (e.reason ≡ Reason.TooLong)
-            ↔ (2 ^ 64 ≤ length self.old.held + length e.back)) }
-        ensures empty { piece ≡ [] → IsOk result }
+        ensures pushed { IsPush self.old.held piece result
+            (self.new ≡ record self.old { held = self.old.held ++ piece }) (self.new ≡ self.old) }
     {
         self.frames.push(piece)
     }

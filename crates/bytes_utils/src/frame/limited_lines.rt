@@ -1,6 +1,7 @@
 //! Lines with a limit on their length.
 ghost use Rattle.std.specs.Prelude.{◌≡◌, ◌+◌, ◌^◌, ◌≤◌, ◌↔◌, true, false, [], ◌∷◌, ◌++◌, length, None, Ok, IsOk, IfOk, IfErr, OnOk, OnErr};
 ghost use Rattle.std.specs.List.{concat};
+ghost use Rattle.bytes_utils.specs.Pushing.{IsPush};
 ghost use Rattle.bytes_utils.specs.Lines.{line_feed};
 ghost use Rattle.bytes_utils.specs.LimitedFrames.{KeepsLimit};
 ghost use Rattle.bytes_utils.specs.LimitedLines.{IsLimitedLineStep};
@@ -72,12 +73,8 @@ impl LimitedLines {
     /// held bytes would pass `usize::MAX`, and with `OutOfMemory` if memory is refused; then nothing
     /// has changed and `piece` comes back.
     pub fn push(&mut self, piece: Bytes) -> Result<(), Refused<Bytes>>
-        ensures ok { OnOk result (self.new ≡ record self.old { held = self.old.held ++ piece }) }
-        ensures err { OnErr result (self.new ≡ self.old) }
-        ensures back { IfErr result (λ e. e.back ≡ piece) }
-        ensures too_long { IfErr result (λ e. (e.reason ≡ Reason.TooLong)
-            ↔ (2 ^ 64 ≤ length self.old.held + length e.back)) }
-        ensures empty { piece ≡ [] → IsOk result }
+        ensures pushed { IsPush self.old.held piece result
+            (self.new ≡ record self.old { held = self.old.held ++ piece }) (self.new ≡ self.old) }
     {
         self.frames.push(piece)
     }

@@ -1,6 +1,7 @@
 //! Lines of a stream that comes in pieces.
 ghost use Rattle.std.specs.Prelude.{◌≡◌, ◌+◌, ◌^◌, ◌≤◌, ◌↔◌, [], ◌∷◌, ◌++◌, length, IsUtf8, IfOk, IfErr, IfSome, IfNone, IsOk, OnErr, OnOk};
 ghost use Rattle.std.specs.List.{concat};
+ghost use Rattle.bytes_utils.specs.Pushing.{IsPush};
 ghost use Rattle.bytes_utils.specs.Errors.{IsFaultOf, fault_of, refused_storage};
 ghost use Rattle.bytes_utils.specs.Lines.{IsWithoutReturn, line_feed};
 ghost use Rattle.bytes_utils.specs.Occurrence.{Occurs};
@@ -122,12 +123,8 @@ impl Lines {
     /// pass `usize::MAX`, and with `OutOfMemory` if memory is refused; then nothing has changed and
     /// `piece` comes back.
     pub fn push(&mut self, piece: Bytes) -> Result<(), Refused<Bytes>>
-        ensures ok { OnOk result (self.new ≡ self.old ++ piece) }
-        ensures err { OnErr result (self.new ≡ self.old) }
-        ensures back { IfErr result (λ e. e.back ≡ piece) }
-        ensures too_long { IfErr result (λ e. (e.reason ≡ Reason.TooLong)
-            ↔ (2 ^ 64 ≤ length self.old + length e.back)) }
-        ensures empty { piece ≡ [] → IsOk result }
+        ensures pushed { IsPush self.old piece result
+            (self.new ≡ self.old ++ piece) (self.new ≡ self.old) }
     {
         self.frames.push(piece)
     }

@@ -321,10 +321,10 @@ fn keep_tail_long(
     from: usize,
 ) -> Result<usize, AllocError>
     requires some { 0 < length needle.now }
-    requires long { length needle.now ≤ length piece.now + 1 }
     requires fits { length held.old.items + length piece.now < 2 ^ 64 }
     requires within { from ≤ length piece.now }
     requires none { (k : ℕ) → k < from → slice_index piece.now k ≢ slice_index needle.now 0 }
+    requires long { length needle.now ≤ length piece.now + 1 }
     ensures cut { IfOk result (λ cut. HoldsBack needle.now (held.old.items ++ piece.now) cut) }
     ensures held { IfOk result
         (λ cut. held.new.items ≡ drop cut (held.old.items ++ piece.now)) }

@@ -1,7 +1,8 @@
 //! Texts of a stream that comes in pieces.
-ghost use Rattle.std.specs.Prelude.{◌≡◌, ◌+◌, ◌^◌, ◌<◌, ◌≤◌, ◌↔◌, [], ◌++◌, length, take, drop, IsUtf8, IsSome, IfOk, IfErr, IfSome, IfNone, IsOk, OnOk, OnErr, None, true, false};
+ghost use Rattle.std.specs.Prelude.{◌≡◌, ◌<◌, ◌≤◌, [], ◌++◌, length, take, drop, IsUtf8, IsSome, IfOk, IfErr, IfSome, IfNone, OnOk, OnErr, None, true, false};
 ghost use Rattle.std.specs.List.{concat};
 ghost use Rattle.std.specs.Str.Lossy.{utf8_valid_len, utf8_error_len};
+ghost use Rattle.bytes_utils.specs.Pushing.{IsPush};
 ghost use Rattle.bytes_utils.specs.StreamTexts.{FaultyRunLaw, IsFaulty, IsUnfinished, TakesText, TextRunLaw, WholeRunLaw};
 
 use crate::split::character::first_end;
@@ -107,12 +108,8 @@ impl Texts {
     /// `usize::MAX`, and with `OutOfMemory` if memory is refused; then nothing has changed and
     /// `piece` comes back.
     pub fn push(&mut self, piece: Bytes) -> Result<(), Refused<Bytes>>
-        ensures ok { OnOk result (self.new ≡ self.old ++ piece) }
-        ensures err { OnErr result (self.new ≡ self.old) }
-        ensures back { IfErr result (λ e. e.back ≡ piece) }
-        ensures too_long { IfErr result (λ e. (e.reason ≡ Reason.TooLong)
-            ↔ (2 ^ 64 ≤ length self.old + length e.back)) }
-        ensures empty { piece ≡ [] → IsOk result }
+        ensures pushed { IsPush self.old piece result
+            (self.new ≡ self.old ++ piece) (self.new ≡ self.old) }
     {
         self.pieces.try_push(piece)
     }

@@ -1,5 +1,6 @@
 //! Records of a stream, each followed by an empty line, with a limit of length.
-ghost use Rattle.std.specs.Prelude.{◌≡◌, ◌+◌, ◌^◌, ◌<◌, ◌≤◌, ◌↔◌, false, [], ◌++◌, length, IsUtf8, IsErrOf, IfOk, IfErr, IfSome, IfNone, OnOk, OnErr, IsOk};
+ghost use Rattle.std.specs.Prelude.{◌≡◌, ◌+◌, ◌<◌, false, [], ◌++◌, length, IsUtf8, IsErrOf, IfOk, IfErr, IfSome, IfNone};
+ghost use Rattle.bytes_utils.specs.Pushing.{IsPush};
 ghost use Rattle.bytes_utils.specs.Occurrence.{Occurs};
 ghost use Rattle.bytes_utils.specs.LimitedFrames.{Gives, Discards, Reports};
 ghost use Rattle.bytes_utils_run.specs.Records.{record_end};
@@ -59,12 +60,8 @@ impl Records {
     /// would be held, and with `OutOfMemory` if memory is refused; then nothing has changed and
     /// `piece` comes back.
     pub fn push(&mut self, piece: Bytes) -> Result<(), Refused<Bytes>>
-        ensures ok { OnOk result (self.new ≡ record self.old { held = self.old.held ++ piece }) }
-        ensures err { OnErr result (self.new ≡ self.old) }
-        ensures back { IfErr result (λ e. e.back ≡ piece) }
-        ensures too_long { IfErr result (λ e. (e.reason ≡ Reason.TooLong)
-            ↔ (2 ^ 64 ≤ length self.old.held + length e.back)) }
-        ensures empty { piece ≡ [] → IsOk result }
+        ensures pushed { IsPush self.old.held piece result
+            (self.new ≡ record self.old { held = self.old.held ++ piece }) (self.new ≡ self.old) }
     {
         self.frames.push(piece)
     }

@@ -1,9 +1,10 @@
 //! Requests of a stream: lines before an empty one, and a body as long as these lines report.
 //!
 //! An example of framing, and no HTTP parser: a server takes `hyper`.
-ghost use Rattle.std.specs.Prelude.{◌≡◌, ◌≢◌, ℕ, ◌+◌, ◌^◌, ◌<◌, ◌≤◌, ◌↔◌, List, [], ◌++◌, length, IfOk, IfErr, IfSome, IfNone, OnOk, OnErr, IsSomeAnd, MatchOption, IsOk};
+ghost use Rattle.std.specs.Prelude.{◌≡◌, ◌≢◌, ℕ, ◌<◌, ◌≤◌, ◌↔◌, List, [], ◌++◌, length, IfOk, IfErr, IfSome, IfNone, OnErr, IsSomeAnd, MatchOption};
 ghost use Rattle.std.specs.List.{concat, prefix_len, suffix_len};
 ghost use Rattle.std.specs.Option.{option_or};
+ghost use Rattle.bytes_utils.specs.Pushing.{IsPush};
 ghost use Rattle.bytes_utils.specs.Frames.{TakesFrame};
 ghost use Rattle.bytes_utils.specs.Occurrence.{Occurs};
 ghost use Rattle.bytes_utils_run.specs.Requests.{IsHeader, ReportError, ReportLength, Reports, WriteNumber, head_end, header_lines, is_blank, is_name_byte, trimmed};
@@ -65,12 +66,8 @@ impl Requests {
 
     /// Appends a piece, as `Frames` does.
     pub fn push(&mut self, piece: Bytes) -> Result<(), Refused<Bytes>>
-        ensures ok { OnOk result (self.new ≡ self.old ++ piece) }
-        ensures err { OnErr result (self.new ≡ self.old) }
-        ensures back { IfErr result (λ e. e.back ≡ piece) }
-        ensures too_long { IfErr result (λ e. (e.reason ≡ Reason.TooLong)
-            ↔ (2 ^ 64 ≤ length self.old + length e.back)) }
-        ensures empty { piece ≡ [] → IsOk result }
+        ensures pushed { IsPush self.old piece result
+            (self.new ≡ self.old ++ piece) (self.new ≡ self.old) }
     {
         self.frames.push(piece)
     }

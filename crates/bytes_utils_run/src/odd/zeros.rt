@@ -73,6 +73,7 @@ impl BufParts for Zeros {
         Ok(copy)
     }
 
+    #[tactic(auto, using(crate::proofs::OddLemmas::FillsTable_all_zeros, crate::proofs::OddLemmas::FillsTable_none))]
     fn chunks_into<'s>(&'s self, dst: &mut [&'s [u8]]) -> usize
         ensures fills { FillsTable result dst.old dst.new self.now }
         ensures eight { map (λ s. s.now) (take result dst.new) ≡ pieces 8 result self.now }

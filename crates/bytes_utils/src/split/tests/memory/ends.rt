@@ -1,4 +1,5 @@
-//! Texts cut at their ends.
+//! Texts cut at their ends: what is left is cut out of its storage, and asks for no memory of its
+//! own.
 use crate::split::tests::ends::{StripPrefix, StripSuffix, Trim, TrimEnd, TrimStart};
 use crate::split::tests::memory::assert_next;
 

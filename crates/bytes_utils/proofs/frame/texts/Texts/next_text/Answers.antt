@@ -5,6 +5,7 @@ use Rattle.std.specs.Option.{IsSome}
 use Rattle.std.proofs.lemmas.List.{take_min}
 use Rattle.bytes_utils.specs.StreamTexts.{IsUnfinished}
 use Rattle.bytes_utils.proofs.CharacterBegins.{faulty}
+use Rattle.bytes_utils.proofs.CharacterCompletes.{may_end}
 use Rattle.bytes_utils.proofs.CharacterEnds.{few}
 use Rattle.bytes_utils.proofs.ValidLen.{none_of_four}
 use Rattle.bytes_utils.proofs.frame.texts.Texts.next_text.Goals as goal
@@ -39,7 +40,7 @@ returns-clause-waits c =
     = omega (arith, small, ap length bytes, length-take c.peek-count.result all, size) in
     let whole : head ≡ all = bytes ∙ take_all c.peek-count.result all few_bytes in (
       refl,
-      subst IsUnfinished (whole ∙ sym is) (record { none = none; open_end = open_end; few = small }),
+      subst IsUnfinished (whole ∙ sym is) (record { none = none; may_end = may_end head none open_end; few = small }),
     )
 
 pub returns-then-is_faulty-clause-not_utf8 : goal.returns-then-is_faulty-clause-not_utf8
