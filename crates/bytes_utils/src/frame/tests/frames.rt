@@ -222,9 +222,11 @@ fn pieces_that_wait_are_not_searched_again(rt: HostRuntime) -> Result<(), Fail> 
 
 /// Asserts the first bytes of two long pieces: some of the first piece, and then some of both.
 fn assert_first_bytes(rt: &impl Abort, alloc: Global, frames: &mut Frames) -> Result<(), Fail> {
+    assert!(rt; frames.remaining() == 1_200);
     let part = frames.take_bytes(alloc, 3)?;
     assert!(rt; part.as_slice() == b"aab".as_slice() && !part.is_unique());
     assert!(rt; frames.starts_with(b"aaa") && !frames.starts_with(b"ab"));
+    assert!(rt; frames.remaining() == 1_197);
     let joined = frames.take_bytes(alloc, 600)?;
     assert!(rt; joined.len() == 600 && joined[599] == b'c' && joined.is_unique());
     assert!(rt; frames.remaining() == 597);

@@ -47,6 +47,7 @@ fn first_bytes(rt: HostRuntime) {
             return;
         }
     }
+    assert!(rt; frames.remaining() == 1_200);
     if let Some(first) = given(&rt, "Frames::take_bytes", frames.take_bytes(alloc, 601)) {
         assert!(rt; first.len() == 601 && frames.remaining() == 599);
     }
