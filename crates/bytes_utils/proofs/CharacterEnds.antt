@@ -48,7 +48,7 @@ nothing : utf8_error_len [] ≡ None
 unfolding utf8_error_len
 nothing = refl
 
--- a text in front of which no text is has no bytes
+-- a text that begins with no text has no bytes
 pub none_of_text : (bs : List ℕ) → IsUtf8 bs → utf8_valid_len bs ≡ 0 → utf8_error_len bs ≡ None
 none_of_text bs utf8 none =
     let empty : bs ≡ [] = nil_from_length bs (sym (utf8_valid_len-IsUtf8 bs utf8) ∙ none) in

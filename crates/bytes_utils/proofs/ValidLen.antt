@@ -1,4 +1,4 @@
--- The longest text in front of bytes.
+-- The longest text at the start of bytes.
 use Rattle.std.proofs.Common.{◌≡◌, ℕ, zero, suc, ◌+◌, ◌-◌, ◌<◌, ◌≤◌, true, List, [], ◌∷◌, ◌++◌, length, take, drop, IsUtf8, encode_utf8, encode_utf8_all, arith, ⊎_elim, ap, ◌∙◌, sym, refl, subst, true≢false, append_assoc, append-nil, length-append, length-take, take_at, drop_at, take-append-drop, ◌&&◌}
 use Rattle.std.proofs.lemmas.Bool.{cases_Bool, cases_lt, cond-true, cond-false, and_parts}
 use Rattle.std.proofs.lemmas.Str.{IsUtf8-from_is_utf8, is_utf8-from_IsUtf8, utf8_valid_len_le, IsUtf8-drop, IsCharBoundary-from_take, length-encode, len_utf8_bounds}
@@ -50,7 +50,7 @@ behind_text text x bs is utf8 u =
     let place = IsCharBoundary-from_take bs n u (omega (arith, ap length is, length-append text x)) (subst IsUtf8 (sym front) utf8) in
     subst IsUtf8 back (IsUtf8-drop bs n u place)
 
--- of a text and what follows, in front of which no text is, the longest text in front is that text
+-- of a text and what follows, which begins with no text, the longest text at the start is that text
 pub valid_len_at : (text rest : List ℕ) → IsUtf8 text → utf8_valid_len rest ≡ 0 → utf8_valid_len (text ++ rest) ≡ length text
 valid_len_at text rest utf8 none =
     let n = length text in

@@ -17,7 +17,7 @@ pub record TakesText (old text rest : List ℕ) : Type 0 where
 abbrev pub IsFaulty : List ℕ → Type 0
 IsFaulty bytes = (following : List ℕ) → ¬ IsUtf8 (bytes ++ following)
 
--- The bytes are the first of a character, or none: no text is in front, what follows may make a text of all of them, and they are few.
+-- The bytes are the first of a character, or none: they begin with no text, what follows may make a text of all of them, and they are few.
 pub record IsUnfinished (bytes : List ℕ) : Type 0 where
   pub none : utf8_valid_len bytes ≡ 0
   pub may_end : (following : List ℕ) × IsUtf8 (bytes ++ following)
@@ -27,8 +27,8 @@ pub record IsUnfinished (bytes : List ℕ) : Type 0 where
 abbrev pub IsTextRun : List ℕ → List (StreamEvent (List ℕ)) → List ℕ → Type 0
 IsTextRun held events end = IsStreamRun TakesText held events end
 
--- Whatever the pieces are and whenever texts are asked for: in a run from an empty reader to one with no text in front, the texts given are the longest
--- text in front of the joined pieces, and what is held is the rest.
+-- Whatever the pieces are and whenever texts are asked for: in a run from an empty reader to one whose bytes begin with no text, the texts given are the longest
+-- text at the start of the joined pieces, and what is held is the rest.
 abbrev pub TextRunLaw : Type 0
 TextRunLaw = (events : List (StreamEvent (List ℕ))) (end : List ℕ) → IsTextRun [] events end → utf8_valid_len end ≡ 0
     → (concat (given_by events) ≡ take (utf8_valid_len (pushed_by events)) (pushed_by events)) × (pushed_by events ≡ concat (given_by events) ++ end)

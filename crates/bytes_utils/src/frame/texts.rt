@@ -116,7 +116,7 @@ impl Texts {
 
     /// Returns the next text: whole characters, up to where a piece ends, or the character over that
     /// border. Returns `None` while the held bytes are the beginning of a character, or none. Fails
-    /// with `NotUtf8` if no text is in front, and none can be whatever follows: as early as that is
+    /// with `NotUtf8` if they begin with no text, and can't whatever follows: as early as that is
     /// certain, and again at each further call. Fails with `Refused` if memory is refused. Then
     /// nothing has changed.
     pub fn next_text(&mut self, alloc: Global) -> Result<Option<Str>, TextError>
@@ -190,7 +190,7 @@ impl Texts {
     }
 }
 
-/// Returns how many first bytes are the longest text in front.
+/// Returns how many first bytes are the longest text at the start.
 fn front_len(bytes: &[u8]) -> usize
     ensures value { result ≡ utf8_valid_len bytes.now }
     ensures within { result ≤ length bytes.now }
@@ -216,7 +216,7 @@ fn first_len(bytes: &[u8]) -> usize
     }
 }
 
-/// Returns whether no character can begin with these bytes, in front of which none is.
+/// Returns whether no character can begin with these bytes, which begin with none.
 fn is_faulty(bytes: &[u8]) -> bool
     requires { utf8_valid_len bytes.now ≡ 0 }
     ensures fault { result ≡ true → IsSome (utf8_error_len bytes.now) }
@@ -229,7 +229,7 @@ fn is_faulty(bytes: &[u8]) -> bool
 }
 
 /// The laws of a run of calls: what is given depends on the joined pieces alone, wherever these are
-/// cut and whenever texts are asked for. It is the longest text in front of them.
+/// cut and whenever texts are asked for. It is the longest text at their start.
 pub fn text_laws()
     ensures run { TextRunLaw }
     ensures faulty { FaultyRunLaw }

@@ -107,7 +107,7 @@ fn a_refused_piece_is_dropped(rt: HostRuntime) -> Result<(), Fail> {
     Ok(())
 }
 
-/// Whether this is a line of so many bytes, and whether it is the only owner of its block.
+/// Whether this is a line of `len` bytes, and whether it is the only owner of its block.
 fn is_owned(next: Result<Option<Str>, LineError>, len: usize, is_unique: bool) -> bool {
     match next {
         Ok(Some(line)) => line.len() == len && line.inner().is_unique() == is_unique,

@@ -6,7 +6,7 @@ use lib.Utf8.{encodes}
 use Rattle.bytes_utils.proofs.CharacterCut.{boundary, after_shorter}
 use Rattle.bytes_utils.proofs.frame.texts.first_len.Goals as goal
 
--- the longest text in front has the bytes before its end
+-- the longest text at the start has the bytes before its end
 front_len_is : (c : goal.In-Some) → length c.from_utf8_unchecked-text.result.now ≡ c.front_len.result
 front_len_is c = ap length c.from_utf8_unchecked-text.ensures ∙ length-take _ _ ∙ omega (arith, c.front_len.ensures.within)
 
