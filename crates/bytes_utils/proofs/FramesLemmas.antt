@@ -59,7 +59,7 @@ first_more : (p xs ys : List ℕ) (i : ℕ) → OccursFirstAt p xs i → OccursF
 first_more [] xs ys i first = record { here = refl; none_before = λ j there. omega (arith, first.none_before 0 refl) }
 first_more (x ∷ p) xs ys i first = OccursFirstAt-append (x ∷ p) xs ys i (omega arith) first
 
-TakesFrame-more : (p old frame rest piece : List ℕ) → TakesFrame p old frame rest → TakesFrame p (old ++ piece) frame (rest ++ piece)
+pub TakesFrame-more : (p old frame rest piece : List ℕ) → TakesFrame p old frame rest → TakesFrame p (old ++ piece) frame (rest ++ piece)
 TakesFrame-more p old frame rest piece takes = record {
   bytes = ap (λ l. l ++ piece) takes.bytes ∙ append_assoc frame (p ++ rest) piece ∙ ap (λ l. frame ++ l) (append_assoc p rest piece);
   first = first_more p old piece (length frame) takes.first;
@@ -137,7 +137,7 @@ text_frames_law (x ∷ p) text frames rest p_is text_is are lacks =
 
 -- ---- one list of frames
 
-TakesFrame-same : (p bytes f g x y : List ℕ) → TakesFrame p bytes f x → TakesFrame p bytes g y → (f ≡ g) × (x ≡ y)
+pub TakesFrame-same : (p bytes f g x y : List ℕ) → TakesFrame p bytes f x → TakesFrame p bytes g y → (f ≡ g) × (x ≡ y)
 TakesFrame-same p bytes f g x y s t =
     let same = append_same f g (p ++ x) (p ++ y) (first_places_same p bytes (length f) (length g) s.first t.first) (sym s.bytes ∙ t.bytes) in
     (same.0, append_cancel_left p x y same.1)

@@ -38,6 +38,7 @@ pub mod AsciiCase
 pub mod Pieces
 pub mod FrameSearchLemmas
 pub mod FindLemmas
+pub mod FoundLemmas
 pub mod StreamRunsLemmas
 pub mod FramesLemmas
 pub mod LimitedFramesLemmas

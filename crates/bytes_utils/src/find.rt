@@ -1,12 +1,15 @@
 //! A search for a needle in the bytes of many segments.
-ghost use Rattle.std.specs.Prelude.{◌≡◌, ◌+◌, ◌-◌, ◌*◌, ◌<◌, ◌≤◌, [], ◌++◌, length, min, take, drop, slice_index_or, IsOk, IfOk, IfErr};
+ghost use Rattle.std.specs.Prelude.{◌≡◌, ◌+◌, ◌-◌, ◌*◌, ◌<◌, ◌≤◌, [], ◌++◌, length, min, take, drop, slice_index_or, IsOk, IfOk, IfErr, IfSome, IfNone, OnErr};
 ghost use Rattle.std.specs.List.{concat};
 ghost use Rattle.memchr.specs.Find.{FindsNeedle, IsFirst, OccursAt};
+ghost use Rattle.bytes_utils_buf.specs.Segments.{CountsPass, IsPaid, Skips};
+ghost use Rattle.bytes_utils.specs.Frames.{TakesFrame};
+ghost use Rattle.bytes_utils.specs.Occurrence.{Occurs};
 
 #[cfg(test)]
 mod tests;
 
-use bytes::Buf;
+use bytes::{Buf, Bytes};
 use bytes_utils_buf::Reason;
 use bytes_utils_buf::contiguous::ContiguousBuf;
 use bytes_utils_buf::segmented::SegmentedBuf;
@@ -32,6 +35,13 @@ pub fn find<B: ContiguousBuf + Drop>(
     needle: &[u8],
 ) -> Result<Option<usize>, Reason>
     ensures found { IfOk result (λ at. FindsNeedle (concat buf.now.segments) needle.now 0 at) }
+    ensures frame { IfOk result (λ found. IfSome found (λ at. TakesFrame needle.now
+        (concat buf.now.segments) (take at (concat buf.now.segments))
+        (drop (at + length needle.now) (concat buf.now.segments)))) }
+    ensures within { IfOk result (λ found. IfSome found
+        (λ at. at + length needle.now ≤ length (concat buf.now.segments))) }
+    ensures none { IfOk result
+        (λ found. IfNone found (¬ Occurs needle.now (concat buf.now.segments))) }
     ensures reason { IfErr result (λ reason. reason ≡ Reason.OutOfMemory) }
     ensures short { length needle.now ≤ 16 → IsOk result }
 {
@@ -48,6 +58,17 @@ pub fn find_from<B: ContiguousBuf + Drop>(
     needle: &[u8],
 ) -> Result<Option<usize>, Reason>
     ensures found { IfOk result (λ at. FindsNeedle (concat buf.now.segments) needle.now start at) }
+    ensures start { IfOk result (λ found. IfSome found (λ at. start ≤ at)) }
+
+    // What is before the needle, from `start` on, and what is after it.
+    ensures frame { IfOk result (λ found. IfSome found (λ at. TakesFrame needle.now
+        (drop start (concat buf.now.segments))
+        (take (at - start) (drop start (concat buf.now.segments)))
+        (drop (at + length needle.now) (concat buf.now.segments)))) }
+    ensures within { IfOk result (λ found. IfSome found
+        (λ at. at + length needle.now ≤ length (concat buf.now.segments))) }
+    ensures none { IfOk result (λ found. IfNone found (start ≤ length (concat buf.now.segments)
+        → ¬ Occurs needle.now (drop start (concat buf.now.segments)))) }
     ensures reason { IfErr result (λ reason. reason ≡ Reason.OutOfMemory) }
     ensures short { length needle.now ≤ 16 → IsOk result }
 {
@@ -66,9 +87,59 @@ pub fn find_short<B: ContiguousBuf + Drop>(
     needle: &[u8],
 ) -> Option<usize>
     requires { length needle.now ≤ 16 }
-    ensures { FindsNeedle (concat buf.now.segments) needle.now start result }
+    ensures found { FindsNeedle (concat buf.now.segments) needle.now start result }
+    ensures start { IfSome result (λ at. start ≤ at) }
+    ensures frame { IfSome result (λ at. TakesFrame needle.now
+        (drop start (concat buf.now.segments))
+        (take (at - start) (drop start (concat buf.now.segments)))
+        (drop (at + length needle.now) (concat buf.now.segments))) }
+    ensures within { IfSome result
+        (λ at. at + length needle.now ≤ length (concat buf.now.segments)) }
+    ensures none { IfNone result (start ≤ length (concat buf.now.segments)
+        → ¬ Occurs needle.now (drop start (concat buf.now.segments))) }
 {
     find_by(buf, start, needle, &mut [0; 2 * SHORT])
+}
+
+/// Takes out what is before the first `needle`, as one `Bytes`, and drops the needle. Returns
+/// `None`, and changes nothing, if the needle isn't there. What is before it is shared if the first
+/// segment has it all and shares its own, as a `Bytes` does; otherwise it is copied into one block.
+/// Requires that `needle` is not empty (test: `is_empty`). Fails with `OutOfMemory` if memory is
+/// refused; then nothing has changed.
+///
+/// ```text
+/// body.push(first)?;                        // a `Bytes` of `GET / HTTP/1.1\r`
+/// body.push(second)?;                       // one of `\nHost`
+/// take_until(&mut body, alloc, b"\r\n")?    // `GET / HTTP/1.1`; `Host` is left
+/// take_until(&mut body, alloc, b"\r\n")?    // `None`
+/// ```
+pub fn take_until<B: ContiguousBuf + Drop>(
+    buf: &mut SegmentedBuf<B>,
+    alloc: Global,
+    needle: &[u8],
+) -> Result<Option<Bytes>, Reason>
+    requires { 0 < length needle.now }
+    ensures front { IfOk result (λ taken. IfSome taken (λ front. TakesFrame needle.now
+        (concat buf.old.segments) front (concat buf.new.segments))) }
+    ensures skips { IfOk result (λ taken. IfSome taken
+        (λ front. Skips (length front + length needle.now) buf.old.segments buf.new.segments)) }
+    ensures none { IfOk result (λ taken. IfNone taken
+        ((buf.new ≡ buf.old) × (¬ Occurs needle.now (concat buf.old.segments)))) }
+    ensures err { OnErr result (buf.new ≡ buf.old) }
+    ensures reason { IfErr result (λ reason. reason ≡ Reason.OutOfMemory) }
+
+    // Each passed segment counts one turn, on this value's own tally.
+    ensures counts { IfOk result
+        (λ taken. IfSome taken (λ front. CountsPass 1 buf.old buf.new)) }
+    ensures paid { IsPaid buf.old buf.new }
+{
+    let Some(at) = find(buf, alloc, needle)? else {
+        return Ok(None);
+    };
+    let front = buf.peek_bytes(alloc, at)?;
+    prove!(needle.len() <= buf.remaining() - at);
+    buf.advance(at + needle.len());
+    Ok(Some(front))
 }
 
 /// As `find_from`, with a window for the bytes on both sides of a border between segments.

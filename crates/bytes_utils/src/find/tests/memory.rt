@@ -1,9 +1,12 @@
-//! Places of needles. Only the search for a needle of more than 16 bytes makes a request for memory.
+//! Places of needles. Only the search for a needle of more than 16 bytes makes a request for memory,
+//! and what is before a needle only if it is copied.
+ghost use Rattle.std.specs.Prelude.{◌<◌, length};
+
 use crate::contiguous::ContiguousBuf;
 use crate::fixtures::refusals::given;
 use crate::segmented::SegmentedBuf;
 use crate::{Reason, find};
-use bytes::Bytes;
+use bytes::{Buf, Bytes};
 use std::alloc::Global;
 use std::io::Print;
 use std::process::Abort;
@@ -11,7 +14,7 @@ use std::process::Abort;
 /// Bytes in two segments, or `None` if memory is refused.
 fn prepared(alloc: Global) -> Option<SegmentedBuf<Bytes>> {
     let mut buf = SegmentedBuf::new(alloc);
-    for piece in ["xx0123456789", "0123456789"] {
+    for piece in ["xx0123456789", "0123456789-"] {
         buf.try_push(Bytes::from_static(piece.as_bytes())).ok()?;
     }
     Some(buf)
@@ -61,4 +64,28 @@ fn no_memory_needed_by_short_needles(rt: HostRuntime) {
         let place = find::find_short(&buf, 3, "1234567890123456".as_bytes());
         assert!(rt; matches!(place, Some(3)));
     }
+}
+
+/// Takes what is before the needle, in both segments, and asserts it, unless memory is refused.
+fn assert_taken<R: Abort + Print>(rt: &R, alloc: Global, front: &str, needle: &[u8])
+    requires { 0 < length needle.now }
+{
+    let Some(mut buf) = prepared(alloc) else {
+        return;
+    };
+    match given(rt, "take_until", find::take_until(&mut buf, alloc, needle)) {
+        Some(Some(taken)) => assert!(rt; taken.as_slice() == front.as_bytes()),
+        Some(None) => assert!(rt; false, "no needle is found"),
+        None => assert!(rt; buf.remaining() == 23),
+    }
+}
+
+#[test]
+fn front_of_a_long_needle(rt: HostRuntime) {
+    assert_taken(&rt, rt.alloc(), "xx", b"01234567890123456");
+}
+
+#[test]
+fn front_across_segments(rt: HostRuntime) {
+    assert_taken(&rt, rt.alloc(), "xx01234567890123456789", b"-");
 }
