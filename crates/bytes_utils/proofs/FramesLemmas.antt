@@ -18,7 +18,7 @@ use Rattle.bytes_utils.proofs.Forward.{AreForwardParts-led, AreForwardParts-last
 use Rattle.bytes_utils.proofs.FromEnds.{front-from}
 use Rattle.bytes_utils.proofs.PartLists.{first-from_cut, cut-from_first}
 use Rattle.bytes_utils.proofs.PartCut.{next_boundary, chars_before, chars_after}
-use Rattle.bytes_utils.proofs.StreamRunsLemmas.{AreFirst-more, AreFirst-next, stream_law, same_first_law}
+use Rattle.bytes_utils.proofs.StreamRunsLemmas.{AreFirst-more, AreFirst-next, stream_law, same_first_law, all_first_law}
 use Rattle.bytes_utils.proofs.SearchLemmas.{chars-some, FindsFirst-from_needle}
 
 -- ---- a frame is taken
@@ -66,7 +66,7 @@ TakesFrame-more p old frame rest piece takes = record {
 }
 
 pub AreFrames-more : (p bytes : List ℕ) (frames : List (List ℕ)) (rest piece : List ℕ) → AreFrames p bytes frames rest → AreFrames p (bytes ++ piece) frames (rest ++ piece)
-AreFrames-more p bytes frames rest piece are = AreFirst-more (TakesFrame p) (TakesFrame-more p) bytes frames rest piece are
+AreFrames-more p bytes frames rest piece are = AreFirst-more (λ l piece. l ++ piece) (TakesFrame p) (TakesFrame-more p) bytes frames rest piece are
 
 pub AreFrames-next : (p bytes : List ℕ) (frames : List (List ℕ)) (held frame rest : List ℕ) → AreFrames p bytes frames held → TakesFrame p held frame rest
     → AreFrames p bytes (frames ++ frame ∷ []) rest
@@ -146,13 +146,8 @@ pub same_frames_law : SameFramesLaw
 same_frames_law p = same_first_law (TakesFrame p) (TakesFrame-same p)
 
 pub all_frames_law : AllFramesLaw
-all_frames_law p bytes [] [] x y a b none_x none_y = (refl, sym a ∙ b)
-all_frames_law p bytes [] (g ∷ ys) x y a b none_x none_y = absurd (none_x (subst (Occurs p) a (length g, b.1.first.here)))
-all_frames_law p bytes (f ∷ xs) [] x y a b none_x none_y = absurd (none_y (subst (Occurs p) b (length f, a.1.first.here)))
-all_frames_law p bytes (f ∷ xs) (g ∷ ys) x y a b none_x none_y =
-    let same = TakesFrame-same p bytes f g a.0 b.0 a.1 b.1 in
-    let later = all_frames_law p b.0 xs ys x y (subst (λ l. AreFrames p l xs x) same.1 a.2) b.2 none_x none_y in
-    ((λ i. same.0 i ∷ later.0 i), later.1)
+all_frames_law p bytes xs ys x y a b none_x none_y = all_first_law (TakesFrame p) (TakesFrame-same p) bytes xs ys x y a b
+    (λ frame rest takes. none_x (length frame, takes.first.here)) (λ frame rest takes. none_y (length frame, takes.first.here))
 
 -- ---- frames that are put together
 

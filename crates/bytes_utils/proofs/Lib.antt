@@ -42,6 +42,7 @@ pub mod FoundLemmas
 pub mod StreamRunsLemmas
 pub mod FramesLemmas
 pub mod LimitedFramesLemmas
+pub mod LimitedLinesLemmas
 pub mod StreamLinesLemmas
 pub mod ValidLen
 pub mod CharacterBegins

@@ -2,9 +2,9 @@
 use Rattle.std.proofs.Common.{◌≡◌, refl, sym, ap, subst, ◌∙◌, ℕ, List, [], ◌∷◌, ◌++◌, Option, None, Some, append_assoc, append-nil}
 use Rattle.std.proofs.KnownBytes.{Consumes-nil, Consumes-trans, Consumes-whole}
 use Rattle.std.specs.Io.KnownBytes.{Consumes}
-use Rattle.bytes_utils.specs.StreamRuns.{Taken, Pushed, given_by, pushed_by}
-use Rattle.bytes_utils.specs.Frames.{AreFrames, FrameEvent, FramesLaw, IsFrameRun, TakesFrame}
+use Rattle.bytes_utils.specs.Frames.{AreFrames, TakesFrame}
 use Rattle.bytes_utils.specs.ReadFrame.{IsReadRun, ReadFramesLaw, ReadsFrame, ReadsOn, WholeInputLaw, frames_of}
+use Rattle.bytes_utils.proofs.FramesLemmas.{TakesFrame-more}
 
 -- one more read
 pub ReadsOn-more : {a b c : Option (List ℕ)} {held mid new : List ℕ} → ReadsOn a b held mid → ReadsOn b c mid new → ReadsOn a c held new
@@ -42,46 +42,30 @@ ReadsFrame-taken {separator = separator} {mid = mid} {frame = frame} {new = new}
 
 -- ---- runs
 
--- the frame events of a run: each call pushes the bytes that it reads, and then its frame is taken
-record Events (separator : List ℕ) (before : Option (List ℕ)) (held : List ℕ) (calls : List (Option (List ℕ))) (after : Option (List ℕ)) (end : List ℕ) : Type 0 where
-  events : List FrameEvent
-  consumed : Consumes before after (pushed_by events)
-  run : IsFrameRun separator held events end
-  given : given_by events ≡ frames_of calls
-
-events_of : (separator : List ℕ) (before : Option (List ℕ)) (held : List ℕ) (calls : List (Option (List ℕ))) (after : Option (List ℕ)) (end : List ℕ)
-    → IsReadRun separator before held calls after end → Events separator before held calls after end
-events_of separator before held [] after end run = record {
-  events = [];
-  consumed = subst (λ known. Consumes before known []) (sym run.0) (Consumes-nil before);
-  run = run.1;
-  given = refl;
-}
-events_of separator before held (None ∷ calls) after end run =
+pub run_law : ReadFramesLaw
+run_law separator before after held end [] run =
+    ([], subst (λ known. Consumes before known []) (sym run.0) (Consumes-nil before), append-nil held ∙ sym run.1)
+run_law separator before after held end (None ∷ calls) run =
     let reads = run.2 in
-    let later = events_of separator run.0 run.1 calls after end run.3 in record {
-      events = Pushed reads.got ∷ later.events;
-      consumed = Consumes-trans before run.0 after reads.got (pushed_by later.events) reads.consumed later.consumed;
-      run = subst (λ l. IsFrameRun separator l later.events end) reads.following later.run;
-      given = later.given;
-    }
-events_of separator before held (Some frame ∷ calls) after end run =
+    let later = run_law separator run.0 after run.1 end calls run.3 in (
+      reads.got ++ later.0,
+      Consumes-trans before run.0 after reads.got later.0 reads.consumed later.1,
+      subst (λ l. AreFrames separator l (frames_of calls) end) (ap (λ l. l ++ later.0) reads.following ∙ append_assoc held reads.got later.0) later.2,
+    )
+run_law separator before after held end (Some frame ∷ calls) run =
     let reads = run.2 in
-    let later = events_of separator run.0 run.1 calls after end run.3 in record {
-      events = Pushed reads.got ∷ (Taken frame ∷ later.events);
-      consumed = Consumes-trans before run.0 after reads.got (pushed_by later.events) reads.consumed later.consumed;
-      run = (run.1, reads.taken, later.run);
-      given = ap (λ l. frame ∷ l) later.given;
-    }
+    let later = run_law separator run.0 after run.1 end calls run.3 in (
+      reads.got ++ later.0,
+      Consumes-trans before run.0 after reads.got later.0 reads.consumed later.1,
+      (
+        run.1 ++ later.0,
+        subst (λ l. TakesFrame separator l frame (run.1 ++ later.0)) (append_assoc held reads.got later.0)
+            (TakesFrame-more separator (held ++ reads.got) frame run.1 later.0 reads.taken),
+        later.2,
+      ),
+    )
 
-pub run_law : FramesLaw → ReadFramesLaw
-run_law frames_law separator before after held end calls run =
-    let found = events_of separator before held calls after end run in
-    let got = pushed_by found.events in
-    let are = frames_law separator (Pushed held ∷ found.events) end found.run in
-    (got, found.consumed, subst (λ given. AreFrames separator (held ++ got) given end) found.given are)
-
-pub whole_law : FramesLaw → WholeInputLaw
-whole_law frames_law separator input after end calls run at_end =
-    let found = run_law frames_law separator (Some input) after [] end calls run in
+pub whole_law : WholeInputLaw
+whole_law separator input after end calls run at_end =
+    let found = run_law separator (Some input) after [] end calls run in
     Consumes-whole (Some input) after found.0 (λ bytes. AreFrames separator bytes (frames_of calls) end) found.1 at_end found.2

@@ -1,10 +1,12 @@
 -- Frames with a limit on their length. A frame that is longer is reported in its place, and skipped.
 use Rattle.std.specs.Prelude.{◌≡◌, ℕ, ◌+◌, ◌<◌, ◌≤◌, Bool, true, false, List, [], ◌∷◌, ◌++◌, length, map, nat_le, Option, None, Some, Result, Ok, Err, if◌then◌else◌}
 use Rattle.std.specs.Bool.{OnTrue}
+use Rattle.std.specs.List.{flat_map}
 use Rattle.bytes_utils_buf.specs.declared.refused.Reason.{Reason}
 use Rattle.bytes_utils_buf.specs.declared.refused.Reason.TheVariants.{OutOfMemory, TooLong}
 use Rattle.bytes_utils.specs.Occurrence.{Occurs, OccursAt}
 use Rattle.bytes_utils.specs.Frames.{TakesFrame, AreFrames}
+use Rattle.bytes_utils.specs.StreamRuns.{StreamEvent, IsRunOver, pushed_by, given_by}
 
 -- what clauses see of a `LimitedFrames`: as of a `Frames`, the greatest length of a frame, and whether a longer one was reported whose end has not
 -- come yet
@@ -13,6 +15,9 @@ pub record Limiting : Type 0 where
   pub held : List ℕ
   pub max_length : ℕ
   pub discarding : Bool
+
+abbrev pub limiting : List ℕ → ℕ → Bool → List ℕ → Limiting
+limiting separator limit discarding held = record { separator = separator; held = held; max_length = limit; discarding = discarding }
 
 -- whatever comes after the bytes, no separator begins before place n
 abbrev pub NoneBegins : List ℕ → List ℕ → ℕ → Type 0
@@ -74,39 +79,27 @@ IsLimitedStep bytes_of old (Err OutOfMemory) new = Discards old new
 abbrev pub KeepsLimit : Limiting → Limiting → Type 0
 KeepsLimit old new = (new.separator ≡ old.separator) × (new.max_length ≡ old.max_length)
 
--- what happened: a piece was pushed, a frame was taken, one was reported as too long, or a call returned no frame
-pub data LimitedEvent : Type 0 where
-  Pushed : List ℕ → LimitedEvent
-  Taken : List ℕ → LimitedEvent
-  Overlong : LimitedEvent
-  Waited : LimitedEvent
+-- a piece is appended
+abbrev pub appended : Limiting → List ℕ → Limiting
+appended s piece = record s { held = s.held ++ piece }
 
--- these events lead from a state to the last one
-abbrev pub IsLimitedRun : List ℕ → ℕ → Bool → List ℕ → List LimitedEvent → Bool → List ℕ → Type 0
-IsLimitedRun separator limit discarding held [] on end = (on ≡ discarding) × (end ≡ held)
-IsLimitedRun separator limit discarding held (Pushed piece ∷ events) on end = IsLimitedRun separator limit discarding (held ++ piece) events on end
-IsLimitedRun separator limit discarding held (Taken frame ∷ events) on end =
-    (rest : List ℕ) × GivesWithin separator limit discarding held frame rest × IsLimitedRun separator limit false rest events on end
-IsLimitedRun separator limit discarding held (Overlong ∷ events) on end =
-    (next : Bool) × (rest : List ℕ) × ReportsOverlong separator limit discarding held next rest × IsLimitedRun separator limit next rest events on end
-IsLimitedRun separator limit discarding held (Waited ∷ events) on end =
-    (next : Bool) × (rest : List ℕ) × DiscardsOverlong separator discarding held next rest × IsLimitedRun separator limit next rest events on end
+-- what happened: a piece was pushed, or a call for the next frame returned this
+abbrev pub LimitedEvent : Type 0
+LimitedEvent = StreamEvent (Result (Option (List ℕ)) Reason)
 
--- all pushed pieces, joined
-abbrev pub came_in : List LimitedEvent → List ℕ
-came_in [] = []
-came_in (Pushed piece ∷ events) = piece ++ came_in events
-came_in (Taken frame ∷ events) = came_in events
-came_in (Overlong ∷ events) = came_in events
-came_in (Waited ∷ events) = came_in events
+abbrev pub IsLimitedCall : Limiting → Result (Option (List ℕ)) Reason → Limiting → Type 0
+IsLimitedCall old result new = IsLimitedStep (λ frame. frame) old result new × KeepsLimit old new
 
--- what was returned: a frame, or `None` for one that was too long
-abbrev pub came_out : List LimitedEvent → List (Option (List ℕ))
-came_out [] = []
-came_out (Pushed piece ∷ events) = came_out events
-came_out (Taken frame ∷ events) = Some frame ∷ came_out events
-came_out (Overlong ∷ events) = None ∷ came_out events
-came_out (Waited ∷ events) = came_out events
+-- pushed pieces and calls for the next frame lead from a state to the last one
+abbrev pub IsLimitedRun : Limiting → List LimitedEvent → Limiting → Type 0
+IsLimitedRun s events end = IsRunOver appended IsLimitedCall s events end
+
+-- what a call reported: a frame, `None` for one that was too long, or nothing
+abbrev pub report_of : Result (Option (List ℕ)) Reason → List (Option (List ℕ))
+report_of (Ok (Some frame)) = Some frame ∷ []
+report_of (Ok None) = []
+report_of (Err TooLong) = None ∷ []
+report_of (Err OutOfMemory) = []
 
 -- the frame, or `None` if it is longer than the limit
 abbrev pub within : ℕ → List ℕ → Option (List ℕ)
@@ -133,5 +126,5 @@ pub record IsReportOf (separator : List ℕ) (limit : ℕ) (bytes : List ℕ) (o
 
 -- this holds for every run, whatever the pieces are and whenever frames are asked for
 abbrev pub LimitedFramesLaw : Type 0
-LimitedFramesLaw = (separator : List ℕ) (limit : ℕ) (events : List LimitedEvent) (on : Bool) (end : List ℕ) → IsLimitedRun separator limit false [] events on end
-    → IsReportOf separator limit (came_in events) (came_out events) on end
+LimitedFramesLaw = (separator : List ℕ) (limit : ℕ) (events : List LimitedEvent) (end : Limiting) → IsLimitedRun (limiting separator limit false []) events end
+    → IsReportOf separator limit (pushed_by events) (flat_map report_of (given_by events)) end.discarding end.held

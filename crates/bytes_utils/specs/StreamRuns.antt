@@ -1,5 +1,5 @@
--- Runs of calls on a reader of a stream that comes in pieces. `Takes` says what one call takes: the held bytes before it, the item that it returns,
--- and the bytes held after it.
+-- Runs of calls on a reader of a stream that comes in pieces. The state of a reader is of any type: the bytes that it holds, or more. `push` says what
+-- a piece makes of a state. `Takes` says what one call takes: the state before it, the item that it returns, and the state after it.
 use Rattle.std.specs.Prelude.{◌≡◌, ℕ, List, [], ◌∷◌, ◌++◌, length}
 
 -- what a caller did: it pushed a piece, or took an item
@@ -7,11 +7,15 @@ pub data StreamEvent (A : Type 0) : Type 0 where
   Pushed : List ℕ → StreamEvent A
   Taken : A → StreamEvent A
 
--- these events lead from the held bytes to the bytes held at the end
+-- these events lead from a state to the last one
+abbrev pub IsRunOver : {S A : Type 0} → (S → List ℕ → S) → (S → A → S → Type 0) → S → List (StreamEvent A) → S → Type 0
+IsRunOver push Takes s [] end = end ≡ s
+IsRunOver push Takes s (Pushed piece ∷ events) end = IsRunOver push Takes (push s piece) events end
+IsRunOver {S} push Takes s (Taken item ∷ events) end = (next : S) × Takes s item next × IsRunOver push Takes next events end
+
+-- the same if the state is the held bytes
 abbrev pub IsStreamRun : {A : Type 0} → (List ℕ → A → List ℕ → Type 0) → List ℕ → List (StreamEvent A) → List ℕ → Type 0
-IsStreamRun Takes held [] end = end ≡ held
-IsStreamRun Takes held (Pushed piece ∷ events) end = IsStreamRun Takes (held ++ piece) events end
-IsStreamRun Takes held (Taken item ∷ events) end = (rest : List ℕ) × Takes held item rest × IsStreamRun Takes rest events end
+IsStreamRun Takes held events end = IsRunOver (λ bytes piece. bytes ++ piece) Takes held events end
 
 -- all pushed pieces, joined
 abbrev pub pushed_by : {A : Type 0} → List (StreamEvent A) → List ℕ
@@ -25,18 +29,27 @@ given_by [] = []
 given_by (Pushed piece ∷ events) = given_by events
 given_by (Taken item ∷ events) = item ∷ given_by events
 
--- these are the first items of the bytes, in order, and the bytes after them
-abbrev pub AreFirst : {A : Type 0} → (List ℕ → A → List ℕ → Type 0) → List ℕ → List A → List ℕ → Type 0
-AreFirst Takes bytes [] rest = bytes ≡ rest
-AreFirst Takes bytes (item ∷ items) rest = (following : List ℕ) × Takes bytes item following × AreFirst Takes following items rest
+-- these are the first items of a state, such as the held bytes, in order, and the state after them
+abbrev pub AreFirst : {S A : Type 0} → (S → A → S → Type 0) → S → List A → S → Type 0
+AreFirst Takes s [] rest = s ≡ rest
+AreFirst {S} Takes s (item ∷ items) rest = (following : S) × Takes s item following × AreFirst Takes following items rest
 
--- Whatever the pieces are and whenever items are asked for, a run from an empty reader gives the first items of the joined pieces, and holds the bytes
--- after them.
+-- Whatever the pieces are and whenever items are asked for, a run gives the first items of the state that the joined pieces make, and leads to the
+-- state after them.
+abbrev pub RunLaw : {S A : Type 0} → (S → List ℕ → S) → (S → A → S → Type 0) → Type 0
+RunLaw {S} {A} push Takes =
+    (s : S) (events : List (StreamEvent A)) (end : S) → IsRunOver push Takes s events end → AreFirst Takes (push s (pushed_by events)) (given_by events) end
+
+-- the same of a run from an empty reader, if the state is the held bytes
 abbrev pub StreamLaw : {A : Type 0} → (List ℕ → A → List ℕ → Type 0) → Type 0
 StreamLaw {A} Takes =
     (events : List (StreamEvent A)) (end : List ℕ) → IsStreamRun Takes [] events end → AreFirst Takes (pushed_by events) (given_by events) end
 
--- two lists of first items of the same bytes that have the same length are the same, with the same bytes after them
-abbrev pub SameFirstLaw : {A : Type 0} → (List ℕ → A → List ℕ → Type 0) → Type 0
-SameFirstLaw {A} Takes = (bytes : List ℕ) (xs ys : List A) (x y : List ℕ) → AreFirst Takes bytes xs x → AreFirst Takes bytes ys y
-    → length xs ≡ length ys → (xs ≡ ys) × (x ≡ y)
+-- two lists of first items of the same state that have the same length are the same, with the same state after them
+abbrev pub SameFirstLaw : {S A : Type 0} → (S → A → S → Type 0) → Type 0
+SameFirstLaw {S} {A} Takes = (s : S) (xs ys : List A) (x y : S) → AreFirst Takes s xs x → AreFirst Takes s ys y → length xs ≡ length ys → (xs ≡ ys) × (x ≡ y)
+
+-- two lists of first items of the same state after which no item is there are the same, with the same state after them
+abbrev pub AllFirstLaw : {S A : Type 0} → (S → A → S → Type 0) → Type 0
+AllFirstLaw {S} {A} Takes = (s : S) (xs ys : List A) (x y : S) → AreFirst Takes s xs x → AreFirst Takes s ys y
+    → ((item : A) (next : S) → ¬ Takes x item next) → ((item : A) (next : S) → ¬ Takes y item next) → (xs ≡ ys) × (x ≡ y)

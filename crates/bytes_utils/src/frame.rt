@@ -20,7 +20,7 @@ use bytes::{Buf, Bytes, BytesMut};
 use bytes_utils_buf::segmented::{PackedBuf, SegmentedBuf};
 use bytes_utils_buf::{EitherBuf, Reason, Refused};
 pub use limited::{LimitedFrames, limited_frame_laws};
-pub use limited_lines::LimitedLines;
+pub use limited_lines::{LimitedLines, limited_line_laws};
 pub use lines::{LineError, Lines, line_laws};
 use memchr::memmem::Finder;
 pub use read::{ReadError, read_frame, read_frame_laws};

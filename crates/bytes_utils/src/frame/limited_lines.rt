@@ -4,7 +4,7 @@ ghost use Rattle.std.specs.List.{concat};
 ghost use Rattle.bytes_utils.specs.Pushing.{IsPush};
 ghost use Rattle.bytes_utils.specs.Lines.{line_feed};
 ghost use Rattle.bytes_utils.specs.LimitedFrames.{KeepsLimit};
-ghost use Rattle.bytes_utils.specs.LimitedLines.{IsLimitedLineStep};
+ghost use Rattle.bytes_utils.specs.LimitedLines.{FramesAsLinesLaw, IsLimitedLineStep, LimitedLinesLaw};
 ghost use Rattle.bytes_utils.specs.StreamLines.{IsLastLine};
 
 use super::limited::LimitedFrames;
@@ -152,3 +152,11 @@ impl LimitedLines {
         self.frames.finish()
     }
 }
+
+/// The laws of a run of calls. For each line of the joined pieces it returns the line, or the error
+/// `TooLong` exactly if the line is longer than the limit. The lines are those of `line_laws`.
+#[tactic(auto, using(crate::proofs::LimitedLinesLemmas::limited_line_laws))]
+pub fn limited_line_laws()
+    ensures run { LimitedLinesLaw }
+    ensures lines { FramesAsLinesLaw }
+{}

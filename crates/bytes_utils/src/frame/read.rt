@@ -10,7 +10,7 @@ mod error;
 #[cfg(test)]
 mod tests;
 
-use super::{Frames, frame_laws};
+use super::Frames;
 use crate::Reason;
 use bytes::{Bytes, BytesMut};
 pub use error::ReadError;
@@ -142,6 +142,4 @@ fn push_block(frames: &mut Frames, block: &mut BytesMut, alloc: Global) -> Resul
 pub fn read_frame_laws()
     ensures run { ReadFramesLaw }
     ensures whole { WholeInputLaw }
-{
-    frame_laws();
-}
+{}
