@@ -55,7 +55,7 @@ module _ (p held : List ℕ) (some : 0 < length p) where
 
 -- ---- runs
 
-first_more : (p xs ys : List ℕ) (i : ℕ) → OccursFirstAt p xs i → OccursFirstAt p (xs ++ ys) i
+pub first_more : (p xs ys : List ℕ) (i : ℕ) → OccursFirstAt p xs i → OccursFirstAt p (xs ++ ys) i
 first_more [] xs ys i first = record { here = refl; none_before = λ j there. omega (arith, first.none_before 0 refl) }
 first_more (x ∷ p) xs ys i first = OccursFirstAt-append (x ∷ p) xs ys i (omega arith) first
 

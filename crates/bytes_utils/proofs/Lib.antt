@@ -44,6 +44,7 @@ pub mod FramesLemmas
 pub mod LimitedFramesLemmas
 pub mod LimitedLinesLemmas
 pub mod StreamLinesLemmas
+pub mod CursorLemmas
 pub mod ValidLen
 pub mod CharacterBegins
 pub mod CharacterEnds

@@ -42,7 +42,7 @@ TakesLine-framed old frame line rest takes (inr whole) = record {
 
 -- ---- runs
 
-TakesLine-more : (old line rest piece : List ℕ) → TakesLine old line rest → TakesLine (old ++ piece) line (rest ++ piece)
+pub TakesLine-more : (old line rest piece : List ℕ) → TakesLine old line rest → TakesLine (old ++ piece) line (rest ++ piece)
 TakesLine-more old line rest piece takes = record {
   end = takes.end;
   bytes = ap (λ l. l ++ piece) takes.bytes ∙ append_assoc line (takes.end ++ rest) piece ∙ ap (λ l. line ++ l) (append_assoc takes.end rest piece);

@@ -20,6 +20,7 @@ pub mod Frames
 pub mod FrameSearch
 pub mod LimitedFrames
 pub mod StreamLines
+pub mod Cursor
 pub mod StreamTexts
 pub mod LimitedLines
 pub mod Pushing

@@ -9,7 +9,7 @@ ghost use Rattle.bytes_utils.specs.LimitedFrames.{LosesFront};
 
 mod limited;
 mod limited_lines;
-mod lines;
+pub(crate) mod lines;
 mod read;
 pub(crate) mod search;
 #[cfg(test)]

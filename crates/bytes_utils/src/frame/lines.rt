@@ -222,7 +222,7 @@ impl Lines {
 }
 
 /// Removes one carriage return from the end, if there is one.
-pub(super) fn drop_return(line: &mut Bytes)
+pub(crate) fn drop_return(line: &mut Bytes)
     ensures { IsWithoutReturn line.new line.old }
 {
     if line.as_slice().ends_with(b"\r") {
