@@ -1,16 +1,18 @@
 -- A search in a part of the bytes, and what follows for all of them.
 use Rattle.std.proofs.Common.{◌≡◌, ◌≢◌, ℕ, ◌+◌, ◌-◌, ◌<◌, ◌≤◌, List, [], ◌∷◌, ◌++◌, zero, suc, inl, inr, length, take, drop, get_or, slice_index, Bool, Option, None, Some, Result, Ok, Err, OnOk, OnErr, ap, ◌∙◌, sym, refl, subst, arith, length-append, length-drop, length-take, append_assoc, append-nil, drop-drop, drop_at, get_or-drop, take-append-drop, ⊎_elim}
-use Rattle.std.proofs.lemmas.List.{drop_all, take-append-le, get_or_append_left, drop-append-le, nil_from_length}
+use Rattle.std.proofs.lemmas.List.{drop_all, length-take-le, take-append-le, get_or_append_left, drop-append-le, nil_from_length}
 use Rattle.std.proofs.lemmas.Bool.{cases_lt, cases_Bool, eq-eqb, false≢true}
 use Rattle.std.specs.List.{concat}
 use Rattle.memchr.specs.Find.{Nowhere, NoneBefore, IsFirstByte, OccursAt, Passes, FindsNeedle, TakesFirst, is_byte, places}
 use Rattle.memchr.proofs.lemmas.FindLemmas.{OccursAt-byte, byte-OccursAt, Nowhere-then, Nowhere-more}
 use Rattle.memchr.proofs.lemmas.PlaceLemmas.{places_from-none, places_between-first}
 use Rattle.bytes_utils_buf.specs.Packing.{Packs, grow_last}
-use Rattle.bytes_utils_buf.specs.Segments.{Held, IsInside, after_accepting, without_empty}
+use Rattle.bytes_utils_buf.specs.Segments.{Held, IsInside, Skips, after_accepting, cut_front, without_empty}
+use Rattle.bytes_utils_buf.proofs.Lists.{length-cut_front}
 use Rattle.bytes_utils_buf.proofs.PackingLemmas.{length-grow_last}
 use Rattle.bytes_utils.specs.FrameSearch.{HoldsBack, Searched, SearchedPieces, bytes_before}
 use Rattle.bytes_utils.specs.declared.frame.search.SearchState.{SearchState}
+use Rattle.bytes_utils.proofs.Joins.{append_same}
 use Rattle.bytes_utils.proofs.Pieces.{bytes_before-all}
 
 -- a part of all bytes that begins at place `base`, with more bytes after it
@@ -279,3 +281,120 @@ pub SearchedPieces-pushed : (p piece : List ℕ) (old new : Held) (s : SearchSta
 SearchedPieces-pushed p piece old new s (inl accepted) partly searched = SearchedPieces-accepted p piece old new s accepted searched
 SearchedPieces-pushed p piece old new s (inr grown) partly searched =
     rw grown.1 (SearchedPieces-grown p piece old.segments s (partly (ap (λ held. length held.segments) grown.1 ∙ length-grow_last piece old.segments) grown.0) searched)
+
+-- ---- first bytes that leave
+
+-- no more bytes leave than were searched
+Searched-left : (p bytes held : List ℕ) (base len next : ℕ) (kept : List ℕ) → Searched p bytes base held → len ≤ length bytes → next ≡ base - len → kept ≡ drop (len - base) held
+    → Searched p (drop len bytes) next kept
+Searched-left p bytes held base len next kept s fits place is =
+    let least : len + next ≡ base + (len - base) = omega (arith, place) in
+    record {
+      within = omega (arith, place, s.within, length-drop len bytes);
+      tail = drop-drop next len bytes ∙ ap (λ n. drop n bytes) least ∙ sym (drop-drop (len - base) base bytes) ∙ ap (drop (len - base)) s.tail ∙ sym is;
+      short = omega (arith, s.short, ap length is, length-drop (len - base) held);
+      none = λ more j low high here.
+          let rest = drop-append-le len bytes more fits ∙ sym (append-nil (drop len bytes ++ more)) in
+          s.none more (len + j) (omega arith) (omega (arith, high, place))
+          (occurs_in_all (bytes ++ more) p (drop len bytes ++ more) [] len (omega (arith, fits, length-append bytes more)) rest j here);
+    }
+
+length-concat_around : (pieces : List (List ℕ)) (k : ℕ)
+    → length (concat pieces) ≡ length (concat (take k pieces)) + length (get_or pieces k []) + length (concat (drop (suc k) pieces))
+length-concat_around [] zero = refl
+length-concat_around [] (suc k) = refl
+length-concat_around (x ∷ pieces) zero = omega (arith, length-append x (concat pieces))
+length-concat_around (x ∷ pieces) (suc k) =
+    omega (arith, length-append x (concat pieces), length-append x (concat (take k pieces)), length-concat_around pieces k)
+
+drop-cut : (pieces : List (List ℕ)) (n j : ℕ) → drop (suc j) (cut_front n pieces) ≡ drop (suc j) pieces
+drop-cut [] n j = refl
+drop-cut (x ∷ pieces) n j = refl
+
+get_or-cut : (pieces : List (List ℕ)) (n j : ℕ) → get_or (cut_front n pieces) (suc j) [] ≡ get_or pieces (suc j) []
+get_or-cut [] n j = refl
+get_or-cut (x ∷ pieces) n j = refl
+
+-- the bytes before a place inside the pieces are the first of all
+bytes_before-first_of : (pieces : List (List ℕ)) (k n : ℕ) → IsInside k n pieces → (rest : List ℕ) × (concat pieces ≡ bytes_before k n pieces ++ rest)
+bytes_before-first_of [] zero zero inside = ([], refl)
+bytes_before-first_of [] zero (suc n) inside = absurd (omega (arith, inside))
+bytes_before-first_of [] (suc k) zero inside = ([], refl)
+bytes_before-first_of [] (suc k) (suc n) inside = absurd (omega (arith, inside))
+bytes_before-first_of (x ∷ pieces) zero n inside = (drop n x ++ concat pieces, ap (λ l. l ++ concat pieces) (sym (take-append-drop n x)) ∙ append_assoc (take n x) (drop n x) (concat pieces))
+bytes_before-first_of (x ∷ pieces) (suc k) n inside =
+    let later = bytes_before-first_of pieces k n inside in
+    (later.0, ap (λ l. x ++ l) later.1 ∙ sym (append_assoc x (bytes_before k n pieces) later.0) ∙ ap (λ l. l ++ later.0) (sym (append_assoc x (concat (take k pieces)) (take n (get_or pieces k [])))))
+
+length-bytes_before : (pieces : List (List ℕ)) (k n : ℕ) → IsInside k n pieces → length (bytes_before k n pieces) ≡ length (concat (take k pieces)) + n
+length-bytes_before pieces k n inside =
+    length-append (concat (take k pieces)) (take n (get_or pieces k [])) ∙ ap (λ m. length (concat (take k pieces)) + m) (length-take-le n (get_or pieces k []) inside)
+
+-- how many bytes were searched
+searched_length : (p : List ℕ) (pieces : List (List ℕ)) (s : SearchState) → SearchedPieces p pieces s
+    → length (bytes_before s.pieces s.offset pieces) ≡ s.base + length s.held.items
+searched_length p pieces s searched =
+    let bytes = bytes_before s.pieces s.offset pieces in
+    omega (arith, searched.searched.within, ap length searched.searched.tail, length-drop s.base bytes)
+
+pub SearchedPieces-fits : (p : List ℕ) (pieces : List (List ℕ)) (s : SearchState) → SearchedPieces p pieces s → s.base + length s.held.items ≤ length (concat pieces)
+SearchedPieces-fits p pieces s searched =
+    let first = bytes_before-first_of pieces s.pieces s.offset searched.inside in
+    omega (arith, searched_length p pieces s searched, ap length first.1, length-append (bytes_before s.pieces s.offset pieces) first.0)
+
+-- A skip of n bytes that leaves k pieces before the place and m bytes before it in its piece.
+module _ (n : ℕ) (old new : List (List ℕ)) (skips : Skips n old new) (fits : n ≤ length (concat old)) where
+  size_left : length (concat new) + n ≡ length (concat old)
+  size_left = omega (arith, fits, ap length skips.bytes, length-drop n (concat old))
+
+  drop_new : (j : ℕ) → drop (suc j) new ≡ drop (skips.passed + suc j) old
+  drop_new j = ap (drop (suc j)) skips.rest ∙ drop-cut (drop skips.passed old) skips.cut j ∙ drop-drop (suc j) skips.passed old
+
+  place_left : (k m from offset : ℕ) → from ≡ skips.passed + k → IsInside from offset old → (k ≡ 0 → m + n ≡ length (concat (take from old)) + offset) → (0 < k → m ≡ offset)
+      → IsInside k m new × (length (concat (take k new)) + m + n ≡ length (concat (take from old)) + offset)
+  place_left zero m from offset same inside first next =
+      let at : skips.passed + suc 0 ≡ suc from = omega (arith, same) in
+      let here : length (concat (drop 1 new)) ≡ length (concat (drop (suc from) old))
+      = ap (λ l. length (concat l)) (drop_new 0) ∙ ap (λ j. length (concat (drop j old))) at in
+      (omega (arith, size_left, here, length-concat_around new 0, length-concat_around old from, first refl, inside), omega (arith, first refl))
+  place_left (suc k) m from offset same inside first next =
+      let after : skips.passed + suc (suc k) ≡ suc from = omega (arith, same) in
+      let later : length (concat (drop (suc (suc k)) new)) ≡ length (concat (drop (suc from) old))
+      = ap (λ l. length (concat l)) (drop_new (suc k)) ∙ ap (λ j. length (concat (drop j old))) after in
+      let piece : get_or new (suc k) [] ≡ get_or old from []
+      = ap (λ l. get_or l (suc k) []) skips.rest ∙ get_or-cut (drop skips.passed old) skips.cut k ∙ get_or-drop skips.passed old (suc k) []
+      ∙ ap (λ j. get_or old j []) (sym same) in
+      let at : m ≡ offset = next (omega arith) in
+      (omega (arith, at, ap length piece, inside), omega (arith, at, size_left, later, ap length piece, length-concat_around new (suc k), length-concat_around old from))
+
+-- first bytes of all, and of what is left of them
+first_bytes_left : (n : ℕ) (all before rest left after others : List ℕ) → all ≡ before ++ rest → left ≡ after ++ others → left ≡ drop n all → n ≤ length before
+    → length after ≡ length (drop n before) → after ≡ drop n before
+first_bytes_left n all before rest left after others was is skipped within size =
+    (append_same after (drop n before) others rest size (sym is ∙ skipped ∙ ap (drop n) was ∙ drop-append-le n before rest within)).0
+
+-- what was searched stays searched
+pub SearchedPieces-left : (p : List ℕ) (n passed : ℕ) (old new : List (List ℕ)) (s to : SearchState) → Skips n old new → n ≤ length (concat old) → passed + length new ≡ length old
+    → SearchedPieces p old s → n ≤ s.base + length s.held.items → to.pieces + passed ≡ s.pieces
+    → (to.pieces ≡ 0 → to.offset + n ≡ s.base + length s.held.items) → (0 < to.pieces → to.offset ≡ s.offset)
+    → to.base ≡ s.base - n → to.held.items ≡ drop (n - s.base) s.held.items → SearchedPieces p new to
+SearchedPieces-left p n passed old new s to skips fits count searched few pieces first next base held =
+    let came = skips.passed in
+    let same : passed ≡ came
+    = omega (arith, count, skips.within, ap length skips.rest, length-cut_front skips.cut (drop came old), length-drop came old) in
+    let all = searched_length p old s searched in
+    let size = length-bytes_before old s.pieces s.offset searched.inside in
+    let place = place_left n old new skips fits to.pieces to.offset s.pieces s.offset (omega (arith, same, pieces)) searched.inside
+    (λ none. omega (arith, first none, all, size)) next in
+    let before = bytes_before s.pieces s.offset old in
+    let after = bytes_before to.pieces to.offset new in
+    let was = bytes_before-first_of old s.pieces s.offset searched.inside in
+    let is = bytes_before-first_of new to.pieces to.offset place.0 in
+    let within : n ≤ length before = omega (arith, few, all) in
+    let long : length after ≡ length (drop n before)
+    = omega (arith, length-bytes_before new to.pieces to.offset place.0, place.1, size, length-drop n before) in
+    record {
+      within = omega (arith, pieces, same, searched.within, ap length skips.rest, length-cut_front skips.cut (drop came old), length-drop came old);
+      inside = place.0;
+      searched = rw (first_bytes_left n (concat old) before was.0 (concat new) after is.0 was.1 is.1 skips.bytes within long) (Searched-left p before s.held.items s.base n to.base to.held.items searched.searched within base held);
+    }

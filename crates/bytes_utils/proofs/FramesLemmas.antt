@@ -1,16 +1,22 @@
 -- Frames from pieces.
-use Rattle.std.proofs.Common.{map, All, IsUtf8, drop-drop, Option, ◌≤◌, ◌≡◌, ℕ, ◌+◌, ◌<◌, List, [], ◌∷◌, ◌++◌, length, take, drop, None, Some, ap, ◌∙◌, sym, refl, subst, arith, append_assoc, take-append-drop, ⊎_elim}
+use Rattle.std.proofs.Common.{map, All, IsUtf8, drop-drop, Option, ◌≤◌, ◌≡◌, ℕ, ◌+◌, ◌<◌, List, [], ◌∷◌, ◌++◌, length, take, drop, None, Some, inl, inr, ap, ◌∙◌, sym, refl, subst, arith, length-append, append_assoc, append-nil, take-append-drop, ⊎_elim}
 use Rattle.std.proofs.lemmas.Bool.{cases_lt}
 use Rattle.std.proofs.lemmas.List.{append_cancel_left, length-take-le, take_at, drop_at}
 use Rattle.std.proofs.lemmas.List.Elements.{All-nil, All-cons, All-head, All-tail}
 use Rattle.std.proofs.lemmas.Str.{IsUtf8-drop}
+use Rattle.std.specs.List.{concat}
 use Rattle.std.specs.Str.{chars}
 use Rattle.std.specs.Option.{IfNone, IfSome}
 use Rattle.memchr.specs.Find.{FindsNeedle}
 use Rattle.memchr.proofs.lemmas.MatchLemmas.{OccursAt-part, OccursAt-split}
+use Rattle.bytes_utils_buf.specs.declared.refused.Reason.{Reason}
+use Rattle.bytes_utils_buf.specs.declared.refused.Reason.TheVariants.{OutOfMemory, TooLong}
+use Rattle.bytes_utils_buf.specs.Packing.{Packs}
+use Rattle.bytes_utils_buf.specs.Segments.{Held, Skips, after_accepting}
+use Rattle.bytes_utils_buf.proofs.Lists.{Skips-more}
 use Rattle.bytes_utils.specs.Occurrence.{Occurs, OccursAt, OccursFirstAt}
 use Rattle.bytes_utils.specs.Parts.{IsCutAtFirst, AreForwardParts}
-use Rattle.bytes_utils.specs.Frames.{TakesFrame, AreFrames, FrameOrBytes, Frame, First, TakesFrameOrBytes, framed, FramesLaw, FramesAndBytesLaw, FramePartsLaw, PutFramesLaw, SameFramesLaw, AllFramesLaw, TextFramesLaw}
+use Rattle.bytes_utils.specs.Frames.{PacksPiece, PushesPieces, TakesFrame, AreFrames, FrameOrBytes, Frame, First, TakesFrameOrBytes, framed, FramesLaw, FramesAndBytesLaw, FramePartsLaw, PutFramesLaw, SameFramesLaw, AllFramesLaw, TextFramesLaw}
 use Rattle.bytes_utils.proofs.Boundaries.{OccursAt-fits, HasNeedleAt-from_occurs}
 use Rattle.bytes_utils.proofs.OccurrenceLemmas.{OccursFirstAt-append, first_places_same}
 use Rattle.bytes_utils.proofs.Joins.{append_same}
@@ -52,6 +58,43 @@ module _ (p held : List ℕ) (some : 0 < length p) where
   pub found_none : (r : Option ℕ) → FindsNeedle held p 0 r → IfNone r (¬ Occurs p held)
   found_none None missed = lacks_missed missed
   found_none (Some at) found = tt
+
+-- ---- pieces
+
+pub packs_piece : (piece : List ℕ) (old new : Held) → Packs piece old new → PacksPiece piece old.segments new.segments
+packs_piece piece old new (inl accepted) = inl (ap (λ (held : Held). held.segments) accepted)
+packs_piece piece old new (inr grown) = inr (grown.0, ap (λ (held : Held). held.segments) grown.1)
+
+pub large_piece : (piece : List ℕ) (old new : Held) → new ≡ after_accepting old (piece ∷ []) → 0 < length piece → new.segments ≡ old.segments ++ piece ∷ []
+large_piece [] old new accepted some = absurd (omega (arith, some))
+large_piece (b ∷ piece) old new accepted some = ap (λ (held : Held). held.segments) accepted
+
+pub none_to_push : (pieces held : List (List ℕ)) → pieces ≡ [] → PushesPieces pieces held held
+none_to_push pieces held none = rw none refl
+
+-- without bytes nothing is pushed
+pub nothing_pushed : (pieces : List (List ℕ)) → length (concat pieces) ≡ 0 → PushesPieces pieces [] []
+nothing_pushed [] none = refl
+nothing_pushed ([] ∷ pieces) none = ([], inl refl, λ large. absurd (omega (arith, large)), nothing_pushed pieces none)
+nothing_pushed ((b ∷ piece) ∷ pieces) none = absurd (omega (arith, none, length-append (b ∷ piece) (concat pieces)))
+
+pushed_after : (pieces old new : List (List ℕ)) → PushesPieces pieces old new → All (λ s. 512 < length s) pieces → new ≡ old ++ pieces
+pushed_after [] old new pushed large = pushed ∙ sym (append-nil old)
+pushed_after (piece ∷ pieces) old new pushed large =
+    pushed_after pieces pushed.0 new pushed.3 (All-tail (λ (s : List ℕ). 512 < length s) piece pieces large)
+    ∙ ap (λ l. l ++ pieces) (pushed.2 (All-head (λ (s : List ℕ). 512 < length s) piece pieces large)) ∙ append_assoc old (piece ∷ []) pieces
+
+pub large_pieces : (pieces new : List (List ℕ)) → PushesPieces pieces [] new → All (λ s. 512 < length s) pieces → new ≡ pieces
+large_pieces pieces new pushed large = pushed_after pieces [] new pushed large
+
+pub not_too_long : (reason : Reason) → ¬ (reason ≡ TooLong) → reason ≡ OutOfMemory
+not_too_long OutOfMemory other = refl
+not_too_long TooLong other = absurd (other refl)
+
+-- a frame, and then the separator after it
+pub frame_skips : (n m : ℕ) (old mid new : List (List ℕ)) → Skips n old mid → Skips (0 + m) mid new → Skips (n + m) old new
+frame_skips n m old mid new frame rest =
+    let same : 0 + m ≡ m = omega arith in Skips-more n m old mid new frame (rw same at rest)
 
 -- ---- runs
 

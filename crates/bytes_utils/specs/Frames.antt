@@ -1,14 +1,27 @@
 -- Frames of a stream of bytes that comes in pieces. Each frame is ended by a separator, which is not empty.
-use Rattle.std.specs.Prelude.{◌≡◌, ◌↔◌, ℕ, ◌<◌, List, [], ◌∷◌, ◌++◌, length, map, None, All, IsUtf8}
+use Rattle.std.specs.Prelude.{◌≡◌, ◌↔◌, ◌⊎◌, ℕ, ◌<◌, List, [], ◌∷◌, ◌++◌, length, map, None, All, IsUtf8}
 use Rattle.std.specs.Str.{chars}
+use Rattle.bytes_utils_buf.specs.Packing.{grow_last}
+use Rattle.bytes_utils_buf.specs.Segments.{without_empty}
 use Rattle.bytes_utils.specs.Occurrence.{Occurs, OccursFirstAt}
 use Rattle.bytes_utils.specs.Parts.{IsCutAtFirst, ArePartsFromFront}
 use Rattle.bytes_utils.specs.StreamRuns.{StreamEvent, IsStreamRun, AreFirst, StreamLaw, SameFirstLaw}
 
--- what clauses see of a `Frames`: the separator, and the held bytes, which were pushed and not yet taken
+-- what clauses see of a `Frames`: the separator, the held bytes, which were pushed and not yet taken, and the pieces that hold them
 pub record Framing : Type 0 where
   pub separator : List ℕ
   pub held : List ℕ
+  pub pieces : List (List ℕ)
+
+-- a piece is held as one more piece, unless it is empty, or copied to the end of the last one
+abbrev pub PacksPiece : List ℕ → List (List ℕ) → List (List ℕ) → Type 0
+PacksPiece piece old new = (new ≡ old ++ without_empty (piece ∷ [])) ⊎ ((0 < length old) × (new ≡ grow_last piece old))
+
+-- these pieces are pushed in order: each is packed, and one of more than 512 bytes is held as one more piece
+abbrev pub PushesPieces : List (List ℕ) → List (List ℕ) → List (List ℕ) → Type 0
+PushesPieces [] old new = new ≡ old
+PushesPieces (piece ∷ pieces) old new =
+    (next : List (List ℕ)) × PacksPiece piece old next × (512 < length piece → next ≡ old ++ piece ∷ []) × PushesPieces pieces next new
 
 -- the old bytes are the frame, the separator and the rest, and no separator begins before this one
 pub record TakesFrame (separator old frame rest : List ℕ) : Type 0 where

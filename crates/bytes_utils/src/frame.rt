@@ -1,10 +1,11 @@
 //! Frames of a stream that comes in pieces, each ended by a separator.
-ghost use Rattle.std.specs.Prelude.{◌≡◌, ℕ, ◌+◌, ◌^◌, ◌<◌, ◌≤◌, ◌↔◌, List, [], ◌++◌, length, take, drop, IfOk, IfErr, IfSome, IfNone, IsOk, IsTrue, OnOk, OnErr};
+ghost use Rattle.std.specs.Prelude.{◌≡◌, ℕ, ◌+◌, ◌^◌, ◌<◌, ◌≤◌, ◌↔◌, List, [], ◌∷◌, ◌++◌, length, take, drop, All, IfOk, IfErr, IfSome, IfNone, IsOk, IsTrue, OnOk, OnErr};
 ghost use Rattle.std.specs.List.{concat};
 ghost use Rattle.std.specs.Bool.{OnFalse, OnTrue};
+ghost use Rattle.bytes_utils_buf.specs.Segments.{Skips, newly_held, take_bytes};
 ghost use Rattle.bytes_utils.specs.Pushing.{IsPush};
 ghost use Rattle.bytes_utils.specs.Occurrence.{Occurs};
-ghost use Rattle.bytes_utils.specs.Frames.{AllFramesLaw, FramePartsLaw, FramesAndBytesLaw, FramesLaw, PutFramesLaw, SameFramesLaw, TakesFrame, TextFramesLaw};
+ghost use Rattle.bytes_utils.specs.Frames.{AllFramesLaw, FramePartsLaw, FramesAndBytesLaw, FramesLaw, PacksPiece, PushesPieces, PutFramesLaw, SameFramesLaw, TakesFrame, TextFramesLaw};
 ghost use Rattle.bytes_utils.specs.LimitedFrames.{LosesFront};
 
 mod limited;
@@ -42,10 +43,11 @@ const SMALL: usize = 512;
 /// frames.next_frame(alloc)?        // `GET / HTTP/1.1`; `Host` is left
 /// ```
 ///
-/// Pieces that wait for a separator are not searched again. After each frame that ends in a piece,
-/// that piece is searched once more; after `split_to` the whole search starts again. The bytes of a
-/// frame that lies in one piece are shared. Pieces of at most 512 bytes are copied together, so that
-/// a peer that sends single bytes doesn't fill the memory with blocks: see [`PackedBuf`].
+/// Pieces that wait for a separator are not searched again, also if first bytes are taken by
+/// `split_to` or `take_bytes`. After each frame that ends in a piece, that piece is searched once
+/// more. The bytes of a frame that lies in one piece are shared. Pieces of at most 512 bytes are
+/// copied together, so that a peer that sends single bytes doesn't fill the memory with blocks: see
+/// [`PackedBuf`].
 ///
 /// There is no limit on the length of a frame. For a peer that is not trusted take
 /// [`LimitedFrames`], or [`LimitedLines`] for lines.
@@ -65,7 +67,11 @@ impl Model for Frames {
 
     ghost Value = { Framing };
 
-    ghost view = { λ f. record { separator = f.finder; held = concat f.pieces.held.segments } };
+    ghost view = { λ f. record {
+      separator = f.finder;
+      held = concat f.pieces.held.segments;
+      pieces = f.pieces.held.segments;
+    } };
 
     ghost invariant = { λ f. (0 < length f.finder) × (length (concat f.pieces.held.segments) < 2 ^ 64)
         × SearchedPieces f.finder f.pieces.held.segments f.progress × (f.pieces.threshold ≡ 512) };
@@ -76,7 +82,7 @@ impl Frames {
     /// empty (test: `is_empty`). Fails with `OutOfMemory` if memory is refused.
     pub fn new(alloc: Global, separator: &[u8]) -> Result<Frames, Reason>
         requires { 0 < length separator.now }
-        ensures ok { IfOk result (λ f. f ≡ record { separator = separator.now; held = [] }) }
+        ensures ok { IfOk result (λ f. f ≡ record { separator = separator.now; held = []; pieces = [] }) }
         ensures reason { IfErr result (λ reason. reason ≡ Reason.OutOfMemory) }
     {
         Ok(Frames {
@@ -87,14 +93,79 @@ impl Frames {
         })
     }
 
+    /// Makes a reader that holds the bytes of `held`, as if each of its segments were pushed: one of
+    /// more than 512 bytes is shared, and shorter ones are copied together. Requires that
+    /// `separator` is not empty (test: `is_empty`). Fails with `OutOfMemory` if memory is refused;
+    /// then `held` comes back as it was.
+    #[tactic(auto, using(crate::proofs::FramesLemmas::large_pieces))]
+    pub fn from_segments(
+        alloc: Global,
+        separator: &[u8],
+        held: SegmentedBuf<Bytes>,
+    ) -> Result<Frames, Refused<SegmentedBuf<Bytes>>>
+        requires { 0 < length separator.now }
+        ensures separator { IfOk result (λ f. f.separator ≡ separator.now) }
+        ensures ok { IfOk result (λ f. f.held ≡ concat held.segments) }
+        ensures pushes { IfOk result (λ f. PushesPieces held.segments [] f.pieces) }
+        ensures large { IfOk result
+            (λ f. All (λ s. 512 < length s) held.segments → f.pieces ≡ held.segments) }
+        ensures back { IfErr result (λ e. e.back ≡ held) }
+        ensures reason { IfErr result (λ e. e.reason ≡ Reason.OutOfMemory) }
+    {
+        match Frames::sharing(alloc, separator, &held) {
+            Ok(frames) => Ok(frames),
+            Err(reason) => Err(Refused { reason, back: held }),
+        }
+    }
+
+    /// Makes a reader that holds the bytes of `held`, which stays as it is.
+    #[tactic(auto, using(crate::proofs::FramesLemmas::nothing_pushed))]
+    fn sharing(
+        alloc: Global,
+        separator: &[u8],
+        held: &SegmentedBuf<Bytes>,
+    ) -> Result<Frames, Reason>
+        requires { 0 < length separator.now }
+        ensures separator { IfOk result (λ f. f.separator ≡ separator.now) }
+        ensures ok { IfOk result (λ f. f.held ≡ concat held.now.segments) }
+        ensures pushes { IfOk result (λ f. PushesPieces held.now.segments [] f.pieces) }
+        ensures reason { IfErr result (λ reason. reason ≡ Reason.OutOfMemory) }
+    {
+        let mut frames = Frames::new(alloc, separator)?;
+        if held.remaining() > 0 {
+            frames.push_all(held.try_clone()?)?;
+        }
+        Ok(frames)
+    }
+
+    /// Appends these segments, one after another.
+    #[tactic(auto, using(crate::proofs::FramesLemmas::none_to_push))]
+    fn push_all(&mut self, mut segments: SegmentedBuf<Bytes>) -> Result<(), Reason>
+        requires { length self.old.held + length (concat segments.segments) < 2 ^ 64 }
+        ensures ok { OnOk result (self.new.held ≡ self.old.held ++ concat segments.segments) }
+        ensures pushes { OnOk result
+            (PushesPieces segments.segments self.old.pieces self.new.pieces) }
+        ensures separator { self.new.separator ≡ self.old.separator }
+        ensures reason { IfErr result (λ reason. reason ≡ Reason.OutOfMemory) }
+    {
+        while let Some(piece) = segments.pop() {
+            self.push(piece)?;
+        }
+        Ok(())
+    }
+
     /// Appends `piece`. If it has at most 512 bytes, it is copied to the end of those before it; if
     /// not, it is held as it is. Fails with `TooLong` if the number of held bytes would pass
     /// `usize::MAX`, and with `OutOfMemory` if memory is refused; then nothing has changed and
     /// `piece` comes back.
     #[inline(always)]
+    #[tactic(auto, using(crate::proofs::FramesLemmas::packs_piece, crate::proofs::FramesLemmas::large_piece))]
     pub fn push(&mut self, piece: Bytes) -> Result<(), Refused<Bytes>>
         ensures pushed { IsPush self.old.held piece result
             (self.new.held ≡ self.old.held ++ piece) (self.new ≡ self.old) }
+        ensures packs { OnOk result (PacksPiece piece self.old.pieces self.new.pieces) }
+        ensures large { OnOk result
+            (512 < length piece → self.new.pieces ≡ self.old.pieces ++ piece ∷ []) }
         ensures separator { self.new.separator ≡ self.old.separator }
     {
         if piece.len() <= SMALL {
@@ -112,8 +183,10 @@ impl Frames {
 
     /// Appends a copy of `bytes`, in a block that it shares with other small pieces: for a caller
     /// that reads into a buffer of its own. Fails as `push` does; then nothing has changed.
+    #[tactic(auto, using(crate::proofs::FramesLemmas::packs_piece))]
     pub fn push_slice(&mut self, bytes: &[u8]) -> Result<(), Reason>
         ensures ok { OnOk result (self.new.held ≡ self.old.held ++ bytes.now) }
+        ensures packs { OnOk result (PacksPiece bytes.now self.old.pieces self.new.pieces) }
         ensures separator { self.new.separator ≡ self.old.separator }
         ensures err { OnErr result (self.new ≡ self.old) }
         ensures too_long { IfErr result (λ reason. (reason ≡ Reason.TooLong)
@@ -132,7 +205,10 @@ impl Frames {
     /// Returns the number of held bytes: those pushed and not yet taken.
     pub fn remaining(&self) -> usize
         ensures value { result ≡ length self.now.held }
+
+        // True of every value, whatever was called before.
         ensures some { 0 < length self.now.separator }
+        ensures joined { self.now.held ≡ concat self.now.pieces }
     {
         self.pieces.remaining()
     }
@@ -140,6 +216,7 @@ impl Frames {
     /// Returns the held bytes as they are held. There are at most two segments, and one more for
     /// each 256 bytes (clause `few` of `PackedBuf::segments`).
     pub fn pieces(&self) -> &PackedBuf
+        ensures pieces { result.now.held.segments ≡ self.now.pieces }
         ensures bytes { concat result.now.held.segments ≡ self.now.held }
         ensures threshold { result.now.threshold ≡ 512 }
     {
@@ -167,6 +244,8 @@ impl Frames {
     pub fn next_frame(&mut self, alloc: Global) -> Result<Option<Bytes>, Reason>
         ensures frame { IfOk result (λ next. IfSome next (λ frame.
             TakesFrame self.old.separator self.old.held frame self.new.held)) }
+        ensures skips { IfOk result (λ next. IfSome next (λ frame.
+            Skips (length frame + length self.old.separator) self.old.pieces self.new.pieces)) }
         ensures waits { IfOk result (λ next. IfNone next
             ((self.new ≡ self.old) × (¬ Occurs self.old.separator self.old.held))) }
         ensures separator { self.new.separator ≡ self.old.separator }
@@ -179,14 +258,19 @@ impl Frames {
         Ok(Some(self.take_frame(alloc, len)?))
     }
 
-    /// As `next_frame`, but in pieces: those that were held as they came are shared, and bytes that
-    /// were copied together are copied once more.
+    /// As `next_frame`, but in the pieces that held it: those that were held as they came are shared,
+    /// and bytes that were copied together are copied once more.
     pub fn next_frame_segments(
         &mut self,
         alloc: Global,
     ) -> Result<Option<SegmentedBuf<Bytes>>, Reason>
         ensures frame { IfOk result (λ next. IfSome next (λ frame.
             TakesFrame self.old.separator self.old.held (concat frame.segments) self.new.held)) }
+        ensures pieces { IfOk result (λ next. IfSome next (λ frame.
+            frame ≡ newly_held (take_bytes (length (concat frame.segments)) self.old.pieces))) }
+        ensures skips { IfOk result (λ next. IfSome next (λ frame.
+            Skips (length (concat frame.segments) + length self.old.separator)
+            self.old.pieces self.new.pieces)) }
         ensures waits { IfOk result (λ next. IfNone next
             ((self.new ≡ self.old) × (¬ Occurs self.old.separator self.old.held))) }
         ensures separator { self.new.separator ≡ self.old.separator }
@@ -206,13 +290,19 @@ impl Frames {
     pub fn split_to(&mut self, alloc: Global, len: usize) -> Result<SegmentedBuf<Bytes>, Reason>
         requires { len ≤ length self.old.held }
         ensures front { IfOk result (λ front. concat front.segments ≡ take len self.old.held) }
-        ensures ok { OnOk result (self.new ≡ record self.old { held = drop len self.old.held }) }
+        ensures pieces { IfOk result
+            (λ front. front ≡ newly_held (take_bytes len self.old.pieces)) }
+        ensures ok { OnOk result (self.new.held ≡ drop len self.old.held) }
+        ensures skips { OnOk result (Skips len self.old.pieces self.new.pieces) }
+        ensures separator { self.new.separator ≡ self.old.separator }
         ensures err { OnErr result (self.new ≡ self.old) }
         ensures none { len ≡ 0 → IsOk result }
         ensures reason { IfErr result (λ reason. reason ≡ Reason.OutOfMemory) }
     {
+        let count = self.pieces.segments();
         let front = self.pieces.split_to(alloc, len)?;
-        self.progress.restart();
+        self.progress
+            .leave_front(len, count - self.pieces.segments());
         Ok(front)
     }
 
@@ -223,13 +313,17 @@ impl Frames {
     pub fn take_bytes(&mut self, alloc: Global, len: usize) -> Result<Bytes, Reason>
         requires { len ≤ length self.old.held }
         ensures front { IfOk result (λ front. front ≡ take len self.old.held) }
-        ensures ok { OnOk result (self.new ≡ record self.old { held = drop len self.old.held }) }
+        ensures ok { OnOk result (self.new.held ≡ drop len self.old.held) }
+        ensures skips { OnOk result (Skips len self.old.pieces self.new.pieces) }
+        ensures separator { self.new.separator ≡ self.old.separator }
         ensures err { OnErr result (self.new ≡ self.old) }
         ensures none { len ≡ 0 → IsOk result }
         ensures reason { IfErr result (λ reason. reason ≡ Reason.OutOfMemory) }
     {
+        let count = self.pieces.segments();
         let front = self.pieces.take_bytes(alloc, len)?;
-        self.progress.restart();
+        self.progress
+            .leave_front(len, count - self.pieces.segments());
         Ok(front)
     }
 
@@ -249,12 +343,15 @@ impl Frames {
 
     /// Removes a frame of `len` bytes and its separator, and returns the frame.
     #[inline]
+    #[tactic(auto, using(crate::proofs::FramesLemmas::frame_skips))]
     fn take_frame(&mut self, alloc: Global, len: usize) -> Result<Bytes, Reason>
         requires { len + length self.old.separator ≤ length self.old.held }
         ensures frame { IfOk result (λ frame. frame ≡ take len self.old.held) }
-        ensures ok { OnOk result (self.new ≡ record self.old {
-          held = drop (len + length self.old.separator) self.old.held;
-        }) }
+        ensures ok { OnOk result
+            (self.new.held ≡ drop (len + length self.old.separator) self.old.held) }
+        ensures skips { OnOk result
+            (Skips (len + length self.old.separator) self.old.pieces self.new.pieces) }
+        ensures separator { self.new.separator ≡ self.old.separator }
         ensures err { OnErr result (self.new ≡ self.old) }
         ensures reason { IfErr result (λ reason. reason ≡ Reason.OutOfMemory) }
     {
@@ -265,6 +362,7 @@ impl Frames {
     }
 
     /// As `take_frame`, in the pieces in which the frame came.
+    #[tactic(auto, using(crate::proofs::FramesLemmas::frame_skips))]
     fn take_frame_segments(
         &mut self,
         alloc: Global,
@@ -272,9 +370,13 @@ impl Frames {
     ) -> Result<SegmentedBuf<Bytes>, Reason>
         requires { len + length self.old.separator ≤ length self.old.held }
         ensures frame { IfOk result (λ frame. concat frame.segments ≡ take len self.old.held) }
-        ensures ok { OnOk result (self.new ≡ record self.old {
-          held = drop (len + length self.old.separator) self.old.held;
-        }) }
+        ensures pieces { IfOk result
+            (λ frame. frame ≡ newly_held (take_bytes len self.old.pieces)) }
+        ensures ok { OnOk result
+            (self.new.held ≡ drop (len + length self.old.separator) self.old.held) }
+        ensures skips { OnOk result
+            (Skips (len + length self.old.separator) self.old.pieces self.new.pieces) }
+        ensures separator { self.new.separator ≡ self.old.separator }
         ensures err { OnErr result (self.new ≡ self.old) }
         ensures reason { IfErr result (λ reason. reason ≡ Reason.OutOfMemory) }
     {
@@ -286,7 +388,8 @@ impl Frames {
     /// Removes all held bytes and returns them.
     fn take_held(&mut self, alloc: Global) -> Result<Bytes, Reason>
         ensures held { IfOk result (λ held. held ≡ self.old.held) }
-        ensures ok { OnOk result (self.new ≡ record self.old { held = [] }) }
+        ensures ok { OnOk result (self.new.held ≡ []) }
+        ensures separator { self.new.separator ≡ self.old.separator }
         ensures err { OnErr result (self.new ≡ self.old) }
         ensures reason { IfErr result (λ reason. reason ≡ Reason.OutOfMemory) }
     {
@@ -316,8 +419,10 @@ impl Frames {
             return Ok(true);
         }
         let searched = self.progress.base();
+        let count = self.pieces.segments();
         self.pieces.advance(searched);
-        self.progress.forget_front(self.pieces.segments());
+        self.progress
+            .leave_front(searched, count - self.pieces.segments());
         Ok(false)
     }
 
@@ -325,9 +430,9 @@ impl Frames {
     #[inline]
     fn discard_frame(&mut self, len: usize)
         requires { len + length self.old.separator ≤ length self.old.held }
-        ensures { self.new ≡ record self.old {
-          held = drop (len + length self.old.separator) self.old.held;
-        } }
+        ensures held { self.new.held ≡ drop (len + length self.old.separator) self.old.held }
+        ensures skips { Skips (len + length self.old.separator) self.old.pieces self.new.pieces }
+        ensures separator { self.new.separator ≡ self.old.separator }
     {
         let passed = len + self.separator().len();
         self.pieces.advance(passed);
@@ -337,7 +442,8 @@ impl Frames {
     /// Returns the held bytes. Call it at the end of the stream: they are the last frame, if it has
     /// no separator, and any frames not asked for.
     pub fn finish(self) -> SegmentedBuf<EitherBuf<Bytes, BytesMut>>
-        ensures { concat result.segments ≡ self.held }
+        ensures bytes { concat result.segments ≡ self.held }
+        ensures pieces { result.segments ≡ self.pieces }
     {
         self.pieces.into_segmented()
     }

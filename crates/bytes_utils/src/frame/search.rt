@@ -4,6 +4,7 @@ ghost use Rattle.std.specs.Prelude.{◌≡◌, ◌≢◌, ℕ, ◌+◌, ◌-◌,
 ghost use Rattle.std.specs.List.{concat};
 ghost use Rattle.memchr.specs.Find.{FindsNeedle, IsFirstByte, is_byte};
 ghost use Rattle.bytes_utils_buf.specs.Packing.{last_of};
+ghost use Rattle.bytes_utils_buf.specs.Segments.{Skips};
 ghost use Rattle.bytes_utils.specs.FrameSearch.{HoldsBack, Searched, SearchedPieces, StaysAt};
 
 use bytes_utils_buf::contiguous::ContiguousBuf;
@@ -54,23 +55,32 @@ impl SearchState {
         self.held.clear();
     }
 
+    /// Goes on after the first `len` bytes have left, and with them `passed` pieces: what was
+    /// searched of the others stays searched.
+    pub(crate) fn leave_front(&mut self, len: usize, passed: usize)
+        requires { self.old.base + length self.old.held.items < 2 ^ 64 }
+        ensures searched { (needle : List ℕ) (old new : List (List ℕ)) → Skips len old new
+            → len ≤ length (concat old) → passed + length new ≡ length old
+            → SearchedPieces needle old self.old → SearchedPieces needle new self.new }
+    {
+        let searched = self.base + self.held.len();
+        if len > searched || passed > self.pieces {
+            self.restart();
+            return;
+        }
+        self.pieces -= passed;
+        if self.pieces == 0 {
+            self.offset = searched - len;
+        }
+        drop_front(&mut self.held, len.saturating_sub(self.base));
+        self.base = self.base.saturating_sub(len);
+    }
+
     /// The place at which the kept tail begins.
     pub(crate) fn base(&self) -> usize
         ensures { result ≡ self.now.base }
     {
         self.base
-    }
-
-    /// Forgets the bytes before the kept tail, which now spans `pieces` pieces.
-    pub(crate) fn forget_front(&mut self, pieces: usize)
-        ensures pieces { self.new.pieces ≡ pieces }
-        ensures offset { self.new.offset ≡ 0 }
-        ensures base { self.new.base ≡ 0 }
-        ensures held { self.new.held.items ≡ self.old.held.items }
-    {
-        self.pieces = pieces;
-        self.offset = 0;
-        self.base = 0;
     }
 
     /// Goes back into the last of `count` pieces, which had `len` bytes and may have grown, if all

@@ -96,6 +96,15 @@ impl<'c> Stream<'c> {
         }
     }
 
+    /// Drops the first bytes.
+    fn leave<R: Abort>(&mut self, rt: &R, len: usize) {
+        assert!(rt; len <= self.pieces.remaining());
+        let count = self.pieces.segments();
+        self.pieces.advance(len);
+        self.progress
+            .leave_front(len, count - self.pieces.segments());
+    }
+
     /// Drops all frames whose end has come. Returns their number.
     fn pass_all<R: Abort>(&mut self, rt: &R) -> usize {
         for count in 0..=self.pieces.remaining() {
@@ -173,4 +182,29 @@ fn looks_at_each_piece_once(rt: HostRuntime) {
     // a frame ends within the third piece, or three within each
     assert_looks(&rt, alloc, ("\r\n", "ab|c\r|\nd|e\r\n"), 200, 500);
     assert_looks(&rt, alloc, ("-", "a-b-c-d"), 300, 400);
+}
+
+/// Returns how often pieces are read: those of a body that is searched, and then dropped `len` bytes
+/// at a time, and one after it in which a frame ends.
+fn looks_at_body<R: Abort>(rt: &R, alloc: Global, separator: &str, len: usize) -> usize {
+    assert!(rt; !separator.is_empty());
+    let looked = Cell::new(0);
+    let mut stream = Stream::new(alloc, separator.as_bytes());
+    assert!(rt; stream.pass_round(rt, "aa\r|aa\r|aa\r|aa\r", &looked, true) == 0);
+    for _ in 0..12 / len.max(1) {
+        stream.leave(rt, len);
+        assert!(rt; !stream.pass(rt));
+    }
+    assert!(rt; stream.pass_round(rt, "a\r\nb", &looked, true) == 1);
+    looked.get()
+}
+
+/// A body of twelve bytes in four pieces, each of which ends as a separator begins, is read once. The
+/// piece in which a frame ends is read once more.
+#[test]
+fn what_was_searched_stays_searched(rt: HostRuntime) {
+    let alloc = rt.alloc();
+    for len in 1..=12 {
+        assert_eq!(rt; looks_at_body(&rt, alloc, "\r\n", len), 6);
+    }
 }

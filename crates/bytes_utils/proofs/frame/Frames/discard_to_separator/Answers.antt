@@ -1,17 +1,16 @@
-use Rattle.std.proofs.Common.{◌≡◌, ap, ◌∙◌, length, length-drop, take, drop, arith}
+use Rattle.std.proofs.Common.{◌+◌, ◌-◌, ◌≡◌, ◌≤◌, ap, ◌∙◌, length, length-drop, take, arith}
 use Rattle.std.specs.List.{concat}
-use Rattle.bytes_utils.specs.FrameSearch.{bytes_before}
-use Rattle.bytes_utils.proofs.FrameSearchLemmas.{Searched-kept, SearchedPieces-all}
+use Rattle.bytes_utils_buf.proofs.Lists.{length-Skips}
+use Rattle.bytes_utils.proofs.FrameSearchLemmas.{SearchedPieces-all, SearchedPieces-fits}
 use Rattle.bytes_utils.proofs.FramesLemmas.{TakesFrame-found}
 use Rattle.bytes_utils.proofs.LimitedFramesLemmas.{LosesFront-searched}
-use Rattle.bytes_utils.proofs.Pieces.{bytes_before-all}
 use Rattle.bytes_utils.proofs.frame.Frames.discard_to_separator.Goals as goal
 
 pub returns-in-Some-clause-ended : goal.returns-in-Some-clause-ended
 returns-in-Some-clause-ended c =
     let q = c.self.inside in
     let found = rw (c.in-Some.is, c.as_segmented.ensures) at c.in_ok-len.ensures.found in
-    (take c.in-Some.len (concat q.pieces.held.segments), rw (← c.self.view_is) (rw c.discard_frame.ensures (TakesFrame-found q.finder (concat q.pieces.held.segments) c.self.invariant.0 c.in-Some.len found)))
+    (take c.in-Some.len (concat q.pieces.held.segments), rw (← c.self.view_is) (rw c.discard_frame.ensures.held (TakesFrame-found q.finder (concat q.pieces.held.segments) c.self.invariant.0 c.in-Some.len found)))
 
 pub returns-clause-on : goal.returns-clause-on
 returns-clause-on c =
@@ -23,25 +22,32 @@ returns-clause-on c =
     let lost = LosesFront-searched q.finder (concat q.pieces.held.segments) progress.held.items progress.base c.self.invariant.0 s in
     rw (← c.self.view_is) (rw (c.advance.ensures.bytes, c.base-searched.ensures, s.tail) lost)
 
+pub overflow_sub-count : goal.overflow_sub-count
+overflow_sub-count c =
+    let skips = c.advance.ensures.skips in
+    omega (arith, c.segments-count.ensures.count, c.segments.ensures.count, length-Skips c.base-searched.result c.self.inside.pieces.held.segments c.advance.new.self.held.segments skips)
+
+pub leave_front-requires : goal.leave_front-requires
+leave_front-requires c =
+    let q = c.self.inside in
+    let found = rw c.as_segmented.ensures at c.in_ok-len.ensures.searched in
+    omega (arith, c.self.invariant.1, SearchedPieces-fits q.finder q.pieces.held.segments c.find.new.progress found)
+
 pub invariant_of-self-2 : goal.invariant_of-self-2
 invariant_of-self-2 c =
     let q = c.self.inside in
     let is = c.self.invariant in
     let progress = c.find.new.progress in
+    let old = q.pieces.held.segments in
     let new = c.advance.new.self.held.segments in
     let found = rw c.as_segmented.ensures at c.in_ok-len.ensures.searched in
-    let count = rw c.in_default.is at c.in_ok-len.ensures.all in
-    let s = SearchedPieces-all q.finder q.pieces.held.segments progress found (omega (arith, count, ap (λ held. length held.segments) c.as_segmented.ensures)) in
-    let rest : concat new ≡ progress.held.items = c.advance.ensures.bytes ∙ ap (λ n. drop n (concat q.pieces.held.segments)) c.base-searched.ensures ∙ s.tail in
-    let to = c.forget_front.ensures in
-    let all : bytes_before c.forget_front.new.self.pieces c.forget_front.new.self.offset new ≡ progress.held.items
-    = bytes_before-all new c.forget_front.new.self.pieces c.forget_front.new.self.offset (omega (arith, to.pieces, c.segments.ensures.count)) ∙ rest in (
+    let fits : c.base-searched.result ≤ length (concat old)
+    = omega (arith, c.base-searched.ensures, SearchedPieces-fits q.finder old progress found) in
+    let skips = c.advance.ensures.skips in
+    let count : (c.segments-count.result - c.segments.result) + length new ≡ length old
+    = omega (arith, c.segments-count.ensures.count, c.segments.ensures.count, length-Skips c.base-searched.result old new skips) in (
       is.0,
-      omega (arith, is.1, ap length c.advance.ensures.bytes, length-drop c.base-searched.result (concat q.pieces.held.segments)),
-      record {
-        within = omega (arith, to.pieces, c.segments.ensures.count);
-        inside = omega (arith, to.offset);
-        searched = rw (all, to.base, to.held) (Searched-kept q.finder (concat q.pieces.held.segments) progress.held.items progress.base s);
-      },
+      omega (arith, is.1, ap length c.advance.ensures.bytes, length-drop c.base-searched.result (concat old)),
+      c.leave_front.ensures.searched q.finder old new skips fits count found,
       c.advance.ensures.threshold ∙ is.3,
     )
