@@ -1,4 +1,5 @@
 //! Frames out of pieces: what is shared, what is let go, and long ones.
+use crate::SegmentedBuf;
 use crate::frame::tests::readers::{Holds, ReadsFrames};
 use crate::frame::{Frames, LimitedFrames, LimitedLines, Lines};
 use bytes::Bytes;
@@ -241,4 +242,33 @@ fn first_bytes_of_a_piece_are_shared(rt: HostRuntime) -> Result<(), Fail> {
     frames.put(long_piece(alloc, b'b')?)?;
     frames.put(long_piece(alloc, b'c')?)?;
     assert_first_bytes(&rt, alloc, &mut frames)
+}
+
+/// A body of two short segments, a long one and one more.
+fn body_around(long: Bytes, alloc: Global) -> Result<SegmentedBuf<Bytes>, Fail> {
+    let mut body = SegmentedBuf::new(alloc);
+    body.try_push(Bytes::from_static(b"a"))?;
+    body.try_push(Bytes::from_static(b"b-c"))?;
+    body.try_push(long)?;
+    body.try_push(Bytes::from_static(b"-"))?;
+    Ok(body)
+}
+
+/// A long segment is shared by the reader alone: nothing of the body is left.
+#[test]
+fn segments_are_held_as_if_they_were_pushed(rt: HostRuntime) -> Result<(), Fail> {
+    let alloc = rt.alloc();
+    let long = long_piece(alloc, b'd')?;
+    let body = body_around(long.clone()?, alloc)?;
+    let mut frames = Frames::from_segments(alloc, b"-", body)
+        .ok()
+        .ok_or("refused")?;
+    assert!(rt; frames.pieces().segments() == 3 && frames.remaining() == 605);
+    assert!(rt; is_next(alloc, &mut frames, "ab", false) && !long.is_unique());
+    match frames.frame(alloc) {
+        Ok(Some(frame)) => assert!(rt; frame.len() == 601 && frame.is_unique()),
+        _ => assert!(rt; false, "no frame ends"),
+    }
+    assert!(rt; frames.remaining() == 0 && long.is_unique());
+    Ok(())
 }
