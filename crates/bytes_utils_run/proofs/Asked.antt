@@ -1,5 +1,5 @@
 -- What an input asks for, by the request that was read from it.
-use Rattle.std.proofs.Common.{◌≡◌, ◌∙◌, refl, sym, ap, subst, ℕ, List, ◌++◌, Option, None, Some, map}
+use Rattle.std.proofs.Common.{◌≡◌, refl, ℕ, List, ◌++◌, Option, None, Some, map}
 use Rattle.std.proofs.lemmas.List.{map-append}
 use Rattle.std.proofs.lemmas.List.Folds.{concat-append}
 use Rattle.std.specs.Io.KnownBytes.{Appends}
@@ -7,7 +7,6 @@ use Rattle.std.specs.List.{concat}
 use Rattle.bytes_utils.specs.Lines.{text_after}
 use Rattle.bytes_utils.specs.Outcome.{Outcome}
 use Rattle.bytes_utils_run.specs.Answer.{ComesOf, PrintsBeginning}
-use Rattle.bytes_utils_run.specs.Coming.{AreToCome}
 use Rattle.bytes_utils_run.specs.Command.{IsCommand, command_line}
 use Rattle.bytes_utils_run.specs.Cutting.{Cutting, ArePartsBy}
 use Rattle.bytes_utils_run.specs.Moves.{AppendsBeginning}
@@ -40,16 +39,14 @@ Outcome-replies calls line text asked given refused are =
 -- the outcome for a line and a text is the outcome for the input that has them
 pub Outcome-input : {E : Type 0} (input line text : List ℕ) → line ≡ command_line input → text ≡ text_after input
     → (entries : List (List ℕ)) (refused : Option E) → Outcome (AreAskedFor line text) entries refused → Outcome (AsksFor input) entries refused
-Outcome-input input line text line_is text_is entries refused are =
-    subst (λ l. Outcome (AreAskedFor l (text_after input)) entries refused) line_is
-    (subst (λ t. Outcome (AreAskedFor line t) entries refused) text_is are)
+Outcome-input input line text line_is text_is entries refused are = rw (← line_is, ← text_is) are
 
 -- first bytes of what was given are first bytes of a list that is right for the whole
 begun-outcome : {E : Type 0} (Is : List (List ℕ) → Type 0) (given : List (List ℕ)) (refused : Option E) → Outcome Is given refused
     → (a b : Option (List ℕ)) → AppendsBeginning a b (concat given) → (all : List (List ℕ)) × Is all × AppendsBeginning a b (concat all)
 begun-outcome Is given None is a b begun = (given, is, begun)
 begun-outcome Is given (Some e) more a b begun =
-    (given ++ more.0, more.2, subst (AppendsBeginning a b) (sym (concat-append given more.0)) (AppendsBeginning-more a b (concat given) (concat more.0) begun))
+    (given ++ more.0, more.2, rw (concat-append given more.0) (AppendsBeginning-more a b (concat given) (concat more.0) begun))
 
 -- first bytes of the results are first bytes of what the input asks for
 pub begun-asked : (Is : List (List ℕ) → Type 0) (answer : Answer)
@@ -57,23 +54,16 @@ pub begun-asked : (Is : List (List ℕ) → Type 0) (answer : Answer)
     → (a b : Option (List ℕ)) → PrintsBeginning answer a b → (all : List (List ℕ)) × Is all × AppendsBeginning a b (concat all)
 begun-asked Is (Splitter splitter) right a b begun =
     let parts = map printed_part begun.0 in (parts, right parts None (begun.0, refl, begun.1), begun.2)
-begun-asked Is (Replies replies) right a b begun =
-    let given = map printed_reply replies.given.items in begun-outcome Is given replies.refused (right given replies.refused (refl, refl)) a b begun
+begun-asked Is (Replies replies missing) right a b begun =
+    let given = map printed_reply replies.items in begun-outcome Is given missing (right given missing (refl, refl)) a b begun
 
 -- the results that were printed are first results
 pub given-begun : (answer : Answer) (given : List (List ℕ)) (refused : Option Reason) → ComesOf answer given refused
     → (a b : Option (List ℕ)) → Appends a b (concat given) → PrintsBeginning answer a b
-given-begun (Splitter splitter) given refused (parts, is, are) a b written = by_reason refused are
-  where
-    begun : AppendsBeginning a b (concat (map printed_part parts))
-    begun = AppendsBeginning-all a b _ (subst (λ g. Appends a b (concat g)) is written)
-
-    by_reason : (refused : Option Reason) → Outcome (AreToCome splitter) parts refused → PrintsBeginning (Splitter splitter) a b
-    by_reason None are = (parts, are, begun)
-    by_reason (Some e) more = (
-      parts ++ more.0,
-      more.2,
-      subst (AppendsBeginning a b) (sym (ap concat (map-append printed_part parts more.0) ∙ concat-append (map printed_part parts) (map printed_part more.0)))
-          (AppendsBeginning-more a b _ _ begun),
-    )
-given-begun (Replies replies) given refused came a b written = AppendsBeginning-all a b _ (subst (λ g. Appends a b (concat g)) came.0 written)
+given-begun (Splitter splitter) given None (parts, is, are) a b written = (parts, are, rw (← is) (AppendsBeginning-all a b _ written))
+given-begun (Splitter splitter) given (Some e) (parts, is, (others, some, are)) a b written = (
+  parts ++ others,
+  are,
+  rw (map-append printed_part parts others, concat-append (map printed_part parts), ← is) (AppendsBeginning-more a b _ _ (AppendsBeginning-all a b _ written)),
+)
+given-begun (Replies replies missing) given refused came a b written = rw (← came.0) (AppendsBeginning-all a b _ written)

@@ -6,11 +6,11 @@ use Rattle.std.proofs.lemmas.List.{append_cancel_left, drop_at}
 use Rattle.std.proofs.lemmas.List.Elements.{All-weaker}
 use Rattle.std.proofs.lemmas.List.Sums.{AllPass-from_list_all}
 use Rattle.std.proofs.lemmas.Str.Ascii.{IsAscii-from_all}
-use Rattle.std.proofs.lemmas.Str.{chars-append, encodes-chars, encodes-append, encodes-IsAscii, chars-IsAscii, IsUtf8-take, IsUtf8-drop, IsUtf8-append, IsCharBoundary-at_seam}
+use Rattle.std.proofs.lemmas.Str.{chars-append, encodes-chars, encodes-append, encodes-IsAscii, chars-IsAscii, IsUtf8-take, IsUtf8-drop, IsUtf8-append, IsUtf8-from_ascii, IsCharBoundary-at_seam}
 use Rattle.std.specs.Option.{IfSome}
 use Rattle.std.specs.Str.Parse.{AllDigits}
 use Rattle.std.specs.Bool.{MatchBool}
-use Rattle.std.specs.Str.{bytes_eq}
+use Rattle.std.specs.Str.{IsAscii, bytes_eq}
 use Rattle.std.proofs.lemmas.Slice.Eq.{bytes_eq-Decides}
 use Rattle.std.specs.Str.Pattern.{LacksTextAt, FindsText, FindsTextPrefix}
 use Rattle.std.specs.Str.{chars, encode_utf8_all as encodes}
@@ -41,18 +41,30 @@ pub reports_word : (line word : List ℕ) → IsUtf8 line → IsUtf8 word → (r
 reports_word line word line_is word_is true e = ap chars ((bytes_eq-Decides line word).0 (sym e))
 reports_word line word line_is word_is false e = λ same. absurd (false≢true (e ∙ (bytes_eq-Decides line word).1 (same-bytes line word line_is word_is same)))
 
+word_is_ascii : (word : List ℕ) → list_all is_ascii word ≡ true → IsAscii word
+word_is_ascii word all = IsAscii-from_all word (All-weaker (λ b. is_ascii b ≡ true) (λ b. b < 128) (λ b. ltb-true b 128) word (AllPass-from_list_all is_ascii word all))
+
 -- a word of ASCII, such as one in source code, is its own characters
 pub chars_word : (word : List ℕ) → list_all is_ascii word ≡ true → chars word ≡ word
-chars_word word all =
-    chars-IsAscii word (IsAscii-from_all word (All-weaker (λ b. is_ascii b ≡ true) (λ b. b < 128) (λ b. ltb-true b 128) word (AllPass-from_list_all is_ascii word all)))
+chars_word word all = chars-IsAscii word (word_is_ascii word all)
 
 space-bytes : encodes (codes " ") ≡ codes " "
 unfolding encode_utf8
 space-bytes = refl
 
+-- the line is the word and this rest, in characters and so in bytes
+pub chars-word_before : (word line rest : List ℕ) → list_all is_ascii word ≡ true → word ++ rest ≡ line → chars line ≡ word ++ chars rest
+chars-word_before word line rest all is =
+    let ascii = word_is_ascii word all in
+    ap chars (sym is) ∙ chars-append word rest (IsUtf8-from_ascii word ascii) ∙ ap (λ w. w ++ chars rest) (chars-IsAscii word ascii)
+
+pub word_before-chars : (word line rest : List ℕ) → list_all is_ascii word ≡ true → IsUtf8 line → IsUtf8 rest → chars line ≡ word ++ chars rest → word ++ rest ≡ line
+word_before-chars word line rest all line_is rest_is is =
+    (λ i. sym (encodes-IsAscii word (word_is_ascii word all)) i ++ sym (encodes-chars rest rest_is) i)
+    ∙ sym (encodes-append word (chars rest)) ∙ ap encodes (sym is) ∙ encodes-chars line line_is
+
 space-utf8 : IsUtf8 (codes " ")
-unfolding encode_utf8
-space-utf8 = (codes " ", (refl, refl))
+space-utf8 = IsUtf8-from_ascii (codes " ") (word_is_ascii (codes " ") refl)
 
 -- digits before a space, in the bytes
 counted-bytes : (text digits rest : List ℕ) → IsUtf8 text → AllDigits 10 digits → chars text ≡ digits ++ (codes " " ++ rest) → text ≡ digits ++ (codes " " ++ encodes rest)

@@ -23,12 +23,12 @@ IsReadFrom line Buf = line ≡ codes "buf"
 -- replies are as they are.
 abbrev pub ComesOf : Answer → List (List ℕ) → Option Reason → Type 0
 ComesOf (Splitter splitter) given refused = (parts : List (List ℕ)) × (given ≡ map printed_part parts) × Outcome (AreToCome splitter) parts refused
-ComesOf (Replies replies) given refused = (given ≡ map printed_reply replies.given.items) × (refused ≡ replies.refused)
+ComesOf (Replies replies missing) given refused = (given ≡ map printed_reply replies.items) × (refused ≡ missing)
 
 -- if the results are parts, some list of parts is to come
 abbrev pub HasParts : Answer → Type 0
 HasParts (Splitter splitter) = (parts : List (List ℕ)) × AreToCome splitter parts
-HasParts (Replies replies) = ⊤
+HasParts (Replies replies missing) = ⊤
 
 -- the results were printed, to a writer that held `held` before and holds `held'` after, if these are known
 abbrev pub PrintsGiven : Answer → Option Reason → Option (List ℕ) → Option (List ℕ) → Type 0
@@ -38,4 +38,4 @@ PrintsGiven answer refused held held' = (given : List (List ℕ)) × ComesOf ans
 abbrev pub PrintsBeginning : Answer → Option (List ℕ) → Option (List ℕ) → Type 0
 PrintsBeginning (Splitter splitter) held held' =
     (parts : List (List ℕ)) × AreToCome splitter parts × AppendsBeginning held held' (concat (map printed_part parts))
-PrintsBeginning (Replies replies) held held' = AppendsBeginning held held' (concat (map printed_reply replies.given.items))
+PrintsBeginning (Replies replies missing) held held' = AppendsBeginning held held' (concat (map printed_reply replies.items))

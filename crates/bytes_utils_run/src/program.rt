@@ -57,10 +57,10 @@ fn print_given<W: Write>(writer: &mut W, answer: Answer<'_>) -> Result<Option<Re
             drop(splitter); // An implicit drop would be proved here again, case by case.
             refused
         }
-        Answer::Replies(replies) => match print_all(writer, &replies.given) {
-            Ok(()) => Ok(replies.refused),
-            Err(fault) => Err(fault),
-        },
+        Answer::Replies { given, refused } => {
+            print_all(writer, &given)?;
+            Ok(refused)
+        }
     }
 }
 

@@ -24,8 +24,13 @@ use std::alloc::Global;
 pub(super) enum Answer<'l> {
     /// The parts that a splitter gives.
     Splitter(AnySplitter<'l, Bytes>),
-    /// The replies to calls, up to the first one that memory was refused for.
-    Replies(Replies),
+    /// The replies to calls.
+    Replies {
+        /// The replies before the first one that memory was refused for.
+        given: Vec<Reply>,
+        /// Why some replies are missing, if some are.
+        refused: Option<Reason>,
+    },
 }
 
 /// Finds the first reply that memory was refused for.
@@ -35,10 +40,10 @@ fn first_lacking_memory(replies: &[Reply]) -> Option<usize>
     replies.iter().position(|reply| matches!(reply, Reply::NoMemory | Reply::CopyStopped(_)))
 }
 
-/// Makes the calls on a new buffer. Keeps the replies before the first refusal of memory.
-fn replies_to(alloc: Global, calls: Vec<Call<Bytes>>) -> Result<Replies, Fault>
-    ensures ok { IfOk result
-        (λ replies. AreFirstReplies calls.items replies.given.items replies.refused) }
+/// Makes the calls on a new buffer. Returns the replies before the first refusal of memory, and the
+/// reason if some are missing.
+fn replies_to(alloc: Global, calls: Vec<Call<Bytes>>) -> Result<(Vec<Reply>, Option<Reason>), Fault>
+    ensures ok { IfOk result (λ replies. AreFirstReplies calls.items replies.0.items replies.1) }
     ensures fault { IsOkUnless result Fault.OutOfMemory }
 {
     let mut buf = SegmentedBuf::new(alloc);
@@ -46,19 +51,11 @@ fn replies_to(alloc: Global, calls: Vec<Call<Bytes>>) -> Result<Replies, Fault>
     if refused.is_some() {
         return Err(Fault::OutOfMemory);
     }
-    match first_lacking_memory(&given) {
-        Some(count) => {
-            given.truncate(count);
-            Ok(Replies {
-                given,
-                refused: Some(Reason::OutOfMemory),
-            })
-        }
-        None => Ok(Replies {
-            given,
-            refused: None,
-        }),
-    }
+    let Some(count) = first_lacking_memory(&given) else {
+        return Ok((given, None));
+    };
+    given.truncate(count);
+    Ok((given, Some(Reason::OutOfMemory)))
 }
 
 /// Runs the command in the first line of `input` on the text after it.
@@ -80,7 +77,8 @@ pub(super) fn answer_to(alloc: Global, input: &Str) -> Result<Answer<'_>, Fault>
         Command::Cut(how) => Ok(Answer::Splitter(AnySplitter::new(text, how))),
         Command::Buf => {
             let calls = calls_of(alloc, text)?;
-            Ok(Answer::Replies(replies_to(alloc, calls)?))
+            let (given, refused) = replies_to(alloc, calls)?;
+            Ok(Answer::Replies { given, refused })
         }
     }
 }

@@ -15,9 +15,6 @@ use bytes::Bytes;
 use bytes_utils::Str;
 use std::alloc::Global;
 
-/// The word of a call that appends, and its space.
-const PUSH: &str = "push ";
-
 /// Reads a word and the number after it.
 fn numbered(line: &str, word: &str) -> Option<usize>
     ensures { MatchOption result ((n : ℕ) → ¬ IsNumbered (chars word.now) n (chars line.now))
@@ -69,28 +66,24 @@ fn with_number(line: &str) -> Option<Call<Bytes>>
 }
 
 /// Reads the bytes to push: all of the line after the word and its space.
-#[tactic(auto, using(crate::proofs::CommandLemmas::chars_word, std::proofs::lemmas::List::drop_at))]
-fn pushed(line: &Str) -> Result<Bytes, Fault>
-    ensures ok { IfOk result (λ bytes. IsCallLine (Pushing bytes) (chars line.now)) }
+fn pushed(line: Str) -> Result<Bytes, Fault>
+    ensures ok { IfOk result (λ bytes. IsCallLine (Pushing bytes) (chars line)) }
     ensures unknown { IsErrOf result Fault.UnknownCommand
-        → (bytes : List ℕ) → ¬ IsCallLine (Pushing bytes) (chars line.now) }
+        → (bytes : List ℕ) → ¬ IsCallLine (Pushing bytes) (chars line) }
     ensures fault { IfErr result
         (λ fault. (fault ≡ Fault.UnknownCommand) ⊎ (fault ≡ Fault.OutOfMemory)) }
 {
-    let Some(_) = rest_after(line.as_str(), PUSH) else {
+    let Some(text) = line.strip_prefix_bytes("push ")? else {
         return Err(Fault::UnknownCommand);
     };
-    match line.slice_from(PUSH.len()) {
-        Ok(text) => Ok(text.into_inner()),
-        Err(_) => Err(Fault::OutOfMemory),
-    }
+    Ok(text.into_inner())
 }
 
 /// Reads the call that a line asks for.
-fn call_of(line: &Str) -> Result<Call<Bytes>, Fault>
-    ensures ok { IfOk result (λ call. IsCallLine call (chars line.now)) }
+fn call_of(line: Str) -> Result<Call<Bytes>, Fault>
+    ensures ok { IfOk result (λ call. IsCallLine call (chars line)) }
     ensures unknown { IsErrOf result Fault.UnknownCommand
-        → (call : Asked (List ℕ)) → ¬ IsCallLine call (chars line.now) }
+        → (call : Asked (List ℕ)) → ¬ IsCallLine call (chars line) }
     ensures fault { IfErr result
         (λ fault. (fault ≡ Fault.UnknownCommand) ⊎ (fault ≡ Fault.OutOfMemory)) }
 {
@@ -116,10 +109,10 @@ pub(super) fn calls_of(alloc: Global, text: Str) -> Result<Vec<Call<Bytes>>, Fau
         let Ok(line) = line else {
             return Err(Fault::OutOfMemory);
         };
-        let call = call_of(&line)?;
-        if calls.push(call).is_err() {
+        let call = call_of(line)?;
+        let Ok(()) = calls.push(call) else {
             return Err(Fault::OutOfMemory);
-        }
+        };
     }
     Ok(calls)
 }

@@ -1,5 +1,5 @@
 //! Words and numbers of the input.
-ghost use Rattle.std.specs.Prelude.{◌≡◌, ◌≢◌, ℕ, List, ◌++◌, MatchOption, IsCharBoundary, IsUtf8, IfSome, OnSome, length};
+ghost use Rattle.std.specs.Prelude.{◌≡◌, ◌≢◌, ℕ, List, ◌++◌, MatchOption, IsUtf8, IfSome};
 ghost use Rattle.std.specs.Bool.{MatchBool};
 ghost use Rattle.std.specs.Str.{chars};
 ghost use Rattle.bytes_utils_run.specs.Number.{IsNumber};
@@ -36,9 +36,7 @@ pub(super) fn is_word(line: &str, word: &str) -> bool
 pub(super) fn rest_after<'l>(line: &'l str, word: &str) -> Option<&'l str>
     ensures value { MatchOption result ((rest : List ℕ) → chars line.now ≢ chars word.now ++ rest)
         (λ rest. chars line.now ≡ chars word.now ++ chars rest.now) }
-    ensures bytes { IfSome result (λ rest. line.now ≡ word.now ++ rest.now) }
     ensures utf8 { IfSome result (λ rest. IsUtf8 rest.now) }
-    ensures boundary { OnSome result (IsCharBoundary line.now (length word.now)) }
 {
     line.strip_prefix(word)
 }

@@ -17,11 +17,11 @@ returns-in-Cut-clause-ok c = λ given refused came.
     rw came.1 (Outcome-input (chars c.args.input.now) _ _ line text _ _
     (Outcome-parts (cutting c.in-Cut.how) (chars c.range.result.now) (chars c.in_ok-text.text) command.1 (AreToCome c.new.result) (search rules) came.0 refused came.2))
 
-pub returns-in_ok-replies_to-in-Buf-clause-ok : goal.returns-in_ok-replies_to-in-Buf-clause-ok
-returns-in_ok-replies_to-in-Buf-clause-ok c = λ given refused came.
+pub returns-in_ok-given-in-Buf-clause-ok : goal.returns-in_ok-given-in-Buf-clause-ok
+returns-in_ok-given-in-Buf-clause-ok c = λ given refused came.
     let line : chars c.range.result.now ≡ command_line (chars c.args.input.now) = search rules in
     let text : chars c.in_ok-text.text ≡ text_after (chars c.args.input.now) = search rules in
     let command = subst (IsReadFrom (chars c.range.result.now)) c.in-Buf.is c.in-Some.ensures in
     rw (came.0, came.1) (Outcome-input (chars c.args.input.now) _ _ line text _ _
     (Outcome-replies c.in_ok-calls-in-Buf.calls.items _ _ (command, c.in_ok-calls-in-Buf.ensures.ok) _ _
-    (first-given c.in_ok-calls-in-Buf.calls _ _ _ c.in_ok-replies_to-in-Buf.ensures.ok)))
+    (first-given c.in_ok-calls-in-Buf.calls _ _ _ c.in_ok-given-in-Buf.ensures.ok)))

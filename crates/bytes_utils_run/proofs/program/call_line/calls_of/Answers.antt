@@ -13,12 +13,6 @@ loop-line-preserved c =
     let pushed : c.push.new.self.items ≡ c.loop-line.calls.items ++ c.in_ok-call.call ∷ [] = search rules in
     HasRead-more _ _ _ _ _ c.in_ok-call.call _ c.loop-line.invariant gives c.in_ok-call.ensures.ok pushed
 
-pub loop-line-preserved-else-is_err : goal.loop-line-preserved-else-is_err
-loop-line-preserved-else-is_err c =
-    let gives = given c.in-Ok.is c.in-Some.ensures.steps in
-    let pushed : c.push.new.self.items ≡ c.loop-line.calls.items ++ c.in_ok-call.call ∷ [] = search rules in
-    HasRead-more _ _ _ _ _ c.in_ok-call.call _ c.loop-line.invariant gives c.in_ok-call.ensures.ok pushed
-
 pub returns-in_err-call-clause-unknown : goal.returns-in_err-call-clause-unknown
 returns-in_err-call-clause-unknown c is =
     let gives = given c.in-Ok.is c.in-Some.ensures.steps in
