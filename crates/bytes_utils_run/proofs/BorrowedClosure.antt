@@ -1,5 +1,5 @@
 -- What each run of `str::split` by a closure on characters gives.
-use Rattle.std.proofs.Common.{◌≡◌, refl, sym, ap, subst, ◌∙◌, ℕ, ◌<◌, List, [], ◌∷◌, ◌++◌, Option, None, Some, Bool, true, false, take, drop, arith, IsUtf8, MatchOption}
+use Rattle.std.proofs.Common.{◌≡◌, refl, ap, ℕ, List, [], ◌∷◌, ◌++◌, Option, None, Some, Bool, true, false, arith, IsUtf8}
 use Rattle.std.specs.Str.{chars, NonePass}
 use Rattle.std.specs.Str.Pattern.{FindsBy, IsSplitAtFirstMatch}
 use Rattle.std.specs.Str.Iter.{split_steps, split_text, split_has_more, split_pattern}
@@ -37,21 +37,14 @@ module _ (passes : ℕ → Bool) where
 
   Leads-test : (text part : List ℕ) (live : Bool) (rest : List ℕ) (F : List ℕ → Option (ℕ × ℕ) → Type 0) → ((found : Option (ℕ × ℕ)) → F text found → FindsBy passes text found)
       → IsUtf8 text → IsSplitAtFirstMatch F text part live rest → Leads by_test text part live rest None None
-  Leads-test text part live rest F finds text_is cut = either cut.1.0 (finds cut.1.0 cut.1.1) cut.1.2
-    where
-      either : (found : Option (ℕ × ℕ)) → FindsBy passes text found
-          → MatchOption found ((part ≡ text) × (live ≡ false)) (λ q. 0 < q.1 → (part ≡ take q.0 text) × (live ≡ true) × (rest ≡ drop q.1 text))
-          → Leads by_test text part live rest None None
-      either None nowhere is = Leads-last_part by_test text part live rest None None is.1 is.0 (refl, NonePass-chars passes text text_is nowhere)
-      either (Some (i, j)) found is =
-          let at = IsCutBy-from_finds passes text i j text_is found in
-          let longer = at.longer in
-          let cut_is = is (omega (arith, longer)) in
-          let whole : chars text ≡ chars part ++ at.character ∷ chars rest =
-          at.whole ∙ ap (λ z. chars z ++ at.character ∷ chars (drop j text)) (sym cut_is.0) ∙ ap (λ z. chars part ++ at.character ∷ chars z) (sym cut_is.2) in
-          let none : NonePass passes (chars part) = subst (λ z. NonePass passes (chars z)) (sym cut_is.0) at.before_none in
-          Leads-first_part by_test text part live rest None None cut_is.1 (subst IsUtf8 (sym cut_is.2) at.after_is)
-          (ByTest-more (chars text) (chars part) (chars rest) at.character whole at.passing none)
+  Leads-test text part live rest F finds text_is (_, (None, found, is)) =
+      Leads-last_part by_test text part live rest None None is.1 is.0 (refl, NonePass-chars passes text text_is (finds None found))
+  Leads-test text part live rest F finds text_is (_, (Some (i, j), found, is)) =
+      let at = IsCutBy-from_finds passes text i j text_is (finds (Some (i, j)) found) in
+      let longer = at.longer in
+      let cut_is = is (omega (arith, longer)) in
+      Leads-first_part by_test text part live rest None None cut_is.1 (rw cut_is.2 at.after_is)
+      (ByTest-more (chars text) (chars part) (chars rest) at.character (rw (cut_is.0, cut_is.2) at.whole) at.passing (rw cut_is.0 at.before_none))
 
   -- a closure that returns the result of the test
   pub split_tested-gives : {F : Type 0} (answers : F → (ℕ → Bool) → Type 0) (s : Split F) (text : List ℕ) → split_text s ≡ text → split_has_more s ≡ true → IsUtf8 text

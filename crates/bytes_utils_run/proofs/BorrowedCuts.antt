@@ -39,8 +39,9 @@ First p t i = OccursFirstAt p t i
 abbrev pub Last : List ℕ → List ℕ → ℕ → Type 0
 Last p t i = OccursLastAt p t i
 
--- patterns of which `is` holds find p, and a search keeps `is`
+-- patterns of which `is` holds find p, which isn't empty, and a search keeps `is`
 pub record Seeks {P : Type 0} (finds : P → List ℕ → Option (ℕ × ℕ) → Type 0) (keeps : P → P → Type 0) (Best : List ℕ → List ℕ → ℕ → Type 0) (p : List ℕ) (is : P → Type 0) : Type 0 where
+  pub some : 0 < length p
   pub cuts : (pattern : P) (text : List ℕ) (found : Option (ℕ × ℕ)) → is pattern → IsUtf8 text → finds pattern text found → FindsCut Best p text found
   pub kept : (pattern after : P) → is pattern → keeps pattern after → is after
 
@@ -119,12 +120,14 @@ module _ (text sep : List ℕ) (text_is : IsUtf8 text) (sep_is : IsUtf8 sep) (so
 module _ (sep : List ℕ) (sep_is : IsUtf8 sep) (some : 0 < length sep) where
   pub Seeks-text : Seeks finds_text keeps_text First (chars sep) (λ pattern. pattern.now ≡ sep)
   Seeks-text = record {
+    some = chars-some sep sep_is some;
     cuts = λ pattern text found is text_is finds. finds_first text sep text_is sep_is some found (subst (λ p. FindsText p text found) is finds);
     kept = λ pattern after is keeps. keeps ∙ is;
   }
 
   pub Seeks-text_back : Seeks rfinds_text keeps_text Last (chars sep) (λ pattern. pattern.now ≡ sep)
   Seeks-text_back = record {
+    some = chars-some sep sep_is some;
     cuts = λ pattern text found is text_is finds. finds_last text sep text_is sep_is some found (subst (λ p. RFindsText p text found) is finds);
     kept = λ pattern after is keeps. keeps ∙ is;
   }
@@ -209,12 +212,14 @@ FindsBy-from_character c text (Some ends) found = (found.0, (c, eq-eqb c c refl,
 
 pub Seeks-character : (c : ℕ) → Seeks FindsChar keeps_character First (c ∷ []) (λ pattern. pattern ≡ c)
 Seeks-character c = record {
+  some = omega arith;
   cuts = λ pattern text found is text_is finds. finds_character c text text_is found (FindsBy-from_character c text found (subst (λ p. FindsChar p text found) is finds));
   kept = λ pattern after is keeps. keeps ∙ is;
 }
 
 pub Seeks-tested : {F : Type 0} (answers : F → (ℕ → Bool) → Type 0) (c : ℕ) → Seeks (finds_tested answers) (keeps_tested answers) First (c ∷ []) (λ f. answers f (λ d. d == c))
 Seeks-tested answers c = record {
+  some = omega arith;
   cuts = λ f text found is text_is finds. finds_character c text text_is found (finds (λ d. d == c) is);
   kept = λ f after is keeps. keeps (λ d. d == c) is;
 }

@@ -1,5 +1,5 @@
 -- What each run of `str::split_inclusive` gives, by a pattern that finds a separator that isn't empty.
-use Rattle.std.proofs.Common.{◌≡◌, sym, ap, subst, ◌∙◌, ℕ, ◌+◌, ◌<◌, List, [], ◌∷◌, ◌++◌, Option, None, Some, MatchOption, length, take, drop, take-append-drop, arith, length-append, length-drop, IsUtf8, eq-or-lt_of_le, ◌⊎◌, inl, inr}
+use Rattle.std.proofs.Common.{◌≡◌, sym, ap, subst, ◌∙◌, ℕ, ◌+◌, ◌<◌, List, [], ◌∷◌, ◌++◌, Option, None, Some, length, take, drop, take-append-drop, arith, length-append, length-drop, IsUtf8, eq-or-lt_of_le, ◌⊎◌, inl, inr}
 use Rattle.std.proofs.Math.Seq.{take-length}
 use Rattle.std.proofs.lemmas.List.{length-take-le, nil_from_length, take_at, drop_at}
 use Rattle.std.proofs.lemmas.Str.{IsUtf8-nil, IsUtf8-take, IsCharBoundary-from_drop, chars-append}
@@ -65,45 +65,39 @@ module _ (p : List ℕ) (some : 0 < length p) where
         ends_whole p (chars text) cut.place cut.found (omega (arith, size_after, ap length (no_chars (drop j text) nothing)))
 
     Follows-through : (part rest : List ℕ) → text ≡ part ++ rest → part ≡ take j text → Follows text part rest
-    Follows-through part rest whole part_is = either (eq-or-lt_of_le cut.fits)
-      where
-        either : (j ≡ length text) ⊎ (j < length text) → Follows text part rest
-        either (inl end) =
-            let longer = cut.longer in
-            Follows-last text part rest text_is whole (part_is ∙ ap (λ k. take k text) end ∙ take-length text) (omega (arith, longer, end)) (inl (at_end end))
-        either (inr less) =
-            let size : length part ≡ j = ap length part_is ∙ length-take-le j text cut.fits in
-            let rest_is : rest ≡ drop j text = sym (ap (drop j) whole ∙ drop_at part rest j size) in
-            let long : 0 < length (chars (drop j text)) = chars-some (drop j text) cut.after_is (omega (arith, length-drop j text, less)) in (
-              subst IsUtf8 (sym rest_is) cut.after_is,
-              λ others are.
-                  let following = subst (λ z. AreInclusiveParts z p others) (ap chars rest_is ∙ cut.following) are in
-                  subst (λ z. AreInclusiveParts (chars text) p (z ∷ others)) (sym (ap chars part_is ∙ through))
-                  (AreInclusiveParts-more p (chars text) cut.place some cut.found (omega (arith, size_after, long)) others following),
-            )
+    Follows-through part rest whole part_is = elim (eq-or-lt_of_le cut.fits) [
+      | inl end ↦ (let longer = cut.longer in
+          Follows-last text part rest text_is whole (part_is ∙ ap (λ k. take k text) end ∙ take-length text) (omega (arith, longer, end)) (inl (at_end end)))
+      | inr less ↦ (let size : length part ≡ j = ap length part_is ∙ length-take-le j text cut.fits in
+          let rest_is : rest ≡ drop j text = sym (ap (drop j) whole ∙ drop_at part rest j size) in
+          let long : 0 < length (chars (drop j text)) = chars-some (drop j text) cut.after_is (omega (arith, length-drop j text, less)) in (
+            rw rest_is cut.after_is,
+            λ others are.
+                let following = subst (λ z. AreInclusiveParts z p others) (ap chars rest_is ∙ cut.following) are in
+                rw (part_is, through) (AreInclusiveParts-more p (chars text) cut.place some cut.found (omega (arith, size_after, long)) others following),
+          ))
+    ]
 
   follows : (text part rest : List ℕ) (F : List ℕ → Option (ℕ × ℕ) → Type 0) → ((found : Option (ℕ × ℕ)) → F text found → FindsCut First p text found)
       → IsUtf8 text → text ≡ part ++ rest → EndsAtFirstMatch F text part → Follows text part rest
-  follows text part rest F cuts text_is whole ends = either ends.0 (cuts ends.0 ends.1) ends.2
-    where
-      either : (found : Option (ℕ × ℕ)) → FindsCut First p text found → MatchOption found ((part ≡ text) × (0 < length text)) (λ q. 0 < q.1 → part ≡ take q.1 text) → Follows text part rest
-      either None nowhere is = Follows-last text part rest text_is whole is.0 is.1 (inr nowhere)
-      either (Some (i, j)) cut is =
-          let longer = cut.longer in
-          Follows-through text text_is i j cut part rest whole (is (omega (arith, longer)))
+  follows text part rest F cuts text_is whole (None, finds, is) = Follows-last text part rest text_is whole is.0 is.1 (inr (cuts None finds))
+  follows text part rest F cuts text_is whole (Some (i, j), finds, is) =
+      let cut = cuts (Some (i, j)) finds in
+      let longer = cut.longer in
+      Follows-through text text_is i j cut part rest whole (is (omega (arith, longer)))
 
-  module _ {P : Type 0} (finds : P → List ℕ → Option (ℕ × ℕ) → Type 0) (keeps : P → P → Type 0) (is : P → Type 0) where
-    pub split_inclusive-gives : Seeks finds keeps First p is → (s : SplitInclusive P) (text : List ℕ) → split_inclusive_text s ≡ text → IsUtf8 text → is (split_inclusive_pattern s)
-        → GivesParts (split_inclusive_steps finds keeps) s (AreInclusiveParts (chars text) p)
-    split_inclusive-gives seeks s text text_is utf8 pattern_is =
-        subst (λ t. GivesParts (split_inclusive_steps finds keeps) s (AreInclusiveParts (chars t) p)) text_is
-        (GivesParts-from_steps (split_inclusive_steps finds keeps) (λ s. IsUtf8 (split_inclusive_text s) × is (split_inclusive_pattern s))
-        (λ s. AreInclusiveParts (chars (split_inclusive_text s)) p)
-        (λ s s_is. has_inclusive_parts p (chars (split_inclusive_text s)) some)
-        (λ s u s_is step. none_to_come p (split_inclusive_text s) step.1.0)
-        (λ s t x s_is step.
-        let pattern = split_inclusive_pattern s in
-        let text = split_inclusive_text s in
-        let one = follows text x.now (split_inclusive_text t) (finds pattern) (λ found. seeks.cuts pattern text found s_is.1 s_is.0) s_is.0 step.1.0 step.1.1 in
-        ((one.0, seeks.kept pattern (split_inclusive_pattern t) s_is.1 step.0), one.1))
-        s (subst IsUtf8 (sym text_is) utf8, pattern_is))
+module _ {P : Type 0} {finds : P → List ℕ → Option (ℕ × ℕ) → Type 0} {keeps : P → P → Type 0} {p : List ℕ} {is : P → Type 0} where
+  pub split_inclusive-gives : Seeks finds keeps First p is → (s : SplitInclusive P) (text : List ℕ) → split_inclusive_text s ≡ text → IsUtf8 text → is (split_inclusive_pattern s)
+      → GivesParts (split_inclusive_steps finds keeps) s (AreInclusiveParts (chars text) p)
+  split_inclusive-gives seeks s text text_is utf8 pattern_is =
+      subst (λ t. GivesParts (split_inclusive_steps finds keeps) s (AreInclusiveParts (chars t) p)) text_is
+      (GivesParts-from_steps (split_inclusive_steps finds keeps) (λ s. IsUtf8 (split_inclusive_text s) × is (split_inclusive_pattern s))
+      (λ s. AreInclusiveParts (chars (split_inclusive_text s)) p)
+      (λ s s_is. has_inclusive_parts p (chars (split_inclusive_text s)) seeks.some)
+      (λ s u s_is step. none_to_come p (split_inclusive_text s) step.1.0)
+      (λ s t x s_is step.
+      let pattern = split_inclusive_pattern s in
+      let text = split_inclusive_text s in
+      let one = follows p seeks.some text x.now (split_inclusive_text t) (finds pattern) (λ found. seeks.cuts pattern text found s_is.1 s_is.0) s_is.0 step.1.0 step.1.1 in
+      ((one.0, seeks.kept pattern (split_inclusive_pattern t) s_is.1 step.0), one.1))
+      s (subst IsUtf8 (sym text_is) utf8, pattern_is))

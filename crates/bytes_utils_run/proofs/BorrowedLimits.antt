@@ -1,5 +1,5 @@
 -- What each run of `str::splitn` and `str::rsplitn` gives, by a pattern that finds a separator that isn't empty.
-use Rattle.std.proofs.Common.{◌≡◌, sym, ap, subst, ℕ, zero, suc, ◌-◌, ◌<◌, List, [], ◌∷◌, Option, Some, Bool, Bor, true, ◌&&◌, nat_lt, length, arith, IsUtf8, eq-or-lt_of_le, lt-ltb, ltb-true, ◌⊎◌, inl, inr}
+use Rattle.std.proofs.Common.{◌≡◌, sym, ap, subst, ℕ, zero, suc, ◌-◌, ◌<◌, List, [], ◌∷◌, Option, Some, Bool, Bor, true, ◌&&◌, nat_lt, arith, IsUtf8, eq-or-lt_of_le, lt-ltb, ltb-true, ◌⊎◌, inl, inr}
 use Rattle.std.proofs.lemmas.Bool.{and_parts, and_from}
 use Rattle.std.specs.Option.{is_some}
 use Rattle.std.specs.Str.{chars}
@@ -65,18 +65,18 @@ module _ {S P : Type 0} (steps : S → Option (Bor (List ℕ)) → S → Type 0)
       s t (Some most) text_is (ap (λ n. Some n) count_is) utf8 pattern_is
       (λ parts are. at_start (Are (chars t)) (none (chars t)) most (more s) goes_on parts (subst (λ n. ToCome (nat_lt 0 n && more s) (Are (chars t) (Some most)) parts) count_is are))
 
-module _ {P : Type 0} (finds : P → List ℕ → Option (ℕ × ℕ) → Type 0) (keeps : P → P → Type 0) (p : List ℕ) (some : 0 < length p) (is : P → Type 0) where
+module _ {P : Type 0} {finds : P → List ℕ → Option (ℕ × ℕ) → Type 0} {keeps : P → P → Type 0} {p : List ℕ} {is : P → Type 0} where
   pub splitn-gives : Seeks finds keeps First p is → (s : SplitN P) (text : List ℕ) (most : ℕ) → split_text (splitn_parts s) ≡ text → split_has_more (splitn_parts s) ≡ true → splitn_count s ≡ most
       → IsUtf8 text → is (split_pattern (splitn_parts s)) → GivesParts (splitn_steps finds keeps) s (ArePartsFromFront (chars text) p (Some most))
   splitn-gives seeks =
       gives_limited (splitn_steps finds keeps) (λ s. split_text (splitn_parts s)) splitn_count (λ s. split_has_more (splitn_parts s)) (λ s. split_pattern (splitn_parts s)) is
       (from_front p) (λ t. has_front t p) (λ t parts. (front-none t p parts).1)
-      (λ t. front-from t p (Some 1) (t ∷ []) some (omega arith) (AreForwardParts-rest p t)) (λ s t x step. step.1)
+      (λ t. front-from t p (Some 1) (t ∷ []) seeks.some (omega arith) (AreForwardParts-rest p t)) (λ s t x step. step.1)
       (λ s t x utf8 pattern_is step. (
         step.0,
         step.2.0,
         λ room. (
-          Leads-first p some (Some (splitn_count s)) room _ _ _ _ (finds (split_pattern (splitn_parts s))) (λ found. seeks.cuts _ _ found pattern_is utf8) (step.2.1 room).1,
+          Leads-first p seeks.some (Some (splitn_count s)) room _ _ _ _ (finds (split_pattern (splitn_parts s))) (λ found. seeks.cuts _ _ found pattern_is utf8) (step.2.1 room).1,
           seeks.kept _ _ pattern_is (step.2.1 room).0,
         ),
       ))
@@ -86,12 +86,12 @@ module _ {P : Type 0} (finds : P → List ℕ → Option (ℕ × ℕ) → Type 0
   rsplitn-gives seeks =
       gives_limited (rsplitn_steps finds keeps) (λ s. rsplit_text (rsplitn_parts s)) rsplitn_count (λ s. rsplit_has_more (rsplitn_parts s)) (λ s. rsplit_pattern (rsplitn_parts s)) is
       (from_back p) (λ t. has_back t p) (λ t. back-none t p)
-      (λ t. back-from t p (Some 1) (t ∷ []) some (omega arith) (AreBackwardParts-rest p t)) (λ s t x step. step.1)
+      (λ t. back-from t p (Some 1) (t ∷ []) seeks.some (omega arith) (AreBackwardParts-rest p t)) (λ s t x step. step.1)
       (λ s t x utf8 pattern_is step. (
         step.0,
         step.2.0,
         λ room. (
-          Leads-last p some (Some (rsplitn_count s)) room _ _ _ _ (finds (rsplit_pattern (rsplitn_parts s))) (λ found. seeks.cuts _ _ found pattern_is utf8) (step.2.1 room).1,
+          Leads-last p seeks.some (Some (rsplitn_count s)) room _ _ _ _ (finds (rsplit_pattern (rsplitn_parts s))) (λ found. seeks.cuts _ _ found pattern_is utf8) (step.2.1 room).1,
           seeks.kept _ _ pattern_is (step.2.1 room).0,
         ),
       ))

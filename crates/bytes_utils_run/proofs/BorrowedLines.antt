@@ -1,7 +1,7 @@
 -- What each run of `str::lines` gives.
-use Rattle.std.proofs.Common.{◌≡◌, refl, sym, ap, subst, ◌∙◌, ℕ, zero, suc, ◌+◌, ◌<◌, List, [], ◌∷◌, ◌++◌, length, take, drop, get_or, take-append-drop, arith, ◌⊎◌, inl, inr, length-append, length-drop, append_assoc, IsUtf8, IsCharBoundary, eq-or-lt_of_le, eqb-true}
+use Rattle.std.proofs.Common.{◌≡◌, refl, sym, ap, subst, ◌∙◌, ℕ, zero, suc, ◌+◌, ◌<◌, List, [], ◌∷◌, ◌++◌, length, take, drop, get_or, take-append-drop, arith, ⊎_elim, inl, inr, length-append, length-drop, append_assoc, IsUtf8, IsCharBoundary, eq-or-lt_of_le, eqb-true}
 use Rattle.std.proofs.lemmas.Bool.{eqb-false}
-use Rattle.std.proofs.lemmas.List.{take_at, get_or-drop}
+use Rattle.std.proofs.lemmas.List.{take_at, get_or-drop, nil_from_length}
 use Rattle.std.proofs.Math.Seq.{get_or-append_seam, take-length}
 use Rattle.std.proofs.lemmas.Str.{chars-append, encodes-append, encodes-chars, IsUtf8-nil, IsUtf8-take, IsUtf8-drop, IsUtf8-past_char, chars_past_char, IsCharBoundary-before_ascii}
 use Rattle.std.specs.Char.{encode_utf8, is_newline}
@@ -15,7 +15,7 @@ use Rattle.bytes_utils.proofs.Boundaries.{OccursAt-fits}
 use Rattle.bytes_utils.proofs.SearchLemmas.{chars-some}
 use Rattle.bytes_utils.proofs.WordsLemmas.{NonePass-chars}
 use Rattle.bytes_utils_run.specs.Borrowed.{GivesParts}
-use Rattle.bytes_utils_run.proofs.BorrowedRuns.{GivesParts-from_steps}
+use Rattle.bytes_utils_run.proofs.BorrowedRuns.{gives_all_of}
 
 -- if no character passes the test for a line feed, none is a line feed
 LacksFeed-from_none : (cs : List ℕ) → NonePass is_newline cs → LacksFeed cs
@@ -45,11 +45,7 @@ module _ (text x rest : List ℕ) (text_is : IsUtf8 text) (some : 0 < length tex
       let all : take first.0 text ≡ text = ap (λ k. take k text) end ∙ take-length text in
       let lacks = lacks_feed text text_is (subst (NoCharPasses is_newline) all first.1) in
       let nothing : length rest ≡ 0 = omega (arith, first.3, end) in
-      (empty rest nothing, lines-whole (chars text) (chars-some text text_is some) lacks ∙ ap (λ z. chars z ∷ []) (sym (first.4 end)) ∙ ap (λ z. chars x ∷ z) (lines-none rest nothing))
-    where
-      empty : (r : List ℕ) → length r ≡ 0 → IsUtf8 r
-      empty [] e = IsUtf8-nil
-      empty (b ∷ r) e = absurd (omega (arith, e))
+      (rw (nil_from_length rest nothing) IsUtf8-nil, lines-whole (chars text) (chars-some text text_is some) lacks ∙ ap (λ z. chars z ∷ []) (sym (first.4 end)) ∙ ap (λ z. chars x ∷ z) (lines-none rest nothing))
 
   -- a line feed ends this line
   at_feed : first.0 < length text → IsUtf8 rest × (lines (chars text) ≡ chars x ∷ lines (chars rest))
@@ -81,23 +77,8 @@ module _ (text x rest : List ℕ) (text_is : IsUtf8 text) (some : 0 < length tex
           ∙ lines-at_return (chars x) (chars rest) (LacksFeed-front (chars x) (13 ∷ []) (subst LacksFeed split lacks))
 
   first_line : IsUtf8 rest × (lines (chars text) ≡ chars x ∷ lines (chars rest))
-  first_line = either (eq-or-lt_of_le (omega (arith, first.3)))
-    where
-      either : (first.0 ≡ length text) ⊎ (first.0 < length text) → IsUtf8 rest × (lines (chars text) ≡ chars x ∷ lines (chars rest))
-      either (inl e) = at_end e
-      either (inr l) = at_feed l
-
--- the lines of what is left are to come
-abbrev lines_to_come : Lines → List (List ℕ) → Type 0
-lines_to_come s parts = parts ≡ lines (chars (lines_rest s))
+  first_line = ⊎_elim at_end at_feed (eq-or-lt_of_le (omega (arith, first.3)))
 
 pub lines-gives : (s : Lines) (text : List ℕ) → lines_rest s ≡ text → IsUtf8 text → GivesParts lines_steps s (λ parts. parts ≡ lines (chars text))
-lines-gives s text text_is utf8 =
-    subst (λ t. GivesParts lines_steps s (λ parts. parts ≡ lines (chars t))) text_is
-    (GivesParts-from_steps lines_steps (λ s. IsUtf8 (lines_rest s)) lines_to_come
-    (λ s s_is. (lines (chars (lines_rest s)), refl))
-    (λ s u s_is step. lines-none (lines_rest s) step.0.0)
-    (λ s t x s_is step.
-    let one = first_line (lines_rest s) x.now (lines_rest t) s_is step.0.0 step.0.2 in
-    (one.0, λ others are. ap (λ z. chars x.now ∷ z) are ∙ sym one.1))
-    s (subst IsUtf8 (sym text_is) utf8))
+lines-gives = gives_all_of lines_steps lines_rest lines (λ s u s_is step. lines-none (lines_rest s) step.0.0)
+    (λ s t x s_is step. first_line (lines_rest s) x.now (lines_rest t) s_is step.0.0 step.0.2)

@@ -1,5 +1,5 @@
 -- What each run of `str::split` and `str::rsplit` gives, by a pattern that finds a separator that isn't empty.
-use Rattle.std.proofs.Common.{◌≡◌, refl, sym, ap, subst, ◌∙◌, ℕ, ◌+◌, ◌<◌, List, [], ◌∷◌, Option, None, Some, Bool, true, false, length, take, drop, arith, Bor, IsUtf8, MatchBool, MatchOption}
+use Rattle.std.proofs.Common.{◌≡◌, refl, sym, ap, subst, ◌∙◌, ℕ, ◌+◌, ◌<◌, List, [], ◌∷◌, Option, None, Some, Bool, true, false, length, take, drop, arith, Bor, IsUtf8, MatchBool}
 use Rattle.std.specs.Option.{is_some}
 use Rattle.std.specs.Str.{chars}
 use Rattle.std.specs.Str.Pattern.{IsSplitAtFirstMatch, IsSplitAtLastMatch}
@@ -76,38 +76,30 @@ module _ (p : List ℕ) (some : 0 < length p) where
     module _ (text part : List ℕ) (live : Bool) (rest : List ℕ) where
       pub Leads-first : (F : List ℕ → Option (ℕ × ℕ) → Type 0) → ((found : Option (ℕ × ℕ)) → F text found → FindsCut First p text found)
           → IsSplitAtFirstMatch F text part live rest → Leads (from_front p) text part live rest limit (one_less limit)
-      Leads-first F cuts cut = either cut.1.0 (cuts cut.1.0 cut.1.1) cut.1.2
-        where
-          either : (found : Option (ℕ × ℕ)) → FindsCut First p text found
-              → MatchOption found ((part ≡ text) × (live ≡ false)) (λ q. 0 < q.1 → (part ≡ take q.0 text) × (live ≡ true) × (rest ≡ drop q.1 text))
-              → Leads (from_front p) text part live rest limit (one_less limit)
-          either None nowhere is = Leads-last_part (from_front p) text part live rest limit (one_less limit) is.1 is.0 (front_whole (chars text) nowhere)
-          either (Some (i, j)) at is =
-              let longer = at.longer in
-              let cut_is = is (omega (arith, longer)) in
-              let part_chars : chars part ≡ take at.place (chars text) = ap chars cut_is.0 ∙ at.before in
-              let rest_chars : chars rest ≡ drop (at.place + length p) (chars text) = ap chars cut_is.2 ∙ at.following in
-              Leads-first_part (from_front p) text part live rest limit (one_less limit) cut_is.1 (subst IsUtf8 (sym cut_is.2) at.after_is)
-              (λ others are. subst (λ z. from_front p (chars text) limit (z ∷ others)) (sym part_chars)
-              (front_more (chars text) at.place at.found others (subst (λ z. from_front p z (one_less limit) others) rest_chars are)))
+      Leads-first F cuts (_, (None, finds, is)) =
+          Leads-last_part (from_front p) text part live rest limit (one_less limit) is.1 is.0 (front_whole (chars text) (cuts None finds))
+      Leads-first F cuts (_, (Some (i, j), finds, is)) =
+          let at = cuts (Some (i, j)) finds in
+          let longer = at.longer in
+          let cut_is = is (omega (arith, longer)) in
+          let part_chars : chars part ≡ take at.place (chars text) = ap chars cut_is.0 ∙ at.before in
+          let rest_chars : chars rest ≡ drop (at.place + length p) (chars text) = ap chars cut_is.2 ∙ at.following in
+          Leads-first_part (from_front p) text part live rest limit (one_less limit) cut_is.1 (rw cut_is.2 at.after_is)
+          (λ others are. rw part_chars (front_more (chars text) at.place at.found others (subst (λ z. from_front p z (one_less limit) others) rest_chars are)))
 
       pub Leads-last : (F : List ℕ → Option (ℕ × ℕ) → Type 0) → ((found : Option (ℕ × ℕ)) → F text found → FindsCut Last p text found)
           → IsSplitAtLastMatch F text part live rest → Leads (from_back p) text part live rest limit (one_less limit)
-      Leads-last F cuts cut = either cut.1.0 (cuts cut.1.0 cut.1.1) cut.1.2
-        where
-          either : (found : Option (ℕ × ℕ)) → FindsCut Last p text found
-              → MatchOption found ((part ≡ text) × (live ≡ false)) (λ q. q.0 < length text → (part ≡ drop q.1 text) × (live ≡ true) × (rest ≡ take q.0 text))
-              → Leads (from_back p) text part live rest limit (one_less limit)
-          either None nowhere is = Leads-last_part (from_back p) text part live rest limit (one_less limit) is.1 is.0 (back_whole (chars text) nowhere)
-          either (Some (i, j)) at is =
-              let longer = at.longer in
-              let fits = at.fits in
-              let cut_is = is (omega (arith, longer, fits)) in
-              let part_chars : chars part ≡ drop (at.place + length p) (chars text) = ap chars cut_is.0 ∙ at.following in
-              let rest_chars : chars rest ≡ take at.place (chars text) = ap chars cut_is.2 ∙ at.before in
-              Leads-first_part (from_back p) text part live rest limit (one_less limit) cut_is.1 (subst IsUtf8 (sym cut_is.2) at.before_is)
-              (λ others are. subst (λ z. from_back p (chars text) limit (z ∷ others)) (sym part_chars)
-              (back_more (chars text) at.place at.found others (subst (λ z. from_back p z (one_less limit) others) rest_chars are)))
+      Leads-last F cuts (_, (None, finds, is)) =
+          Leads-last_part (from_back p) text part live rest limit (one_less limit) is.1 is.0 (back_whole (chars text) (cuts None finds))
+      Leads-last F cuts (_, (Some (i, j), finds, is)) =
+          let at = cuts (Some (i, j)) finds in
+          let longer = at.longer in
+          let fits = at.fits in
+          let cut_is = is (omega (arith, longer, fits)) in
+          let part_chars : chars part ≡ drop (at.place + length p) (chars text) = ap chars cut_is.0 ∙ at.following in
+          let rest_chars : chars rest ≡ take at.place (chars text) = ap chars cut_is.2 ∙ at.before in
+          Leads-first_part (from_back p) text part live rest limit (one_less limit) cut_is.1 (rw cut_is.2 at.before_is)
+          (λ others are. rw part_chars (back_more (chars text) at.place at.found others (subst (λ z. from_back p z (one_less limit) others) rest_chars are)))
 
 -- Steps that each cut one part off. Of a state, `text` is what is left, `limit` how many parts may come of it, and `live` whether one comes.
 module _ {S P : Type 0} (steps : S → Option (Bor (List ℕ)) → S → Type 0) (text : S → List ℕ) (limit : S → Option ℕ) (live : S → Bool) (pattern : S → P) (is : P → Type 0)
@@ -146,19 +138,19 @@ module _ {P : Type 0} (finds : P → List ℕ → Option (ℕ × ℕ) → Type 0
       (λ s t x utf8 pattern_is step. (leads _ _ _ _ _ pattern_is utf8 step.1.1, λ _. kept _ _ pattern_is step.1.0))
       s text None text_is refl utf8 pattern_is (λ parts are. subst (λ b. ToCome b (Are (chars text) None) parts) more are)
 
-module _ {P : Type 0} (finds : P → List ℕ → Option (ℕ × ℕ) → Type 0) (keeps : P → P → Type 0) (p : List ℕ) (some : 0 < length p) (is : P → Type 0) where
+module _ {P : Type 0} {finds : P → List ℕ → Option (ℕ × ℕ) → Type 0} {keeps : P → P → Type 0} {p : List ℕ} {is : P → Type 0} where
   pub split-gives : Seeks finds keeps First p is → (s : Split P) → (text : List ℕ) → split_text s ≡ text → split_has_more s ≡ true → IsUtf8 text → is (split_pattern s)
       → GivesParts (split_steps finds keeps) s (ArePartsFromFront (chars text) p None)
   split-gives seeks = split-gives_by finds keeps is (from_front p) (λ t. has_front t p) seeks.kept
       (λ pattern text part live rest pattern_is text_is cut.
-      Leads-first p some None tt text part live rest (finds pattern) (λ found. seeks.cuts pattern text found pattern_is text_is) cut)
+      Leads-first p seeks.some None tt text part live rest (finds pattern) (λ found. seeks.cuts pattern text found pattern_is text_is) cut)
 
   pub rsplit-gives : Seeks finds keeps Last p is → (s : RSplit P) → (text : List ℕ) → rsplit_text s ≡ text → rsplit_has_more s ≡ true → IsUtf8 text → is (rsplit_pattern s)
       → GivesParts (rsplit_steps finds keeps) s (ArePartsFromBack (chars text) p None)
   rsplit-gives seeks s text text_is more utf8 pattern_is =
       gives (rsplit_steps finds keeps) rsplit_text (λ _. None) rsplit_has_more rsplit_pattern is (from_back p) (λ t. has_back t p) (λ s t x step. step.0)
       (λ s t x utf8 pattern_is step. (
-        Leads-last p some None tt _ _ _ _ (finds (rsplit_pattern s)) (λ found. seeks.cuts _ _ found pattern_is utf8) step.1.1,
+        Leads-last p seeks.some None tt _ _ _ _ (finds (rsplit_pattern s)) (λ found. seeks.cuts _ _ found pattern_is utf8) step.1.1,
         λ _. seeks.kept _ _ pattern_is step.1.0,
       ))
       s text None text_is refl utf8 pattern_is (λ parts are. subst (λ b. ToCome b (from_back p (chars text) None) parts) more are)

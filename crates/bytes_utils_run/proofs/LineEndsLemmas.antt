@@ -3,27 +3,16 @@ use Rattle.std.proofs.Common.{◌≡◌, ◌≢◌, refl, sym, ap, subst, ◌∙
 use Rattle.std.proofs.lemmas.Bool.{eqb-false, and_parts, and_from}
 use Rattle.std.specs.List.{starts_with}
 use Rattle.bytes_utils.specs.Lines.{lines, line_feed, carriage_return, first_led_by}
-use Rattle.bytes_utils.specs.Occurrence.{OccursAt, Occurs}
-use Rattle.bytes_utils.proofs.LinesLemmas.{lines-whole, lines-at_end}
+use Rattle.bytes_utils.proofs.LinesLemmas.{LacksFeed as NoFeed, lines-whole, lines-at_end}
 use Rattle.bytes_utils_run.specs.LineEnds.{IsLineEnd, AreEndedLines, LinesLaw}
 
--- no line feed occurs in it
-abbrev NoFeed : List ℕ → Type 0
-NoFeed line = ¬ Occurs (line_feed ∷ []) line
-
 NoFeed-nil : NoFeed []
-NoFeed-nil occurs = nowhere occurs.0 occurs.1
-  where
-    nowhere : (i : ℕ) → OccursAt (line_feed ∷ []) [] i → ⊥
-    nowhere zero here = cc
-    nowhere (suc i) here = cc
+NoFeed-nil (zero, here) = cc
+NoFeed-nil (suc i, here) = cc
 
 NoFeed-cons : (c : ℕ) (line : List ℕ) → c ≢ 10 → NoFeed line → NoFeed (c ∷ line)
-NoFeed-cons c line other none occurs = nowhere occurs.0 occurs.1
-  where
-    nowhere : (i : ℕ) → OccursAt (line_feed ∷ []) (c ∷ line) i → ⊥
-    nowhere zero here = let is : c ≡ 10 = cc in other is
-    nowhere (suc i) here = none (i, here)
+NoFeed-cons c line other none (zero, here) = let is : c ≡ 10 = cc in other is
+NoFeed-cons c line other none (suc i, here) = none (i, here)
 
 -- a text that begins with a line feed
 begins_with_feed : (t rest : List ℕ) → t ≡ line_feed ∷ rest → starts_with nat_eq t (line_feed ∷ []) ≡ true
@@ -39,16 +28,13 @@ ended-at_return (d ∷ t) [] begins are = absurd (omega (arith, ap length are))
 ended-at_return (d ∷ t) ((e ∷ line) ∷ ls) begins are =
     let same : d ≡ e = cc in
     absurd (are.3 (0, ap (λ z. z ∷ []) (sym same ∙ feed_from_begins d t begins)))
-ended-at_return (d ∷ t) ([] ∷ ls) begins are = either are.4
-  where
-    either : IsLineEnd [] are.0 are.1 → AreEndedLines (carriage_return ∷ d ∷ t) ([] ∷ ls)
-    either (inl (inl return_feed)) =
-        let whole : d ∷ t ≡ 13 ∷ 10 ∷ are.1 = are.2 ∙ ap (λ z. z ++ are.1) return_feed in
-        let is : d ≡ 13 = cc in
-        absurd (omega (arith, is, feed_from_begins d t begins))
-    either (inl (inr feed)) =
-        (13 ∷ 10 ∷ [], are.1, ap (λ z. 13 ∷ z) (are.2 ∙ ap (λ z. z ++ are.1) feed.0), NoFeed-nil, inl (inl refl), are.5)
-    either (inr last) = absurd (omega (arith, last.2))
+ended-at_return (d ∷ t) ([] ∷ ls) begins (end, rest, whole, none, inl (inl return_feed), others) =
+    let all : d ∷ t ≡ 13 ∷ 10 ∷ rest = whole ∙ ap (λ z. z ++ rest) return_feed in
+    let is : d ≡ 13 = cc in
+    absurd (omega (arith, is, feed_from_begins d t begins))
+ended-at_return (d ∷ t) ([] ∷ ls) begins (end, rest, whole, none, inl (inr feed), others) =
+    (13 ∷ 10 ∷ [], rest, ap (λ z. 13 ∷ z) (whole ∙ ap (λ z. z ++ rest) feed.0), NoFeed-nil, inl (inl refl), others)
+ended-at_return (d ∷ t) ([] ∷ ls) begins (end, rest, whole, none, inr last, others) = absurd (omega (arith, last.2))
 
 -- a character that ends no line is the first of the first line
 ended-led : (c : ℕ) (t : List ℕ) (ls : List (List ℕ)) → c ≢ 10 → (c ≡ 13 → starts_with nat_eq t (line_feed ∷ []) ≡ true → ⊥) → AreEndedLines t ls → AreEndedLines (c ∷ t) (first_led_by c ls)
@@ -87,13 +73,8 @@ AreEndedLines-lines (c ∷ t) = ended-cons c t (lines t) (c == 10) (c == 13 && s
 
 -- a line, its end, and what follows it
 lines-at_any_end : (line end rest : List ℕ) → NoFeed line → IsLineEnd line end rest → lines (line ++ (end ++ rest)) ≡ line ∷ lines rest
-lines-at_any_end line end rest none ends = either ends
-  where
-    either : IsLineEnd line end rest → lines (line ++ (end ++ rest)) ≡ line ∷ lines rest
-    either (inl fed) = lines-at_end line end rest none fed
-    either (inr last) =
-        ap (λ z. lines (line ++ (z ++ rest))) last.0 ∙ ap (λ z. lines (line ++ z)) last.1 ∙ ap lines (append-nil line)
-        ∙ lines-whole line last.2 none ∙ ap (λ z. line ∷ lines z) (sym last.1)
+lines-at_any_end line end rest none (inl fed) = lines-at_end line end rest none fed
+lines-at_any_end line end rest none (inr last) = rw (last.0, last.1, append-nil line) (lines-whole line last.2 none)
 
 -- lines that make up the text are its lines
 lines-from_ended : (t : List ℕ) (ls : List (List ℕ)) → AreEndedLines t ls → ls ≡ lines t

@@ -1,7 +1,5 @@
 -- The owned parts of a text are those that the methods of `str` give, since only one list is right.
-use Rattle.std.proofs.Common.{◌≡◌, sym, ◌∙◌, ℕ, List, ◌++◌, Option, None, Some}
-use Rattle.bytes_utils_buf.specs.declared.refused.Reason.{Reason}
-use Rattle.bytes_utils.specs.Outcome.{Outcome}
+use Rattle.std.proofs.Common.{◌≡◌, sym, ◌∙◌, ℕ, List, ◌++◌, None, Some}
 use Rattle.bytes_utils.proofs.ToCome.{front_same, back_same}
 use Rattle.bytes_utils.proofs.Unique.{inclusive_same}
 use Rattle.bytes_utils_run.specs.Cutting.{Cutting, ArePartsBy, ByWords, ByAsciiWords, ByLines, FromFront, FromBack, Keeping}
@@ -17,8 +15,5 @@ parts_same (FromBack p limit) t parts others has are also = back_same t p limit 
 parts_same (Keeping p) t parts others has are also = inclusive_same p has t parts others are also
 
 pub owned_as_borrowed_law : OwnedAsBorrowedLaw
-owned_as_borrowed_law how t owned lent refused has outcome are = same refused outcome
-  where
-    same : (refused : Option Reason) → Outcome (ArePartsBy how t) owned refused → Outcome (λ parts. parts ≡ lent) owned refused
-    same None all = parts_same how t owned lent has all are
-    same (Some reason) first = (first.0, first.1, parts_same how t (owned ++ first.0) lent has first.2 are)
+owned_as_borrowed_law how t owned lent None has all are = parts_same how t owned lent has all are
+owned_as_borrowed_law how t owned lent (Some reason) has first are = (first.0, first.1, parts_same how t (owned ++ first.0) lent has first.2 are)

@@ -1,14 +1,9 @@
-use Rattle.std.proofs.Common.{◌≡◌, ap}
-use Rattle.std.specs.Str.{chars}
-use Rattle.bytes_utils.proofs.SearchLemmas.{chars-some}
-use Rattle.bytes_utils_run.specs.Borrowed.{rfinds_text, keeps_text}
+use Rattle.std.proofs.Common.{ap}
 use Rattle.bytes_utils_run.proofs.BorrowedCuts.{Seeks-text_back}
 use Rattle.bytes_utils_run.proofs.BorrowedLimits.{rsplitn-gives}
 use Rattle.bytes_utils_run.proofs.laws.borrowed.rsplitn.Goals as goal
 
 pub returns : goal.returns
 returns c =
-    let separator = c.args.separator.now in
-    rsplitn-gives rfinds_text keeps_text (chars separator) (chars-some separator c.utf8.separator c.requires) (λ pattern. pattern.now ≡ separator)
-    (Seeks-text_back separator c.utf8.separator c.requires) c.rsplitn.result c.args.text.now c.args.most c.rsplitn.ensures.text c.rsplitn.ensures.has_more c.rsplitn.ensures.count c.utf8.text
-    (ap (λ p. p.now) c.rsplitn.ensures.pattern)
+    rsplitn-gives (Seeks-text_back c.args.separator.now c.utf8.separator c.requires) c.rsplitn.result c.args.text.now c.args.most c.rsplitn.ensures.text c.rsplitn.ensures.has_more
+    c.rsplitn.ensures.count c.utf8.text (ap (λ p. p.now) c.rsplitn.ensures.pattern)

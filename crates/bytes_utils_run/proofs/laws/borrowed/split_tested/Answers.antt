@@ -1,5 +1,5 @@
-use Rattle.std.proofs.Common.{◌==◌, [], ◌∷◌, subst, sym, arith}
-use Rattle.bytes_utils_run.specs.Borrowed.{AnswersBy, finds_tested, keeps_tested}
+use Rattle.std.proofs.Common.{◌==◌, subst, sym}
+use Rattle.bytes_utils_run.specs.Borrowed.{AnswersBy}
 use Rattle.bytes_utils_run.proofs.BorrowedCuts.{Seeks-tested}
 use Rattle.bytes_utils_run.proofs.BorrowedParts.{split-gives}
 use Rattle.bytes_utils_run.proofs.BorrowedClosure.{split_tested-gives}
@@ -12,6 +12,5 @@ returns-clause-tested g c = λ passes answers.
 
 pub returns-clause-one : goal.returns-clause-one
 returns-clause-one g c = λ separator answers.
-    split-gives (finds_tested (AnswersBy g.F.FnMut)) (keeps_tested (AnswersBy g.F.FnMut)) (separator ∷ []) (omega arith) (λ f. AnswersBy g.F.FnMut f (λ c. c == separator))
-    (Seeks-tested (AnswersBy g.F.FnMut) separator) c.split.result c.args.text.now c.split.ensures.text c.split.ensures.has_more c.utf8.text
+    split-gives (Seeks-tested (AnswersBy g.F.FnMut) separator) c.split.result c.args.text.now c.split.ensures.text c.split.ensures.has_more c.utf8.text
     (subst (λ f. AnswersBy g.F.FnMut f (λ c. c == separator)) (sym c.split.ensures.pattern) answers)
