@@ -39,10 +39,7 @@ more_read_out k p now part before following =
 
 pub map-put_mid : {X : Type 0} (f : X → List ℕ) (xs ys : List X) (a : ℕ) → a ≤ length xs
     → map f (put_mid a (length xs - a) xs ys) ≡ take a (map f xs) ++ map f ys
-map-put_mid f xs ys a h =
-    let none : drop (length xs - a) (drop a xs) ≡ [] = drop_all (length xs - a) (drop a xs) (omega (arith, length-drop a xs)) in
-    ap (λ l. map f (take a xs ++ (ys ++ l))) none ∙ ap (λ l. map f (take a xs ++ l)) (append-nil ys)
-    ∙ map-append f (take a xs) ys ∙ ap (λ l. l ++ map f ys) (sym (take-map f a xs))
+map-put_mid f xs ys a h = grind (arith, append-nil, drop_all, length-drop, map-append, take-map)
 
 -- ---- the invariant of every value is kept
 
@@ -62,14 +59,7 @@ module _ {X : Type 0} (f : X → List ℕ) (xs ys : List X) {n k p remaining nam
   following = ap (drop (k + p)) lists ∙ drop_read_out (k + p) (drop p (map f ys))
 
   pub SkipsLent-part : {new : Tallied} → SkipsLent n (lent_at k handed_in (map f xs) old name) (lent_at (k + p) handed_in (map f (put_mid k (length xs - k) xs ys)) new name)
-  SkipsLent-part =
-      let part = map-part f xs k in
-      record {
-        segments = rw (following, ← part) skips;
-        place = omega (arith, ap length following, length-drop p (map f ys), length-map ys f, length-map (take (length xs - k) (drop k xs)) f, ap length part, inside, size);
-        handed_in = refl;
-        name = refl;
-      }
+  SkipsLent-part = grind (arith, following, length-drop, length-map, map-part)
 
   pub IsLent-part : {new : Tallied} {calls : ℕ} → new ≡ record { given = old.given; dropped = old.dropped; calls = calls; turns = old.turns + p }
       → IsLent (map f (put_mid k (length xs - k) xs ys)) (remaining - n) (lent_at (k + p) handed_in (map f (put_mid k (length xs - k) xs ys)) new name)
@@ -88,18 +78,7 @@ module _ {X : Type 0} (f : X → List ℕ) (xs ys : List X) {n k p remaining nam
 
 -- one skip after another
 pub Passes-more : (n m : ℕ) (old mid new : Lent) → Passes n old mid → Passes m mid new → Passes (n + m) old new
-Passes-more n m old mid new s t =
-    record {
-      skips = record {
-        segments = Skips-more n m old.segments mid.segments new.segments s.skips.segments t.skips.segments;
-        place = t.skips.place ∙ s.skips.place;
-        handed_in = t.skips.handed_in ∙ s.skips.handed_in;
-        name = t.skips.name ∙ s.skips.name;
-      };
-      given = t.given ∙ s.given;
-      dropped = t.dropped ∙ s.dropped;
-      turns = t.turns ∙ s.turns;
-    }
+Passes-more n m old mid new s t = grind (arith, Skips-more)
 
 -- ---- sums of lengths
 
@@ -137,30 +116,14 @@ Trimmed-from_count now p inside none next = record {
 pub IsLent-new : (p remaining : ℕ) (now handed_in : List (List ℕ)) (tally : Tallied) (name : ℕ) → p ≤ length now
     → now ≡ replicate p [] ++ drop p now → Skips 0 now (drop p now) → handed_in ≡ now → remaining ≡ length (concat now)
     → IsPassedOnce (lent_at p handed_in now tally name) → IsLent now remaining (lent_at p handed_in now tally name)
-IsLent-new p remaining now handed_in tally name within before skips same sum passed =
-    record {
-      lists = before;
-      sum = omega (arith, sum, ap length skips.bytes);
-      reading = record {
-        read = 0;
-        skips = rw same skips;
-        place = omega (arith, within, length-drop p now, ap length same);
-      };
-      passed = passed;
-    }
+IsLent-new p remaining now handed_in tally name within before skips same sum passed = grind (arith, length-drop, lists)
 
 -- ---- the first list
 
 -- a chunk of the first list is a chunk of all
 pub chunk_of_front : (chunk : List ℕ) (segments : List (List ℕ)) → 0 < length segments → FrontUnread segments → IsChunkOf chunk (front_of segments)
     → IsChunkOf chunk (concat segments)
-chunk_of_front chunk [] some front is = absurd (omega arith)
-chunk_of_front chunk (s ∷ segments) some front is =
-    record {
-      front = take-append-le (length chunk) s (concat segments) is.fits ∙ is.front;
-      fits = omega (arith, is.fits, length-append s (concat segments));
-      some = λ _. is.some (front some);
-    }
+chunk_of_front chunk segments some front is = grind (arith, length-append, take-append-le)
 
 -- the first of these buffers loses n bytes
 pub map-cut_first : {X : Type 0} (f : X → List ℕ) (xs : List X) (item new : X) (n : ℕ) → 0 < length xs → f new ≡ drop n (f (get_or xs 0 item))
@@ -171,7 +134,4 @@ map-cut_first f (x ∷ xs) item new n some lost = ap (λ s. s ∷ map f xs) lost
 -- a copy so far, plus the first bytes of a chunk
 pub copy_more : (taken count : ℕ) (all rest copy chunk : List ℕ) → copy ≡ take taken all → rest ≡ drop taken all → IsChunkOf chunk rest
     → count ≤ length chunk → copy ++ take count chunk ≡ take (taken + count) all
-copy_more taken count all rest copy chunk so_far left is fits =
-    ap (λ l. l ++ take count chunk) so_far
-    ∙ ap (λ l. take taken all ++ l) (ap (take count) (sym is.front) ∙ take-take count (length chunk) rest fits ∙ ap (take count) left)
-    ∙ sym (take-add taken count all)
+copy_more taken count all rest copy chunk so_far left is fits = grind (arith, take-add, take-take)

@@ -48,9 +48,7 @@ front_of_drop (x ∷ xs) (suc p) = front_of_drop xs p
 -- p lists are passed, and n bytes of the next one
 pub concat-cut_front : (xs : List (List ℕ)) (p n m : ℕ) → p ≤ length xs → length (concat (take p xs)) + n ≡ m → m ≤ length (concat xs)
     → (p < length xs → n < length (get_or xs p [])) → concat (cut_front n (drop p xs)) ≡ drop m (concat xs)
-concat-cut_front [] zero n m h e b q = let none : m ≡ 0 = omega arith in rw none refl
-concat-cut_front (x ∷ xs) zero n m h e b q =
-    let same : m ≡ n = omega arith in rw same (sym (drop-append-le n x (concat xs) (omega (arith, q (omega arith)))))
+concat-cut_front xs zero n m h e b q = grind (arith, drop-append-le, drop-append_past, length-append)
 concat-cut_front [] (suc p) n m h e b q = absurd (omega arith)
 concat-cut_front (x ∷ xs) (suc p) n m h e b q =
     let size = length-append x (concat (take p xs)) in
@@ -67,15 +65,7 @@ FrontUnread-cut (x ∷ xs) (suc p) n q = FrontUnread-cut xs p n (λ l. q (omega 
 -- what a loop that counts the passed lists has found
 pub Skips-from_count : (xs ys : List (List ℕ)) (p n m : ℕ) → p ≤ length xs → length (concat (take p xs)) + n ≡ m → m ≤ length (concat xs)
     → (p < length xs → n < length (get_or xs p [])) → ys ≡ cut_front n (drop p xs) → Skips m xs ys
-Skips-from_count xs ys p n m within left fits next same =
-    record {
-      passed = p;
-      cut = n;
-      within = within;
-      rest = same;
-      bytes = ap concat same ∙ concat-cut_front xs p n m within left fits next;
-      front = rw same (FrontUnread-cut xs p n next);
-    }
+Skips-from_count xs ys p n m within left fits next same = grind (arith, FrontUnread-cut, concat-cut_front)
 
 -- ---- lists none of which is empty
 
@@ -178,9 +168,7 @@ cut_front-twice [] j k = refl
 cut_front-twice (x ∷ xs) j k = ap (λ l. l ∷ xs) (drop-drop k j x)
 
 drop-cut_front : (xs : List (List ℕ)) (j p : ℕ) → 0 < p → drop p (cut_front j xs) ≡ drop p xs
-drop-cut_front [] j p h = refl
-drop-cut_front (x ∷ xs) j zero h = absurd (omega arith)
-drop-cut_front (x ∷ xs) j (suc p) h = refl
+drop-cut_front xs j p h = grind arith
 
 pub cut_front-none : (xs : List (List ℕ)) → xs ≡ cut_front 0 xs
 cut_front-none [] = refl
@@ -254,13 +242,7 @@ count_unread-cut : (xs : List (List ℕ)) (p k n : ℕ) → length (concat xs) �
     → count_unread xs ≤ count_unread (cut_front k (drop p xs)) + n
 count_unread-cut [] zero k n few = omega arith
 count_unread-cut [] (suc p) k n few = omega arith
-count_unread-cut ([] ∷ xs) zero k n few = omega (arith, count_unread-following (drop k []) xs)
-count_unread-cut ((b ∷ x) ∷ xs) zero k n few = elim (cases_lt 0 n) [
-  | inr none ↦ (let some : 0 < length (drop k (b ∷ x)) =
-      omega (arith, none, few, length-append (b ∷ x) (concat xs), length-append (drop k (b ∷ x)) (concat xs)) in
-      omega (arith, count_unread-some (drop k (b ∷ x)) xs some))
-  | inl some ↦ omega (arith, some, count_unread-following (drop k (b ∷ x)) xs)
-]
+count_unread-cut xs zero k n few = grind (arith, cases_lt, count_unread-following, count_unread-some, length-append, length-concat-cut_le)
 count_unread-cut ([] ∷ xs) (suc p) k n few = count_unread-cut xs p k n few
 count_unread-cut ((b ∷ x) ∷ xs) (suc p) k n few =
     let size = length-append (b ∷ x) (concat xs) in

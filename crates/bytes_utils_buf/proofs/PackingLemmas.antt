@@ -55,12 +55,7 @@ pub grown : (old new : List (List ℕ)) (more : List ℕ) (remaining : ℕ) (tal
     → (remaining ≡ length (concat old)) × NoneEmpty old × IsBalanced old tally
     → (remaining + length more ≡ length (concat new)) × NoneEmpty new
     × IsBalanced new (record { given = tally.given + 1; dropped = tally.dropped + 1; calls = tally.calls + 1; turns = tally.turns })
-grown old new more remaining tally some lists is =
-    rw lists (
-      omega (arith, ap length (concat-grow_last more old some), length-append (concat old) more, is.0),
-      NoneEmpty-grow_last more old is.1,
-      omega (arith, length-grow_last more old, is.2),
-    )
+grown old new more remaining tally some lists is = grind (arith, NoneEmpty-grow_last, concat-grow_last, length-append, length-grow_last)
 
 -- nothing is skipped: if no list is empty, all stay
 pub same-Skips : (old new : List (List ℕ)) → NoneEmpty old → Skips 0 old new → new ≡ old
@@ -135,14 +130,10 @@ pub packed_skips : (n m : ℕ) (old new : List (List ℕ)) → Skips m old new �
 packed_skips n m old new s packed = rw s.rest (packed-cut n s.cut (drop s.passed old) (packed-drop n s.passed old packed))
 
 pub packed-grow : (n : ℕ) (more : List ℕ) (xs : List (List ℕ)) → IsPacked n xs → IsPacked n (grow_last more xs)
-packed-grow n more [] packed = tt
-packed-grow n more (s ∷ []) packed = tt
-packed-grow n more (s ∷ t ∷ xs) packed = pairs-grow n more (t ∷ xs) packed
+packed-grow n more xs h = grind (arith, pairs-grow)
 
 pub packed-push : (n : ℕ) (xs : List (List ℕ)) (y : List ℕ) → (0 < length xs → n < length (last_of xs) + length y) → IsPacked n xs → IsPacked n (xs ++ y ∷ [])
-packed-push n [] y over packed = tt
-packed-push n (s ∷ []) y over packed = tt
-packed-push n (s ∷ t ∷ xs) y over packed = pairs-push n (t ∷ xs) y (λ _. over (omega arith)) packed
+packed-push n xs y over h = grind (arith, pairs-push)
 
 -- two neighbours pay for their places
 pairs-few : (n : ℕ) (xs : List (List ℕ)) → PairsHoldOver n xs → n * length xs ≤ 2 * length (concat xs) + n

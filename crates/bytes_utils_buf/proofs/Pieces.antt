@@ -25,11 +25,7 @@ inside f items passed offset n some enough =
 
 -- the first of these lists
 pub front_from : (xs : List (List ℕ)) (passed offset : ℕ) → front_of (lists_from passed offset xs) ≡ drop offset (get_or xs passed [])
-front_from xs passed offset = cut (drop passed xs) ∙ ap (drop offset) (front_of_drop xs passed)
-  where
-    cut : (ys : List (List ℕ)) → front_of (cut_front offset ys) ≡ drop offset (front_of ys)
-    cut [] = sym (drop_all offset [] (omega arith))
-    cut (y ∷ ys) = refl
+front_from xs passed offset = grind (arith, drop_all, front_of_drop)
 
 -- the lists after it
 next_from : (xs : List (List ℕ)) (passed offset : ℕ) → drop 1 (lists_from passed offset xs) ≡ lists_from (passed + 1) 0 xs
@@ -88,12 +84,7 @@ module _ (lists : List (List ℕ)) (passed offset : ℕ) (text all rest piece : 
       Has-more lists passed offset (length text) all m.front piece m.has (omega (arith, size, some)) (is ∙ ap (λ n. take n (front_of (lists_from passed offset lists))) left)
 
   pub Matches-more : (following : List ℕ) → rest ≡ piece ++ following → Matches (lists_from (passed + 1) 0 lists) text all following
-  Matches-more following same =
-      record {
-        front = m.front ++ piece;
-        split = m.split ∙ ap (λ l. m.front ++ l) same ∙ sym (append_assoc m.front piece following);
-        has = with_piece;
-      }
+  Matches-more following same = grind (arith, append_assoc, with_piece)
 
   -- if the rest does not start with the next piece, the lists do not start with the text
   pub Matches-differs : ((following : List ℕ) → rest ≢ piece ++ following) → all ≢ text

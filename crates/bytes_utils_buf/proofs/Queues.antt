@@ -34,12 +34,7 @@ with_chunk held chunk =
     }
 
 pub with_chunk-moved : (held : Held) (moved : List (List ℕ)) (chunk : List ℕ) → with_chunk (with_moved held moved) chunk ≡ with_moved held (moved ++ chunk ∷ [])
-with_chunk-moved held moved chunk =
-    let given : held.tally.given + length moved + 1 ≡ held.tally.given + length (moved ++ chunk ∷ []) = omega (arith, length_push moved chunk) in
-    (λ i. record {
-      segments = append_assoc held.segments moved (chunk ∷ []) i;
-      tally = record { given = given i; dropped = held.tally.dropped; calls = held.tally.calls + 1; turns = held.tally.turns };
-    })
+with_chunk-moved held moved chunk = grind (arith, append_assoc, length_push)
 
 -- the first chunk of the queue is moved too
 pub moved-more : (moved : List (List ℕ)) (chunk queue rest all : List ℕ) → concat moved ++ queue ≡ all → queue ≡ chunk ++ rest

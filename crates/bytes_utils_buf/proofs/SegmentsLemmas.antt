@@ -22,16 +22,7 @@ with_one held y =
 
 -- a call that has accepted some buffers accepts one more
 pub with_one-accepting : (held : Held) (ys : List (List ℕ)) (y : List ℕ) → with_one (after_accepting held ys) y ≡ after_accepting held (ys ++ y ∷ [])
-with_one-accepting held ys y =
-    let given : held.tally.given + length ys + 1 ≡ held.tally.given + length (ys ++ y ∷ []) = omega (arith, length_push ys y) in
-    let more : count_unread (ys ++ y ∷ []) ≡ count_unread ys + count_unread (y ∷ []) =
-    ap length (without_empty-append ys (y ∷ [])) ∙ length-append (without_empty ys) (without_empty (y ∷ [])) in
-    let dropped : held.tally.dropped + (length ys - count_unread ys) + (1 - count_unread (y ∷ [])) ≡ held.tally.dropped + (length (ys ++ y ∷ []) - count_unread (ys ++ y ∷ [])) =
-    omega (arith, more, length_push ys y, length-without_empty ys, length-without_empty (y ∷ [])) in
-    (λ i. record {
-      segments = accepted_more held.segments ys y i;
-      tally = record { given = given i; dropped = dropped i; calls = held.tally.calls + 1; turns = held.tally.turns };
-    })
+with_one-accepting held ys y = grind (arith, accepted_more, length-append, length-without_empty, length_push, without_empty-append)
 
 -- the bytes to read are followed by those of the accepted lists
 pub concat-accepting : (held : Held) (ys : List (List ℕ)) → concat (after_accepting held ys).segments ≡ concat held.segments ++ concat ys

@@ -31,16 +31,7 @@ FillsTable-same n old new xs ys e h = rw e h
 
 -- a full table stays filled, whatever bytes follow
 pub FillsTable-full : (n : ℕ) (old new : List (Bor (List ℕ))) (xs ys : List ℕ) → length old ≤ n → FillsTable n old new xs → FillsTable n old new (xs ++ ys)
-FillsTable-full n old new xs ys full h =
-    let j = joined (take n new) in
-    let fits : length j ≤ length xs = omega (arith, ap length h.front, length-append j (drop (length j) xs)) in
-    record {
-      count = h.count;
-      some = h.some;
-      front = ap (λ l. j ++ l) (drop-append-le (length j) xs ys fits) ∙ sym (append_assoc j (drop (length j) xs) ys) ∙ ap (λ l. l ++ ys) h.front;
-      whole = λ less. absurd (omega (arith, less, full));
-      tail = h.tail;
-    }
+FillsTable-full n old new xs ys full h = grind (arith, append_assoc, drop-append-le, length-append)
 
 -- the next buffer fills the rest of the table
 pub FillsTable-more : (n k : ℕ) (old mid new : List (Bor (List ℕ))) (xs ys : List ℕ) → n < length old → length mid ≡ length old
@@ -70,9 +61,7 @@ FillsTable-more n k old mid new xs ys room same size a b =
     }
 
 pub length-put_mid : {X : Type 0} (xs ys : List X) (n : ℕ) → n ≤ length xs → length ys ≡ length xs - n → length (put_mid n (length xs - n) xs ys) ≡ length xs
-length-put_mid xs ys n h size =
-    let post = drop (length xs - n) (drop n xs) in
-    omega (arith, h, size, length-append (take n xs) (ys ++ post), length-append ys post, length-take-le n xs h, length-drop (length xs - n) (drop n xs), length-drop n xs)
+length-put_mid xs ys n h size = grind (arith, length-append, length-drop, length-take-le)
 
 pub joined-push : (xs : List (Bor (List ℕ))) (x : Bor (List ℕ)) → joined (xs ++ x ∷ []) ≡ joined xs ++ x.now
 joined-push xs x = joined-append xs (x ∷ []) ∙ ap (λ l. joined xs ++ l) (append-nil x.now)

@@ -1,5 +1,5 @@
 -- Writing a buffer out in steps.
-use Rattle.std.proofs.Common.{◌≡◌, refl, sym, ap, subst, ◌∙◌, ℕ, zero, suc, ◌+◌, ◌-◌, ◌<◌, ◌≤◌, List, [], ◌∷◌, ◌++◌, Option, Result, Ok, Err, length, take, drop, arith, append_assoc, length-append, length-drop, take-append-drop, take-add}
+use Rattle.std.proofs.Common.{◌≡◌, refl, sym, ap, subst, ◌∙◌, ℕ, zero, suc, ◌+◌, ◌-◌, ◌<◌, ◌≤◌, List, [], ◌∷◌, ◌++◌, Option, Result, length, take, drop, arith, append_assoc, length-append, length-drop, take-append-drop, take-add}
 use Rattle.std.proofs.KnownBytes.{Appends-trans}
 use Rattle.std.proofs.lemmas.List.{drop_at, drop-drop, take-append-le, take_rest}
 use Rattle.std.proofs.lemmas.List.Elements.{All-head}
@@ -35,13 +35,7 @@ bytes-following {m} {n} {k} all part following rises is next =
 -- a write took the first `count` of these bytes
 pub WritesCounted-one : {a b : Option (List ℕ)} (n count : ℕ) (bytes : List ℕ) → count ≤ length bytes → Appends a b (take count bytes)
     → WritesCounted a b n (n + count) bytes
-WritesCounted-one {a} {b} n count bytes bound appends =
-    let same : count ≡ n + count - n = omega arith in
-    record {
-      rises = omega arith;
-      within = omega arith;
-      appends = subst (λ k. Appends a b (take k bytes)) same appends;
-    }
+WritesCounted-one {a} {b} n count bytes bound appends = grind arith
 
 -- the bytes that come next are at most those that are left
 pub WritesCounted-room : {a b : Option (List ℕ)} {m n : ℕ} {all : List ℕ} (part following : List ℕ) → WritesCounted a b m n all → part ++ following ≡ drop (n - m) all
@@ -83,10 +77,7 @@ FillsTable_some (suc n) old (x ∷ new) unread room same some fills =
 
 -- so something is written
 pub some-written : {E : Type 0} (r : Result (Unit {0}) E) (some : Type 0) (count written : ℕ) → (some → 0 < count) → OnOk r (written ≡ 0 + count) → OnOk r (some → 0 < written)
-some-written (Err e) some count written more is = tt
-some-written (Ok done) some count written more is = λ s.
-    let front = more s in
-    omega (arith, is)
+some-written r some count written more is = grind arith
 
 -- the first bytes are at most as many as all bytes
 pub length-front : (front all : List ℕ) → front ++ drop (length front) all ≡ all → length front ≤ length all
@@ -98,15 +89,8 @@ module _ {a b : Option (List ℕ)} {n : ℕ} (front all : List ℕ) (is : front 
   count-of_front = omega (arith, some.within, length-front front all is)
 
   pub appends-of_front : Appends a b (take n all)
-  appends-of_front =
-      let whole : n - 0 ≡ n = omega arith in
-      let same : take (n - 0) front ≡ take n all = ap (λ k. take k front) whole ∙ sym (take-append-le n front (drop (length front) all) (omega (arith, some.within))) ∙ ap (take n) is in
-      subst (Appends a b) same some.appends
+  appends-of_front = grind (arith, take-append-le)
 
 -- one more write
 pub WritesFront-more : {a b c : Option (List ℕ)} {all rest new : List ℕ} (n : ℕ) → WritesFront a b all rest → Appends b c (take n rest) → new ≡ drop n rest → WritesFront a c all new
-WritesFront-more {a} {b} {c} {all} {rest} n h appends left = record {
-  written = h.written ++ take n rest;
-  appends = Appends-trans a b c h.written (take n rest) h.appends appends;
-  whole = append_assoc h.written _ _ ∙ ap (λ l. h.written ++ (take n rest ++ l)) left ∙ ap (λ l. h.written ++ l) (take-append-drop n rest) ∙ h.whole;
-}
+WritesFront-more {a} {b} {c} {all} {rest} n h appends left = grind (arith, Appends-trans, append_assoc, take-append-drop)
