@@ -22,7 +22,7 @@ unfolding utf8_error_len
 some_is bs some = ap (λ b. cond b None (error_len_of_some bs)) (ne_eqb (length bs) 0 (omega (arith, some)))
 
 -- of four bytes std knows how many are faulty
-long : (bs : List ℕ) → 4 ≤ length bs → IsSome (utf8_error_len bs)
+pub long : (bs : List ℕ) → 4 ≤ length bs → IsSome (utf8_error_len bs)
 long bs many =
     let n = length bs in
     let x = slice_index bs 0 in

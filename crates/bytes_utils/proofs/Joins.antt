@@ -1,6 +1,6 @@
 -- Joined lists of parts.
-use Rattle.std.proofs.Common.{◌≡◌, refl, sym, ap, ◌∙◌, ◌<◌, List, [], ◌∷◌, ◌++◌, length, map, take, drop, arith, append_assoc}
-use Rattle.std.proofs.lemmas.List.{map_push, take_at, drop_at}
+use Rattle.std.proofs.Common.{◌≡◌, refl, sym, ap, ◌∙◌, ℕ, suc, ◌+◌, ◌<◌, get_or, List, [], ◌∷◌, ◌++◌, length, map, take, drop, arith, append_assoc}
+use Rattle.std.proofs.lemmas.List.{map_push, take_more, take_at, drop_at}
 use Rattle.bytes_utils.specs.Parts.{join}
 
 pub join-append : {X : Type 0} (p : List X) (xs ys : List (List X)) → 0 < length xs → 0 < length ys → join p (xs ++ ys) ≡ join p xs ++ (p ++ join p ys)
@@ -35,3 +35,16 @@ append_same a b c d size whole = (
   sym (take_at a c (length a) refl) ∙ ap (take (length a)) whole ∙ take_at b d (length a) (sym size),
   sym (drop_at a c (length a) refl) ∙ ap (drop (length a)) whole ∙ drop_at b d (length a) (sym size),
 )
+
+-- the same for the first elements of a list and the next one
+pub join-next : {X : Type 0} (p : List X) (xs : List (List X)) (i : ℕ) (x : List X) → i < length xs → x ≡ get_or xs i x
+    → (join p (take i xs) ++ gap p (take i xs)) ++ x ≡ join p (take (i + 1) xs)
+join-next p xs i x inside is =
+    sym (join-push p (take i xs) x) ∙ ap (join p) (sym (take_more xs i x inside ∙ ap (λ y. take i xs ++ y ∷ []) (sym is)))
+
+pub gap-next : {X : Type 0} (p : List X) (xs : List (List X)) (i : ℕ) → i < length xs → p ≡ gap p (take (i + 1) xs)
+gap-next p [] i inside = absurd (omega (arith, inside))
+gap-next p (first ∷ xs) i inside = ap (λ n. gap p (take n (first ∷ xs))) (one_more i)
+  where
+    one_more : (i : ℕ) → suc i ≡ i + 1
+    one_more i = omega arith

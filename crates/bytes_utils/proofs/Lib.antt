@@ -16,6 +16,7 @@ pub mod Limits
 pub mod FromEnds
 pub mod PartCut
 pub mod HalvesLemmas
+pub mod ByteHalves
 pub mod EndsLemmas
 pub mod EachCharacter
 pub mod CharacterCut
@@ -49,5 +50,8 @@ pub mod ValidLen
 pub mod CharacterBegins
 pub mod CharacterEnds
 pub mod CharacterCompletes
+pub mod FaultLen
+pub mod LossyFronts
 pub mod StreamTextsLemmas
+pub mod LossyTextsLemmas
 pub mod ReadFrameLemmas

@@ -1,12 +1,34 @@
--- Runs of a reader of texts.
-use Rattle.std.proofs.Common.{◌≡◌, ℕ, List, [], ◌∷◌, ◌++◌, length, take, IsUtf8, ap, ◌∙◌, sym, append_assoc, take_at}
+-- What a reader of texts holds, and its runs.
+use Rattle.std.proofs.Common.{◌≡◌, ℕ, ◌≤◌, List, [], ◌∷◌, ◌++◌, length, take, IsUtf8, arith, ap, ◌∙◌, sym, subst, append_assoc, take_at, length-take}
+use Rattle.std.proofs.lemmas.List.{take-take}
 use Rattle.std.proofs.lemmas.Str.{IsUtf8-append, IsUtf8-nil}
 use Rattle.std.specs.List.{concat}
 use Rattle.std.specs.Str.Lossy.{utf8_valid_len}
+use Rattle.bytes_utils.specs.declared.frame.texts.Front.{Front}
+use Rattle.bytes_utils.specs.declared.frame.texts.Front.TheVariants.{Text, Fault, Unfinished}
 use Rattle.bytes_utils.specs.StreamRuns.{StreamEvent, AreFirst, pushed_by, given_by}
-use Rattle.bytes_utils.specs.StreamTexts.{TakesText, IsTextRun, TextRunLaw, FaultyRunLaw, WholeRunLaw}
+use Rattle.bytes_utils.specs.StreamTexts.{IsFaulty, IsFront, IsUnfinished, TakesText, IsTextRun, TextRunLaw, FaultyRunLaw, WholeRunLaw}
+use Rattle.bytes_utils.proofs.CharacterBegins.{faulty}
+use Rattle.bytes_utils.proofs.CharacterCompletes.{may_end}
+use Rattle.bytes_utils.proofs.CharacterEnds.{few}
+use Rattle.bytes_utils.proofs.FaultLen.{fault_of_four, error_len_of_four}
 use Rattle.bytes_utils.proofs.StreamRunsLemmas.{stream_law}
-use Rattle.bytes_utils.proofs.ValidLen.{behind_text, valid_len_at}
+use Rattle.bytes_utils.proofs.ValidLen.{behind_text, none_of_four, valid_len_at}
+
+-- four bytes show what all begin with
+pub front_of_four : (bytes : List ℕ) (front : Front) → IsFront (take 4 bytes) front → IsFront bytes front
+front_of_four bytes (Text len) is =
+    let within : len ≤ length (take 4 bytes) = is.1 in
+    let size = length-take 4 bytes in
+    (is.0, omega (arith, within, size), subst IsUtf8 (take-take len 4 bytes (omega (arith, within, size))) is.2)
+front_of_four bytes (Fault len) is = (none_of_four bytes is.0, sym (error_len_of_four bytes) ∙ is.1)
+front_of_four bytes Unfinished is = (none_of_four bytes is.0, sym (error_len_of_four bytes) ∙ is.1)
+
+pub is_faulty : (bytes : List ℕ) (len : ℕ) → IsFront bytes (Fault len) → IsFaulty bytes
+is_faulty bytes len is = faulty bytes is.0 (fault_of_four bytes len is.1)
+
+pub is_unfinished : (bytes : List ℕ) → IsFront bytes Unfinished → IsUnfinished bytes
+is_unfinished bytes is = record { none = is.0; may_end = may_end bytes is.0 is.1; few = few bytes is.1 }
 
 TakesText-more : (old text rest piece : List ℕ) → TakesText old text rest → TakesText (old ++ piece) text (rest ++ piece)
 TakesText-more old text rest piece takes = record {

@@ -29,11 +29,11 @@ longest_front bs (suc m) =
     ))
     (cases_Bool (is_utf8 (take (suc m) bs)))
 
-front : (bs : List ℕ) → IsUtf8 (take (utf8_valid_len bs) bs)
+pub front : (bs : List ℕ) → IsUtf8 (take (utf8_valid_len bs) bs)
 unfolding utf8_valid_len
 front bs = (longest_front bs (length bs)).0
 
-none_longer : (bs : List ℕ) (k : ℕ) → utf8_valid_len bs < k → k ≤ length bs → ¬ (IsUtf8 (take k bs))
+pub none_longer : (bs : List ℕ) (k : ℕ) → utf8_valid_len bs < k → k ≤ length bs → ¬ (IsUtf8 (take k bs))
 unfolding utf8_valid_len
 none_longer bs = (longest_front bs (length bs)).1
 

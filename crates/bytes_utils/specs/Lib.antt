@@ -22,6 +22,7 @@ pub mod LimitedFrames
 pub mod StreamLines
 pub mod Cursor
 pub mod StreamTexts
+pub mod LossyTexts
 pub mod LimitedLines
 pub mod Pushing
 pub mod ReadError

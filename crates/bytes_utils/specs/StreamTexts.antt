@@ -1,9 +1,11 @@
 -- Texts of a stream of bytes that comes in pieces, which may be cut inside a character.
-use Rattle.std.specs.Prelude.{◌≡◌, ℕ, ◌≤◌, ◌<◌, List, [], ◌++◌, length, take, IsUtf8, codes}
+use Rattle.std.specs.Prelude.{◌≡◌, ℕ, ◌≤◌, ◌<◌, List, [], ◌++◌, length, take, IsUtf8, Some, None, codes}
 use Rattle.std.specs.List.{concat}
-use Rattle.std.specs.Str.Lossy.{utf8_valid_len}
+use Rattle.std.specs.Str.Lossy.{utf8_valid_len, utf8_error_len}
 use Rattle.bytes_utils.specs.StreamRuns.{StreamEvent, IsStreamRun, pushed_by, given_by}
 use Rattle.bytes_utils_buf.specs.Refusals.{reason_text}
+use Rattle.bytes_utils.specs.declared.frame.texts.Front.{Front}
+use Rattle.bytes_utils.specs.declared.frame.texts.Front.TheVariants.{Text, Fault, Unfinished}
 use Rattle.bytes_utils.specs.declared.frame.texts.TextError.{TextError}
 use Rattle.bytes_utils.specs.declared.frame.texts.TextError.TheVariants.{Refused, NotUtf8}
 
@@ -22,6 +24,12 @@ pub record IsUnfinished (bytes : List ℕ) : Type 0 where
   pub none : utf8_valid_len bytes ≡ 0
   pub may_end : (following : List ℕ) × IsUtf8 (bytes ++ following)
   pub few : length bytes ≤ 3
+
+-- what the bytes begin with: a text; a fault, whose bytes begin no character whatever follows; or no byte, or the first of a character
+abbrev pub IsFront : List ℕ → Front → Type 0
+IsFront bytes (Text len) = (0 < len) × (len ≤ length bytes) × IsUtf8 (take len bytes)
+IsFront bytes (Fault len) = (utf8_valid_len bytes ≡ 0) × (utf8_error_len bytes ≡ Some len)
+IsFront bytes Unfinished = (utf8_valid_len bytes ≡ 0) × (utf8_error_len bytes ≡ None)
 
 -- these events lead from the held bytes to the bytes held at the end
 abbrev pub IsTextRun : List ℕ → List (StreamEvent (List ℕ)) → List ℕ → Type 0

@@ -1,9 +1,12 @@
 //! Texts of a stream that comes in pieces.
-ghost use Rattle.std.specs.Prelude.{◌≡◌, ◌<◌, ◌≤◌, [], ◌++◌, length, take, drop, IsUtf8, IsSome, IfOk, IfErr, IfSome, IfNone, OnOk, OnErr, None, true, false};
+ghost use Rattle.std.specs.Prelude.{◌≡◌, ◌<◌, ◌≤◌, [], ◌++◌, length, take, drop, IsUtf8, IfOk, IfErr, IfSome, IfNone, OnOk, OnErr};
 ghost use Rattle.std.specs.List.{concat};
 ghost use Rattle.std.specs.Str.Lossy.{utf8_valid_len, utf8_error_len};
+ghost use Rattle.bytes_utils.specs.LossyTexts.{LossyRunLaw, TextLossyLaw, WholeLossyLaw};
 ghost use Rattle.bytes_utils.specs.Pushing.{IsPush};
-ghost use Rattle.bytes_utils.specs.StreamTexts.{FaultyRunLaw, IsFaulty, IsUnfinished, TakesText, TextRunLaw, WholeRunLaw};
+ghost use Rattle.bytes_utils.specs.StreamTexts.{FaultyRunLaw, IsFaulty, IsFront, IsUnfinished, TakesText, TextRunLaw, WholeRunLaw};
+
+mod lossy;
 
 use crate::split::character::first_end;
 use crate::string::Str;
@@ -62,6 +65,16 @@ impl fmt::Display for TextError {
 
 impl Error for TextError {}
 
+/// What the held bytes begin with.
+enum Front {
+    /// A text, of this number of bytes.
+    Text(usize),
+    /// Bytes that are not UTF-8, of this number: one U+FFFD replaces them.
+    Fault(usize),
+    /// The first bytes of a character, or no byte.
+    Unfinished,
+}
+
 /// A reader of all text of a stream. The stream comes in pieces that are cut anywhere, also inside a
 /// character.
 ///
@@ -74,6 +87,8 @@ impl Error for TextError {}
 /// texts.next_text(alloc)?          // `é`, and then ` au lait`
 /// texts.end()?;                    // no byte is held
 /// ```
+///
+/// For a stream that may have other bytes, too, take `next_lossy` in place of `next_text`.
 ///
 /// A text shares the block of its piece. Only a character that is cut is copied, of at most four
 /// bytes, as a text of its own.
@@ -130,21 +145,24 @@ impl Texts {
         ensures reason { IfErr result
             (λ e. (reason : _) → e ≡ TextError.Refused reason → reason ≡ Reason.OutOfMemory) }
     {
+        match self.front() {
+            Front::Text(len) => Ok(Some(self.take_text(alloc, len)?)),
+            Front::Fault(_) => Err(TextError::NotUtf8),
+            Front::Unfinished => Ok(None),
+        }
+    }
+
+    /// Returns what the held bytes begin with.
+    fn front(&self) -> Front
+        ensures { IsFront self.now result }
+    {
         let len = front_len(self.pieces.chunk());
         if len > 0 {
-            return Ok(Some(self.take_text(alloc, len)?));
+            return Front::Text(len);
         }
         let mut place = [0; 4];
         let count = self.pieces.peek(&mut place);
-        let head = &place[..count];
-        let len = first_len(head);
-        if len > 0 {
-            return Ok(Some(self.take_text(alloc, len)?));
-        }
-        if is_faulty(head) {
-            return Err(TextError::NotUtf8);
-        }
-        Ok(None)
+        front_of_few(&place[..count])
     }
 
     /// Takes the text of the first `len` bytes.
@@ -216,22 +234,40 @@ fn first_len(bytes: &[u8]) -> usize
     }
 }
 
-/// Returns whether no character can begin with these bytes, which begin with none.
-fn is_faulty(bytes: &[u8]) -> bool
+/// Returns the number of bytes that one U+FFFD replaces, of bytes that begin with no character, or
+/// `None` if they may go on to be one.
+fn fault_len(bytes: &[u8]) -> Option<usize>
     requires { utf8_valid_len bytes.now ≡ 0 }
-    ensures fault { result ≡ true → IsSome (utf8_error_len bytes.now) }
-    ensures open_end { result ≡ false → utf8_error_len bytes.now ≡ None }
+    ensures { result ≡ utf8_error_len bytes.now }
 {
     match str::from_utf8(bytes) {
-        Ok(_) => false,
-        Err(fault) => fault.error_len().is_some(),
+        Ok(_) => None,
+        Err(fault) => fault.error_len(),
+    }
+}
+
+/// Returns what the bytes begin with. Of a text it returns the first character alone.
+fn front_of_few(bytes: &[u8]) -> Front
+    ensures { IsFront bytes.now result }
+{
+    let len = first_len(bytes);
+    if len > 0 {
+        return Front::Text(len);
+    }
+    match fault_len(bytes) {
+        Some(len) => Front::Fault(len),
+        None => Front::Unfinished,
     }
 }
 
 /// The laws of a run of calls: what is given depends on the joined pieces alone, wherever these are
-/// cut and whenever texts are asked for. It is the longest text at their start.
+/// cut and whenever texts are asked for. It is the longest text at their start, or with
+/// `Texts::next_lossy` the text that `String::from_utf8_lossy` makes of them.
 pub fn text_laws()
     ensures run { TextRunLaw }
     ensures faulty { FaultyRunLaw }
     ensures whole { WholeRunLaw }
+    ensures lossy { LossyRunLaw }
+    ensures whole_lossy { WholeLossyLaw }
+    ensures lossy_text { TextLossyLaw }
 {}

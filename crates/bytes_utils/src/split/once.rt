@@ -28,6 +28,8 @@ impl<S: Storage> StrInner<S> {
             (chars cut.0) (chars following))) }
         ensures bytes { IfOk result (λ cut. MatchOption cut.1 (cut.0 ≡ self)
             (λ following. cut.0 ++ (separator.now ++ following) ≡ self)) }
+        ensures in_bytes { IfOk result (λ cut. MatchOption cut.1 (¬ Occurs separator.now self)
+            (λ following. AreHalvesAtFirst self separator.now cut.0 following)) }
         ensures err { OnErr result (Occurs (chars separator.now) (chars self)) }
         ensures reason { IfErr result S.refuses }
     {
@@ -55,6 +57,8 @@ impl<S: Storage> StrInner<S> {
             (chars before) (chars cut.1))) }
         ensures bytes { IfOk result (λ cut. MatchOption cut.0 (cut.1 ≡ self)
             (λ before. before ++ (separator.now ++ cut.1) ≡ self)) }
+        ensures in_bytes { IfOk result (λ cut. MatchOption cut.0 (¬ Occurs separator.now self)
+            (λ before. AreHalvesAtLast self separator.now before cut.1)) }
         ensures err { OnErr result (Occurs (chars separator.now) (chars self)) }
         ensures reason { IfErr result S.refuses }
     {

@@ -1,6 +1,7 @@
-use Rattle.std.proofs.Common.{Some}
+use Rattle.std.proofs.Common.{Some, None}
 use Rattle.std.specs.Str.{chars}
 use Rattle.bytes_utils.specs.Occurrence.{Occurs}
+use Rattle.bytes_utils.proofs.ByteHalves.{byte_halves_at_last, lacks_in_bytes}
 use Rattle.bytes_utils.proofs.HalvesLemmas.{found_last, halves_at_last}
 use Rattle.bytes_utils_buf.proofs.Results.{OnErr-always}
 use Rattle.bytes_utils.proofs.string.text.StrInner.rsplit_once_bytes.Goals as goal
@@ -24,3 +25,15 @@ returns-clause-halves g c =
     let after_is = rw (← c.as_str.ensures.value) at c.in_ok-before.ensures.after in
     rw (← c.as_str.ensures.value)
     (halves_at_last _ _ c.as_str.utf8 c.utf8.separator _ _ found.at_is found.here _ _ before_is after_is found.none_after found.at_end)
+
+pub returns-in_default-clause-in_bytes : goal.returns-in_default-clause-in_bytes
+returns-in_default-clause-in_bytes g c =
+    let lacks = found_last _ _ c.as_str.utf8 c.utf8.separator None c.in_default.ensures.last c.in_default.ensures.empty in
+    rw (← c.as_str.ensures.value) (lacks_in_bytes _ _ c.as_str.utf8 c.utf8.separator lacks)
+
+pub returns-clause-in_bytes : goal.returns-clause-in_bytes
+returns-clause-in_bytes g c =
+    let found = found_last _ _ c.as_str.utf8 c.utf8.separator (Some c.in-Some.at) c.in-Some.ensures.last c.in-Some.ensures.empty in
+    let before_is = rw (← c.as_str.ensures.value) at c.in_ok-before.ensures.before in
+    let after_is = rw (← c.as_str.ensures.value) at c.in_ok-before.ensures.after in
+    rw (← c.as_str.ensures.value) (byte_halves_at_last _ _ c.as_str.utf8 c.utf8.separator _ _ _ before_is after_is found)

@@ -1,3 +1,4 @@
+use Rattle.bytes_utils.proofs.ByteHalves.{byte_halves_at_first, lacks_in_bytes}
 use Rattle.bytes_utils.proofs.HalvesLemmas.{halves_at_first}
 use Rattle.bytes_utils.proofs.string.text.StrInner.split_once_bytes.Goals as goal
 
@@ -12,3 +13,13 @@ returns-clause-halves g c =
     let before_is = rw (← c.as_str.ensures.value) at c.in_ok-before.ensures.before in
     let after_is = rw (← c.as_str.ensures.value) at c.in_ok-before.ensures.after in
     rw (← c.as_str.ensures.value) (halves_at_first _ _ c.as_str.utf8 c.utf8.separator _ _ found.1 found.2.here _ _ before_is after_is found.2.none_before)
+
+pub returns-in_default-clause-in_bytes : goal.returns-in_default-clause-in_bytes
+returns-in_default-clause-in_bytes g c = rw (← c.as_str.ensures.value) (lacks_in_bytes _ _ c.as_str.utf8 c.utf8.separator c.in_default.ensures)
+
+pub returns-clause-in_bytes : goal.returns-clause-in_bytes
+returns-clause-in_bytes g c =
+    let found = c.in-Some.ensures in
+    let before_is = rw (← c.as_str.ensures.value) at c.in_ok-before.ensures.before in
+    let after_is = rw (← c.as_str.ensures.value) at c.in_ok-before.ensures.after in
+    rw (← c.as_str.ensures.value) (byte_halves_at_first _ _ c.as_str.utf8 c.utf8.separator _ _ _ before_is after_is _ found.1 found.2)
