@@ -13,6 +13,7 @@ mod once;
 mod search;
 mod separated;
 mod separator;
+mod slice_ref;
 mod strip;
 #[cfg(test)]
 mod tests;

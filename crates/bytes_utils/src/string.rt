@@ -12,6 +12,7 @@ mod format;
 mod freeze;
 mod items;
 mod join;
+mod join_texts;
 mod literal;
 mod owned;
 mod serialize;
