@@ -3,6 +3,7 @@ mod frames;
 mod limited;
 mod limited_lines;
 mod lines;
+mod lossy;
 mod memory;
 mod readers;
 mod search;

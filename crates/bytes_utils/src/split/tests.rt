@@ -10,6 +10,7 @@ mod memory;
 mod separator;
 mod shared;
 mod size_hint;
+mod slice_ref;
 mod split_counts;
 mod strip;
 mod trim;

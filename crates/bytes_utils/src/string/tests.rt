@@ -8,6 +8,7 @@ mod compare;
 mod convert;
 mod format;
 mod items;
+mod join_texts;
 mod long;
 mod memory;
 mod owned;

@@ -1,6 +1,7 @@
 //! Texts out of pieces.
-use crate::fixtures::refusals::report;
+use crate::fixtures::refusals::{given, report};
 use crate::frame::{TextError, Texts};
+use crate::{Reason, Str};
 use bytes::Bytes;
 use std::alloc::Global;
 use std::io::Print;
@@ -35,5 +36,55 @@ fn texts(rt: HostRuntime) {
     let mut texts = Texts::new(rt.alloc());
     if are_pushed(&rt, &mut texts) {
         assert_cut(&rt, rt.alloc(), &mut texts);
+    }
+}
+
+/// Asserts that the call returned the character that is cut, `β`, unless it was refused, which is
+/// reported: then it is held.
+fn assert_given<R: Abort + Print>(
+    rt: &R,
+    call: &str,
+    answer: Result<Option<Str>, Reason>,
+    held: usize,
+) {
+    match given(rt, call, answer) {
+        Some(text) => assert!(rt; held == 0 && text.is_some_and(|text| text.eq_str("β"))),
+        None => assert!(rt; held == 2),
+    }
+}
+
+#[test]
+fn next_lossy(rt: HostRuntime) {
+    let mut texts = Texts::new(rt.alloc());
+    if are_pushed(&rt, &mut texts) {
+        let answer = texts.next_lossy(rt.alloc());
+        assert_given(&rt, "Texts::next_lossy", answer, texts.remaining());
+    }
+}
+
+#[test]
+fn last_lossy(rt: HostRuntime) {
+    let mut texts = Texts::new(rt.alloc());
+    if are_pushed(&rt, &mut texts) {
+        let answer = texts.last_lossy(rt.alloc());
+        assert_given(&rt, "Texts::last_lossy", answer, texts.remaining());
+    }
+}
+
+/// Whether the call returned U+FFFD.
+fn is_replacement(answer: Result<Option<Str>, Reason>) -> bool {
+    match answer {
+        Ok(Some(text)) => text.eq_str("�"),
+        _ => false,
+    }
+}
+
+#[test]
+fn no_memory_needed_by_replacements(rt: HostRuntime) {
+    let mut texts = Texts::new(rt.alloc());
+    if texts.push(Bytes::from_static(b"\xFF\xE2")).is_ok() {
+        assert!(rt; is_replacement(texts.next_lossy(rt.alloc())));
+        assert!(rt; matches!(texts.next_lossy(rt.alloc()), Ok(None)));
+        assert!(rt; is_replacement(texts.last_lossy(rt.alloc())));
     }
 }
