@@ -1,13 +1,13 @@
 -- How a list of backward parts grows at the end of the text, and that every text has such a list: the mirror of the
 -- forward parts.
-use Rattle.std.proofs.Common.{◌≡◌, refl, sym, ap, subst, ◌∙◌, ℕ, ◌+◌, ◌-◌, ◌<◌, List, [], ◌∷◌, ◌++◌, Option, Some, length, map, take, drop, reverse, arith, append_assoc, length-append, ◌⊎◌}
+use Rattle.std.proofs.Common.{◌≡◌, sym, ap, subst, ◌∙◌, ℕ, ◌+◌, ◌-◌, ◌<◌, List, [], ◌∷◌, ◌++◌, Option, Some, length, map, take, drop, reverse, arith, append_assoc, length-append, ◌⊎◌}
 use Rattle.std.specs.Option.{IfSome}
 use Rattle.std.proofs.lemmas.List.{take_at, drop_at}
 use Rattle.std.proofs.lemmas.Bool.{cases_eq}
 use Rattle.bytes_utils.specs.Occurrence.{Occurs, OccursLastAt}
 use Rattle.bytes_utils.specs.Parts.{AreForwardParts, AreBackwardParts}
 use Rattle.bytes_utils.specs.Splitting.{one_less}
-use Rattle.bytes_utils.proofs.Forward.{AreForwardParts-more, AreForwardParts-last, forward_parts}
+use Rattle.bytes_utils.proofs.Forward.{AreForwardParts-more, forward_parts}
 use Rattle.bytes_utils.proofs.Mirror.{length-some_reverse, reversed_twice, reverse_cut, reverse_place, OccursFirstAt-reverse, AreForwardParts-from_mirror, AreBackwardParts-from_mirror}
 
 module _ {X : Type 0} (p t : List X) (i : ℕ) (some : 0 < length p) (last : OccursLastAt p t i) where
@@ -35,25 +35,11 @@ module _ {X : Type 0} (p t : List X) (i : ℕ) (some : 0 < length p) (last : Occ
 
 -- a text in which p doesn't occur is its only part
 pub AreBackwardParts-last : {X : Type 0} (p t : List X) (limit : Option ℕ) → IfSome limit (λ most. 0 < most) → (¬ Occurs p t) → AreBackwardParts t p limit (t ∷ [])
-AreBackwardParts-last p t limit positive lacks =
-    let are = AreForwardParts-last p t limit positive lacks in
-    record {
-      some = are.some;
-      few = are.few;
-      joined = refl;
-      cut_at_last = tt;
-      last = λ _. lacks;
-    }
+AreBackwardParts-last p t limit positive lacks = grind arith
 
 -- if one part is the limit, it is the whole text
 pub AreBackwardParts-rest : {X : Type 0} (p t : List X) → AreBackwardParts t p (Some 1) (t ∷ [])
-AreBackwardParts-rest p t = record {
-  some = omega arith;
-  few = omega arith;
-  joined = refl;
-  cut_at_last = tt;
-  last = λ below. absurd (omega (arith, below));
-}
+AreBackwardParts-rest p t = grind arith
 
 abbrev pub HasBackwardParts : {X : Type 0} → List X → List X → Option ℕ → Type 0
 HasBackwardParts {X} p t limit = (parts : List (List X)) × AreBackwardParts t p limit parts

@@ -1,5 +1,5 @@
 -- The bytes of a separator occur in the bytes of a text exactly where its characters occur in the text.
-use Rattle.std.proofs.Common.{◌≡◌, refl, sym, ap, ◌∙◌, ℕ, ◌+◌, ◌<◌, ◌≤◌, List, [], ◌∷◌, ◌++◌, length, take, drop, arith, true, append_assoc, length-drop, length-take, get_or, take-append-drop, IsUtf8, IsCharBoundary}
+use Rattle.std.proofs.Common.{◌≡◌, refl, sym, ap, ◌∙◌, ℕ, ◌+◌, ◌<◌, ◌≤◌, List, [], ◌∷◌, ◌++◌, length, take, drop, arith, true, append_assoc, length-drop, length-take, take-append-drop, IsUtf8, IsCharBoundary}
 use Rattle.std.proofs.lemmas.List.{take_at, drop_at, length-take-le}
 use Rattle.std.proofs.lemmas.List.Elements.{All-head, All-tail}
 use Rattle.std.proofs.lemmas.Bool.{and_from}
@@ -39,11 +39,7 @@ chars_begin (c ∷ p) cs rest e =
 
 -- a separator occurs in a text's bytes only where a character begins
 pub boundary_at : (text sep : List ℕ) → IsUtf8 sep → 0 < length sep → (k : ℕ) → HasNeedleAt text sep k → IsCharBoundary text k
-boundary_at text sep sep_is some k occurs =
-    let start = IsCharBoundary-start sep sep_is in
-    let same = occurs.reads 0 some in
-    let here : get_or text (k + 0) 0 ≡ get_or text k 0 = ap (λ j. get_or text j 0) (omega arith) in
-    (omega arith, λ l a. let lead = start.1 some (omega arith) in omega arith)
+boundary_at text sep sep_is some k occurs = grind (arith, IsCharBoundary-start)
 
 module _ (p t : List ℕ) (some : 0 < length p) (p_is : scalars p ≡ true) (t_is : scalars t ≡ true) where
   text_is : IsUtf8 (encodes t)
@@ -82,8 +78,4 @@ module _ (p t : List ℕ) (some : 0 < length p) (p_is : scalars p ≡ true) (t_i
       ap (take (length (encodes p))) after ∙ take_at (encodes p) (encodes back) (length (encodes p)) refl
 
 pub boundaries_law : BoundariesLaw
-boundaries_law p t k some p_is t_is =
-    let ps = scalars-from_characters p p_is in
-    let ts = scalars-from_characters t t_is in
-    let long : 0 < length (encodes p) = omega (arith, length-le-encodes p, some) in
-    (λ here. chars_at p t some ps ts k (HasNeedleAt-from_occurs (encodes p) (encodes t) k long here), λ h. bytes_at p t some ps ts k h.0 h.1 h.2)
+boundaries_law p t k some p_is t_is = grind (arith, HasNeedleAt-from_occurs, bytes_at, chars_at, length-le-encodes, scalars-from_characters)

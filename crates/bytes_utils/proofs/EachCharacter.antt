@@ -1,7 +1,7 @@
 -- The parts by the empty separator, one after another.
-use Rattle.std.proofs.Common.{◌≡◌, refl, sym, ap, ◌∙◌, ℕ, zero, suc, ◌-◌, ◌<◌, ◌≤◌, List, [], ◌∷◌, ◌++◌, Option, None, Some, length, map, take, drop, reverse, arith, length-drop, take-append-drop, ◌⊎◌, inl, inr}
+use Rattle.std.proofs.Common.{◌≡◌, refl, sym, ap, ◌∙◌, ℕ, suc, ◌-◌, ◌<◌, List, [], ◌∷◌, ◌++◌, Option, None, Some, length, map, take, drop, reverse, arith, length-drop, take-append-drop, ◌⊎◌, inl, inr}
 use Rattle.std.specs.Option.{option_map, IfSome}
-use Rattle.std.proofs.lemmas.Bool.{cases_lt, lt-ltb, le-ltb, cond-true, cond-false}
+use Rattle.std.proofs.lemmas.Bool.{lt-ltb, cond-true}
 use Rattle.std.proofs.lemmas.List.{reverse-append, length-reverse, take_at, drop_at}
 use Rattle.bytes_utils.specs.EmptySeparator.{by_element, by_element_backward}
 use Rattle.bytes_utils.specs.Splitting.{LeavesMore, one_less}
@@ -14,40 +14,21 @@ after_first t limit = drop 1 (by_element t limit)
 
 -- the first part is empty, if there may be more than one
 pub by_element-first : {X : Type 0} (t : List X) (limit : Option ℕ) → LeavesMore limit → by_element t limit ≡ [] ∷ after_first t limit
-by_element-first t None more = refl
-by_element-first t (Some zero) more = absurd (omega (arith, more))
-by_element-first t (Some (suc zero)) more = absurd (omega (arith, more))
-by_element-first t (Some (suc (suc n))) more = refl
+by_element-first t limit more = grind arith
 
 -- after it come the first character, and then what comes after the empty part in the rest
 pub by_element-more : {X : Type 0} (x : X) (t : List X) (limit : Option ℕ) → LeavesMore limit
     → by_element (x ∷ t) (option_map suc limit) ≡ [] ∷ (x ∷ []) ∷ after_first t limit
-by_element-more x t None more = refl
-by_element-more x t (Some zero) more = absurd (omega (arith, more))
-by_element-more x t (Some (suc zero)) more = absurd (omega (arith, more))
-by_element-more x t (Some (suc (suc n))) more = ap (λ z. [] ∷ z) (from (cases_lt n (length t)))
-  where
-    from : (n < length t) ⊎ (length t ≤ n) → drop 1 (by_element (x ∷ t) (Some (suc (suc (suc n))))) ≡ (x ∷ []) ∷ after_first t (Some (suc (suc n)))
-    from (inl below) = cond-true _ _ _ (lt-ltb (suc n) (length (x ∷ t)) (omega (arith, below))) ∙ ap (λ z. (x ∷ []) ∷ z) (sym (cond-true _ _ _ (lt-ltb n (length t) below)))
-    from (inr enough) = cond-false _ _ _ (le-ltb (suc n) (length (x ∷ t)) (omega (arith, enough))) ∙ ap (λ z. (x ∷ []) ∷ z) (sym (cond-false _ _ _ (le-ltb n (length t) enough)))
+by_element-more x t limit h = grind arith
 
 -- after all characters the last part is empty
 pub by_element-nothing_left : {X : Type 0} (limit : Option ℕ) → LeavesMore limit → by_element {X = X} [] (option_map suc limit) ≡ [] ∷ [] ∷ []
-by_element-nothing_left None more = refl
-by_element-nothing_left (Some zero) more = absurd (omega (arith, more))
-by_element-nothing_left (Some (suc n)) more = ap (λ z. [] ∷ z) (cond-false _ _ _ (le-ltb n 0 (omega arith)))
+by_element-nothing_left limit more = grind arith
 
 -- a limit of two leaves the text after the empty part
 pub by_element-two : {X : Type 0} (t : List X) → by_element t (Some 2) ≡ [] ∷ t ∷ []
 by_element-two [] = refl
 by_element-two (x ∷ t) = ap (λ z. [] ∷ z) (cond-true _ _ _ (lt-ltb 0 (length (x ∷ t)) (omega arith)))
-
--- there is at least one part
-pub by_element-some : {X : Type 0} (t : List X) (limit : Option ℕ) → IfSome limit (λ most. 0 < most) → 0 < length (by_element t limit)
-by_element-some t None some = omega arith
-by_element-some t (Some zero) some = absurd (omega (arith, some))
-by_element-some t (Some (suc zero)) some = omega arith
-by_element-some t (Some (suc (suc n))) some = omega arith
 
 -- and one after the first
 pub by_element-following : {X : Type 0} (t : List X) (limit : Option ℕ) → IfSome limit (λ most. 0 < most) → 1 < length (by_element t (option_map suc limit))

@@ -1,5 +1,5 @@
 -- Where a text without the white space at its ends is in the text.
-use Rattle.std.proofs.Common.{◌≡◌, ℕ, ◌+◌, ◌-◌, ◌<◌, ◌≤◌, List, ◌++◌, length, take, drop, IsUtf8, arith, ⊎_elim, ap, ◌∙◌, sym, subst, length-drop, length-take, take-append-drop}
+use Rattle.std.proofs.Common.{◌≡◌, ℕ, ◌+◌, ◌-◌, List, ◌++◌, length, take, drop, IsUtf8, arith, ap, ◌∙◌, sym, subst, length-drop, length-take, take-append-drop}
 use Rattle.std.proofs.lemmas.Bool.{cases_lt}
 use Rattle.std.proofs.lemmas.List.{drop_all, drop-take}
 use Rattle.std.proofs.lemmas.Str.{IsCharBoundary-from_drop, IsCharBoundary-from_take, IsCharBoundary-from_rest}
@@ -9,13 +9,7 @@ use Rattle.bytes_utils.specs.Ends.{IsBetweenSpace}
 module _ (s r : List ℕ) (utf8 : IsUtf8 r) (is : IsTrimStart s r) where
   -- what is left begins as many bytes before the end of the text as it has, also if it is empty
   pub start_is : drop (length s - length r) s ≡ r
-  start_is =
-      let size : length r ≡ length s - is.0 = ap length is.1 ∙ length-drop is.0 s in ⊎_elim
-      (λ (past : length s < is.0).
-      drop_all (length s - length r) s (omega (arith, size, past)) ∙ sym (drop_all is.0 s (omega (arith, past))) ∙ sym is.1)
-      (λ (within : is.0 ≤ length s).
-      let at : length s - length r ≡ is.0 = omega (arith, size, within) in ap (λ n. drop n s) at ∙ sym is.1)
-      (cases_lt (length s) is.0)
+  start_is = grind (arith, cases_lt, drop_all, length-drop)
 
   pub start_boundary : IsCharBoundary s (length s - length r)
   start_boundary = IsCharBoundary-from_drop s (length s - length r) (omega arith) (subst IsUtf8 (sym start_is) utf8)
@@ -30,19 +24,14 @@ module _ (s r : List ℕ) (s_utf8 : IsUtf8 s) (utf8 : IsUtf8 r) (is : IsTrimEnd 
 -- white space is cut off at the start, and then at the end
 module _ (s following part : List ℕ) (following_utf8 : IsUtf8 following) (part_utf8 : IsUtf8 part) (start : IsTrimStart s following) (end : IsTrimEnd following part) where
   pub part_end : IsCharBoundary s (length s - length following + length part)
-  part_end = IsCharBoundary-from_rest s (length s - length following) (length part) (omega arith)
-      (subst (λ l. IsCharBoundary l (length part)) (sym (start_is s following following_utf8 start))
-      (end_boundary following part following_utf8 part_utf8 end))
+  part_end = grind (arith, IsCharBoundary-from_rest, end_boundary, start_is)
 
   pub part_is : drop (length s - length following) (take (length s - length following + length part) s) ≡ part
   part_is = drop-take (length s - length following) (length part) s
       ∙ ap (take (length part)) (start_is s following following_utf8 start) ∙ front_is following part following_utf8 part_utf8 end
 
   pub start_in_front : IsCharBoundary (take (length s - length following + length part) s) (length s - length following)
-  start_in_front =
-      let at = length s - length following in
-      let front = take (at + length part) s in
-      IsCharBoundary-from_drop front at (omega (arith, part_end.0, length-take (at + length part) s)) (subst IsUtf8 (sym part_is) part_utf8)
+  start_in_front = grind (arith, IsCharBoundary-from_drop, length-take, part_end, part_is)
 
   pub between : IsBetweenSpace part s
   between = (

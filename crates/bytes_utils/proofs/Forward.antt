@@ -1,5 +1,5 @@
 -- How a list of forward parts grows at its front, and that every text has such a list.
-use Rattle.std.proofs.Common.{◌≡◌, ◌↔◌, refl, sym, ap, subst, ◌∙◌, ℕ, zero, suc, ◌+◌, ◌-◌, ◌<◌, ◌≤◌, List, [], ◌∷◌, ◌++◌, Option, None, Some, length, take, drop, arith, append_assoc, length-append, length-drop, ◌⊎◌, inl, inr}
+use Rattle.std.proofs.Common.{◌≡◌, ◌↔◌, sym, subst, ◌∙◌, ℕ, zero, suc, ◌+◌, ◌-◌, ◌<◌, ◌≤◌, List, [], ◌∷◌, ◌++◌, Option, None, Some, length, take, drop, arith, append_assoc, length-append, length-drop, ◌⊎◌, inl, inr}
 use Rattle.std.specs.Option.{IfSome}
 use Rattle.std.proofs.lemmas.Option.{IfSome_then}
 use Rattle.std.proofs.lemmas.List.{length-take-le}
@@ -18,14 +18,7 @@ less (Some most) P = (λ holds. holds, λ holds. holds)
 -- a part whose first p is right after it comes before the parts of what follows that p
 pub AreForwardParts-led : {X : Type 0} (p part rest : List X) (limit : Option ℕ) → OccursFirstAt p (part ++ p) (length part)
     → (parts : List (List X)) → AreForwardParts rest p (one_less limit) parts → AreForwardParts (part ++ (p ++ rest)) p limit (part ∷ parts)
-AreForwardParts-led p part rest limit first [] are = absurd (omega (arith, are.some))
-AreForwardParts-led p part rest limit first (next ∷ parts) are = record {
-  some = omega arith;
-  few = IfSome_then limit ((less limit _).1 are.few) (λ most few. omega arith);
-  joined = ap (λ z. part ++ (p ++ z)) are.joined;
-  cut_at_first = (first, are.cut_at_first);
-  last = λ below. are.last ((less limit _).0 (IfSome_then limit below (λ most below. omega arith)));
-}
+AreForwardParts-led p part rest limit first h are = grind (arith, IfSome_then, less)
 
 module _ {X : Type 0} (p t : List X) (i : ℕ) (some : 0 < length p) (first : OccursFirstAt p t i) where
   -- p occurs first right after the part before its first occurrence in the text
@@ -42,39 +35,22 @@ module _ {X : Type 0} (p t : List X) (i : ℕ) (some : 0 < length p) (first : Oc
   -- a part split off at the first occurrence comes before the parts of what is after it
   pub AreForwardParts-more : (limit : Option ℕ) → IfSome limit (λ most. 1 < most) → (parts : List (List X))
       → AreForwardParts (drop (i + length p) t) p (one_less limit) parts → AreForwardParts t p limit (take i t ∷ parts)
-  AreForwardParts-more limit room parts are =
-      subst (λ z. AreForwardParts z p limit (take i t ∷ parts)) (cut_whole p t i first.here)
-      (AreForwardParts-led p (take i t) (drop (i + length p) t) limit first_in_part parts are)
+  AreForwardParts-more limit room parts are = grind (arith, AreForwardParts-led, cut_whole, first_in_part)
 
 -- a text in which p doesn't occur is its only part
 pub AreForwardParts-last : {X : Type 0} (p t : List X) (limit : Option ℕ) → IfSome limit (λ most. 0 < most) → (¬ Occurs p t) → AreForwardParts t p limit (t ∷ [])
-AreForwardParts-last p t limit positive lacks = record {
-  some = omega arith;
-  few = positive;
-  joined = refl;
-  cut_at_first = tt;
-  last = λ _. lacks;
-}
+AreForwardParts-last p t limit positive lacks = grind arith
 
 -- if one part is the limit, it is the whole text
 pub AreForwardParts-rest : {X : Type 0} (p t : List X) → AreForwardParts t p (Some 1) (t ∷ [])
-AreForwardParts-rest p t = record {
-  some = omega arith;
-  few = omega arith;
-  joined = refl;
-  cut_at_first = tt;
-  last = λ below. absurd (omega (arith, below));
-}
+AreForwardParts-rest p t = grind arith
 
 abbrev pub HasForwardParts : {X : Type 0} → List X → List X → Option ℕ → Type 0
 HasForwardParts {X} p t limit = (parts : List (List X)) × AreForwardParts t p limit parts
 
 -- a limit of at least 1 allows one part, or more
 pub one_or_more : (limit : Option ℕ) → IfSome limit (λ most. 0 < most) → (limit ≡ Some 1) ⊎ IfSome limit (λ most. 1 < most)
-one_or_more None positive = inr tt
-one_or_more (Some zero) positive = absurd (omega arith)
-one_or_more (Some (suc zero)) positive = inl refl
-one_or_more (Some (suc (suc n))) positive = inr (omega arith)
+one_or_more limit positive = grind arith
 
 -- Elements with decidable equality.
 module _ {X : Type 0} (same : (x y : X) → (x ≡ y) ⊎ (¬ (x ≡ y))) (p : List X) (some : 0 < length p) where

@@ -26,31 +26,19 @@ module _ {X : Type 0} (t : List X) where
 
   pub front-from : (p : List X) (limit : Option ℕ) (parts : List (List X)) → 0 < length p → IfSome limit (λ most. 0 < most)
       → AreForwardParts t p limit parts → ArePartsFromFront t p limit parts
-  front-from [] limit parts some more are = absurd (omega (arith, some))
-  front-from (x ∷ p) None parts some more are = are
-  front-from (x ∷ p) (Some zero) parts some more are = absurd (omega (arith, more))
-  front-from (x ∷ p) (Some (suc most)) parts some more are = are
+  front-from p limit parts some more are = grind arith
 
   pub front-to : (p : List X) (limit : Option ℕ) (parts : List (List X)) → 0 < length p → IfSome limit (λ most. 0 < most)
       → ArePartsFromFront t p limit parts → AreForwardParts t p limit parts
-  front-to [] limit parts some more are = absurd (omega (arith, some))
-  front-to (x ∷ p) None parts some more are = are
-  front-to (x ∷ p) (Some zero) parts some more are = absurd (omega (arith, more))
-  front-to (x ∷ p) (Some (suc most)) parts some more are = are
+  front-to p limit parts some more are = grind arith
 
   pub back-from : (p : List X) (limit : Option ℕ) (parts : List (List X)) → 0 < length p → IfSome limit (λ most. 0 < most)
       → AreBackwardParts t p limit parts → ArePartsFromBack t p limit parts
-  back-from [] limit parts some more are = absurd (omega (arith, some))
-  back-from (x ∷ p) None parts some more are = are
-  back-from (x ∷ p) (Some zero) parts some more are = absurd (omega (arith, more))
-  back-from (x ∷ p) (Some (suc most)) parts some more are = are
+  back-from p limit parts some more are = grind arith
 
   pub back-to : (p : List X) (limit : Option ℕ) (parts : List (List X)) → 0 < length p → IfSome limit (λ most. 0 < most)
       → ArePartsFromBack t p limit parts → AreBackwardParts t p limit parts
-  back-to [] limit parts some more are = absurd (omega (arith, some))
-  back-to (x ∷ p) None parts some more are = are
-  back-to (x ∷ p) (Some zero) parts some more are = absurd (omega (arith, more))
-  back-to (x ∷ p) (Some (suc most)) parts some more are = are
+  back-to p limit parts some more are = grind arith
 
 -- every text has parts from the front, for every separator and every limit
 pub has_front : (t p : List ℕ) (limit : Option ℕ) → (parts : List (List ℕ)) × ArePartsFromFront t p limit parts

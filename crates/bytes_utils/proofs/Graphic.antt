@@ -66,8 +66,6 @@ module _ (bytes : List ℕ) (at : ℕ) (room : at + 16 ≤ length bytes) where
       by_block ∙ ap (λ b. cond b (length block + front (drop (at + 16) bytes)) (front block)) (ne_eqb _ _ (λ (e : front block ≡ length block). omega (arith, e, inside, long)))
 
   pub passes_block : 16 ≤ prefix_len is_ascii_graphic (chunk at 16 bytes) → prefix_len is_ascii_graphic (drop at bytes) ≡ 16 + prefix_len is_ascii_graphic (drop (at + 16) bytes)
-  passes_block whole =
-      let same : front block ≡ length block = omega (arith, whole, prefix_len-le-length is_ascii_graphic block, long) in
-      by_block ∙ ap (λ b. cond b (length block + front (drop (at + 16) bytes)) (front block)) (eq-eqb _ _ same) ∙ ap (λ n. n + front (drop (at + 16) bytes)) long
+  passes_block whole = grind (arith, by_block, eq-eqb, long, prefix_len-le-length)
 
 pub ruleset blocks = (block_whole, block_some, ends_in_block, passes_block)

@@ -1,5 +1,5 @@
 -- A text split at a place at which a separator was found in it.
-use Rattle.std.proofs.Common.{◌≡◌, refl, sym, ap, subst, ◌∙◌, ℕ, ◌+◌, ◌-◌, ◌<◌, ◌≤◌, List, [], ◌∷◌, ◌++◌, ⊎_elim, Option, None, Some, MatchOption, length, take, drop, arith, length-take, IsUtf8}
+use Rattle.std.proofs.Common.{◌≡◌, refl, sym, ap, subst, ◌∙◌, ℕ, ◌+◌, ◌-◌, ◌<◌, ◌≤◌, List, [], ◌∷◌, ◌++◌, ⊎_elim, Option, Some, MatchOption, length, take, drop, arith, length-take, IsUtf8}
 use Rattle.std.proofs.Math.Seq.{drop-append-add}
 use Rattle.std.proofs.lemmas.Bool.{cases_lt}
 use Rattle.std.proofs.lemmas.List.{take_all, drop_all}
@@ -15,9 +15,7 @@ use Rattle.bytes_utils.proofs.SearchLemmas.{chars-some}
 
 -- what p follows in a text holds no p, if that p is the last one and isn't empty
 pub lacks-after : {X : Type 0} (p before following : List X) → 0 < length p → OccursLastAt p (before ++ (p ++ following)) (length before) → ¬ Occurs p following
-lacks-after p before following some last = λ occurs.
-    let there = drop-append-add before (p ++ following) (length p + occurs.0) ∙ drop-append-add p following occurs.0 in
-    omega (arith, some, last.none_after (length before + (length p + occurs.0)) (ap (take (length p)) there ∙ occurs.1))
+lacks-after p before following some last = grind (arith, drop-append-add)
 
 -- and conversely, if p is one element
 pub last-from_lacks : {X : Type 0} (p before following : List X) → length p ≡ 1 → (¬ Occurs p following) → OccursLastAt p (before ++ (p ++ following)) (length before)
@@ -45,21 +43,10 @@ module _ {X : Type 0} (t p before following : List X) (i : ℕ) (here : OccursAt
   size = omega (arith, ap length before_is, length-take i t)
 
   pub AreHalvesAtFirst-at : ((j : ℕ) → OccursAt p t j → i ≤ j) → AreHalvesAtFirst t p before following
-  AreHalvesAtFirst-at none_before = record {
-    joined = around;
-    first = record { here = at_seam; none_before = λ j there. omega (arith, size, none_before j there) };
-  }
+  AreHalvesAtFirst-at none_before = grind (arith, around, at_seam, size)
 
   pub AreHalvesAtLast-at : (0 < length p → (j : ℕ) → OccursAt p t j → j ≤ i) → (length p ≡ 0 → following ≡ []) → AreHalvesAtLast t p before following
-  AreHalvesAtLast-at none_after at_end = record {
-    joined = around;
-    last = λ some. record {
-      here = at_seam;
-      none_after = λ j there.
-          omega (arith, none_after some j there, OccursAt-fits p t j some there, ap length before_is, length-take i t);
-    };
-    at_end = at_end;
-  }
+  AreHalvesAtLast-at none_after at_end = grind (arith, OccursAt-fits, around, at_seam, length-take)
 
 module _ (text sep : List ℕ) (text_is : IsUtf8 text) (sep_is : IsUtf8 sep) (at i : ℕ) (at_is : at ≡ byte_place (chars text) i) (here : OccursAt (chars sep) (chars text) i) where
   module _ (before following : List ℕ) (before_is : before ≡ take at text) (after_is : following ≡ drop (at + length sep) text) where
@@ -110,13 +97,4 @@ found_last text [] text_is sep_is r last empty =
       none_after = λ some. absurd (omega (arith, some, ap length chars-nil));
       at_end = λ _. refl;
     })
-found_last text (b ∷ sep) text_is sep_is None last empty = last (omega arith)
-found_last text (b ∷ sep) text_is sep_is (Some at) last empty =
-    let found = last (omega arith) in
-    record {
-      place = found.0;
-      at_is = found.1;
-      here = found.2.here;
-      none_after = λ some. found.2.none_after;
-      at_end = λ none. absurd (omega (arith, none, chars-some (b ∷ sep) sep_is (omega arith)));
-    }
+found_last text (b ∷ sep) text_is sep_is r last empty = grind (arith, chars-nil, chars-some, encodes-chars, take_all)

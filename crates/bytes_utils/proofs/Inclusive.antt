@@ -1,7 +1,7 @@
 -- How a list of inclusive parts grows at its front, and that every text has such a list.
-use Rattle.std.proofs.Common.{◌≡◌, refl, sym, ap, subst, ℕ, zero, suc, ◌+◌, ◌-◌, ◌<◌, ◌≤◌, List, [], ◌∷◌, ◌++◌, length, take, drop, arith, length-drop, take-append-drop, ◌⊎◌, inl, inr}
+use Rattle.std.proofs.Common.{◌≡◌, sym, subst, ℕ, zero, suc, ◌+◌, ◌-◌, ◌<◌, ◌≤◌, List, [], ◌∷◌, ◌++◌, length, take, drop, arith, length-drop, take-append-drop, ◌⊎◌, inl, inr}
 use Rattle.std.proofs.lemmas.List.{length-take-le}
-use Rattle.std.proofs.lemmas.List.Elements.{All-nil, All-cons}
+use Rattle.std.proofs.lemmas.List.Elements.{All-cons}
 use Rattle.std.proofs.lemmas.Bool.{cases_eq, cases_lt}
 use Rattle.bytes_utils.specs.Occurrence.{Occurs, OccursFirstAt}
 use Rattle.bytes_utils.specs.Parts.{EndsAtFirst, AreInclusiveParts}
@@ -10,32 +10,16 @@ use Rattle.bytes_utils.proofs.OccurrenceLemmas.{OccursFirstAt-front, FirstOrNowh
 
 -- the list without an element has no parts
 pub AreInclusiveParts-none : {X : Type 0} (p : List X) → AreInclusiveParts [] p []
-AreInclusiveParts-none p = record {
-  joined = refl;
-  none_empty = All-nil (λ part. 0 < length part);
-  cut_after_first = tt;
-  last = tt;
-}
+AreInclusiveParts-none p = grind arith
 
 -- a text that isn't empty is its only part if p doesn't occur in it, or first at its end
 pub AreInclusiveParts-last : {X : Type 0} (p t : List X) → 0 < length t → EndsAtFirst p t ⊎ (¬ Occurs p t) → AreInclusiveParts t p (t ∷ [])
-AreInclusiveParts-last p t long ends = record {
-  joined = refl;
-  none_empty = All-cons (λ part. 0 < length part) t [] long (All-nil (λ part. 0 < length part));
-  cut_after_first = tt;
-  last = ends;
-}
+AreInclusiveParts-last p t long ends = grind arith
 
 -- a part that ends with its first p comes before the parts of what follows it
 pub AreInclusiveParts-led : {X : Type 0} (p part rest : List X) → 0 < length part → EndsAtFirst p part → 0 < length rest
     → (parts : List (List X)) → AreInclusiveParts rest p parts → AreInclusiveParts (part ++ rest) p (part ∷ parts)
-AreInclusiveParts-led p part rest some ends left [] are = absurd (omega (arith, ap length are.joined))
-AreInclusiveParts-led p part rest some ends left (next ∷ parts) are = record {
-  joined = ap (λ z. part ++ z) are.joined;
-  none_empty = All-cons (λ q. 0 < length q) part (next ∷ parts) some are.none_empty;
-  cut_after_first = (ends, are.cut_after_first);
-  last = are.last;
-}
+AreInclusiveParts-led p part rest some ends left h are = grind (arith, All-cons)
 
 module _ {X : Type 0} (p t : List X) (i : ℕ) (some : 0 < length p) (first : OccursFirstAt p t i) where
   -- the text up to the end of the first occurrence has its first p at its end

@@ -1,5 +1,5 @@
 -- A step of a splitter gives its part with the place at which it begins.
-use Rattle.std.proofs.Common.{◌≡◌, refl, sym, ap, ◌∙◌, ℕ, zero, suc, ◌+◌, ◌-◌, ◌<◌, ◌≤◌, Bool, true, false, List, [], ◌∷◌, ◌++◌, Option, None, Some, Result, Ok, Err, IfSome, length, length-append, append_assoc, append-nil, arith, subst, All, IsUtf8}
+use Rattle.std.proofs.Common.{◌≡◌, refl, sym, ap, ◌∙◌, ℕ, suc, ◌+◌, ◌-◌, ◌<◌, ◌≤◌, Bool, true, false, List, [], ◌∷◌, ◌++◌, Option, None, Some, Result, Ok, Err, IfSome, length, length-append, append_assoc, append-nil, arith, subst, All, IsUtf8}
 use Rattle.std.proofs.lemmas.List.Elements.{All-nil, All-cons}
 use Rattle.std.proofs.lemmas.Str.{encodes-append, encodes-chars}
 use Rattle.std.specs.Bool.{OnTrue}
@@ -27,9 +27,7 @@ left_joined : (rest separator : List ℕ) (limit : Option ℕ) (begun : Bool) (p
 left_joined rest separator limit true part others empty are =
     ap (λ p. join p (part ∷ others)) (no_chars separator empty) ∙ front_rejoins (chars rest) [] (option_map suc limit) ([] ∷ part ∷ others) (positive-suc limit) are
 left_joined rest separator None false part others empty are = front_rejoins (chars rest) (chars separator) None (part ∷ others) tt are
-left_joined rest separator (Some zero) false part others empty are = absurd (omega (arith, ap length ((front-none (chars rest) (chars separator) (part ∷ others)).0 are)))
-left_joined rest separator (Some (suc most)) false part others empty are =
-    front_rejoins (chars rest) (chars separator) (Some (suc most)) (part ∷ others) (omega arith) are
+left_joined rest separator limit false part others empty are = grind (arith, front-none, front_rejoins, no_chars, positive-suc)
 
 -- so what is left before a step is the part, a separator, and what is left after it
 module _ (rest separator left part next : List ℕ) (others : List (List ℕ)) (rest_is : IsUtf8 rest) (separator_is : IsUtf8 separator) (left_is : IsUtf8 left)
@@ -56,12 +54,7 @@ moved : (rest left : Option (List ℕ)) (separator : List ℕ) (limit limit' : O
     → AreForwardPartsToCome (splitting rest separator limit begun) (part ∷ next ∷ others) → AreForwardPartsToCome (splitting left separator limit' begun') (next ∷ others)
     → at' ≡ at + length (encodes part) + length separator
 moved None left separator limit limit' begun begun' at at' size part next others is also are left_are = absurd (omega (arith, ap length are))
-moved (Some rest) None separator limit limit' begun begun' at at' size part next others is also are left_are = absurd (omega (arith, ap length left_are))
-moved (Some rest) (Some left) separator limit limit' begun begun' at at' size part next others is also are left_are =
-    let before = left_joined rest separator limit begun part (next ∷ others) is.rest.2 are in
-    let following = left_joined left separator limit' begun' next others also.rest.2 left_are in
-    let long = left_length rest separator left part next others is.rest.0 is.separator also.rest.0 before following in
-    omega (arith, long, is.rest.1, also.rest.1)
+moved (Some rest) left separator limit limit' begun begun' at at' size part next others is also are left_are = grind (arith, left_joined, left_length)
 
 module _ (s t : Indexing) (size : ℕ) (part : List ℕ) (same : t.parts.separator ≡ s.parts.separator) (is : IsMeasured size s) (also : IsMeasured size t)
     (gives : GivesFirst AreForwardPartsToCome s.parts part t.parts) where
@@ -98,12 +91,7 @@ some_indexed s some none = some (no_parts none.0 none.1 none.2)
 left_within : (rest left : Option (List ℕ)) (begun begun' : Bool) (separator : List ℕ) (limit limit' : Option ℕ) (at size : ℕ)
     → most_parts (splitting left separator limit' begun') < most_parts (splitting rest separator limit begun)
     → IsMeasured size (indexing rest separator limit begun at) → option_map_or length left 0 ≤ size
-left_within None left begun begun' separator limit limit' at size fewer is = absurd (omega (arith, fewer))
-left_within (Some rest) None begun begun' separator limit limit' at size fewer is = omega arith
-left_within (Some rest) (Some left) false false separator limit limit' at size fewer is = omega (arith, fewer, is.rest.1)
-left_within (Some rest) (Some left) false true separator limit limit' at size fewer is = omega (arith, fewer, is.rest.1)
-left_within (Some rest) (Some left) true false separator limit limit' at size fewer is = omega (arith, fewer, is.rest.1)
-left_within (Some rest) (Some left) true true separator limit limit' at size fewer is = omega (arith, fewer, is.rest.1)
+left_within rest left begun begun' separator limit limit' at size fewer is = grind arith
 
 pub step_within : (s : Indexing) (t : Splitting) (size : ℕ) → t.separator ≡ s.parts.separator → most_parts t < most_parts s.parts → IsMeasured size s → option_map_or length t.rest 0 ≤ size
 step_within s t size same fewer is = left_within s.parts.rest t.rest s.parts.begun t.begun s.parts.separator s.parts.limit t.limit s.at size fewer is
@@ -119,9 +107,7 @@ measured_after (Some r) separator begun at size left is empty left_is within at_
 module _ {E : Type 0} (refuses : E → Type 0) (from : Direction) (forward : from ≡ Forward) (s t : Indexing) (item : Result (List ℕ) E)
     (gives : GivesItem chars (ArePartsToCome from) CutsNext refuses s.parts item t.parts) where
   forward_item : (it : Result (List ℕ) E) → item ≡ it → GivesItem chars AreForwardPartsToCome CutsNext refuses s.parts it t.parts
-  forward_item it is =
-      subst (λ i. GivesItem chars AreForwardPartsToCome CutsNext refuses s.parts i t.parts) is
-      (subst (λ d. GivesItem chars (ArePartsToCome d) CutsNext refuses s.parts item t.parts) forward gives)
+  forward_item it is = grind arith
 
   pub ok_indexed : (size at : ℕ) (part : List ℕ) → t.parts.separator ≡ s.parts.separator → IsMeasured size s → IsMeasured size t → item ≡ Ok part → at ≡ s.at
       → (r : Option (Result (ℕ × List ℕ) E)) → r ≡ Some (Ok (at, part)) → IsStepOf index_and_chars AreIndexedPartsToCome CutsIndexedNext refuses s r t
@@ -133,11 +119,7 @@ module _ {E : Type 0} (refuses : E → Type 0) (from : Direction) (forward : fro
 
   pub err_indexed : (reason : E) → item ≡ Err reason → (r : Option (Result (ℕ × List ℕ) E)) → r ≡ Some (Err reason)
       → IsStepOf index_and_chars AreIndexedPartsToCome CutsIndexedNext refuses s r t
-  err_indexed reason reason_is r r_is =
-      let step = forward_item (Err reason) reason_is in
-      let refused : IsStepOf index_and_chars AreIndexedPartsToCome CutsIndexedNext refuses s (Some (Err reason)) t =
-      record { some = some_indexed s step.some; gives = (step.gives.0, step.gives.1, none_indexed t step.gives.2) } in
-      subst (λ o. IsStepOf index_and_chars AreIndexedPartsToCome CutsIndexedNext refuses s o t) (sym r_is) refused
+  err_indexed reason reason_is r r_is = grind (arith, forward_item, none_indexed, some_indexed)
 
 -- each of the parts of a text occurs in it at its place
 module _ (separator : List ℕ) (separator_is : IsUtf8 separator) where
@@ -166,6 +148,4 @@ module _ (separator : List ℕ) (separator_is : IsUtf8 separator) where
     stand_joined parts joined = stand_after [] text parts (sym (ap encodes joined ∙ encodes-chars text text_is))
 
     pub part_places : (limit : Option ℕ) (parts : List (List ℕ)) → ArePartsFromFront (chars text) (chars separator) limit parts → All (Stands text) (indexed separator 0 parts)
-    part_places None parts are = stand_joined parts (front_rejoins (chars text) (chars separator) None parts tt are)
-    part_places (Some zero) parts are = subst (λ l. All (Stands text) (indexed separator 0 l)) (sym ((front-none (chars text) (chars separator) parts).0 are)) (All-nil (Stands text))
-    part_places (Some (suc most)) parts are = stand_joined parts (front_rejoins (chars text) (chars separator) (Some (suc most)) parts (omega arith) are)
+    part_places limit parts are = grind (arith, All-nil, front-none, front_rejoins, stand_joined)

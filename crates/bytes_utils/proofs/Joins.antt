@@ -17,9 +17,7 @@ gap p (part ∷ parts) = p
 
 -- one part more
 pub join-push : {X : Type 0} (p : List X) (parts : List (List X)) (part : List X) → join p (parts ++ part ∷ []) ≡ (join p parts ++ gap p parts) ++ part
-join-push p [] part = refl
-join-push p (first ∷ parts) part =
-    join-append p (first ∷ parts) (part ∷ []) (omega arith) (omega arith) ∙ sym (append_assoc (join p (first ∷ parts)) p part)
+join-push p parts part = grind (arith, append_assoc, join-append)
 
 -- the same for the images under f of the items so far and one more
 pub join-more : {X Y : Type 0} (p : List X) (f : Y → List X) (ys : List Y) (y : Y) → (join p (map f ys) ++ gap p (map f ys)) ++ f y ≡ join p (map f (ys ++ y ∷ []))

@@ -1,5 +1,5 @@
 -- A text split after the first place at which a separator was found in it.
-use Rattle.std.proofs.Common.{◌≡◌, refl, ap, ◌∙◌, ℕ, ◌+◌, ◌<◌, ◌≤◌, List, [], ◌∷◌, Some, None, length, take, drop, arith, IsUtf8, ◌⊎◌}
+use Rattle.std.proofs.Common.{◌≡◌, ap, ◌∙◌, ℕ, ◌+◌, ◌<◌, ◌≤◌, List, [], ◌∷◌, Some, None, length, take, drop, arith, IsUtf8, ◌⊎◌}
 use Rattle.std.proofs.Math.Seq.{take-length}
 use Rattle.std.proofs.lemmas.Str.{chars-nil, encodes-chars}
 use Rattle.std.specs.Str.{chars, encode_utf8_all as encodes}
@@ -32,10 +32,7 @@ some_to_come s text is text_is some none =
 -- a text that isn't empty is given whole if it holds the separator at its end alone or not at all
 pub gives_whole : (text sep : List ℕ) → IsUtf8 text → 0 < length text → EndsAtFirst (chars sep) (chars text) ⊎ (¬ Occurs (chars sep) (chars text))
     → GivesFirst AreInclusivePartsToCome (record { rest = Some text; separator = sep }) (chars text) (record { rest = None; separator = sep })
-gives_whole text sep text_is some ends = record {
-  some = ([], refl);
-  each = λ others none. rw none (AreInclusiveParts-last (chars sep) (chars text) (chars-some text text_is some) ends);
-}
+gives_whole text sep text_is some ends = grind (arith, AreInclusiveParts-last, chars-some)
 
 module _ (text sep : List ℕ) (text_is : IsUtf8 text) (sep_is : IsUtf8 sep) (at : ℕ) (found : (i : ℕ) × (at ≡ byte_place (chars text) i) × OccursFirstAt (chars sep) (chars text) i) (some : 0 < length sep) where
   long : 0 < length (chars sep)
@@ -63,9 +60,7 @@ module _ (text sep : List ℕ) (text_is : IsUtf8 text) (sep_is : IsUtf8 sep) (at
   ends_text whole = ends_whole (chars sep) (chars text) found.0 found.2 (all_chars whole)
 
   pub cuts_after : at + length sep < length text → CutsAfterNext (record { rest = Some text; separator = sep })
-  cuts_after less =
-      let more = less_chars less in
-      ((found.0, found.2.here), λ ends. omega (arith, ends.none_before found.0 found.2.here))
+  cuts_after less = grind (arith, less_chars)
 
   pub gives_through : at + length sep < length text → (part rest : List ℕ) → part ≡ take (at + length sep) text → rest ≡ drop (at + length sep) text
       → GivesFirst AreInclusivePartsToCome (record { rest = Some text; separator = sep }) (chars part) (record { rest = Some rest; separator = sep })

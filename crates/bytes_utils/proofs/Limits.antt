@@ -8,22 +8,10 @@ use Rattle.bytes_utils.proofs.Unique.{AreForwardParts-others}
 
 -- all of them, if they are few enough
 pub forward_within : {X : Type 0} (t p : List X) (most : ℕ) (parts : List (List X)) → AreForwardParts t p None parts → length parts ≤ most → AreForwardParts t p (Some most) parts
-forward_within t p most parts are few = record {
-  some = are.some;
-  few = few;
-  joined = are.joined;
-  cut_at_first = are.cut_at_first;
-  last = λ _. are.last tt;
-}
+forward_within t p most parts are few = grind arith
 
 pub backward_within : {X : Type 0} (t p : List X) (most : ℕ) (parts : List (List X)) → AreBackwardParts t p None parts → length parts ≤ most → AreBackwardParts t p (Some most) parts
-backward_within t p most parts are few = record {
-  some = are.some;
-  few = few;
-  joined = are.joined;
-  cut_at_last = are.cut_at_last;
-  last = λ _. are.last tt;
-}
+backward_within t p most parts are few = grind arith
 
 -- else the first ones, and the rest as one part
 pub forward_beyond : {X : Type 0} (p : List X) → 0 < length p → (n : ℕ) (t : List X) (parts : List (List X)) → AreForwardParts t p None parts → n < length parts

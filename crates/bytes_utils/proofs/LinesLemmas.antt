@@ -42,10 +42,7 @@ BeginsOtherwise-cons c t other = and_left _ _ (ne_eqb 10 c (λ e. other (sym e))
 
 -- a character that ends no line is the first of the first line
 lines-cons : (c : ℕ) (t : List ℕ) → c ≢ 10 → (c ≢ 13) ⊎ BeginsOtherwise t → lines (c ∷ t) ≡ first_led_by c (lines t)
-lines-cons c t other (inl no_return) = rw (ne_eqb c 10 other, ne_eqb c 13 no_return) refl
-lines-cons c t other (inr no_feed) =
-    let test = and_right (c == 13) (starts_with nat_eq t (line_feed ∷ [])) no_feed in
-    rw (ne_eqb c 10 other, test) refl
+lines-cons c t other h = grind (arith, and_right, ne_eqb)
 
 -- without a line feed, all is one line
 pub lines-whole : (cs : List ℕ) → 0 < length cs → LacksFeed cs → lines cs ≡ cs ∷ []
@@ -96,10 +93,7 @@ lines-last text text_is lacks some = lines-whole (chars text) (chars-some text t
 -- a character makes lines in one of three ways, two of which give at least one
 no_way_is_empty : (ends returns : Bool) (c : ℕ) (ls : List (List ℕ)) → (returns ≡ true → ls ≡ [] → ⊥)
     → (if ends then [] ∷ ls else if returns then ls else first_led_by c ls) ≡ [] → ⊥
-no_way_is_empty true returns c ls some e = cc
-no_way_is_empty false true c ls some e = some refl e
-no_way_is_empty false false c [] some e = cc
-no_way_is_empty false false c (l ∷ ls) some e = cc
+no_way_is_empty ends returns c ls some e = grind arith
 
 and_false : (a : Bool) → (a && false) ≡ true → ⊥
 and_false true e = cc
@@ -134,10 +128,7 @@ module _ (text : List ℕ) (text_is : IsUtf8 text) (at : ℕ) (found : (i : ℕ)
 
   next_place : at + 1 ≡ byte_place (chars text) (found.0 + 1)
   unfolding encode_utf8
-  next_place =
-      let sizes : byte_place (chars text) (found.0 + 1) ≡ byte_place (chars text) found.0 + 1 =
-      rw (take-add found.0 1 (chars text), found.2.here, encodes-append, length-append) refl in
-      omega (arith, sizes, found.1)
+  next_place = grind (arith, encodes-append, length-append, take-add)
 
   pub feed-boundary : IsCharBoundary text at
   feed-boundary = subst (IsCharBoundary text) (sym found.1) (boundary_at_place text text_is found.0)

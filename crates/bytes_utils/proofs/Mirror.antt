@@ -35,10 +35,7 @@ module _ {X : Type 0} (p t : List X) (i : ℕ) (here : OccursAt p t i) where
   reverse_place = length-reverse (drop (i + length p) t) ∙ length-drop (i + length p) t
 
   pub OccursAt-reverse : OccursAt (reverse p) (reverse t) (length t - (i + length p))
-  OccursAt-reverse =
-      let back = reverse (drop (i + length p) t) in
-      subst (λ k. OccursAt (reverse p) (reverse t) k) reverse_place
-      (subst (λ z. OccursAt (reverse p) z (length back)) (sym reverse_cut) (OccursAt-between back (reverse p) (reverse (take i t))))
+  OccursAt-reverse = grind (arith, OccursAt-between, reverse_cut, reverse_place)
 
 pub OccursAt-from_reverse : {X : Type 0} (p t : List X) (j : ℕ) → OccursAt (reverse p) (reverse t) j → OccursAt p t (length t - (j + length p))
 OccursAt-from_reverse p t j here =

@@ -19,38 +19,19 @@ OccursAt-between front p back =
 
 -- what occurs in a beginning occurs in the whole
 pub OccursAt-append : {X : Type 0} (p xs ys : List X) (i : ℕ) → 0 < length p → OccursAt p xs i → OccursAt p (xs ++ ys) i
-OccursAt-append p xs ys i some here =
-    let fits = OccursAt-fits p xs i some here in
-    let le : i ≤ length xs = omega arith in
-    let enough : length p ≤ length (drop i xs) = omega (arith, length-drop i xs) in
-    ap (take (length p)) (drop-append-le i xs ys le) ∙ take-append-le (length p) (drop i xs) ys enough ∙ here
+OccursAt-append p xs ys i some here = grind (arith, OccursAt-fits, drop-append-le, length-drop, take-append-le)
 
 -- what occurs in the whole and ends within a beginning occurs in the beginning
 pub OccursAt-front : {X : Type 0} (p xs ys : List X) (i : ℕ) → OccursAt p (xs ++ ys) i → i + length p ≤ length xs → OccursAt p xs i
-OccursAt-front p xs ys i here fits =
-    let le : i ≤ length xs = omega arith in
-    let enough : length p ≤ length (drop i xs) = omega (arith, length-drop i xs) in
-    sym (take-append-le (length p) (drop i xs) ys enough) ∙ ap (take (length p)) (sym (drop-append-le i xs ys le)) ∙ here
+OccursAt-front p xs ys i here fits = grind (arith, drop-append-le, length-drop, take-append-le)
 
 -- the first place in a beginning is the first in the whole
 pub OccursFirstAt-append : {X : Type 0} (p xs ys : List X) (i : ℕ) → 0 < length p → OccursFirstAt p xs i → OccursFirstAt p (xs ++ ys) i
-OccursFirstAt-append p xs ys i some first = record {
-  here = OccursAt-append p xs ys i some first.here;
-  none_before = λ j there. not_before j there (cases_lt j i);
-}
-  where
-    not_before : (j : ℕ) → OccursAt p (xs ++ ys) j → (j < i) ⊎ (i ≤ j) → i ≤ j
-    not_before j there (inr le) = le
-    not_before j there (inl lt) =
-        let fits = OccursAt-fits p xs i some first.here in
-        first.none_before j (OccursAt-front p xs ys j there (omega arith))
+OccursFirstAt-append p xs ys i some first = grind (arith, OccursAt-append, OccursAt-fits, OccursAt-front, cases_lt)
 
 -- and conversely, if the occurrence lies within the beginning
 pub OccursFirstAt-front : {X : Type 0} (p xs ys : List X) (i : ℕ) → 0 < length p → OccursFirstAt p (xs ++ ys) i → i + length p ≤ length xs → OccursFirstAt p xs i
-OccursFirstAt-front p xs ys i some first fits = record {
-  here = OccursAt-front p xs ys i first.here fits;
-  none_before = λ j there. first.none_before j (OccursAt-append p xs ys j some there);
-}
+OccursFirstAt-front p xs ys i some first fits = grind (arith, OccursAt-append, OccursAt-front)
 
 -- there is at most one first place
 pub first_places_same : {X : Type 0} (p t : List X) (i j : ℕ) → OccursFirstAt p t i → OccursFirstAt p t j → i ≡ j

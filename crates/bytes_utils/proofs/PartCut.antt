@@ -1,5 +1,5 @@
 -- A text split at a place at which a separator was found in it.
-use Rattle.std.proofs.Common.{◌≡◌, refl, sym, ap, subst, ◌∙◌, ℕ, ◌+◌, ◌<◌, ◌≤◌, List, [], ◌∷◌, Option, None, Some, length, take, drop, take-add, false, arith, length-append, length-drop, length-take, IsUtf8, IsCharBoundary}
+use Rattle.std.proofs.Common.{◌≡◌, sym, ap, subst, ◌∙◌, ℕ, ◌+◌, ◌<◌, ◌≤◌, List, ◌∷◌, Option, None, Some, length, take, drop, take-add, false, arith, length-append, length-drop, length-take, IsUtf8, IsCharBoundary}
 use Rattle.std.proofs.lemmas.Str.{encodes-append, encodes-chars}
 use Rattle.std.specs.Str.{chars}
 use Rattle.bytes_utils.specs.Text.{byte_place}
@@ -8,8 +8,8 @@ use Rattle.bytes_utils.specs.Parts.{AreForwardParts, AreBackwardParts}
 use Rattle.bytes_utils.specs.Splitting.{Splitting, AreForwardPartsToCome, AreBackwardPartsToCome, LeavesMore, one_less}
 use Rattle.bytes_utils.specs.Step.{GivesFirst}
 use Rattle.bytes_utils.proofs.SearchLemmas.{chars-some}
-use Rattle.bytes_utils.proofs.Forward.{AreForwardParts-more, AreForwardParts-last, has_forward_parts}
-use Rattle.bytes_utils.proofs.Backward.{AreBackwardParts-more, AreBackwardParts-last, has_backward_parts}
+use Rattle.bytes_utils.proofs.Forward.{AreForwardParts-more, has_forward_parts}
+use Rattle.bytes_utils.proofs.Backward.{AreBackwardParts-more, has_backward_parts}
 use Rattle.bytes_utils.proofs.FromEnds.{positive, positive-less, front-from, front-to, back-from, back-to}
 use Rattle.bytes_utils.proofs.Places.{boundary_at_place, chars-take_place, chars-drop_place}
 
@@ -20,10 +20,7 @@ left_to_cut rest sep limit = record { rest = rest; separator = sep; limit = limi
 module _ (text sep : List ℕ) (text_is : IsUtf8 text) (sep_is : IsUtf8 sep) (at i : ℕ) (at_is : at ≡ byte_place (chars text) i) (here : OccursAt (chars sep) (chars text) i) where
   -- the separator ends where its characters end
   pub next_place : at + length sep ≡ byte_place (chars text) (i + length (chars sep))
-  next_place =
-      let sizes : byte_place (chars text) (i + length (chars sep)) ≡ byte_place (chars text) i + length sep =
-      rw (take-add i (length (chars sep)) (chars text), here, encodes-append, length-append, encodes-chars sep sep_is) refl in
-      omega (arith, sizes, at_is)
+  next_place = grind (arith, encodes-append, encodes-chars, length-append, take-add)
 
   pub end_boundary : IsCharBoundary text at
   end_boundary = subst (IsCharBoundary text) (sym at_is) (boundary_at_place text text_is i)
@@ -84,17 +81,9 @@ module _ (text sep : List ℕ) (text_is : IsUtf8 text) (sep_is : IsUtf8 sep) (at
 -- a text without the separator is given whole, from the front
 pub gives_whole : (text sep : List ℕ) → 0 < length (chars sep) → (¬ Occurs (chars sep) (chars text)) → (limit : Option ℕ) → LeavesMore limit
     → GivesFirst AreForwardPartsToCome (left_to_cut (Some text) sep limit) (chars text) (left_to_cut None sep (one_less limit))
-gives_whole text sep long lacks limit more = record {
-  some = ([], refl);
-  each = λ others none. rw none (front-from (chars text) (chars sep) limit (chars text ∷ []) long (positive limit more)
-      (AreForwardParts-last (chars sep) (chars text) limit (positive limit more) lacks));
-}
+gives_whole text sep long lacks limit more = grind arith
 
 -- and from the back
 pub gives_whole_back : (text sep : List ℕ) → 0 < length (chars sep) → (¬ Occurs (chars sep) (chars text)) → (limit : Option ℕ) → LeavesMore limit
     → GivesFirst AreBackwardPartsToCome (left_to_cut (Some text) sep limit) (chars text) (left_to_cut None sep (one_less limit))
-gives_whole_back text sep long lacks limit more = record {
-  some = ([], refl);
-  each = λ others none. rw none (back-from (chars text) (chars sep) limit (chars text ∷ []) long (positive limit more)
-      (AreBackwardParts-last (chars sep) (chars text) limit (positive limit more) lacks));
-}
+gives_whole_back text sep long lacks limit more = grind arith

@@ -34,9 +34,7 @@ first-from_cut p part rest some cut =
 
 -- and conversely
 pub cut-from_first : {X : Type 0} (p part rest : List X) → 0 < length p → OccursFirstAt p (part ++ (p ++ rest)) (length part) → IsCutAtFirst p part
-cut-from_first p part rest some first =
-    OccursFirstAt-front p (part ++ p) rest (length part) some (subst (λ t. OccursFirstAt p t (length part)) (sym (append_assoc part p rest)) first)
-    (omega (arith, length-append part p))
+cut-from_first p part rest some first = grind (arith, OccursFirstAt-front, append_assoc, length-append)
 
 -- ---- lists that are built
 
@@ -47,9 +45,7 @@ alone p t some lacks = front-from t p None (t ∷ []) some tt (AreForwardParts-l
 -- a part, its first p, and after that a text with these parts
 pub led : {X : Type 0} (p part rest : List X) (limit : Option ℕ) (parts : List (List X)) → 0 < length p → LeavesMore limit → IsCutAtFirst p part
     → ArePartsFromFront rest p (one_less limit) parts → ArePartsFromFront (part ++ (p ++ rest)) p limit (part ∷ parts)
-led p part rest limit parts some more cut are =
-    front-from (part ++ (p ++ rest)) p limit (part ∷ parts) some (positive limit more)
-    (AreForwardParts-led p part rest limit cut parts (front-to rest p (one_less limit) parts some (positive-less limit more) are))
+led p part rest limit parts some more cut are = grind (arith, AreForwardParts-led, front-from, front-to, positive, positive-less)
 
 module _ {X : Type 0} (p : List X) (some : 0 < length p) where
   forward_both : (t u : List X) (xs ys : List (List X)) → AreForwardParts t p None xs → OfLast (IsCutAtFirst p) xs → AreForwardParts u p None ys

@@ -36,9 +36,7 @@ module _ (pieces : List (List ℕ)) (i : ℕ) (piece : List ℕ) (there : Some p
 
 -- the bytes before a place past all pieces, and before the first byte of a piece
 pub bytes_before-all : (pieces : List (List ℕ)) (i n : ℕ) → length pieces ≤ i → bytes_before i n pieces ≡ concat pieces
-bytes_before-all pieces i n past =
-    let none : take n (get_or pieces i []) ≡ [] = ap (take n) (get_or_past pieces i [] past) ∙ take_all n [] (omega arith) in
-    ap (λ l. concat (take i pieces) ++ l) none ∙ append-nil (concat (take i pieces)) ∙ ap concat (take_all i pieces past)
+bytes_before-all pieces i n past = grind (arith, append-nil, get_or_past, take_all)
 
 pub bytes_before-first : (pieces : List (List ℕ)) (i : ℕ) → bytes_before i 0 pieces ≡ concat (take i pieces)
 bytes_before-first pieces i = append-nil (concat (take i pieces))

@@ -1,5 +1,5 @@
 -- A place in a text's bytes at which a character begins, and the text split there.
-use Rattle.std.proofs.Common.{◌≡◌, refl, sym, ap, subst, ◌∙◌, ℕ, ◌+◌, ◌-◌, ◌<◌, ◌≤◌, List, [], ◌∷◌, ◌++◌, length, take, drop, arith, true, length-append, length-drop, length-take, take-add, take-append-drop, IsUtf8, IsCharBoundary}
+use Rattle.std.proofs.Common.{◌≡◌, refl, sym, ap, ◌∙◌, ℕ, ◌+◌, ◌-◌, ◌<◌, ◌≤◌, List, [], ◌∷◌, ◌++◌, length, take, drop, arith, true, length-append, length-drop, length-take, take-add, take-append-drop, IsUtf8, IsCharBoundary}
 use Rattle.std.proofs.lemmas.List.{take_at, drop_at, take_all, length-take-le}
 use Rattle.std.proofs.lemmas.List.Elements.{All-nil, All-cons}
 use Rattle.std.proofs.lemmas.Bool.{and_from, and_parts}
@@ -56,16 +56,10 @@ module _ (text : List ℕ) (text_is : IsUtf8 text) (i : ℕ) where
   boundary_at_place = IsCharBoundary-at_seam text _ _ split_at_place after_is
 
   pub chars-take_place : chars (take (byte_place (chars text) i) text) ≡ take i (chars text)
-  chars-take_place =
-      let bytes : take (byte_place (chars text) i) text ≡ encodes (take i (chars text)) =
-      ap (take (byte_place (chars text) i)) split_at_place ∙ take_at (encodes (take i (chars text))) (encodes (drop i (chars text))) _ refl in
-      sym (chars_from_encodes _ _ (subst IsUtf8 (sym bytes) front_is) (sym bytes))
+  chars-take_place = grind (arith, chars_from_encodes, front_is, split_at_place, take_at)
 
   pub chars-drop_place : chars (drop (byte_place (chars text) i) text) ≡ drop i (chars text)
-  chars-drop_place =
-      let bytes : drop (byte_place (chars text) i) text ≡ encodes (drop i (chars text)) =
-      ap (drop (byte_place (chars text) i)) split_at_place ∙ drop_at (encodes (take i (chars text))) (encodes (drop i (chars text))) _ refl in
-      sym (chars_from_encodes _ _ (subst IsUtf8 (sym bytes) after_is) (sym bytes))
+  chars-drop_place = grind (arith, after_is, chars_from_encodes, drop_at, split_at_place)
 
 -- a boundary is a place at which some character begins, or the end
 pub place_of_boundary : (text : List ℕ) → IsUtf8 text → (at : ℕ) → IsCharBoundary text at

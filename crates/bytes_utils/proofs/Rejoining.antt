@@ -1,6 +1,5 @@
 -- The parts of a text between separators, joined, are the text: for every separator, and every limit but 0.
-use Rattle.std.proofs.Common.{◌≡◌, refl, sym, ap, ◌∙◌, ℕ, zero, suc, ◌<◌, ◌≤◌, List, [], ◌∷◌, ◌++◌, Option, None, Some, length, take, drop, reverse, append-nil, take-append-drop, arith}
-use Rattle.std.specs.Prelude.{nat_lt, if◌then◌else◌}
+use Rattle.std.proofs.Common.{◌≡◌, refl, sym, ap, ◌∙◌, ℕ, zero, suc, ◌<◌, ◌≤◌, List, [], ◌∷◌, ◌++◌, Option, length, take, reverse, append-nil, take-append-drop, arith}
 use Rattle.std.specs.Option.{IfSome}
 use Rattle.std.proofs.lemmas.Bool.{cond_both, ltb-true}
 use Rattle.std.proofs.lemmas.List.{reverse-reverse}
@@ -24,13 +23,7 @@ join-some (x ∷ t) (suc n) last within =
     join-first (x ∷ []) (take n (elements t) ++ (last ∷ [])) ∙ ap (λ l. x ∷ l) (join-some t n last (omega (arith, within)))
 
 join-by_element : {X : Type 0} (t : List X) (limit : Option ℕ) → IfSome limit (λ most. 0 < most) → join [] (by_element t limit) ≡ t
-join-by_element t None some = join-first [] (elements t) ∙ join-elements t
-join-by_element t (Some zero) some = absurd (omega (arith, some))
-join-by_element t (Some (suc zero)) some = refl
-join-by_element t (Some (suc (suc n))) some =
-    let few = take n (elements t) ++ (drop n t ∷ []) in
-    join-first [] (if nat_lt n (length t) then few else elements t) ∙ cond_both (nat_lt n (length t)) few (elements t) (λ parts. join [] parts ≡ t)
-    (λ below. join-some t n (drop n t) (omega (arith, ltb-true n (length t) below)) ∙ take-append-drop n t) (λ _. join-elements t)
+join-by_element t limit h = grind (arith, cond_both, join-elements, join-first, join-some, ltb-true, take-append-drop)
 
 join-by_element_backward : {X : Type 0} (t : List X) (limit : Option ℕ) → IfSome limit (λ most. 0 < most) → join [] (reverse (by_element_backward t limit)) ≡ t
 join-by_element_backward t limit some =
@@ -38,13 +31,7 @@ join-by_element_backward t limit some =
 
 module _ {X : Type 0} (t : List X) where
   pub front_rejoins : (p : List X) (limit : Option ℕ) (parts : List (List X)) → IfSome limit (λ most. 0 < most) → ArePartsFromFront t p limit parts → join p parts ≡ t
-  front_rejoins [] limit parts some are = ap (join []) are ∙ join-by_element t limit some
-  front_rejoins (x ∷ p) (Some zero) parts some are = absurd (omega (arith, some))
-  front_rejoins (x ∷ p) None parts some are = are.joined
-  front_rejoins (x ∷ p) (Some (suc most)) parts some are = are.joined
+  front_rejoins p limit parts some are = grind (arith, join-by_element)
 
   pub back_rejoins : (p : List X) (limit : Option ℕ) (parts : List (List X)) → IfSome limit (λ most. 0 < most) → ArePartsFromBack t p limit parts → join p (reverse parts) ≡ t
-  back_rejoins [] limit parts some are = ap (λ l. join [] (reverse l)) are ∙ join-by_element_backward t limit some
-  back_rejoins (x ∷ p) (Some zero) parts some are = absurd (omega (arith, some))
-  back_rejoins (x ∷ p) None parts some are = are.joined
-  back_rejoins (x ∷ p) (Some (suc most)) parts some are = are.joined
+  back_rejoins p limit parts some are = grind (arith, join-by_element_backward)

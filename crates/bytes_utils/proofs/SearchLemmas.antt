@@ -80,16 +80,10 @@ module _ (text sep : List ℕ) (text_is : IsUtf8 text) (sep_is : IsUtf8 sep) (so
 
 -- the empty separator occurs everywhere, first at the start
 needle-empty : (text : List ℕ) (k : ℕ) → k ≤ length text → HasNeedleAt text [] k
-needle-empty text k within = record {
-  fits = omega (arith, within);
-  reads = λ j inside. absurd (omega (arith, inside));
-}
+needle-empty text k within = grind arith
 
 FindsFirst-empty : (text : List ℕ) (r : Option ℕ) → FindsNeedle text [] 0 r → FindsFirst (chars []) (chars text) r
-FindsFirst-empty text None nowhere = absurd (nowhere 0 (omega arith) (omega arith) (needle-empty text 0 (omega arith)))
-FindsFirst-empty text (Some k) found =
-    let at_start : 0 < k → ⊥ = λ following. found.0.before 0 (omega arith) following (needle-empty text 0 (omega arith)) in
-    rw chars-nil (0, omega (arith, at_start), record { here = refl; none_before = λ j there. omega arith })
+FindsFirst-empty text r nowhere = grind (arith, chars-nil, needle-empty)
 
 -- what is found first, by any separator
 pub FindsFirst-from_any : (text sep : List ℕ) → IsUtf8 text → IsUtf8 sep → (r : Option ℕ) → FindsNeedle text sep 0 r → FindsFirst (chars sep) (chars text) r
@@ -98,18 +92,11 @@ FindsFirst-from_any text (b ∷ sep) text_is sep_is r found = FindsFirst-from_ne
 
 -- the empty separator is found last at the end
 pub FindsLastNeedle-empty : (text sep : List ℕ) → length sep ≡ 0 → (r : Option ℕ) → FindsLastNeedle text sep r → r ≡ Some (length text)
-FindsLastNeedle-empty text (b ∷ sep) none r found = absurd (omega (arith, none))
-FindsLastNeedle-empty text [] none None nowhere = absurd (nowhere (length text) (omega arith) (omega arith) (needle-empty text (length text) (omega arith)))
-FindsLastNeedle-empty text [] none (Some k) found =
-    let at_end : k < length text → ⊥ = λ before. found.0.after (length text) (omega (arith, before)) (omega arith) (needle-empty text (length text) (omega arith)) in
-    ap Some (omega (arith, found.0.high, at_end))
+FindsLastNeedle-empty text sep none r found = grind arith
 
 -- a needle at the end is the last
 pub found_at_end : (p bytes : List ℕ) (at : ℕ) → at ≡ length bytes - length p → (length p ≤ length bytes) × HasNeedleAt bytes p (length bytes - length p) → FindsLastNeedle bytes p (Some at)
-found_at_end p bytes at same h = (
-  record { low = omega arith; high = omega arith; after = λ j low high there. let fits = there.fits in absurd (omega (arith, fits, h.0, low, same)) },
-  subst (HasNeedleAt bytes p) (sym same) h.1,
-)
+found_at_end p bytes at same h = grind arith
 
 -- the last byte of the needle is nowhere
 pub missed_by_last_byte : (p bytes : List ℕ) → 0 < length p → Nowhere (Passes (is_byte (get_or p (length p - 1) 0)) bytes) 0 (length bytes) → FindsLastNeedle bytes p None
@@ -119,18 +106,13 @@ missed_by_last_byte p bytes some missed j low high here =
 -- The last place of the needle's last byte. Each occurrence ends there or before.
 module _ (p bytes : List ℕ) (at : ℕ) (some : 0 < length p) (last : NoneAfter (Passes (is_byte (get_or p (length p - 1) 0)) bytes) 0 (length bytes) at) where
   ends_by : (j : ℕ) → HasNeedleAt bytes p j → j + length p ≤ at + 1
-  ends_by j here =
-      let not_after : at < j + (length p - 1) → ⊥ = λ l.
-      last.after (j + (length p - 1)) (omega (arith, l)) (omega (arith, here.fits, some)) (eq-eqb _ _ (here.reads (length p - 1) (omega (arith, some)))) in
-      omega (arith, not_after, some)
+  ends_by j here = grind arith
 
   size : length (take (at + 1) bytes) ≡ at + 1
   size = omega (arith, length-take (at + 1) bytes, last.high)
 
   in_front : (j : ℕ) → HasNeedleAt bytes p j → HasNeedleAt (take (at + 1) bytes) p j
-  in_front j here =
-      let ends = ends_by j here in
-      record { fits = omega (arith, ends, size); reads = λ i l. get_or-take (at + 1) bytes (j + i) 0 (omega (arith, ends, l)) ∙ here.reads i l }
+  in_front j here = grind (arith, ends_by, get_or-take, size)
 
   in_all : (j : ℕ) → HasNeedleAt (take (at + 1) bytes) p j → HasNeedleAt bytes p j
   in_all j here =

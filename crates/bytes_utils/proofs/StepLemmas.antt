@@ -14,17 +14,11 @@ given {coming} {cuts} {refuses} {s} {t} is step =
 module _ {S X : Type 0} (coming : S → List X → Type 0) (start : S) where
   -- no part was given yet
   pub HasGiven-none : {parts : List X} {now : S} → (more : List X) × coming start more → parts ≡ [] → now ≡ start → HasGiven coming start parts now
-  HasGiven-none some none is = record {
-    some = (some.0, subst (λ s. coming s some.0) (sym is) some.1);
-    each = λ more to_come. subst (λ l. coming start (l ++ more)) (sym none) (subst (λ s. coming s more) is to_come);
-  }
+  HasGiven-none some none is = grind arith
 
   -- one more part
   pub HasGiven-more : {parts : List X} {s t : S} (part : X) → HasGiven coming start parts s → GivesFirst coming s part t → HasGiven coming start (parts ++ part ∷ []) t
-  HasGiven-more {parts} part had gives = record {
-    some = gives.some;
-    each = λ more to_come. subst (coming start) (sym (append_assoc parts (part ∷ []) more)) (had.each (part ∷ more) (gives.each more to_come));
-  }
+  HasGiven-more {parts} part had gives = grind (arith, append_assoc)
 
   -- the same for parts of which each is seen in an item that is pushed
   pub HasGiven-pushed : {Y : Type 0} (seen : Y → X) (items new : List Y) {s t : S} (item : Y) → HasGiven coming start (map seen items) s → GivesFirst coming s (seen item) t

@@ -1,5 +1,5 @@
 -- In each state of a splitter at most one list is to come.
-use Rattle.std.proofs.Common.{◌≡◌, sym, ap, ◌∙◌, ℕ, zero, suc, Bool, true, false, List, [], ◌∷◌, Option, None, Some, MatchOption, arith}
+use Rattle.std.proofs.Common.{◌≡◌, sym, ap, ◌∙◌, ℕ, zero, suc, Bool, List, [], ◌∷◌, Option, None, Some, MatchOption, arith}
 use Rattle.std.specs.Bool.{MatchBool}
 use Rattle.std.specs.Option.{option_map}
 use Rattle.std.specs.Str.{chars}
@@ -34,9 +34,7 @@ module _ (Are : List ℕ → List ℕ → Option ℕ → List (List ℕ) → Typ
 
   from_end : (rest : Option (List ℕ)) (separator : List ℕ) (limit : Option ℕ) (begun : Bool) (parts others : List (List ℕ))
       → AreLeft rest separator limit begun parts → AreLeft rest separator limit begun others → parts ≡ others
-  from_end None separator limit begun parts others are also = are ∙ sym also
-  from_end (Some text) separator limit true parts others are also = let one = same (chars text) [] (option_map suc limit) ([] ∷ parts) ([] ∷ others) are also in cc
-  from_end (Some text) separator limit false parts others are also = same (chars text) (chars separator) limit parts others are also
+  from_end rest separator limit begun parts others are also = grind arith
 
 from_kept : (rest : Option (List ℕ)) (separator : List ℕ) (parts others : List (List ℕ)) → AreInclusivePartsToCome (record { rest = rest; separator = separator }) parts
     → AreInclusivePartsToCome (record { rest = rest; separator = separator }) others → parts ≡ others

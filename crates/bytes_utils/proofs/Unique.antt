@@ -1,15 +1,14 @@
 -- A list has at most one list of forward parts, one of backward parts, and one of inclusive parts.
-use Rattle.std.proofs.Common.{◌≡◌, refl, sym, ap, subst, ◌∙◌, ℕ, ◌-◌, ◌<◌, ◌≤◌, List, [], ◌∷◌, ◌++◌, Option, length, map, reverse, arith, append_assoc, length-append, ◌⊎◌, inl, inr}
+use Rattle.std.proofs.Common.{◌≡◌, refl, sym, ap, subst, ◌∙◌, ℕ, ◌-◌, ◌<◌, ◌≤◌, List, [], ◌∷◌, ◌++◌, Option, length, map, reverse, arith, append_assoc, length-append}
 use Rattle.std.proofs.lemmas.Option.{IfSome_then}
 use Rattle.std.proofs.lemmas.List.{append_cancel_left}
 use Rattle.std.proofs.lemmas.List.Elements.{All-head, All-tail}
 use Rattle.bytes_utils.specs.Occurrence.{Occurs, OccursFirstAt}
-use Rattle.bytes_utils.specs.Parts.{join, EndsAtFirst, AreForwardParts, AreBackwardParts, AreInclusiveParts}
+use Rattle.bytes_utils.specs.Parts.{join, AreForwardParts, AreBackwardParts, AreInclusiveParts}
 use Rattle.bytes_utils.specs.Splitting.{one_less}
 use Rattle.bytes_utils.proofs.Boundaries.{OccursAt-fits}
 use Rattle.bytes_utils.proofs.OccurrenceLemmas.{OccursFirstAt-append, first_places_same}
 use Rattle.bytes_utils.proofs.Joins.{append_same}
-use Rattle.bytes_utils.proofs.Forward.{less}
 use Rattle.bytes_utils.proofs.Mirror.{length-some_reverse, reversed_twice, AreForwardParts-from_mirror}
 
 -- The first of at least two forward parts.
@@ -22,13 +21,7 @@ module _ {X : Type 0} (p t : List X) (some : 0 < length p) (limit : Option ℕ) 
 
   -- and the others are the parts of what is after that p
   pub AreForwardParts-others : AreForwardParts (join p (next ∷ parts)) p (one_less limit) (next ∷ parts)
-  AreForwardParts-others = record {
-    some = omega arith;
-    few = (less limit _).0 (IfSome_then limit are.few (λ most few. omega arith));
-    joined = refl;
-    cut_at_first = are.cut_at_first.1;
-    last = λ below. are.last (IfSome_then limit ((less limit _).1 below) (λ most below. omega arith));
-  }
+  AreForwardParts-others = grind arith
 
   -- so t isn't its own only part
   not_alone : (whole : List X) → AreForwardParts t p limit (whole ∷ []) → ⊥
@@ -82,20 +75,11 @@ module _ {X : Type 0} (p t : List X) (some : 0 < length p) (part next : List X) 
   }
 
   part_short : length part < length t
-  part_short =
-      let long = All-head (λ q. 0 < length q) next parts (All-tail (λ q. 0 < length q) part (next ∷ parts) are.none_empty) in
-      omega (arith, ap length are.joined, length-append part (join [] (next ∷ parts)), length-join next parts, long)
+  part_short = grind (arith, All-head, All-tail, length-append, length-join)
 
   -- so t isn't its own only part
   not_alone_inclusive : (whole : List X) → AreInclusiveParts t p (whole ∷ []) → ⊥
-  not_alone_inclusive whole alone = otherwise alone.last
-    where
-      otherwise : EndsAtFirst p whole ⊎ (¬ Occurs p whole) → ⊥
-      otherwise (inr lacks) = lacks (subst (Occurs p) (sym alone.joined) (length part - length p, first_end.here))
-      otherwise (inl ends) =
-          let fits = OccursAt-fits p whole (length whole - length p) some ends.here in
-          let at_end = subst (λ z. OccursFirstAt p z (length whole - length p)) alone.joined ends in
-          omega (arith, first_places_same p t (length part - length p) (length whole - length p) first_end at_end, part_long, part_short, ap length alone.joined)
+  not_alone_inclusive whole alone = grind (arith, OccursAt-fits, first_end, first_places_same, part_long, part_short)
 
 module _ {X : Type 0} (p : List X) (some : 0 < length p) where
   none_join : (t part : List X) (parts : List (List X)) → AreInclusiveParts t p [] → AreInclusiveParts t p (part ∷ parts) → ⊥

@@ -26,12 +26,7 @@ rest-text Backward text a b text_is cut = IsUtf8-take text b text_is cut.1
 laid_out-more : (direction : Direction) (text : List ℕ) (a b : ℕ) → IsLawfulCut direction text a b → (chunk : List ℕ) → chunk ≡ chunk_at direction text a b
     → (cuts : List Taken) (last : List ℕ) → laid_out direction cuts last ≡ rest_at direction text a b
     → laid_out direction (record { chunk = chunk; gap = gap_at direction text a b } ∷ cuts) last ≡ text
-laid_out-more Forward text a b cut chunk is cuts last rest =
-    ap (λ c. c ++ (drop a (take b text) ++ laid_out Forward cuts last)) is ∙ ap (λ r. take a text ++ (drop a (take b text) ++ r)) rest
-    ∙ three_pieces text a b cut.2
-laid_out-more Backward text a b cut chunk is cuts last rest =
-    ap (λ r. r ++ (drop b (take a text) ++ chunk)) rest ∙ ap (λ c. take b text ++ (drop b (take a text) ++ c)) is
-    ∙ three_pieces text b a cut.2
+laid_out-more direction text a b cut chunk is cuts last rest = grind (arith, three_pieces)
 
 module _ {F E : Type 0} (f : Mut F (Bor (List ℕ) × Unit {0}) (Option (ℕ × ℕ))) (refuses : E → Type 0) where
   -- what a step says of what is left and of the closure, besides the direction
@@ -134,10 +129,7 @@ all_ok (chunk ∷ chunks) (cut ∷ cuts) end last e is =
 pub none-missing : {F E : Type 0} {f : Mut F (Bor (List ℕ) × Unit {0}) (Option (ℕ × ℕ))} {refuses : E → Type 0} {direction : Direction} {text : List ℕ} (chunks : List (List ℕ))
     → IsWholeWalk f refuses direction text (map (λ chunk. Ok chunk) chunks)
     → (cuts : List Taken) × (last : List ℕ) × (laid_out direction cuts last ≡ text) × AreAnswered f direction cuts last × (chunks ≡ map (λ cut. cut.chunk) cuts ++ (last ∷ []))
-none-missing {F} {E} {f} {refuses} chunks run =
-    let is = λ (chunk : List ℕ) (e : run.end ≡ Ok chunk).
-    (subst (λ r. MatchResult r (λ c. (c ≡ run.last) × (state : F) × (after : F) × CalledAt f state run.last None after) refuses) e run.ends).0 in
-    (run.cuts, run.last, run.joined, run.answered, all_ok chunks run.cuts run.end run.last run.gives is)
+none-missing {F} {E} {f} {refuses} chunks run = grind (arith, MatchResult, all_ok)
 
 -- The invariant of a loop over such an iterator: the chunks so far are those of cuts that, laid out with what they
 -- left, are the text. What they left is still to be split, or was the last chunk.
@@ -203,8 +195,4 @@ HasTaken-all {chunks = chunks} h none =
 
 -- a step that gave no item had nothing left
 pub nothing-left : {F E : Type 0} {f : Mut F (Bor (List ℕ) × Unit {0}) (Option (ℕ × ℕ))} {refuses : E → Type 0} {s t : Walk F} → IsWalkStep f refuses s None t → s.rest ≡ None
-nothing-left {F} {E} {f} {refuses} {s} {t} step = from s.rest refl step.follows
-  where
-    from : (rest : Option (List ℕ)) → s.rest ≡ rest → Steps f refuses s.direction s.closure None t.rest t.closure rest → s.rest ≡ None
-    from None is left = is
-    from (Some text) is left = absurd left.2
+nothing-left {F} {E} {f} {refuses} {s} {t} step = grind arith

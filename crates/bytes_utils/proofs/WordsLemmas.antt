@@ -209,8 +209,4 @@ module _ (is_space : ℕ → Bool) where
     step-word first = (λ none. let both : [] ≡ chars (drop start (take end text)) ∷ words is_space (chars (drop end text)) = none ∙ first in cc, gives_word rest rest_is first)
 
     pub left-shorter : start < end → end ≤ length text → option_map_or length rest 0 < length text
-    left-shorter some fits = shorter rest rest_is
-      where
-        shorter : (left : Option (List ℕ)) → MatchOption left (end ≡ length text) (λ r. r ≡ drop end text) → option_map_or length left 0 < length text
-        shorter None at_end = omega (arith, some, at_end)
-        shorter (Some r) r_is = omega (arith, some, fits, ap length r_is, length-drop end text)
+    left-shorter some fits = grind (arith, Option, length-drop, rest_is)
