@@ -13,7 +13,7 @@ use Rattle.bytes_utils_buf.proofs.PackingLemmas.{length-grow_last}
 use Rattle.bytes_utils.specs.FrameSearch.{HoldsBack, Searched, SearchedPieces, bytes_before}
 use Rattle.bytes_utils.specs.declared.frame.search.SearchState.{SearchState}
 use Rattle.bytes_utils.proofs.Joins.{append_same}
-use Rattle.bytes_utils.proofs.Pieces.{bytes_before-all}
+use Rattle.bytes_utils.proofs.Pieces.{bytes_before-all, bytes_before-more, bytes_before-grown}
 
 -- a part of all bytes that begins at place `base`, with more bytes after it
 module _ (all p part more : List ℕ) (base : ℕ) (within : base ≤ length all) (bytes : drop base all ≡ part ++ more) where
@@ -231,38 +231,22 @@ SearchedPieces-all p pieces s searched past = rw (bytes_before-all pieces s.piec
 -- pieces come after these
 pub SearchedPieces-more : (p : List ℕ) (pieces next : List (List ℕ)) (s : SearchState) → SearchedPieces p pieces s → SearchedPieces p (pieces ++ next) s
 SearchedPieces-more p pieces next s searched =
-    let same = by pieces s.pieces s.offset searched.within searched.inside in
+    let same = bytes_before-more next pieces s.pieces s.offset searched.within searched.inside in
     record {
       within = omega (arith, searched.within, length-append pieces next);
       inside = same.0;
       searched = rw same.1 searched.searched;
     }
-  where
-    by : (xs : List (List ℕ)) (k n : ℕ) → k ≤ length xs → IsInside k n xs → IsInside k n (xs ++ next) × (bytes_before k n (xs ++ next) ≡ bytes_before k n xs)
-    by [] zero zero within inside = (omega arith, refl)
-    by [] zero (suc n) within inside = absurd (omega (arith, inside))
-    by [] (suc k) n within inside = absurd (omega (arith, within))
-    by (x ∷ xs) zero n within inside = (inside, refl)
-    by (x ∷ xs) (suc k) n within inside =
-        let rest = by xs k n (omega (arith, within)) inside in (rest.0, simp append_assoc (ap (λ l. x ++ l) rest.1))
 
 -- the last piece grows, of which not all was searched
 pub SearchedPieces-grown : (p more : List ℕ) (pieces : List (List ℕ)) (s : SearchState) → s.pieces < length pieces → SearchedPieces p pieces s → SearchedPieces p (grow_last more pieces) s
 SearchedPieces-grown p more pieces s partly searched =
-    let same = by pieces s.pieces s.offset partly searched.inside in
+    let same = bytes_before-grown more pieces s.pieces s.offset partly searched.inside in
     record {
       within = omega (arith, partly, length-grow_last more pieces);
       inside = same.0;
       searched = rw same.1 searched.searched;
     }
-  where
-    by : (xs : List (List ℕ)) (k n : ℕ) → k < length xs → IsInside k n xs → IsInside k n (grow_last more xs) × (bytes_before k n (grow_last more xs) ≡ bytes_before k n xs)
-    by [] k n partly inside = absurd (omega (arith, partly))
-    by (x ∷ []) zero n partly inside = (omega (arith, inside, length-append x more), take-append-le n x more inside)
-    by (x ∷ []) (suc k) n partly inside = absurd (omega (arith, partly))
-    by (x ∷ y ∷ xs) zero n partly inside = (inside, refl)
-    by (x ∷ y ∷ xs) (suc k) n partly inside =
-        let rest = by (y ∷ xs) k n (omega (arith, partly)) inside in (rest.0, simp append_assoc (ap (λ l. x ++ l) rest.1))
 
 -- a piece was accepted
 pub SearchedPieces-accepted : (p piece : List ℕ) (old new : Held) (s : SearchState) → new ≡ after_accepting old (piece ∷ [])

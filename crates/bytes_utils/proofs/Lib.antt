@@ -46,6 +46,8 @@ pub mod LimitedFramesLemmas
 pub mod LimitedLinesLemmas
 pub mod StreamLinesLemmas
 pub mod CursorLemmas
+pub mod EndSearchLemmas
+pub mod UniversalLinesLemmas
 pub mod ValidLen
 pub mod CharacterBegins
 pub mod CharacterEnds

@@ -1,10 +1,10 @@
 -- Pieces in a row, joined.
-use Rattle.std.proofs.Common.{◌≡◌, ℕ, ◌+◌, ◌-◌, ◌≤◌, List, [], ◌∷◌, ◌++◌, zero, suc, length, take, drop, get_or, Some, ap, ◌∙◌, sym, arith, length-drop, append_assoc, append-nil, take-append-drop}
-use Rattle.std.proofs.lemmas.List.{get_or_past, take_more, take_all}
+use Rattle.std.proofs.Common.{◌≡◌, ℕ, ◌+◌, ◌-◌, ◌<◌, ◌≤◌, List, [], ◌∷◌, ◌++◌, zero, suc, length, take, drop, get_or, Some, ap, ◌∙◌, sym, refl, arith, length-append, length-drop, append_assoc, append-nil, take-append-drop}
+use Rattle.std.proofs.lemmas.List.{get_or_past, take_more, take_all, take-append-le}
 use Rattle.std.proofs.lemmas.Option.{get_or_from_slice_get, slice_get_within}
 use Rattle.std.specs.List.{concat, slice_get}
 use Rattle.bytes.proofs.Chunks.{concat_push}
-use Rattle.bytes_utils_buf.specs.Packing.{last_of}
+use Rattle.bytes_utils_buf.specs.Packing.{last_of, grow_last}
 use Rattle.bytes_utils_buf.specs.Segments.{IsInside}
 use Rattle.bytes_utils_buf.proofs.Lists.{concat_split}
 use Rattle.bytes_utils.specs.FrameSearch.{bytes_before}
@@ -50,3 +50,23 @@ bytes_before-last (x ∷ []) (suc i) n last size = absurd (omega arith)
 bytes_before-last (x ∷ y ∷ pieces) zero n last size = absurd (omega arith)
 bytes_before-last (x ∷ y ∷ pieces) (suc i) n last size =
     let rest = bytes_before-last (y ∷ pieces) i n (omega arith) size in (rest.0, simp append_assoc (ap (λ l. x ++ l) rest.1))
+
+-- the bytes before a place in pieces after which others come
+pub bytes_before-more : (next xs : List (List ℕ)) (k n : ℕ) → k ≤ length xs → IsInside k n xs
+    → IsInside k n (xs ++ next) × (bytes_before k n (xs ++ next) ≡ bytes_before k n xs)
+bytes_before-more next [] zero zero within inside = (omega arith, refl)
+bytes_before-more next [] zero (suc n) within inside = absurd (omega (arith, inside))
+bytes_before-more next [] (suc k) n within inside = absurd (omega (arith, within))
+bytes_before-more next (x ∷ xs) zero n within inside = (inside, refl)
+bytes_before-more next (x ∷ xs) (suc k) n within inside =
+    let rest = bytes_before-more next xs k n (omega (arith, within)) inside in (rest.0, simp append_assoc (ap (λ l. x ++ l) rest.1))
+
+-- the bytes before a place in pieces of which the last one grows
+pub bytes_before-grown : (more : List ℕ) (xs : List (List ℕ)) (k n : ℕ) → k < length xs → IsInside k n xs
+    → IsInside k n (grow_last more xs) × (bytes_before k n (grow_last more xs) ≡ bytes_before k n xs)
+bytes_before-grown more [] k n partly inside = absurd (omega (arith, partly))
+bytes_before-grown more (x ∷ []) zero n partly inside = (omega (arith, inside, length-append x more), take-append-le n x more inside)
+bytes_before-grown more (x ∷ []) (suc k) n partly inside = absurd (omega (arith, partly))
+bytes_before-grown more (x ∷ y ∷ xs) zero n partly inside = (inside, refl)
+bytes_before-grown more (x ∷ y ∷ xs) (suc k) n partly inside =
+    let rest = bytes_before-grown more (y ∷ xs) k n (omega (arith, partly)) inside in (rest.0, simp append_assoc (ap (λ l. x ++ l) rest.1))

@@ -75,11 +75,11 @@ module _ (xs : List ℕ) (c : ℕ) (ys : List ℕ) (ascii : c < 128) (whole_is :
   within : length xs < length (xs ++ c ∷ ys)
   within = omega (arith, length-append xs (c ∷ ys))
 
-  before_utf8 : IsUtf8 xs
+  pub before_utf8 : IsUtf8 xs
   before_utf8 = subst IsUtf8 (take_at xs (c ∷ ys) (length xs) refl)
       (IsUtf8-take (xs ++ c ∷ ys) (length xs) whole_is (IsCharBoundary-before_ascii (xs ++ c ∷ ys) (length xs) within here))
 
-  after_utf8 : IsUtf8 ys
+  pub after_utf8 : IsUtf8 ys
   after_utf8 = subst IsUtf8 (ap (drop (length xs + 1)) (sym (append_assoc xs (c ∷ []) ys)) ∙ drop_at (xs ++ c ∷ []) ys (length xs + 1) (omega (arith, length-append xs (c ∷ []))))
       (IsUtf8-drop (xs ++ c ∷ ys) (length xs + 1) whole_is (IsCharBoundary-after_ascii (xs ++ c ∷ ys) (length xs) whole_is within here))
 

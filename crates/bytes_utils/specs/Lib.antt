@@ -21,6 +21,8 @@ pub mod FrameSearch
 pub mod LimitedFrames
 pub mod StreamLines
 pub mod Cursor
+pub mod UniversalLines
+pub mod EndSearch
 pub mod StreamTexts
 pub mod LossyTexts
 pub mod LimitedLines

@@ -8,6 +8,7 @@ ghost use Rattle.bytes_utils.specs.Occurrence.{Occurs};
 ghost use Rattle.bytes_utils.specs.Frames.{AllFramesLaw, FramePartsLaw, FramesAndBytesLaw, FramesLaw, PacksPiece, PushesPieces, PutFramesLaw, SameFramesLaw, TakesFrame, TextFramesLaw};
 ghost use Rattle.bytes_utils.specs.LimitedFrames.{LosesFront};
 
+mod end_search;
 mod limited;
 mod limited_lines;
 pub(crate) mod lines;
@@ -16,6 +17,7 @@ pub(crate) mod search;
 #[cfg(test)]
 mod tests;
 mod texts;
+mod universal_lines;
 
 use bytes::{Buf, Bytes, BytesMut};
 use bytes_utils_buf::segmented::{PackedBuf, SegmentedBuf};
@@ -29,6 +31,7 @@ use search::SearchState;
 use std::alloc::Global;
 use std::marker::Model;
 pub use texts::{TextError, Texts, text_laws};
+pub use universal_lines::{UniversalLines, universal_line_laws};
 
 /// A piece of at most this many bytes is copied to those before it.
 const SMALL: usize = 512;
