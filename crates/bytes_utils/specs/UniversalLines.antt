@@ -3,7 +3,7 @@ use Rattle.std.specs.Prelude.{◌≡◌, ◌≢◌, ◌↔◌, ◌⊎◌, ℕ, B
 use Rattle.std.specs.List.{starts_with}
 use Rattle.bytes_utils.specs.Lines.{line_feed, carriage_return, first_led_by}
 use Rattle.bytes_utils.specs.StreamLines.{last_line}
-use Rattle.bytes_utils.specs.StreamRuns.{StreamEvent, Pushed, Taken, pushed_by, given_by, AreFirst, SameFirstLaw}
+use Rattle.bytes_utils.specs.StreamRuns.{StreamEvent, IsRunOver, pushed_by, given_by, AreFirst, SameFirstLaw}
 
 -- The lines of the bytes, with the last one, if it has no end and isn't empty. A carriage return before a line feed is a part of the end that this makes.
 abbrev pub universal_lines : List ℕ → List (List ℕ)
@@ -65,9 +65,7 @@ pub record TakesUniversalLine (old : LineReading) (line : List ℕ) (new : LineR
 
 -- these events lead from one state to the one at the end
 abbrev pub IsUniversalRun : LineReading → List (StreamEvent (List ℕ)) → LineReading → Type 0
-IsUniversalRun reading [] end = end ≡ reading
-IsUniversalRun reading (Pushed piece ∷ events) end = IsUniversalRun (after_push reading piece) events end
-IsUniversalRun reading (Taken line ∷ events) end = (next : LineReading) × TakesUniversalLine reading line next × IsUniversalRun next events end
+IsUniversalRun reading events end = IsRunOver after_push TakesUniversalLine reading events end
 
 -- these are the first lines of the bytes, in order, and the bytes after them
 abbrev pub AreFirstUniversal : List ℕ → List (List ℕ) → List ℕ → Type 0
