@@ -1,8 +1,9 @@
 //! Frames out of pieces.
-use crate::fixtures::refusals::given;
+use crate::SegmentedBuf;
+use crate::fixtures::refusals::{given, report};
 use crate::frame::Frames;
 use crate::frame::tests::memory::readers::{assert_frames, is_held};
-use bytes::Bytes;
+use bytes::{Buf, Bytes};
 use std::alloc::Global;
 use std::io::Print;
 use std::process::Abort;
@@ -50,5 +51,25 @@ fn first_bytes(rt: HostRuntime) {
     assert!(rt; frames.remaining() == 1_200);
     if let Some(first) = given(&rt, "Frames::take_bytes", frames.take_bytes(alloc, 601)) {
         assert!(rt; first.len() == 601 && frames.remaining() == 599);
+    }
+}
+
+/// A reader over a short segment and a long one. If it is refused, both come back.
+#[test]
+fn segments(rt: HostRuntime) {
+    let alloc = rt.alloc();
+    let mut body = SegmentedBuf::new(alloc);
+    let pieces = ["a-".as_bytes(), &[b'b'; 600]];
+    for piece in pieces {
+        if body.try_push(Bytes::from_static(piece)).is_err() {
+            return;
+        }
+    }
+    match Frames::from_segments(alloc, b"-", body) {
+        Ok(frames) => assert!(rt; frames.remaining() == 602),
+        Err(refused) => {
+            report(&rt, "Frames::from_segments", refused.reason);
+            assert!(rt; refused.back.segments() == 2 && refused.back.remaining() == 602);
+        }
     }
 }
