@@ -8,6 +8,9 @@ ghost use Rattle.bytes_utils.specs.Lines.{line_feed};
 ghost use Rattle.bytes_utils.specs.Occurrence.{Occurs, OccursFirstAt};
 ghost use Rattle.bytes_utils.specs.StreamLines.{TakesLine};
 
+#[cfg(test)]
+mod tests;
+
 use crate::find::find_from;
 use crate::frame::LineError;
 use crate::frame::lines::drop_return;
