@@ -88,6 +88,23 @@ fn header(alloc: Global) -> Result<SegmentedBuf<Bytes>, Fail> {
     Ok(buf)
 }
 
+/// Each call that takes nothing, and then the bytes that were passed are taken off the buffer.
+#[test]
+fn looks_and_then_takes(rt: HostRuntime) -> Result<(), Fail> {
+    let mut buf = header(rt.alloc())?;
+    let mut cursor = Cursor::new(&buf);
+    assert!(rt; cursor.remaining() == 17);
+    cursor.advance(6);
+    assert!(rt; cursor.peek() == Some(b'e') && cursor.remaining() == 11);
+    assert!(rt; cursor.starts_with(b"examp") && cursor.find(rt.alloc(), b".org")? == Some(7));
+    let name = cursor.take_to(rt.alloc(), b".")?;
+    assert!(rt; name.is_some() && cursor.rest(rt.alloc())?.eq_bytes(b".org"));
+    let passed = cursor.at();
+    buf.advance(passed);
+    assert!(rt; buf.eq_bytes(b".org"));
+    Ok(())
+}
+
 /// Whether these bytes are there, and whether they are the only owner of their block.
 fn is_taken(bytes: Option<Bytes>, want: &[u8], is_unique: bool) -> bool {
     match bytes {
