@@ -44,6 +44,8 @@ pub mod StreamRunsLemmas
 pub mod FramesLemmas
 pub mod LimitedFramesLemmas
 pub mod LimitedLinesLemmas
+pub mod DecodingLemmas
+pub mod PrefixedLemmas
 pub mod StreamLinesLemmas
 pub mod CursorLemmas
 pub mod EndSearchLemmas

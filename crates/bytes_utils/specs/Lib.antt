@@ -29,6 +29,9 @@ pub mod LimitedLines
 pub mod Pushing
 pub mod ReadError
 pub mod ReadFrame
+pub mod Decoding
+pub mod Prefixed
+pub mod PrefixedLaws
 -- the definitions about buffers, for callers that use their names
 pub use Rattle.bytes_utils_buf.specs.Segments
 pub use Rattle.bytes_utils_buf.specs.Packing

@@ -1,0 +1,3 @@
+//! What no clause covers: worked cases, what is shared, and that calls succeed with ample memory.
+mod memory;
+mod prefixed;

@@ -1,0 +1,2 @@
+//! What each call returns if a request for memory is refused.
+mod prefixed;
