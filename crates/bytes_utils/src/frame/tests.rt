@@ -8,3 +8,4 @@ mod memory;
 mod readers;
 mod search;
 mod texts;
+mod universal_lines;

@@ -1,5 +1,5 @@
 //! What readers of frames and of lines have in common, so that one proof of a test serves all of them.
-use crate::frame::{Frames, LimitedFrames, LimitedLines, LineError, Lines};
+use crate::frame::{Frames, LimitedFrames, LimitedLines, LineError, Lines, UniversalLines};
 use crate::segmented::SegmentedBuf;
 use crate::{EitherBuf, Reason, Refused, Str};
 use bytes::{Bytes, BytesMut};
@@ -88,6 +88,24 @@ impl Holds for LimitedLines {
     }
 }
 
+impl Holds for UniversalLines {
+    fn put(&mut self, piece: Bytes) -> Result<(), Refused<Bytes>> {
+        self.push(piece)
+    }
+
+    fn put_copy(&mut self, bytes: &[u8]) -> Result<(), Reason> {
+        self.push_slice(bytes)
+    }
+
+    fn left(&self) -> usize {
+        self.remaining()
+    }
+
+    fn end(self) -> SegmentedBuf<EitherBuf<Bytes, BytesMut>> {
+        self.finish()
+    }
+}
+
 /// A reader of frames.
 pub(super) trait ReadsFrames {
     fn frame(&mut self, alloc: Global) -> Result<Option<Bytes>, Reason>;
@@ -133,6 +151,16 @@ impl ReadsLines for Lines {
 }
 
 impl ReadsLines for LimitedLines {
+    fn line(&mut self, alloc: Global) -> Result<Option<Str>, LineError> {
+        self.next_line(alloc)
+    }
+
+    fn last(&mut self, alloc: Global) -> Result<Option<Str>, LineError> {
+        self.last_line(alloc)
+    }
+}
+
+impl ReadsLines for UniversalLines {
     fn line(&mut self, alloc: Global) -> Result<Option<Str>, LineError> {
         self.next_line(alloc)
     }

@@ -3,7 +3,7 @@ use crate::Str;
 use crate::fixtures::refusals::{given, report};
 use crate::frame::tests::memory::readers::{are_held, is_held};
 use crate::frame::tests::readers::{Holds, ReadsLines};
-use crate::frame::{LimitedLines, LineError, Lines};
+use crate::frame::{LimitedLines, LineError, Lines, UniversalLines};
 use bytes::Bytes;
 use std::alloc::Global;
 use std::io::Print;
@@ -67,6 +67,16 @@ fn limited_lines(rt: HostRuntime) {
     }
 }
 
+#[test]
+fn universal_lines(rt: HostRuntime) {
+    let calls = (
+        "UniversalLines::push",
+        "UniversalLines::next_line",
+        "UniversalLines::last_line",
+    );
+    assert_lines(&rt, rt.alloc(), calls, &mut UniversalLines::new(rt.alloc()));
+}
+
 /// Asserts the last line of a reader, of two pieces that are held apart, unless a call is refused. A
 /// refusal of that line is reported.
 fn assert_last<L: Holds + ReadsLines, R: Abort + Print>(
@@ -99,4 +109,10 @@ fn limited_last_line(rt: HostRuntime) {
     if let Ok(mut lines) = LimitedLines::new(rt.alloc(), 1_200) {
         assert_last(&rt, rt.alloc(), "LimitedLines::last_line", &mut lines);
     }
+}
+
+#[test]
+fn universal_last_line(rt: HostRuntime) {
+    let mut lines = UniversalLines::new(rt.alloc());
+    assert_last(&rt, rt.alloc(), "UniversalLines::last_line", &mut lines);
 }
