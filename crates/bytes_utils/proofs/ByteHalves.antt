@@ -6,7 +6,7 @@ use Rattle.std.proofs.lemmas.Str.{encodes-chars, chars-nil}
 use Rattle.std.specs.Str.{chars, encode_utf8_all as encodes}
 use Rattle.bytes_utils.specs.Text.{byte_place}
 use Rattle.bytes_utils.specs.Halves.{AreHalvesAtFirst, AreHalvesAtLast}
-use Rattle.bytes_utils.specs.Occurrence.{OccursAt, Occurs, OccursFirstAt, OccursLastAt}
+use Rattle.bytes_utils.specs.Occurrence.{OccursAt, Occurs, OccursFirstAt}
 use Rattle.bytes_utils.proofs.Boundaries.{OccursAt-fits}
 use Rattle.bytes_utils.proofs.HalvesLemmas.{AreHalvesAtFirst-at, AreHalvesAtLast-at, IsFoundLast}
 use Rattle.bytes_utils.proofs.Places.{byte_place-less}

@@ -1,10 +1,10 @@
 -- What `utf8_lossy` makes of a text, of a fault and of an unfinished character at the start of bytes.
-use Rattle.std.proofs.Common.{◌≡◌, ℕ, ◌+◌, ◌-◌, ◌<◌, ◌≤◌, List, [], ◌∷◌, ◌++◌, length, take, drop, Option, None, Some, IsUtf8, arith, ⊎_elim, ap, ◌∙◌, sym, refl, subst, append_assoc, append-nil, length-append, take_all, take_at}
+use Rattle.std.proofs.Common.{◌≡◌, ℕ, ◌+◌, ◌-◌, ◌<◌, ◌≤◌, List, [], ◌++◌, length, take, drop, None, Some, IsUtf8, arith, ⊎_elim, ap, ◌∙◌, sym, subst, append_assoc, length-append, take_all}
 use Rattle.std.proofs.Math.ListN.{drop_of_length-le}
 use Rattle.std.proofs.Math.Seq.{take-append-add, drop-append-add}
 use Rattle.std.proofs.lemmas.Bool.{cases_lt}
 use Rattle.std.proofs.lemmas.List.{take-append-le, drop-append-le}
-use Rattle.std.proofs.lemmas.Str.{IsUtf8-append, utf8_lossy-IsUtf8, utf8_lossy_empty, utf8_lossy_step, utf8_valid_len_le, utf8_valid_len-IsValidUpTo}
+use Rattle.std.proofs.lemmas.Str.{IsUtf8-append, utf8_lossy-IsUtf8, utf8_lossy_step, utf8_valid_len-IsValidUpTo}
 use Rattle.std.specs.Option.{unwrap_or}
 use Rattle.std.specs.Str.Lossy.{utf8_valid_len, utf8_error_len, utf8_invalid_len, after_first_chunk, replacement_bytes, utf8_lossy}
 use Rattle.bytes_utils.specs.StreamTexts.{IsFaulty}

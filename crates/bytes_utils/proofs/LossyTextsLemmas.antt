@@ -5,9 +5,9 @@ use Rattle.std.proofs.lemmas.Bool.{cases_lt}
 use Rattle.std.proofs.lemmas.Str.{utf8_lossy_empty}
 use Rattle.std.specs.List.{concat}
 use Rattle.std.specs.Str.Lossy.{utf8_valid_len, utf8_error_len, replacement_bytes, utf8_lossy}
-use Rattle.bytes_utils.specs.LossyTexts.{TakesLastLossy, TakesLossy, IsLossyRun, LossyRunLaw, WholeLossyLaw, TextLossyLaw}
-use Rattle.bytes_utils.specs.StreamRuns.{StreamEvent, AreFirst, pushed_by, given_by}
-use Rattle.bytes_utils.specs.StreamTexts.{IsFront, IsUnfinished, TakesText}
+use Rattle.bytes_utils.specs.LossyTexts.{TakesLastLossy, TakesLossy, LossyRunLaw, WholeLossyLaw, TextLossyLaw}
+use Rattle.bytes_utils.specs.StreamRuns.{AreFirst, pushed_by, given_by}
+use Rattle.bytes_utils.specs.StreamTexts.{IsFront, IsUnfinished}
 use Rattle.bytes_utils.specs.declared.frame.texts.Front.TheVariants.{Text, Fault}
 use Rattle.bytes_utils.proofs.CharacterBegins.{faulty}
 use Rattle.bytes_utils.proofs.FaultLen.{fault_of_four, fault_some, fault_within}

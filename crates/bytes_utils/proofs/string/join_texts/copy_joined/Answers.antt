@@ -1,5 +1,4 @@
-use Rattle.std.proofs.Common.{◌≡◌, ◌++◌, length, take, IfOk, arith, ap, ◌∙◌, subst, take_all}
-use Rattle.bytes_utils.specs.Parts.{join}
+use Rattle.std.proofs.Common.{◌++◌, ◌∙◌}
 use Rattle.bytes_utils.proofs.Joins.{join-next, gap-next}
 use Rattle.bytes_utils.proofs.string.join_texts.copy_joined.Goals as goal
 

@@ -1,4 +1,4 @@
-use Rattle.std.proofs.Common.{◌≡◌, ◌+◌, ◌≤◌, ◌∙◌, length, rules}
+use Rattle.std.proofs.Common.{◌+◌, ◌≤◌, ◌∙◌, length, rules}
 use Rattle.bytes_utils.specs.Occurrence.{Occurs, OccursFirstAt}
 use Rattle.bytes_utils.proofs.ByteHalves.{first_in_bytes, lacks_in_bytes, slice_there}
 use Rattle.bytes_utils.proofs.PartCut.{end_boundary, next_boundary}
