@@ -35,3 +35,4 @@ pub mod HeadLines
 pub mod PathsLemmas
 pub mod FilesLemmas
 pub mod FieldsLemmas
+pub mod RedisLemmas

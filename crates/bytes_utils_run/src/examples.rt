@@ -6,6 +6,7 @@ pub mod headers;
 pub mod inbox;
 pub mod paths;
 pub mod records;
+pub mod redis;
 pub mod requests;
 #[cfg(test)]
 mod tests;

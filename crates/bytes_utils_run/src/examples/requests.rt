@@ -214,7 +214,7 @@ fn trailing_blanks(value: &[u8]) -> usize
 }
 
 /// The number that the bytes write, if they are digits alone.
-fn number(digits: &[u8]) -> Option<usize>
+pub(super) fn number(digits: &[u8]) -> Option<usize>
     ensures { MatchOption result ((n : ℕ) → ¬ WriteNumber digits.now n)
         (λ n. WriteNumber digits.now n) }
 {

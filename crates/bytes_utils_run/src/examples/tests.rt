@@ -7,6 +7,7 @@ mod long;
 mod memory;
 mod paths;
 mod records;
+mod redis;
 mod requests;
 mod shared;
 mod tokens;

@@ -5,6 +5,7 @@ use crate::examples::headers::headers;
 use crate::examples::inbox::Inbox;
 use crate::examples::paths::{both, is_name, names_of, path_of, rooted, with_name};
 use crate::examples::records::Records;
+use crate::examples::redis::{Limits, ReplyReader};
 use crate::examples::requests::Requests;
 use crate::examples::tokens::tokens;
 use bytes::Bytes;
@@ -50,6 +51,18 @@ fn of_requests(alloc: Global, requests: &mut Requests) -> Named {
     Ok(())
 }
 
+fn of_replies(alloc: Global, replies: &mut ReplyReader) -> Named {
+    let front = Bytes::from_static(b"*1\r\n$5\r\nHe");
+    replies.push(front).ok().ok_or("ReplyReader::push")?;
+    let back = Bytes::from_static(b"llo\r\n");
+    replies.push(back).ok().ok_or("ReplyReader::push")?;
+    replies
+        .next_reply(alloc)
+        .ok()
+        .ok_or("ReplyReader::next_reply")?;
+    Ok(())
+}
+
 fn of_texts(alloc: Global) -> Named {
     tokens(alloc, Str::from_static("a,b")).ok().ok_or("tokens")?;
     headers(alloc, Str::from_static("A: b\n"))
@@ -76,6 +89,12 @@ fn of_all(alloc: Global) -> Named {
     of_texts(alloc)?;
     of_paths(alloc)?;
     of_inbox(alloc, &mut Inbox::new(alloc))?;
+    let limits = Limits {
+        line: 9,
+        bulk: 9,
+        items: 9,
+    };
+    of_replies(alloc, &mut ReplyReader::new(alloc, limits))?;
     let mut records = Records::new(alloc, 9).ok().ok_or("Records::new")?;
     of_records(alloc, &mut records)?;
     drop(records);

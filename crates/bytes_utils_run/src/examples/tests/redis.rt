@@ -1,0 +1,146 @@
+//! Replies in pieces.
+use crate::examples::redis::{Item, Limits, ReplyError, ReplyReader};
+use bytes::Bytes;
+use std::alloc::Global;
+use std::str;
+use std::test::Fail;
+
+/// Limits that the replies below stay within.
+const LIMITS: Limits = Limits {
+    line: 70,
+    bulk: 11,
+    items: 8,
+};
+
+/// Replies of the protocol's own page (https://redis.io/docs/latest/develop/reference/protocol-spec/),
+/// each with its items in short.
+const REPLIES: &str = "+OK\r\n>+OK |\
+    -Error message\r\n>-Error message |\
+    -ERR unknown command 'asdf'\r\n>-ERR unknown command 'asdf' |\
+    -WRONGTYPE Operation against a key holding the wrong kind of value\r\n>\
+    -WRONGTYPE Operation against a key holding the wrong kind of value |\
+    :0\r\n>:0 |\
+    :1000\r\n>:1000 |\
+    $5\r\nhello\r\n>$hello |\
+    $0\r\n\r\n>$ |\
+    $-1\r\n>$null |\
+    *0\r\n>*0 |\
+    *2\r\n$5\r\nhello\r\n$5\r\nworld\r\n>*2 $hello $world |\
+    *3\r\n:1\r\n:2\r\n:3\r\n>*3 :1 :2 :3 |\
+    *5\r\n:1\r\n:2\r\n:3\r\n:4\r\n$5\r\nhello\r\n>*5 :1 :2 :3 :4 $hello |\
+    *-1\r\n>*null |\
+    *2\r\n*3\r\n:1\r\n:2\r\n:3\r\n*2\r\n+Hello\r\n-World\r\n>*2 *3 :1 :2 :3 *2 +Hello -World |\
+    *3\r\n$5\r\nhello\r\n$-1\r\n$5\r\nworld\r\n>*3 $hello $null $world |\
+    *2\r\n*0\r\n*-1\r\n>*2 *0 *null |\
+    $4\r\na\r\nb\r\n>$a\r\nb |\
+    :-7\r\n>:-7 |\
+    :+7\r\n>:7 ";
+
+/// Writes an item in short, with a space after it.
+fn write_item(text: &mut String, item: &Item) -> Result<(), Fail> {
+    match item {
+        Item::Simple(bytes) => write_bytes(text, "+", bytes)?,
+        Item::Error(bytes) => write_bytes(text, "-", bytes)?,
+        Item::Integer(n) => write!(text, ":{n} ")?,
+        Item::Bulk(Some(bytes)) => write_bytes(text, "$", bytes)?,
+        Item::Bulk(None) => text.push_str("$null ")?,
+        Item::Array(Some(count)) => write!(text, "*{count} ")?,
+        Item::Array(None) => text.push_str("*null ")?,
+    }
+    Ok(())
+}
+
+fn write_bytes(text: &mut String, kind: &str, bytes: &[u8]) -> Result<(), Fail> {
+    text.push_str(kind)?;
+    text.push_str(str::from_utf8(bytes)?)?;
+    text.push_str(" ")?;
+    Ok(())
+}
+
+/// Whether the next reply has these items, in short.
+fn is_next(alloc: Global, replies: &mut ReplyReader, wanted: &str) -> Result<bool, Fail> {
+    let Some(items) = replies.next_reply(alloc)? else {
+        return Ok(false);
+    };
+    let mut text = String::new(alloc);
+    for item in &items {
+        write_item(&mut text, item)?;
+    }
+    Ok(text.as_str() == wanted)
+}
+
+/// A reply that is cut at each place comes when its last byte has come, and not before.
+#[test]
+fn replies_cut_at_each_place(rt: HostRuntime) -> Result<(), Fail> {
+    for row in REPLIES.split('|') {
+        let (reply, wanted) = row.split_once('>').ok_or("no reply")?;
+        for cut in 0..reply.len() {
+            let (front, back) = reply.as_bytes().split_at(cut);
+            let mut replies = ReplyReader::new(rt.alloc(), LIMITS);
+            replies.push(Bytes::from_static(front))?;
+            assert!(rt; replies.next_reply(rt.alloc())?.is_none());
+            replies.push(Bytes::from_static(back))?;
+            assert!(rt; is_next(rt.alloc(), &mut replies, wanted)?);
+            assert!(rt; replies.next_reply(rt.alloc())?.is_none());
+        }
+    }
+    Ok(())
+}
+
+/// What is no reply, or none within the limits. In order:
+///
+/// - a byte that begins no item, an empty line
+/// - a part of the end of a line in a text
+/// - integers with no digit, with other bytes, and above the greatest
+/// - lengths below none, with a sign, and of no digit
+/// - bytes without an end of a line after them, also within arrays
+/// - too long a line, whether it ends or not; too many bytes; too many items
+const BAD: &str = "?\r\n>malformed|\r\n>malformed|\
+    +a\rb\r\n>malformed|-a\nb\r\n>malformed|\
+    :\r\n>malformed|:-\r\n>malformed|:1a\r\n>malformed|:9223372036854775808\r\n>malformed|\
+    $-2\r\n>malformed|$+1\r\n>malformed|$\r\n>malformed|*-2\r\n>malformed|*a\r\n>malformed|\
+    $1\r\nab>malformed|$0\r\n\n>malformed|*2\r\n:1\r\n:b\r\n>malformed|*1\r\n*1\r\n!\r\n>malformed|\
+    +1234567890123456789012345678901234567890123456789012345678901234567890\r\n>too large|\
+    +12345678901234567890123456789012345678901234567890123456789012345678901>too large|\
+    $12\r\n>too large|*9\r\n>too large|*2\r\n:1\r\n$99999999999\r\n>too large|\
+    *8\r\n:1\r\n:2\r\n:3\r\n:4\r\n:5\r\n:6\r\n:7\r\n>too large|\
+    *2\r\n*18446744073709551615\r\n>too large";
+
+/// Each bad input is refused, and refused again.
+#[test]
+fn bad_input(rt: HostRuntime) -> Result<(), Fail> {
+    for row in BAD.split('|') {
+        let (bytes, wanted) = row.split_once('>').ok_or("no input")?;
+        let mut replies = ReplyReader::new(rt.alloc(), LIMITS);
+        replies.push(Bytes::from_static(bytes.as_bytes()))?;
+        for _ in 0..2 {
+            let found = match replies.next_reply(rt.alloc()) {
+                Err(ReplyError::Malformed) => "malformed",
+                Err(ReplyError::TooLarge) => "too large",
+                _ => "a reply",
+            };
+            assert_eq!(rt; found, wanted);
+        }
+    }
+    Ok(())
+}
+
+/// A bulk item in one piece of more than 512 bytes shares that piece.
+#[test]
+fn bulk_in_one_piece_is_shared(rt: HostRuntime) -> Result<(), Fail> {
+    let mut piece = [b'a'; 700];
+    piece[..6].copy_from_slice(b"$691\r\n");
+    piece[697..].copy_from_slice(b"\r\n+");
+    let limits = Limits {
+        bulk: 691,
+        ..LIMITS
+    };
+    let mut replies = ReplyReader::new(rt.alloc(), limits);
+    replies.push(Bytes::copy_from_slice(rt.alloc(), &piece)?)?;
+    let items = replies.next_reply(rt.alloc())?.ok_or("no reply")?;
+    match items.first() {
+        Some(Item::Bulk(Some(bytes))) => assert!(rt; bytes.len() == 691 && !bytes.is_unique()),
+        _ => assert!(rt; false, "another item"),
+    }
+    Ok(())
+}
