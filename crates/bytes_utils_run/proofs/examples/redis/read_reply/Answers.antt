@@ -40,11 +40,12 @@ returns-then-due-eq0-clause-reply g c =
     let takes = rw c.in-Some.is at c.in_ok-item.ensures.item in
     let due : (l.due - 1) + c.items_in-following.result ≡ (l.due - 1) + items_in item = ap (λ n. (l.due - 1) + n) c.items_in-following.ensures in
     let read = read_one c.args.limits c.args.limits [] all l.items.items (unread l.cursor) l.due l.invariant.are l.invariant.pending item (unread new) ((l.due - 1) + c.items_in-following.result) l.invariant.some takes due in
+    let none : (l.due - 1) + c.items_in-following.result ≡ 0 = omega (arith, c.if-due-eq0.true) in
     let few : length (l.items.items ++ item ∷ []) ≤ c.args.limits.items = omega (arith, c.loop-cursor-test.true, c.len.ensures, length-append l.items.items (item ∷ [])) in
     let rest : unread new ≡ drop c.at.result all = ap (λ n. drop n new.all) (sym c.at.ensures.value) ∙ ap (drop c.at.result) (c.next_item.ensures.all ∙ l.invariant.all) in
     rw c.in_ok-keep.ensures.ok
     (subst (TakesReply c.args.limits all (l.items.items ++ item ∷ [])) rest
-    (whole_reply c.args.limits all (l.items.items ++ item ∷ []) (unread new) read.0 (subst (ArePending 1 (l.items.items ++ item ∷ [])) c.if-due-eq0.true read.1) few))
+    (whole_reply c.args.limits all (l.items.items ++ item ∷ []) (unread new) read.0 (subst (ArePending 1 (l.items.items ++ item ∷ [])) none read.1) few))
 
 pub loop-cursor-preserved : goal.loop-cursor-preserved
 loop-cursor-preserved g c =
