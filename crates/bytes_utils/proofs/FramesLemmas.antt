@@ -16,7 +16,7 @@ use Rattle.bytes_utils_buf.specs.Segments.{Held, Skips, after_accepting}
 use Rattle.bytes_utils_buf.proofs.Lists.{Skips-more}
 use Rattle.bytes_utils.specs.Occurrence.{Occurs, OccursAt, OccursFirstAt}
 use Rattle.bytes_utils.specs.Parts.{IsCutAtFirst, AreForwardParts}
-use Rattle.bytes_utils.specs.Frames.{PacksPiece, PushesPieces, TakesFrame, AreFrames, FrameOrBytes, Frame, First, TakesFrameOrBytes, framed, FramesLaw, FramesAndBytesLaw, FramePartsLaw, PutFramesLaw, SameFramesLaw, AllFramesLaw, TextFramesLaw}
+use Rattle.bytes_utils.specs.Frames.{DropsFirst, Framing, PacksPiece, PushesPieces, TakesFrame, AreFrames, FrameOrBytes, Frame, First, TakesFrameOrBytes, framed, FramesLaw, FramesAndBytesLaw, FramePartsLaw, PutFramesLaw, SameFramesLaw, AllFramesLaw, TextFramesLaw}
 use Rattle.bytes_utils.proofs.Boundaries.{OccursAt-fits, HasNeedleAt-from_occurs}
 use Rattle.bytes_utils.proofs.OccurrenceLemmas.{OccursFirstAt-append, first_places_same}
 use Rattle.bytes_utils.proofs.Joins.{append_same}
@@ -92,9 +92,15 @@ not_too_long OutOfMemory other = refl
 not_too_long TooLong other = absurd (other refl)
 
 -- a frame, and then the separator after it
-pub frame_skips : (n m : ℕ) (old mid new : List (List ℕ)) → Skips n old mid → Skips (0 + m) mid new → Skips (n + m) old new
-frame_skips n m old mid new frame rest =
-    let same : 0 + m ≡ m = omega arith in Skips-more n m old mid new frame (rw same at rest)
+pub frame_dropped : (n : ℕ) (old mid new : Framing) → DropsFirst n old mid → DropsFirst (0 + length mid.separator) mid new → DropsFirst (n + length old.separator) old new
+frame_dropped n old mid new frame rest =
+    let same : 0 + length mid.separator ≡ length old.separator = omega (arith, ap length frame.separator) in
+    let rest_is = rw same at rest in
+    record {
+      held = rest_is.held ∙ ap (drop (length old.separator)) frame.held ∙ drop-drop (length old.separator) n old.held;
+      skips = Skips-more n (length old.separator) old.pieces mid.pieces new.pieces frame.skips rest_is.skips;
+      separator = rest_is.separator ∙ frame.separator;
+    }
 
 -- ---- runs
 

@@ -1,8 +1,8 @@
 -- Frames of a stream of bytes that comes in pieces. Each frame is ended by a separator, which is not empty.
-use Rattle.std.specs.Prelude.{◌≡◌, ◌↔◌, ◌⊎◌, ℕ, ◌<◌, List, [], ◌∷◌, ◌++◌, length, map, None, All, IsUtf8}
+use Rattle.std.specs.Prelude.{◌≡◌, ◌↔◌, ◌⊎◌, ℕ, ◌<◌, List, [], ◌∷◌, ◌++◌, length, drop, map, None, All, IsUtf8}
 use Rattle.std.specs.Str.{chars}
 use Rattle.bytes_utils_buf.specs.Packing.{grow_last}
-use Rattle.bytes_utils_buf.specs.Segments.{without_empty}
+use Rattle.bytes_utils_buf.specs.Segments.{Skips, without_empty}
 use Rattle.bytes_utils.specs.Occurrence.{Occurs, OccursFirstAt}
 use Rattle.bytes_utils.specs.Parts.{IsCutAtFirst, ArePartsFromFront}
 use Rattle.bytes_utils.specs.StreamRuns.{StreamEvent, IsStreamRun, AreFirst, StreamLaw, SameFirstLaw}
@@ -27,6 +27,12 @@ PushesPieces (piece ∷ pieces) old new =
 pub record TakesFrame (separator old frame rest : List ℕ) : Type 0 where
   pub bytes : old ≡ frame ++ (separator ++ rest)
   pub first : OccursFirstAt separator old (length frame)
+
+-- the first n bytes are gone, and the pieces that held them
+pub record DropsFirst (n : ℕ) (old new : Framing) : Type 0 where
+  pub held : new.held ≡ drop n old.held
+  pub skips : Skips n old.pieces new.pieces
+  pub separator : new.separator ≡ old.separator
 
 -- what a caller did: it pushed a piece, or took a frame
 abbrev pub FrameEvent : Type 0

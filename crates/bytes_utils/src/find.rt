@@ -51,6 +51,7 @@ pub fn find<B: ContiguousBuf + Drop>(
 /// As `find`, from place `start` on. An empty needle is found at `start`, unless that is past the
 /// end of the bytes. A needle of more than 16 bytes asks for a block of twice its length. Segments
 /// before `start` are skipped.
+#[tactic(auto, using(crate::proofs::FoundLemmas::start_found, crate::proofs::FoundLemmas::within_found, crate::proofs::FoundLemmas::frame_found, crate::proofs::FoundLemmas::none_found))]
 pub fn find_from<B: ContiguousBuf + Drop>(
     buf: &SegmentedBuf<B>,
     alloc: Global,
@@ -81,6 +82,7 @@ pub fn find_from<B: ContiguousBuf + Drop>(
 
 /// As `find_from`, without memory. Requires that `needle` has at most 16 bytes (test:
 /// `needle.len()`).
+#[tactic(auto, using(crate::proofs::FoundLemmas::start_found, crate::proofs::FoundLemmas::within_found, crate::proofs::FoundLemmas::frame_found, crate::proofs::FoundLemmas::none_found))]
 pub fn find_short<B: ContiguousBuf + Drop>(
     buf: &SegmentedBuf<B>,
     start: usize,

@@ -5,7 +5,7 @@ ghost use Rattle.std.specs.Bool.{OnFalse, OnTrue};
 ghost use Rattle.bytes_utils_buf.specs.Segments.{Skips, newly_held, take_bytes};
 ghost use Rattle.bytes_utils.specs.Pushing.{IsPush};
 ghost use Rattle.bytes_utils.specs.Occurrence.{Occurs};
-ghost use Rattle.bytes_utils.specs.Frames.{AllFramesLaw, FramePartsLaw, FramesAndBytesLaw, FramesLaw, PacksPiece, PushesPieces, PutFramesLaw, SameFramesLaw, TakesFrame, TextFramesLaw};
+ghost use Rattle.bytes_utils.specs.Frames.{AllFramesLaw, DropsFirst, FramePartsLaw, FramesAndBytesLaw, FramesLaw, PacksPiece, PushesPieces, PutFramesLaw, SameFramesLaw, TakesFrame, TextFramesLaw};
 ghost use Rattle.bytes_utils.specs.LimitedFrames.{LosesFront};
 
 mod end_search;
@@ -295,9 +295,7 @@ impl Frames {
         ensures front { IfOk result (λ front. concat front.segments ≡ take len self.old.held) }
         ensures pieces { IfOk result
             (λ front. front ≡ newly_held (take_bytes len self.old.pieces)) }
-        ensures ok { OnOk result (self.new.held ≡ drop len self.old.held) }
-        ensures skips { OnOk result (Skips len self.old.pieces self.new.pieces) }
-        ensures separator { self.new.separator ≡ self.old.separator }
+        ensures ok { OnOk result (DropsFirst len self.old self.new) }
         ensures err { OnErr result (self.new ≡ self.old) }
         ensures none { len ≡ 0 → IsOk result }
         ensures reason { IfErr result (λ reason. reason ≡ Reason.OutOfMemory) }
@@ -305,7 +303,7 @@ impl Frames {
         let count = self.pieces.segments();
         let front = self.pieces.split_to(alloc, len)?;
         self.progress
-            .leave_front(len, count - self.pieces.segments());
+            .leave_front(len, count, self.pieces.segments());
         Ok(front)
     }
 
@@ -316,9 +314,7 @@ impl Frames {
     pub fn take_bytes(&mut self, alloc: Global, len: usize) -> Result<Bytes, Reason>
         requires { len ≤ length self.old.held }
         ensures front { IfOk result (λ front. front ≡ take len self.old.held) }
-        ensures ok { OnOk result (self.new.held ≡ drop len self.old.held) }
-        ensures skips { OnOk result (Skips len self.old.pieces self.new.pieces) }
-        ensures separator { self.new.separator ≡ self.old.separator }
+        ensures ok { OnOk result (DropsFirst len self.old self.new) }
         ensures err { OnErr result (self.new ≡ self.old) }
         ensures none { len ≡ 0 → IsOk result }
         ensures reason { IfErr result (λ reason. reason ≡ Reason.OutOfMemory) }
@@ -326,7 +322,7 @@ impl Frames {
         let count = self.pieces.segments();
         let front = self.pieces.take_bytes(alloc, len)?;
         self.progress
-            .leave_front(len, count - self.pieces.segments());
+            .leave_front(len, count, self.pieces.segments());
         Ok(front)
     }
 
@@ -346,15 +342,11 @@ impl Frames {
 
     /// Removes a frame of `len` bytes and its separator, and returns the frame.
     #[inline]
-    #[tactic(auto, using(crate::proofs::FramesLemmas::frame_skips))]
     fn take_frame(&mut self, alloc: Global, len: usize) -> Result<Bytes, Reason>
         requires { len + length self.old.separator ≤ length self.old.held }
         ensures frame { IfOk result (λ frame. frame ≡ take len self.old.held) }
         ensures ok { OnOk result
-            (self.new.held ≡ drop (len + length self.old.separator) self.old.held) }
-        ensures skips { OnOk result
-            (Skips (len + length self.old.separator) self.old.pieces self.new.pieces) }
-        ensures separator { self.new.separator ≡ self.old.separator }
+            (DropsFirst (len + length self.old.separator) self.old self.new) }
         ensures err { OnErr result (self.new ≡ self.old) }
         ensures reason { IfErr result (λ reason. reason ≡ Reason.OutOfMemory) }
     {
@@ -365,7 +357,6 @@ impl Frames {
     }
 
     /// As `take_frame`, in the pieces in which the frame came.
-    #[tactic(auto, using(crate::proofs::FramesLemmas::frame_skips))]
     fn take_frame_segments(
         &mut self,
         alloc: Global,
@@ -376,10 +367,7 @@ impl Frames {
         ensures pieces { IfOk result
             (λ frame. frame ≡ newly_held (take_bytes len self.old.pieces)) }
         ensures ok { OnOk result
-            (self.new.held ≡ drop (len + length self.old.separator) self.old.held) }
-        ensures skips { OnOk result
-            (Skips (len + length self.old.separator) self.old.pieces self.new.pieces) }
-        ensures separator { self.new.separator ≡ self.old.separator }
+            (DropsFirst (len + length self.old.separator) self.old self.new) }
         ensures err { OnErr result (self.new ≡ self.old) }
         ensures reason { IfErr result (λ reason. reason ≡ Reason.OutOfMemory) }
     {
@@ -425,7 +413,7 @@ impl Frames {
         let count = self.pieces.segments();
         self.pieces.advance(searched);
         self.progress
-            .leave_front(searched, count - self.pieces.segments());
+            .leave_front(searched, count, self.pieces.segments());
         Ok(false)
     }
 
@@ -433,9 +421,7 @@ impl Frames {
     #[inline]
     fn discard_frame(&mut self, len: usize)
         requires { len + length self.old.separator ≤ length self.old.held }
-        ensures held { self.new.held ≡ drop (len + length self.old.separator) self.old.held }
-        ensures skips { Skips (len + length self.old.separator) self.old.pieces self.new.pieces }
-        ensures separator { self.new.separator ≡ self.old.separator }
+        ensures { DropsFirst (len + length self.old.separator) self.old self.new }
     {
         let passed = len + self.separator().len();
         self.pieces.advance(passed);

@@ -300,11 +300,11 @@ module _ (limits other : Limits) (more : List ℕ) where
 
   module _ (bytes : List ℕ) (xs : List Item) (left : List ℕ) (due : ℕ) (are : AreFirst (TakesItem limits) bytes xs left) (pending : ArePending 1 xs due) where
     -- the next item is read
-    pub read_one : (item : Item) (rest : List ℕ) (left_due : ℕ) → 0 < due → TakesItem limits left item rest → left_due ≡ (due - 1) + items_in item
-        → AreFirst (TakesItem limits) bytes (xs ++ item ∷ []) rest × ArePending 1 (xs ++ item ∷ []) left_due
-    read_one item rest left_due some takes is = (
+    pub read_one : (item : Item) (rest : List ℕ) (following : ℕ) → 0 < due → TakesItem limits left item rest → following ≡ items_in item
+        → AreFirst (TakesItem limits) bytes (xs ++ item ∷ []) rest × ArePending 1 (xs ++ item ∷ []) ((due - 1) + following)
+    read_one item rest following some takes is = (
       AreFirst-next (TakesItem limits) bytes xs left item rest are takes,
-      subst (ArePending 1 (xs ++ item ∷ [])) (sym is) (ArePending-next 1 xs item due some pending),
+      subst (λ n. ArePending 1 (xs ++ item ∷ []) ((due - 1) + n)) (sym is) (ArePending-next 1 xs item due some pending),
     )
 
     -- an item is to come, and there is none

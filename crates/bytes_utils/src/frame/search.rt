@@ -55,15 +55,16 @@ impl SearchState {
         self.held.clear();
     }
 
-    /// Goes on after the first `len` bytes have left, and with them `passed` pieces: what was
-    /// searched of the others stays searched.
-    pub(crate) fn leave_front(&mut self, len: usize, passed: usize)
-        requires { self.old.base + length self.old.held.items < 2 ^ 64 }
+    /// Goes on after the first `len` bytes have left, and all of `count` pieces but `left`: what was
+    /// searched of these stays searched.
+    pub(crate) fn leave_front(&mut self, len: usize, count: usize, left: usize)
         ensures searched { (needle : List ℕ) (old new : List (List ℕ)) → Skips len old new
-            → len ≤ length (concat old) → passed + length new ≡ length old
+            → len ≤ length (concat old) → length (concat old) < 2 ^ 64
+            → count ≡ length old → left ≡ length new
             → SearchedPieces needle old self.old → SearchedPieces needle new self.new }
     {
-        let searched = self.base + self.held.len();
+        let searched = self.base.saturating_add(self.held.len());
+        let passed = count.saturating_sub(left);
         if len > searched || passed > self.pieces {
             self.restart();
             return;

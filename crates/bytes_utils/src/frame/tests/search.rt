@@ -102,7 +102,7 @@ impl<'c> Stream<'c> {
         let count = self.pieces.segments();
         self.pieces.advance(len);
         self.progress
-            .leave_front(len, count - self.pieces.segments());
+            .leave_front(len, count, self.pieces.segments());
     }
 
     /// Drops all frames whose end has come. Returns their number.

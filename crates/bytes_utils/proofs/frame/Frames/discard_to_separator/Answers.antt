@@ -1,6 +1,5 @@
-use Rattle.std.proofs.Common.{◌+◌, ◌-◌, ◌≡◌, ◌≤◌, ap, ◌∙◌, length, length-drop, take, arith}
+use Rattle.std.proofs.Common.{◌≤◌, ap, ◌∙◌, length, length-drop, take, arith}
 use Rattle.std.specs.List.{concat}
-use Rattle.bytes_utils_buf.proofs.Lists.{length-Skips}
 use Rattle.bytes_utils.proofs.FrameSearchLemmas.{SearchedPieces-all, SearchedPieces-fits}
 use Rattle.bytes_utils.proofs.FramesLemmas.{TakesFrame-found}
 use Rattle.bytes_utils.proofs.LimitedFramesLemmas.{LosesFront-searched}
@@ -22,32 +21,17 @@ returns-clause-on c =
     let lost = LosesFront-searched q.finder (concat q.pieces.held.segments) progress.held.items progress.base c.self.invariant.0 s in
     rw (← c.self.view_is) (rw (c.advance.ensures.bytes, c.base-searched.ensures, s.tail) lost)
 
-pub overflow_sub-count : goal.overflow_sub-count
-overflow_sub-count c =
-    let skips = c.advance.ensures.skips in
-    omega (arith, c.segments-count.ensures.count, c.segments.ensures.count, length-Skips c.base-searched.result c.self.inside.pieces.held.segments c.advance.new.self.held.segments skips)
-
-pub leave_front-requires : goal.leave_front-requires
-leave_front-requires c =
-    let q = c.self.inside in
-    let found = rw c.as_segmented.ensures at c.in_ok-len.ensures.searched in
-    omega (arith, c.self.invariant.1, SearchedPieces-fits q.finder q.pieces.held.segments c.find.new.progress found)
-
 pub invariant_of-self-2 : goal.invariant_of-self-2
 invariant_of-self-2 c =
     let q = c.self.inside in
     let is = c.self.invariant in
-    let progress = c.find.new.progress in
     let old = q.pieces.held.segments in
-    let new = c.advance.new.self.held.segments in
     let found = rw c.as_segmented.ensures at c.in_ok-len.ensures.searched in
     let fits : c.base-searched.result ≤ length (concat old)
-    = omega (arith, c.base-searched.ensures, SearchedPieces-fits q.finder old progress found) in
-    let skips = c.advance.ensures.skips in
-    let count : (c.segments-count.result - c.segments.result) + length new ≡ length old
-    = omega (arith, c.segments-count.ensures.count, c.segments.ensures.count, length-Skips c.base-searched.result old new skips) in (
+    = omega (arith, c.base-searched.ensures, SearchedPieces-fits q.finder old c.find.new.progress found) in (
       is.0,
       omega (arith, is.1, ap length c.advance.ensures.bytes, length-drop c.base-searched.result (concat old)),
-      c.leave_front.ensures.searched q.finder old new skips fits count found,
+      c.leave_front.ensures.searched q.finder old c.advance.new.self.held.segments c.advance.ensures.skips fits is.1
+          c.segments-count.ensures.count c.segments.ensures.count found,
       c.advance.ensures.threshold ∙ is.3,
     )

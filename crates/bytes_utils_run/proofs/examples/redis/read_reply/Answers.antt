@@ -2,7 +2,7 @@ use Rattle.std.proofs.Common.{◌≡◌, [], ◌++◌, ◌∷◌, ◌≤◌, ◌
 use Rattle.std.specs.List.{concat}
 use Rattle.std.proofs.lemmas.Result.{err_from_is_err_and}
 use Rattle.bytes_utils.specs.Cursor.{unread}
-use Rattle.bytes_utils_run.specs.Redis.{NoItem, NoReply, TakesReply, items_in}
+use Rattle.bytes_utils_run.specs.Redis.{NoItem, NoReply, TakesReply}
 use Rattle.bytes_utils_run.proofs.RedisLemmas.{ArePending, no_next, too_many, too_many_after, read_one, whole_reply}
 use Rattle.bytes_utils_run.proofs.examples.redis.read_reply.Goals as goal
 
@@ -37,9 +37,7 @@ returns-then-due-eq0-clause-reply g c =
     let all = concat c.args.held.now.segments in
     let item = c.in-Some.item in
     let new = c.next_item.new.cursor in
-    let takes = rw c.in-Some.is at c.in_ok-item.ensures.item in
-    let due : (l.due - 1) + c.items_in-following.result ≡ (l.due - 1) + items_in item = ap (λ n. (l.due - 1) + n) c.items_in-following.ensures in
-    let read = read_one c.args.limits c.args.limits [] all l.items.items (unread l.cursor) l.due l.invariant.are l.invariant.pending item (unread new) ((l.due - 1) + c.items_in-following.result) l.invariant.some takes due in
+    let read = read_one c.args.limits c.args.limits [] all l.items.items (unread l.cursor) l.due l.invariant.are l.invariant.pending item (unread new) c.items_in-following.result l.invariant.some (rw c.in-Some.is at c.in_ok-item.ensures.item) c.items_in-following.ensures in
     let none : (l.due - 1) + c.items_in-following.result ≡ 0 = omega (arith, c.if-due-eq0.true) in
     let few : length (l.items.items ++ item ∷ []) ≤ c.args.limits.items = omega (arith, c.loop-cursor-test.true, c.len.ensures, length-append l.items.items (item ∷ [])) in
     let rest : unread new ≡ drop c.at.result all = ap (λ n. drop n new.all) (sym c.at.ensures.value) ∙ ap (drop c.at.result) (c.next_item.ensures.all ∙ l.invariant.all) in
@@ -50,12 +48,7 @@ returns-then-due-eq0-clause-reply g c =
 pub loop-cursor-preserved : goal.loop-cursor-preserved
 loop-cursor-preserved g c =
     let l = c.loop-cursor in
-    let all = concat c.args.held.now.segments in
-    let item = c.in-Some.item in
-    let new = c.next_item.new.cursor in
-    let takes = rw c.in-Some.is at c.in_ok-item.ensures.item in
-    let due : (l.due - 1) + c.items_in-following.result ≡ (l.due - 1) + items_in item = ap (λ n. (l.due - 1) + n) c.items_in-following.ensures in
-    let read = read_one c.args.limits c.args.limits [] all l.items.items (unread l.cursor) l.due l.invariant.are l.invariant.pending item (unread new) ((l.due - 1) + c.items_in-following.result) l.invariant.some takes due in
+    let read = read_one c.args.limits c.args.limits [] (concat c.args.held.now.segments) l.items.items (unread l.cursor) l.due l.invariant.are l.invariant.pending c.in-Some.item (unread c.next_item.new.cursor) c.items_in-following.result l.invariant.some (rw c.in-Some.is at c.in_ok-item.ensures.item) c.items_in-following.ensures in
     record {
       are = rw c.in_ok-keep.ensures.ok read.0;
       pending = rw c.in_ok-keep.ensures.ok read.1;
@@ -67,13 +60,9 @@ loop-cursor-preserved g c =
 pub returns-then-following-limits-clause-too_large : goal.returns-then-following-limits-clause-too_large
 returns-then-following-limits-clause-too_large g c _ more =
     let l = c.loop-cursor in
-    let all = concat c.args.held.now.segments in
     let item = c.in-Some.item in
-    let new = c.next_item.new.cursor in
-    let takes = rw c.in-Some.is at c.in_ok-item.ensures.item in
-    let due : (l.due - 1) + c.items_in-following.result ≡ (l.due - 1) + items_in item = ap (λ n. (l.due - 1) + n) c.items_in-following.ensures in
-    let read = read_one c.args.limits c.args.limits more all l.items.items (unread l.cursor) l.due l.invariant.are l.invariant.pending item (unread new) ((l.due - 1) + c.items_in-following.result) l.invariant.some takes due in
-    too_many_after c.args.limits more all l.items.items item (unread new) ((l.due - 1) + c.items_in-following.result) read.0 read.1 (omega (arith, c.if-following-limits.true))
+    let read = read_one c.args.limits c.args.limits more (concat c.args.held.now.segments) l.items.items (unread l.cursor) l.due l.invariant.are l.invariant.pending item (unread c.next_item.new.cursor) c.items_in-following.result l.invariant.some (rw c.in-Some.is at c.in_ok-item.ensures.item) c.items_in-following.ensures in
+    too_many_after c.args.limits more (concat c.args.held.now.segments) l.items.items item (unread c.next_item.new.cursor) ((l.due - 1) + c.items_in-following.result) read.0 read.1 (omega (arith, c.if-following-limits.true))
 
 pub returns-clause-too_large : goal.returns-clause-too_large
 returns-clause-too_large g c _ more =
