@@ -35,6 +35,10 @@ IsBegun wanted bytes = (missing : List ℕ) × (wanted ≡ bytes ++ missing) × 
 abbrev pub NeverBegins : List ℕ → List ℕ → Type 0
 NeverBegins wanted bytes = (more rest : List ℕ) → bytes ++ more ≢ wanted ++ rest
 
+-- whatever comes after the bytes, more than this number of them are before the first needle
+abbrev pub NeverEndsWithin : ℕ → List ℕ → List ℕ → Type 0
+NeverEndsWithin most needle bytes = (more front rest : List ℕ) → TakesFrame needle (bytes ++ more) front rest → most < length front
+
 -- what a caller asks a cursor for
 pub data Wanted : Type 0 where
   Tag : List ℕ → Wanted

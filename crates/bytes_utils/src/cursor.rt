@@ -1,7 +1,7 @@
 //! Reading on in a buffer that is only borrowed.
 ghost use Rattle.std.specs.Prelude.{◌≡◌, ◌≢◌, ◌+◌, ◌<◌, ◌≤◌, ◌↔◌, ◌++◌, [], ◌∷◌, length, take, drop, IsUtf8, IsTrue, IsOk, IfOk, IfErr, IfSome, IfNone, OnErr};
 ghost use Rattle.std.specs.List.{concat, slice_get};
-ghost use Rattle.bytes_utils.specs.Cursor.{IsBegun, NeverBegins, OneReplyLaw, SameReadLaw, StaysReadLaw, StaysWrongLaw, TakesFirst, TakesUpTo, passed_on, unread};
+ghost use Rattle.bytes_utils.specs.Cursor.{IsBegun, NeverBegins, NeverEndsWithin, OneReplyLaw, SameReadLaw, StaysReadLaw, StaysWrongLaw, TakesFirst, TakesUpTo, passed_on, unread};
 ghost use Rattle.bytes_utils.specs.Errors.{IsFaultOf, fault_of, refused_storage};
 ghost use Rattle.bytes_utils.specs.Frames.{TakesFrame};
 ghost use Rattle.bytes_utils.specs.Lines.{line_feed};
@@ -221,9 +221,41 @@ impl<'a, B: ContiguousBuf + Drop> Cursor<'a, B> {
         let Some(len) = self.find(alloc, needle)? else {
             return Ok(None);
         };
-        let front = self.take_bytes(alloc, len)?;
-        self.advance(needle.len());
-        Ok(Some(front))
+        Ok(Some(self.take_found(alloc, len, needle)?))
+    }
+
+    /// As `take_until`, if at most `most` bytes are before the needle. Fails with `TooLong` if there
+    /// are more, as soon as as many as `most` and the needle together have come without it. Fails
+    /// with `OutOfMemory` if memory is refused. The cursor then stays, as with `None`.
+    pub fn take_until_within(
+        &mut self,
+        alloc: Global,
+        needle: &[u8],
+        most: usize,
+    ) -> Result<Option<Bytes>, Reason>
+        requires { 0 < length needle.now }
+        ensures bytes { IfOk result (λ next. IfSome next (λ front.
+            TakesFrame needle.now (unread self.old) front (unread self.new))) }
+        ensures within { IfOk result (λ next. IfSome next (λ front. length front ≤ most)) }
+        ensures waits { IfOk result (λ next. IfNone next
+            ((self.new ≡ self.old) × (¬ Occurs needle.now (unread self.old)))) }
+        ensures few { IfOk result (λ next. IfNone next
+            (length (unread self.old) < most + length needle.now)) }
+        ensures all { self.new.all ≡ self.old.all }
+        ensures err { OnErr result (self.new ≡ self.old) }
+        ensures too_long { IfErr result (λ reason. reason ≡ Reason.TooLong
+            → NeverEndsWithin most needle.now (unread self.old)) }
+    {
+        let Some(len) = self.find(alloc, needle)? else {
+            if needle.len() <= self.remaining() && most <= self.remaining() - needle.len() {
+                return Err(Reason::TooLong);
+            }
+            return Ok(None);
+        };
+        if len > most {
+            return Err(Reason::TooLong);
+        }
+        Ok(Some(self.take_found(alloc, len, needle)?))
     }
 
     /// As `take_until`, but the needle isn't passed: the cursor is at its first byte then.
@@ -309,6 +341,22 @@ impl<'a, B: ContiguousBuf + Drop> Cursor<'a, B> {
         };
         drop_return(&mut line);
         Ok(Some(line))
+    }
+
+    /// Passes the next `len` bytes, which it returns, and the needle that was found after them.
+    fn take_found(&mut self, alloc: Global, len: usize, needle: &[u8]) -> Result<Bytes, Reason>
+        requires within { len + length needle.now ≤ length (unread self.old) }
+        requires found { OccursFirstAt needle.now (unread self.old) len }
+        ensures bytes { IfOk result (λ front.
+            TakesFrame needle.now (unread self.old) front (unread self.new)) }
+        ensures front { IfOk result (λ front. front ≡ take len (unread self.old)) }
+        ensures all { self.new.all ≡ self.old.all }
+        ensures err { OnErr result (self.new ≡ self.old) }
+        ensures reason { IfErr result (λ reason. reason ≡ Reason.OutOfMemory) }
+    {
+        let front = self.take_bytes(alloc, len)?;
+        self.advance(needle.len());
+        Ok(front)
     }
 
     /// Passes the next `len` bytes and returns them.

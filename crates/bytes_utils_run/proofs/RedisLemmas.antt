@@ -11,7 +11,7 @@ use Rattle.std.proofs.lemmas.Str.Ascii.{IsAscii-nil}
 use Rattle.std.proofs.lemmas.Str.Parse.{digit_at}
 use Rattle.std.specs.Str.{IsAscii}
 use Rattle.std.specs.Str.Parse.{IsNumeral}
-use Rattle.bytes_utils.specs.Cursor.{IsBegun, NeverBegins, TakesFirst}
+use Rattle.bytes_utils.specs.Cursor.{IsBegun, NeverBegins, NeverEndsWithin, TakesFirst}
 use Rattle.bytes_utils.specs.Frames.{TakesFrame}
 use Rattle.bytes_utils.specs.Occurrence.{Occurs}
 use Rattle.bytes_utils.specs.StreamRuns.{AreFirst}
@@ -20,7 +20,7 @@ use Rattle.bytes_utils.proofs.Joins.{append_same}
 use Rattle.bytes_utils.proofs.OccurrenceLemmas.{OccursAt-front}
 use Rattle.bytes_utils.proofs.StreamRunsLemmas.{AreFirst-next}
 use Rattle.bytes_utils_run.specs.Requests.{WriteNumber}
-use Rattle.bytes_utils_run.specs.Redis.{line_end, no_length, IsPlain, WriteInteger, WriteLength, first_byte, Says, IsLineOf, body, after_line, items_in, IsHeadOf, IsLongLine, HasNoBody, TakesItem, NoItem, AreWhole, TakesReply, NoReply}
+use Rattle.bytes_utils_run.specs.Redis.{line_end, no_length, IsPlain, WriteInteger, WriteLength, first_byte, Says, IsLineOf, body, after_line, items_in, IsHeadOf, HasNoBody, TakesItem, NoItem, AreWhole, TakesReply, NoReply}
 use Rattle.bytes_utils_run.specs.declared.examples.redis.Head.TheVariants.{Body}
 use Rattle.bytes_utils_run.specs.declared.examples.redis.Item.{Item}
 use Rattle.bytes_utils_run.specs.declared.examples.redis.Item.TheVariants.{Simple, Error, Integer, Bulk, Array}
@@ -123,7 +123,7 @@ module _ (limits : Limits) (old more : List ℕ) where
   no_line none item rest takes = none (length takes.line, takes.bytes.first.here)
 
   -- the line is too long
-  pub too_long : IsLongLine limits.line old → NoItem limits (old ++ more)
+  pub too_long : NeverEndsWithin limits.line line_end old → NoItem limits (old ++ more)
   too_long long item rest takes = omega (arith, takes.short, long more takes.line (after_line item ++ rest) takes.bytes)
 
   module _ (line mid : List ℕ) (framed : TakesFrame line_end old line mid) where
@@ -253,17 +253,6 @@ no_kind kind said simple error integer bulk array = of_kind kind said no_item
     no_item (Integer a) e says = integer e
     no_item (Bulk a) e says = bulk e
     no_item (Array a) e says = array e
-
--- a line that is too long
-pub long_line : (most : ℕ) (old : List ℕ) → (¬ Occurs line_end old) → most + 1 < length old → IsLongLine most old
-long_line most old none long more line rest takes = ⊎_elim
-    (λ short. absurd (none (length line, OccursAt-front line_end old more (length line) takes.first.here (omega (arith, short)))))
-    (λ far. omega (arith, far, long)) (cases_lt (length line + 1) (length old))
-
-pub long_frame : (most : ℕ) (old line mid : List ℕ) → TakesFrame line_end old line mid → most < length line → IsLongLine most old
-long_frame most old line mid framed long more other rest takes =
-    let same = TakesFrame-same line_end (old ++ more) line other (mid ++ more) rest (TakesFrame-more line_end old line mid more framed) takes in
-    omega (arith, long, ap length same.0)
 
 -- ---- items in a row
 

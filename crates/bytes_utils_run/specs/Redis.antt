@@ -98,10 +98,6 @@ abbrev pub IsHeadOf : Head → List ℕ → Type 0
 IsHeadOf (Whole item) line = IsLineOf item line × (after_line item ≡ []) × (body item ≡ [])
 IsHeadOf (Body len) line = (said : List ℕ) × (line ≡ 36 ∷ said) × WriteNumber said len
 
--- whatever comes after the bytes, their first line has more than this number of bytes
-abbrev pub IsLongLine : ℕ → List ℕ → Type 0
-IsLongLine most bytes = (more line rest : List ℕ) → TakesFrame line_end (bytes ++ more) line rest → most < length line
-
 -- the bytes don't begin with this number of bytes and an end of a line
 abbrev pub HasNoBody : ℕ → List ℕ → Type 0
 HasNoBody len bytes = (front rest : List ℕ) → length front ≡ len → bytes ≢ front ++ (line_end ++ rest)

@@ -3,7 +3,7 @@
 mod memory;
 
 use crate::cursor::Cursor;
-use crate::{SegmentedBuf, Str};
+use crate::{Reason, SegmentedBuf, Str};
 use bytes::Bytes;
 use bytes_utils_buf::contiguous::ContiguousBuf;
 use bytes_utils_buf::segmented::PackedBuf;
@@ -122,6 +122,29 @@ fn bytes_of_one_segment_are_shared(rt: HostRuntime) -> Result<(), Fail> {
     assert!(rt; cursor.tag(b": ")?.is_some());
     assert!(rt; is_taken(cursor.take_until(rt.alloc(), b".")?, b"example", true));
     assert!(rt; is_taken(cursor.take_to(rt.alloc(), b"g")?, b"or", false));
+    Ok(())
+}
+
+/// Whether there are too many bytes before the needle.
+fn is_too_long(taken: &Result<Option<Bytes>, Reason>) -> bool {
+    matches!(taken, Err(Reason::TooLong))
+}
+
+/// A limit on the bytes before a needle that has come, and on those before one that has not.
+#[test]
+fn a_front_within_a_limit(rt: HostRuntime) -> Result<(), Fail> {
+    let buf = header(rt.alloc())?;
+    let mut cursor = Cursor::new(&buf);
+    assert!(rt; is_too_long(&cursor.take_until_within(rt.alloc(), b": ", 3)));
+    assert!(rt;
+        is_taken(
+            cursor.take_until_within(rt.alloc(), b": ", 4)?,
+            b"Host",
+            false
+        )
+    );
+    assert!(rt; cursor.take_until_within(rt.alloc(), b"!", 11)?.is_none());
+    assert!(rt; is_too_long(&cursor.take_until_within(rt.alloc(), b"!", 10)) && cursor.at() == 6);
     Ok(())
 }
 

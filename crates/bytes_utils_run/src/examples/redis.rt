@@ -2,10 +2,10 @@
 ghost use Rattle.std.specs.Prelude.{◌≡◌, ◌≢◌, ℕ, ℤ, Option, ◌+◌, ◌<◌, ◌≤◌, ◌↔◌, List, [], ◌∷◌, ◌++◌, length, drop, option_map, IfOk, IfErr, IfSome, IfNone, OnOk, OnErr, IsTrue};
 ghost use Rattle.std.specs.List.{concat};
 ghost use Rattle.bytes_utils.specs.Pushing.{IsPush};
-ghost use Rattle.bytes_utils.specs.Cursor.{unread};
+ghost use Rattle.bytes_utils.specs.Cursor.{NeverEndsWithin, unread};
 ghost use Rattle.bytes_utils.specs.Frames.{TakesFrame};
 ghost use Rattle.bytes_utils.specs.Occurrence.{Occurs};
-ghost use Rattle.bytes_utils_run.specs.Redis.{HasNoBody, IsHeadOf, IsLineOf, IsLongLine, IsPlain, NoItem, NoReply, Replying, TakesItem, TakesReply, WriteInteger, WriteLength, items_in, line_end};
+ghost use Rattle.bytes_utils_run.specs.Redis.{HasNoBody, IsHeadOf, IsLineOf, IsPlain, NoItem, NoReply, Replying, TakesItem, TakesReply, WriteInteger, WriteLength, items_in, line_end};
 
 use super::requests::number;
 use bytes::{Buf, Bytes};
@@ -254,21 +254,15 @@ fn next_line<B: ContiguousBuf + Drop>(
     ensures waits { IfOk result (λ next. IfNone next (¬ Occurs line_end (unread cursor.old))) }
     ensures well_formed { IfErr result (λ e. e ≢ ReplyError.Malformed) }
     ensures too_large { IfErr result (λ e. e ≡ ReplyError.TooLarge
-        → IsLongLine most (unread cursor.old)) }
+        → NeverEndsWithin most line_end (unread cursor.old)) }
     ensures reason { IfErr result (λ e. (reason : _) → e ≡ ReplyError.Refused reason
         → reason ≡ Reason.OutOfMemory) }
 {
-    let Some(line) = cursor.take_until(alloc, LINE_END)? else {
-        // The last byte may be the first of the end.
-        if cursor.remaining().saturating_sub(1) > most {
-            return Err(ReplyError::TooLarge);
-        }
-        return Ok(None);
-    };
-    if line.len() > most {
-        return Err(ReplyError::TooLarge);
+    match cursor.take_until_within(alloc, LINE_END, most) {
+        Ok(line) => Ok(line),
+        Err(Reason::TooLong) => Err(ReplyError::TooLarge),
+        Err(reason) => Err(ReplyError::Refused(reason)),
     }
-    Ok(Some(line))
 }
 
 /// Passes the bytes of a bulk item and the end of a line.

@@ -45,6 +45,9 @@ fn bytes(rt: HostRuntime) {
         let taken = cursor.take_until(rt.alloc(), b"12345678901234567");
         assert_taken(&rt, "Cursor::take_until", &cursor, taken, ("0", 18));
         let mut cursor = Cursor::new(&buf);
+        let taken = cursor.take_until_within(rt.alloc(), b"12345678901234567", 1);
+        assert_taken(&rt, "Cursor::take_until_within", &cursor, taken, ("0", 18));
+        let mut cursor = Cursor::new(&buf);
         let taken = cursor.take_to(rt.alloc(), b"\n");
         assert_taken(
             &rt,
