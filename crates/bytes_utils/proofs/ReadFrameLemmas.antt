@@ -14,6 +14,15 @@ ReadsOn-more {a} {b} {c} {held} first more = record {
   following = more.following ∙ ap (λ l. l ++ more.got) first.following ∙ append_assoc held first.got more.got;
 }
 
+-- the bytes of one more read, which follow those held
+pub ReadsOn-got : {a b : Option (List ℕ)} {held mid : List ℕ} (c : Option (List ℕ)) (piece : List ℕ) → ReadsOn a b held mid → Consumes b c piece
+    → ReadsOn a c held (mid ++ piece)
+ReadsOn-got {a} {b} {held} c piece reads consumed = record {
+  got = reads.got ++ piece;
+  consumed = Consumes-trans a b c reads.got piece reads.consumed consumed;
+  following = ap (λ l. l ++ piece) reads.following ∙ append_assoc held reads.got piece;
+}
+
 -- the held bytes do not change
 pub ReadsOn-same : {before after : Option (List ℕ)} {held mid new : List ℕ} → ReadsOn before after held mid → new ≡ mid → ReadsOn before after held new
 ReadsOn-same reads same = record {

@@ -1,4 +1,4 @@
--- Why no frame was read.
+-- Why nothing was read.
 use Rattle.std.specs.Prelude.{◌≡◌, ◌≢◌, ◌↔◌, ℕ, ◌+◌, ◌^◌, ◌<◌, ◌≤◌, List, [], length, Option, None, Some, codes}
 use Rattle.std.specs.IoError.{error_kind}
 use Rattle.std.specs.declared.io.ErrorKind.TheVariants.{Interrupted}
@@ -25,6 +25,14 @@ IsDue separator held TooManyReads = ¬ Occurs separator held
 IsDue separator held (Refused reason) = reason ≡ OutOfMemory
 IsDue separator held (Unshared block) = 0 < length block.items
 IsDue separator held (Unpushed refused) = (refused.reason ≡ TooLong) ↔ (2 ^ 64 ≤ length held + length refused.back)
+
+-- The bytes could not be shared, and there are some.
+abbrev pub IsUnshared : ReadError → Type 0
+IsUnshared (Unshared block) = 0 < length block.items
+IsUnshared (Io error) = ⊥
+IsUnshared TooManyReads = ⊥
+IsUnshared (Refused reason) = ⊥
+IsUnshared (Unpushed refused) = ⊥
 
 -- what the error prints; nothing is said of a reader's own error
 abbrev pub error_text : ReadError → Option (List ℕ)

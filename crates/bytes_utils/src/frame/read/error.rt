@@ -1,6 +1,6 @@
-//! Why no frame was read.
-ghost use Rattle.std.specs.Prelude.{◌≡◌, [], ◌++◌, IfErr, IsOk, OnOk, OnErr};
-ghost use Rattle.bytes_utils.specs.ReadError.{IsDue, back_bytes, error_text};
+//! Why nothing was read.
+ghost use Rattle.std.specs.Prelude.{◌≡◌, [], ◌++◌, IfOk, IfErr, IsOk, OnOk, OnErr};
+ghost use Rattle.bytes_utils.specs.ReadError.{IsDue, IsUnshared, back_bytes, error_text};
 ghost use Rattle.bytes_utils.specs.declared.frame.read.error.ReadError.TheVariants.{Refused as RefusedError};
 
 use crate::frame::Frames;
@@ -9,19 +9,19 @@ use bytes::{Bytes, BytesMut};
 use std::error::Error;
 use std::{fmt, io};
 
-/// Why no frame was read. No byte is lost: what was read is in the reader of frames or in the
-/// error.
+/// Why no frame was read, or no item of a decoder. No byte is lost: what was read is in the reader of
+/// frames or of items, or in the error.
 #[derive(Debug, Drop)]
 pub enum ReadError {
     /// The reader's own error, which is not an interruption.
     Io(io::Error),
-    /// No frame ended within 65,536 reads.
+    /// No frame ended, or no item, within 65,536 reads.
     TooManyReads,
     /// Memory was refused, before a read or for the frame.
     Refused(Reason),
     /// Memory was refused after a read. The bytes read are in this block.
     Unshared(BytesMut),
-    /// `Frames::push` refused the bytes of a read, which come back.
+    /// The push of the bytes of a read was refused, and they come back.
     Unpushed(Refused<Bytes>),
 }
 
@@ -36,13 +36,24 @@ impl ReadError {
         ensures none { back_bytes self ≡ [] → IsOk result }
         ensures separator { frames.new.separator ≡ frames.old.separator }
     {
+        push(frames, self.into_bytes()?)
+    }
+
+    /// Returns the bytes in the error, which are none if nothing was read. Fails with `Unshared` if
+    /// memory is refused; then they are in the new error.
+    pub fn into_bytes(self) -> Result<Bytes, ReadError>
+        ensures ok { IfOk result (λ bytes. bytes ≡ back_bytes self) }
+        ensures back { IfErr result (λ e. back_bytes e ≡ back_bytes self) }
+        ensures none { back_bytes self ≡ [] → IsOk result }
+        ensures unshared { IfErr result IsUnshared }
+    {
         match self {
-            ReadError::Io(_) | ReadError::TooManyReads | ReadError::Refused(_) => Ok(()),
+            ReadError::Io(_) | ReadError::TooManyReads | ReadError::Refused(_) => Ok(Bytes::new()),
             ReadError::Unshared(block) => match block.freeze() {
-                Ok(piece) => push(frames, piece),
+                Ok(bytes) => Ok(bytes),
                 Err(failed) => Err(ReadError::Unshared(failed.value)),
             },
-            ReadError::Unpushed(refused) => push(frames, refused.back),
+            ReadError::Unpushed(refused) => Ok(refused.back),
         }
     }
 }
