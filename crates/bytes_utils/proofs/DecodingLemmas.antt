@@ -22,10 +22,10 @@ last_in (Item item) = None
 last_in (Last last) = last
 
 module _ {D : Type 0} where
-  fed-none : (s : Decoding D) → fed s [] ≡ s
+  pub fed-none : (s : Decoding D) → fed s [] ≡ s
   fed-none s = ap (λ l. record s { held = l }) (append-nil s.held)
 
-  fed-joined : (s : Decoding D) (one two : List ℕ) → fed (fed s one) two ≡ fed s (one ++ two)
+  pub fed-joined : (s : Decoding D) (one two : List ℕ) → fed (fed s one) two ≡ fed s (one ++ two)
   fed-joined s one two = ap (λ l. record s { held = l }) (append_assoc s.held one two)
 
 module _ {D A : Type 0} (gives : Gives D A) where
@@ -35,14 +35,14 @@ module _ {D A : Type 0} (gives : Gives D A) where
   SameNext-sym : (s t : Decoding D) → HasSameNext gives s t → HasSameNext gives t s
   SameNext-sym s t same more next after = ((same more next after).1, (same more next after).0)
 
-  SameNext-trans : (s t u : Decoding D) → HasSameNext gives s t → HasSameNext gives t u → HasSameNext gives s u
+  pub SameNext-trans : (s t u : Decoding D) → HasSameNext gives s t → HasSameNext gives t u → HasSameNext gives s u
   SameNext-trans s t u first later more next after =
       ((λ g. (later more next after).0 ((first more next after).0 g)), (λ g. (first more next after).1 ((later more next after).1 g)))
 
-  SameNext-fed : (s t : Decoding D) (piece : List ℕ) → HasSameNext gives s t → HasSameNext gives (fed s piece) (fed t piece)
+  pub SameNext-fed : (s t : Decoding D) (piece : List ℕ) → HasSameNext gives s t → HasSameNext gives (fed s piece) (fed t piece)
   SameNext-fed s t piece same more next after = rw (fed-joined s piece more, fed-joined t piece more) (same (piece ++ more) next after)
 
-  SameNext-now : (s t : Decoding D) → HasSameNext gives s t → (next : Next A) (after : Decoding D) → gives s next after ↔ gives t next after
+  pub SameNext-now : (s t : Decoding D) → HasSameNext gives s t → (next : Next A) (after : Decoding D) → gives s next after ↔ gives t next after
   SameNext-now s t same next after =
       let there = same [] next after in
       rw (fed-none s, fed-none t) at there
@@ -50,7 +50,7 @@ module _ {D A : Type 0} (gives : Gives D A) where
 -- ---- runs
 
 module _ {D A : Type 0} (gives : Gives D A) (s : Decoding D) where
-  items_fed : IsStable gives → (bytes : List ℕ) (items : List A) (t : Decoding D) (piece : List ℕ) → AreItems gives (fed s bytes) items t
+  pub items_fed : IsStable gives → (bytes : List ℕ) (items : List A) (t : Decoding D) (piece : List ℕ) → AreItems gives (fed s bytes) items t
       → AreItems gives (fed s (bytes ++ piece)) items (fed t piece)
   items_fed stable bytes items t piece a = record {
     rest = fed a.rest piece;

@@ -46,6 +46,9 @@ pub mod LimitedFramesLemmas
 pub mod LimitedLinesLemmas
 pub mod DecodingLemmas
 pub mod PrefixedLemmas
+pub mod DelimitedLemmas
+pub mod TextLinesLemmas
+pub mod ReadItemLemmas
 pub mod StreamLinesLemmas
 pub mod CursorLemmas
 pub mod EndSearchLemmas

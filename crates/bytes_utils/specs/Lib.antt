@@ -32,6 +32,11 @@ pub mod ReadFrame
 pub mod Decoding
 pub mod Prefixed
 pub mod PrefixedLaws
+pub mod Delimited
+pub mod DelimitedLaws
+pub mod TextLines
+pub mod TextLinesLaws
+pub mod ReadItem
 -- the definitions about buffers, for callers that use their names
 pub use Rattle.bytes_utils_buf.specs.Segments
 pub use Rattle.bytes_utils_buf.specs.Packing

@@ -3,14 +3,20 @@ ghost use Rattle.std.specs.Prelude.{◌≡◌};
 ghost use Rattle.bytes_utils.specs.Decoding.{Decodes, DecodesAtEnd, DecoderAllLaw, DecoderRunLaw, DecoderWholeLaw, Decoding, IsSingle, IsStable, Next, WaitsForItem, decoding};
 
 mod decoded;
+mod delimited;
+mod lines;
 mod prefixed;
+mod read;
 #[cfg(test)]
 mod tests;
 
 use bytes_utils_buf::Reason;
 use bytes_utils_buf::segmented::PackedBuf;
 pub use decoded::Decoded;
+pub use delimited::{Delimited, delimited_laws};
+pub use lines::TextLines;
 pub use prefixed::LengthPrefixed;
+pub use read::{ReadItemError, read_item, read_item_laws};
 use std::alloc::Global;
 
 /// A way to take items off the front of the bytes of a stream, such as frames of a protocol. Write

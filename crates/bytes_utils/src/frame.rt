@@ -12,7 +12,7 @@ mod end_search;
 mod limited;
 mod limited_lines;
 pub(crate) mod lines;
-mod read;
+pub(crate) mod read;
 pub(crate) mod search;
 #[cfg(test)]
 mod tests;

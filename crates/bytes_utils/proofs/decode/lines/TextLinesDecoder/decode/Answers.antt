@@ -1,0 +1,5 @@
+use Rattle.bytes_utils.proofs.TextLinesLemmas.{decodes_text_line}
+use Rattle.bytes_utils.proofs.decode.lines.TextLinesDecoder.decode.Goals as goal
+
+pub returns-clause-step : goal.returns-clause-step
+returns-clause-step c = decodes_text_line _ _ c.take_line.result c.take_line.ensures.taken

@@ -1,0 +1,132 @@
+//! Lines as texts.
+ghost use Rattle.std.specs.Prelude.{◌≡◌, [], ◌∷◌, IfOk, IfErr};
+ghost use Rattle.bytes_utils.specs.Decoding.{decoding};
+ghost use Rattle.bytes_utils.specs.Delimited.{AwaitsSeparator, delimiting};
+ghost use Rattle.bytes_utils.specs.Lines.{line_feed};
+ghost use Rattle.bytes_utils.specs.TextLines.{TakesLastTextLine, TakesTextLine, fails_text_line, gives_text_line};
+ghost use Rattle.bytes_utils.specs.TextLinesLaws.{text_line_single, text_line_stable, text_line_waits};
+
+use super::{Decoder, Delimited};
+use crate::frame::lines::drop_return;
+use crate::string::{Str, Utf8Error};
+use bytes::{Buf, Bytes};
+use bytes_utils_buf::Reason;
+use bytes_utils_buf::segmented::PackedBuf;
+use std::alloc::Global;
+use std::marker::Model;
+
+/// A line, or the error for one that is not UTF-8, which has its bytes.
+type Line = Result<Str, Utf8Error<Bytes>>;
+
+/// A decoder of lines as texts. A line is one of `str::lines`: it ends at a line feed, and one
+/// carriage return directly before this is no part of it.
+///
+/// ```text
+/// let mut lines = Decoded::new(alloc, TextLines::new(alloc)?);
+/// lines.push_slice(b"Host: a\r")?;
+/// lines.next_item(alloc)?          // `None`
+/// lines.push_slice(b"\nbody")?;
+/// lines.next_item(alloc)?          // `Host: a`; `body` is left
+/// lines.last_item(alloc)?          // `body`
+/// ```
+///
+/// At the end of the stream the bytes that are left are the last line, whole: without a line feed
+/// after it a carriage return is part of it. A line that is not UTF-8 is an item, too, so that the
+/// next one is the line after it. A line over the limit is an error that stays.
+///
+/// While it waits, bytes are not searched again. A line that lies in one piece shares the bytes of
+/// the piece. [`Lines`](crate::frame::Lines) is a reader of the same lines.
+#[derive(Debug, Drop)]
+pub struct TextLines {
+    frames: Delimited,
+}
+
+impl Model for TextLines {
+    ghost use Rattle.std.specs.Prelude.{◌≡◌, [], ◌∷◌};
+    ghost use Rattle.bytes_utils.specs.Delimited.{Delimiting};
+    ghost use Rattle.bytes_utils.specs.Lines.{line_feed};
+
+    ghost Value = { Delimiting };
+
+    ghost view = { λ l. l.frames };
+
+    ghost invariant = { λ l. l.frames.separator ≡ line_feed ∷ [] };
+}
+
+impl TextLines {
+    /// Makes a decoder of lines of any length. Fails with `OutOfMemory` if memory is refused.
+    pub fn new(alloc: Global) -> Result<TextLines, Reason>
+        ensures ok { IfOk result (λ lines. lines ≡ delimiting (line_feed ∷ []) usize.MAX) }
+        ensures reason { IfErr result (λ reason. reason ≡ Reason.OutOfMemory) }
+    {
+        TextLines::with_limit(alloc, usize::MAX)
+    }
+
+    /// Makes a decoder of lines of at most `max_length` bytes, with the carriage return and without
+    /// the line feed. Fails with `OutOfMemory` if memory is refused.
+    pub fn with_limit(alloc: Global, max_length: usize) -> Result<TextLines, Reason>
+        ensures ok { IfOk result (λ lines. lines ≡ delimiting (line_feed ∷ []) max_length) }
+        ensures reason { IfErr result (λ reason. reason ≡ Reason.OutOfMemory) }
+    {
+        Ok(TextLines {
+            frames: Delimited::with_limit(alloc, b"\n", max_length)?,
+        })
+    }
+
+    /// Takes the next line, if its line feed has come.
+    fn take_line(&mut self, alloc: Global, held: &mut PackedBuf) -> Result<Option<Line>, Reason>
+        ensures taken { TakesTextLine (decoding self.old held.old) result (decoding self.new held.new) }
+        ensures threshold { held.new.threshold ≡ held.old.threshold }
+    {
+        let Some(mut line) = self.frames.take_frame(alloc, held)? else {
+            return Ok(None);
+        };
+        drop_return(&mut line);
+        Ok(Some(Str::from_inner(line)))
+    }
+
+    /// Takes all bytes as the last line, if there are any.
+    fn take_last(&mut self, alloc: Global, held: &mut PackedBuf) -> Result<Option<Line>, Reason>
+        ensures taken { TakesLastTextLine (decoding self.old held.old) result
+            (decoding self.new held.new) }
+        ensures threshold { held.new.threshold ≡ held.old.threshold }
+    {
+        let len = held.remaining();
+        if len == 0 {
+            self.frames.restart();
+            return Ok(None);
+        }
+        let line = held.take_bytes(alloc, len)?;
+        self.frames.restart();
+        Ok(Some(Str::from_inner(line)))
+    }
+}
+
+impl Decoder for TextLines {
+    type Item = Result<Str, Utf8Error<Bytes>>;
+
+    type Error = Reason;
+
+    ghost gives = { gives_text_line };
+
+    ghost waits = { AwaitsSeparator };
+
+    ghost fails = { fails_text_line };
+
+    fn decode(&mut self, alloc: Global, held: &mut PackedBuf) -> Result<Option<Line>, Reason> {
+        self.take_line(alloc, held)
+    }
+
+    fn decode_eof(&mut self, alloc: Global, held: &mut PackedBuf) -> Result<Option<Line>, Reason> {
+        if let Some(line) = self.take_line(alloc, held)? {
+            return Ok(Some(line));
+        }
+        self.take_last(alloc, held)
+    }
+
+    ghost stable = { text_line_stable };
+
+    ghost single = { text_line_single };
+
+    ghost awaits = { text_line_waits };
+}
