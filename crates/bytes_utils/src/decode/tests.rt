@@ -1,3 +1,28 @@
 //! What no clause covers: worked cases, what is shared, and that calls succeed with ample memory.
+mod delimited;
+mod lines;
 mod memory;
 mod prefixed;
+mod read;
+
+use crate::Reason;
+use crate::decode::{Decoded, Decoder};
+use bytes::Bytes;
+use std::alloc::Global;
+use std::test::Fail;
+
+/// Takes the frames that have come, each with a stroke after it.
+fn take_frames<D: Decoder<Item = Bytes, Error = Reason>>(
+    alloc: Global,
+    reader: &mut Decoded<D>,
+    out: &mut Vec<u8>,
+) -> Result<(), Fail> {
+    for _ in 0..6 {
+        let Some(frame) = reader.next_item(alloc)? else {
+            return Ok(());
+        };
+        out.extend_from_slice(frame.as_slice())?;
+        out.push(b'|')?;
+    }
+    Err(Fail::from("no end"))
+}

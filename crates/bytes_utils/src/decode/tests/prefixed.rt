@@ -1,28 +1,12 @@
 //! Frames after their lengths, out of pieces: worked cases, and what is shared.
+use super::take_frames;
 use crate::Reason;
 use crate::decode::{Decoded, LengthPrefixed};
 use bytes::{Buf, Bytes};
-use std::alloc::Global;
 use std::test::Fail;
 
 /// Three frames, of which one is empty, and the beginning of a fourth.
 const STREAM: &[u8] = b"\0\0\0\x03abc\0\0\0\0\0\0\0\x01d\0\0\0\x04ef";
-
-/// Takes the frames that have come, each with a stroke after it.
-fn take_frames(
-    alloc: Global,
-    reader: &mut Decoded<LengthPrefixed>,
-    out: &mut Vec<u8>,
-) -> Result<(), Fail> {
-    for _ in 0..4 {
-        let Some(frame) = reader.next_item(alloc)? else {
-            return Ok(());
-        };
-        out.extend_from_slice(frame.as_slice())?;
-        out.push(b'|')?;
-    }
-    Err(Fail::from("no end"))
-}
 
 #[test]
 fn stream_that_is_cut_anywhere(rt: HostRuntime) -> Result<(), Fail> {
