@@ -20,8 +20,8 @@ use std::io::Read;
 /// [`ReadItemError`]; then each byte read is in `items` or in the error, from which it can be put
 /// back.
 ///
-/// A read takes at most 4,096 bytes, and is made again if it was interrupted. An item within one
-/// read that is longer than 512 bytes shares them, as the decoder takes it.
+/// A read takes at most 4,096 bytes, and is made again if it was interrupted. What a read of more
+/// than 512 bytes gave is held without a copy.
 pub fn read_item<R: Read, D: Decoder>(
     input: &mut R,
     items: &mut Decoded<D>,
