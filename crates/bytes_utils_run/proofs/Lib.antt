@@ -36,3 +36,5 @@ pub mod PathsLemmas
 pub mod FilesLemmas
 pub mod FieldsLemmas
 pub mod RedisLemmas
+pub mod MultipartLemmas
+pub mod MultipartLaws

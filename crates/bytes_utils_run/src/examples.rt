@@ -4,6 +4,7 @@ pub mod fields;
 pub mod files;
 pub mod headers;
 pub mod inbox;
+pub mod multipart;
 pub mod paths;
 pub mod records;
 pub mod redis;

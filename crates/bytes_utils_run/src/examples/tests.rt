@@ -5,6 +5,7 @@ mod headers;
 mod inbox;
 mod long;
 mod memory;
+mod multipart;
 mod paths;
 mod records;
 mod redis;

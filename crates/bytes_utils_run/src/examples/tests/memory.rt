@@ -3,6 +3,7 @@
 use crate::examples::fields::fields_of;
 use crate::examples::headers::headers;
 use crate::examples::inbox::Inbox;
+use crate::examples::multipart::{Limits as PartLimits, PartReader};
 use crate::examples::paths::{both, is_name, names_of, path_of, rooted, with_name};
 use crate::examples::records::Records;
 use crate::examples::redis::{Limits, ReplyReader};
@@ -63,6 +64,20 @@ fn of_replies(alloc: Global, replies: &mut ReplyReader) -> Named {
     Ok(())
 }
 
+fn of_parts(alloc: Global) -> Named {
+    let limits = PartLimits { head: 99, body: 9 };
+    let mut parts = PartReader::new(alloc, b"b", limits)
+        .ok()
+        .ok_or("PartReader::new")?;
+    let front = Bytes::from_static(b"--b\r\nContent-Disposition: form-data; name=\"a\"\r\n\r\nHe");
+    parts.push(front).ok().ok_or("PartReader::push")?;
+    parts.next_part(alloc).ok().ok_or("PartReader::next_part")?;
+    let back = Bytes::from_static(b"llo\r\n--b--");
+    parts.push(back).ok().ok_or("PartReader::push")?;
+    parts.next_part(alloc).ok().ok_or("PartReader::next_part")?;
+    Ok(())
+}
+
 fn of_texts(alloc: Global) -> Named {
     tokens(alloc, Str::from_static("a,b")).ok().ok_or("tokens")?;
     headers(alloc, Str::from_static("A: b\n"))
@@ -89,6 +104,7 @@ fn of_all(alloc: Global) -> Named {
     of_texts(alloc)?;
     of_paths(alloc)?;
     of_inbox(alloc, &mut Inbox::new(alloc))?;
+    of_parts(alloc)?;
     let limits = Limits {
         line: 9,
         bulk: 9,

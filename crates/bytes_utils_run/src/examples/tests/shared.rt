@@ -3,6 +3,7 @@
 use crate::examples::fields::fields_of;
 use crate::examples::headers::headers;
 use crate::examples::inbox::Inbox;
+use crate::examples::multipart::{Limits, PartReader};
 use crate::examples::paths::names_of;
 use crate::examples::records::Records;
 use crate::examples::requests::Requests;
@@ -120,6 +121,27 @@ fn a_body_in_two_pieces_is_shared(rt: HostRuntime) -> Result<(), Fail> {
         assert!(rt; !piece.is_unique());
     }
     drop(requests);
+    assert!(rt; other.is_unique());
+    Ok(())
+}
+
+#[test]
+fn a_part_in_two_pieces_is_shared(rt: HostRuntime) -> Result<(), Fail> {
+    let limits = Limits {
+        head: 9,
+        body: 2_000,
+    };
+    let mut parts = PartReader::new(rt.alloc(), b"b", limits)?;
+    parts.push(Bytes::from_static(b"--b\r\n\r\n"))?;
+    let (first, other) = piece(rt.alloc(), &[b'a'; 600])?;
+    parts.push(first)?;
+    parts.push(other.clone()?)?;
+    parts.push(Bytes::from_static(b"\r\n--b--"))?;
+    let part = parts.next_part(rt.alloc())?.ok_or("no part")?;
+    for piece in part.body {
+        assert!(rt; piece.len() == 600 && !piece.is_unique());
+    }
+    drop(parts);
     assert!(rt; other.is_unique());
     Ok(())
 }

@@ -1,0 +1,387 @@
+-- Parts between boundaries.
+use Rattle.std.proofs.Common.{◌≡◌, ◌≢◌, ℕ, ◌+◌, ◌<◌, ◌≤◌, List, [], ◌∷◌, ◌++◌, length, take, drop, get_or, ap, ◌∙◌, sym, refl, subst, arith, length-append, length-drop, ◌-◌, append_assoc, take-append-drop, ⊎_elim, inl, inr, true, false, All, Option, None, Some, MatchOption, Result, Ok, Err}
+use Rattle.std.proofs.lemmas.Bool.{cases_lt}
+use Rattle.std.proofs.lemmas.List.{append_cancel_left, length-take-le}
+use Rattle.std.specs.List.{concat}
+use Rattle.bytes_utils.specs.Frames.{Framing, TakesFrame}
+use Rattle.bytes_utils.specs.Halves.{AreHalvesAtFirst}
+use Rattle.bytes_utils.specs.Occurrence.{Occurs, OccursAt}
+use Rattle.bytes_utils.specs.Pushing.{IsPush}
+use Rattle.bytes_utils_buf.specs.declared.refused.Refused.{Refused}
+use Rattle.bytes_utils.proofs.FramesLemmas.{TakesFrame-more, TakesFrame-same}
+use Rattle.bytes_utils.proofs.OccurrenceLemmas.{OccursAt-between, OccursAt-front}
+use Rattle.bytes_utils_run.specs.Multipart.{Parting, appended, line_end, dashes, head_end, PartBytes, part_bytes, without_padding, IsHeadIn, IsPart, TakesPart, NoPart, Closes, LacksNext, held_at, AreApart, has_ended, quote, IsQuoted, IsDisposition, NoDisposition, IsFirstDisposition, held_by, IsDivided, SameSections, AfterSearch}
+use Rattle.bytes_utils_run.specs.declared.examples.multipart.Limits.{Limits}
+use Rattle.bytes_utils_run.specs.declared.examples.multipart.sections.Sections.{Sections}
+use Rattle.bytes_utils_run.specs.declared.examples.multipart.sections.Stage.{Stage}
+use Rattle.bytes_utils_run.specs.declared.examples.multipart.sections.Stage.TheVariants.{Preamble, Waiting, Found, Ended}
+
+-- ---- delimiters
+
+-- a delimiter comes at once
+pub at_once : (d w : List ℕ) → TakesFrame d (d ++ w) [] w
+at_once d w = record { bytes = refl; first = record { here = OccursAt-between [] d w; none_before = λ j there. omega arith } }
+
+-- the parts of bytes that are put together again
+pub apart : (d old p w : List ℕ) → TakesFrame d old p w → TakesFrame d (p ++ (d ++ w)) p w
+apart d old p w takes = subst (λ l. TakesFrame d l p w) takes.bytes takes
+
+module _ (d p w : List ℕ) (begins : TakesFrame d (p ++ (d ++ w)) p w) where
+  -- two dashes follow
+  pub closes : take 2 w ≡ dashes → Closes d (p ++ (d ++ w))
+  closes two = (p, drop 2 w, subst (TakesFrame d (p ++ (d ++ w)) p) (sym (take-append-drop 2 w) ∙ ap (λ l. l ++ drop 2 w) two) begins)
+
+  pub not_closed : take 2 w ≢ dashes → ¬ Closes d (p ++ (d ++ w))
+  not_closed other closing = other (ap (take 2) (TakesFrame-same d (p ++ (d ++ w)) p closing.0 w (dashes ++ closing.1) begins closing.2).1)
+
+  -- the next delimiter is found
+  pub both_apart : (f v : List ℕ) → TakesFrame d w f v → TakesFrame d (p ++ (d ++ (f ++ (d ++ v)))) p (f ++ (d ++ v)) × TakesFrame d (f ++ (d ++ v)) f v
+  both_apart f v ends = (
+    subst (λ l. TakesFrame d (p ++ (d ++ l)) p l) ends.bytes begins,
+    apart d w f v ends,
+  )
+
+  -- the next delimiter has not come
+  pub lacks_next : (¬ Occurs d w) → LacksNext d (p ++ (d ++ w))
+  lacks_next none preamble after takes occurs = none (subst (Occurs d) (sym (TakesFrame-same d (p ++ (d ++ w)) p preamble w after begins takes).1) occurs)
+
+-- without a delimiter nothing is closed
+pub open_without : (d bytes : List ℕ) → (¬ Occurs d bytes) → ¬ Closes d bytes
+open_without d bytes none closing = none (length closing.0, closing.2.first.here)
+
+-- what is before the next delimiter has almost as many bytes as have come, or more
+pub long_frame : (d bytes more frame rest : List ℕ) → (¬ Occurs d bytes) → TakesFrame d (bytes ++ more) frame rest → length bytes < length frame + length d
+long_frame d bytes more frame rest none takes =
+    ⊎_elim (λ below. below) (λ within. absurd (none (length frame, OccursAt-front d bytes more (length frame) takes.first.here within))) (cases_lt (length bytes) (length frame + length d))
+
+-- ---- one part
+
+one_head : (front a b : List ℕ) → IsHeadIn front a → IsHeadIn front b → a ≡ b
+one_head front a b (inl p) (inl q) = p.1 ∙ sym q.1
+one_head front a b (inl p) (inr q) = absurd (omega (arith, ap length (sym p.0 ∙ q), length-append line_end b))
+one_head front a b (inr p) (inl q) = absurd (omega (arith, ap length (sym q.0 ∙ p), length-append line_end a))
+one_head front a b (inr p) (inr q) = append_cancel_left line_end a b (sym p ∙ q)
+
+-- what is between two delimiters is one part, whatever the limits are
+pub IsPart-same : (limits other : Limits) (raw : List ℕ) (x y : PartBytes) → IsPart limits raw x → IsPart other raw y → x ≡ y
+IsPart-same limits other raw x y p q =
+    let same = TakesFrame-same head_end raw p.front q.front x.body y.body p.cut q.cut in
+    let head = one_head p.front x.head y.head p.head (subst (λ l. IsHeadIn l y.head) (sym same.0) q.head) in
+    λ i. part_bytes (head i) (same.1 i)
+
+part_size : (limits : Limits) (raw : List ℕ) (part : PartBytes) → IsPart limits raw part → length raw ≤ limits.head + limits.body
+part_size limits raw part is =
+    omega (arith, ap length is.cut.bytes, length-append is.front (head_end ++ part.body), length-append head_end part.body, is.small, is.short)
+
+module _ (d : List ℕ) (limits : Limits) where
+  -- the delimiter after a part has not come
+  pub no_part_yet : (bytes : List ℕ) → LacksNext d bytes → NoPart d limits bytes
+  no_part_yet bytes lacks part rest takes = lacks takes.preamble takes.after takes.begins (length takes.raw, takes.ends.first.here)
+
+  pub long_preamble : (bytes : List ℕ) → (¬ Occurs d bytes) → limits.head + limits.body + length d < length bytes → (more : List ℕ) → NoPart d limits (bytes ++ more)
+  long_preamble bytes none long more part rest takes = omega (arith, long, takes.few, long_frame d bytes more takes.preamble takes.after none takes.begins)
+
+  module _ (p w : List ℕ) (begins : TakesFrame d (p ++ (d ++ w)) p w) where
+    -- what is before the first delimiter, and what is after it
+    around : (more : List ℕ) (part : PartBytes) (rest : List ℕ) (takes : TakesPart d limits ((p ++ (d ++ w)) ++ more) part rest) → (p ≡ takes.preamble) × (w ++ more ≡ takes.after)
+    around more part rest takes =
+        TakesFrame-same d ((p ++ (d ++ w)) ++ more) p takes.preamble (w ++ more) takes.after (TakesFrame-more d (p ++ (d ++ w)) p w more begins) takes.begins
+
+    -- the preamble is too long
+    pub many_before : limits.head + limits.body < length p → (more : List ℕ) → NoPart d limits ((p ++ (d ++ w)) ++ more)
+    many_before long more part rest takes = omega (arith, long, takes.few, ap length (around more part rest takes).0)
+
+    -- what is before the next delimiter is too long
+    pub long_part : (¬ Occurs d w) → limits.head + limits.body + length d < length w → (more : List ℕ) → NoPart d limits ((p ++ (d ++ w)) ++ more)
+    long_part none long more part rest takes =
+        let same = around more part rest takes in
+        let ends = subst (λ l. TakesFrame d l takes.raw takes.next) (sym same.1) takes.ends in
+        omega (arith, long, long_frame d w more takes.raw takes.next none ends, part_size limits takes.raw part takes.is)
+
+  module _ (p f v : List ℕ) (begins : TakesFrame d (p ++ (d ++ (f ++ (d ++ v)))) p (f ++ (d ++ v))) (ends : TakesFrame d (f ++ (d ++ v)) f v) where
+    -- what was found is a part
+    pub found_part : (part : PartBytes) → IsPart limits f part → length p ≤ limits.head + limits.body → TakesPart d limits (p ++ (d ++ (f ++ (d ++ v)))) part (d ++ v)
+    found_part part is few = record {
+      preamble = p;
+      after = f ++ (d ++ v);
+      begins = begins;
+      raw = f;
+      next = v;
+      ends = ends;
+      is = is;
+      few = few;
+      left = refl;
+    }
+
+    -- what was found is no part
+    pub no_found : ((part : PartBytes) → ¬ IsPart limits f part) → (more : List ℕ) → NoPart d limits ((p ++ (d ++ (f ++ (d ++ v)))) ++ more)
+    no_found none more part rest takes =
+        let same = around p (f ++ (d ++ v)) begins more part rest takes in
+        let next = subst (λ l. TakesFrame d l takes.raw takes.next) (sym same.1) takes.ends in
+        let raw = TakesFrame-same d ((f ++ (d ++ v)) ++ more) f takes.raw (v ++ more) takes.next (TakesFrame-more d (f ++ (d ++ v)) f v more ends) next in
+        none part (subst (λ l. IsPart limits l part) (sym raw.0) takes.is)
+
+-- ---- what is found
+
+module _ (s : Sections) (waiting : s.stage ≡ Waiting) (divided : IsDivided s) where
+  -- neither the next delimiter nor the end
+  pub none_found : (frames : Framing) → frames ≡ s.frames → (¬ Occurs s.frames.separator s.frames.held) → take 2 s.frames.held ≢ dashes
+      → AfterSearch s.stage s (record s { frames = frames })
+  none_found frames same none other =
+      let d = s.frames.separator in
+      let p = concat s.preamble.segments in
+      let f = concat s.found.segments in
+      let w = s.frames.held in
+      let begins : TakesFrame d (p ++ (d ++ w)) p w = subst (λ stage. AreApart stage d p f w) waiting divided in
+      let not_closed = subst (λ stage. ¬ Closes d (held_at stage d p f w)) (sym waiting) (not_closed d p w begins other) in
+      let lacks = subst (λ stage. LacksNext d (held_at stage d p f w)) (sym waiting) (lacks_next d p w begins none) in
+      subst (λ other. AfterSearch s.stage s (record s { frames = other })) (sym same)
+      (subst (λ stage. AfterSearch stage s s) (sym waiting) (record { delimiter = refl; ended = refl; held = refl }, none, not_closed, lacks))
+
+module _ (s : Sections) (is_found : s.stage ≡ Found) (divided : IsDivided s) where
+  module _ (limits : Limits) where
+    -- what was found is a part, and it is taken
+    pub takes_found : (part : PartBytes) (new : Sections) → IsPart limits (concat s.found.segments) part → length (concat s.preamble.segments) ≤ limits.head + limits.body
+        → new.stage ≡ Waiting → new.frames ≡ s.frames → new.preamble.segments ≡ [] → TakesPart s.frames.separator limits (held_by s) part (held_by new)
+    takes_found part new is few stage frames preamble =
+        let d = s.frames.separator in
+        let p = concat s.preamble.segments in
+        let f = concat s.found.segments in
+        let v = s.frames.held in
+        let both : AreApart Found d p f v = subst (λ stage. AreApart stage d p f v) is_found divided in
+        let left : held_by new ≡ d ++ v = rw (stage, frames, preamble) refl in
+        rw left (subst (λ stage. TakesPart d limits (held_at stage d p f v) part (d ++ v)) (sym is_found) (found_part d limits p f v both.0 both.1 part is few))
+
+    pub part_in_found : (part : PartBytes) → IsPart limits (concat s.found.segments) part → length (concat s.preamble.segments) ≤ limits.head + limits.body
+        → (rest : List ℕ) × TakesPart s.frames.separator limits (held_by s) part rest
+    part_in_found part is few =
+        let d = s.frames.separator in
+        let p = concat s.preamble.segments in
+        let f = concat s.found.segments in
+        let v = s.frames.held in
+        let both : AreApart Found d p f v = subst (λ stage. AreApart stage d p f v) is_found divided in
+        (d ++ v, subst (λ stage. TakesPart d limits (held_at stage d p f v) part (d ++ v)) (sym is_found) (found_part d limits p f v both.0 both.1 part is few))
+
+    -- what was found is no part
+    pub none_in_found : ((part : PartBytes) → ¬ IsPart limits (concat s.found.segments) part) → (more : List ℕ) → NoPart s.frames.separator limits (held_by s ++ more)
+    none_in_found none more =
+        let d = s.frames.separator in
+        let p = concat s.preamble.segments in
+        let f = concat s.found.segments in
+        let v = s.frames.held in
+        let both : AreApart Found d p f v = subst (λ stage. AreApart stage d p f v) is_found divided in
+        subst (λ stage. NoPart d limits (held_at stage d p f v ++ more)) (sym is_found) (no_found d limits p f v both.0 both.1 none more)
+
+    -- too many bytes are before it
+    pub much_before_found : limits.head + limits.body < length (concat s.preamble.segments) → (more : List ℕ) → NoPart s.frames.separator limits (held_by s ++ more)
+    much_before_found much more =
+        let d = s.frames.separator in
+        let p = concat s.preamble.segments in
+        let f = concat s.found.segments in
+        let v = s.frames.held in
+        let both : AreApart Found d p f v = subst (λ stage. AreApart stage d p f v) is_found divided in
+        subst (λ stage. NoPart d limits (held_at stage d p f v ++ more)) (sym is_found) (many_before d limits p (f ++ (d ++ v)) both.0 much more)
+
+-- a delimiter is held, and what follows it
+pub divided_at_once : (s : Sections) → s.stage ≡ Waiting → s.preamble.segments ≡ [] → IsDivided s
+divided_at_once s stage preamble =
+    let d = s.frames.separator in
+    let w = s.frames.held in
+    subst (λ stage. AreApart stage d (concat s.preamble.segments) (concat s.found.segments) w) (sym stage)
+    (subst (λ (l : List (List ℕ)). TakesFrame d (concat l ++ (d ++ w)) (concat l) w) (sym preamble) (at_once d w))
+
+-- ---- a piece is pushed
+
+apart_more : (stage : Stage) (d p f w piece : List ℕ) → AreApart stage d p f w → AreApart stage d p f (w ++ piece)
+apart_more Preamble d p f w piece parts = tt
+apart_more Waiting d p f w piece parts = apart d ((p ++ (d ++ w)) ++ piece) p (w ++ piece) (TakesFrame-more d (p ++ (d ++ w)) p w piece parts)
+apart_more Found d p f w piece parts =
+    let joined : (f ++ (d ++ w)) ++ piece ≡ f ++ (d ++ (w ++ piece)) = append_assoc f (d ++ w) piece ∙ ap (λ l. f ++ l) (append_assoc d w piece) in
+    let begins = TakesFrame-more d (p ++ (d ++ (f ++ (d ++ w)))) p (f ++ (d ++ w)) piece parts.0 in (
+      apart d ((p ++ (d ++ (f ++ (d ++ w)))) ++ piece) p (f ++ (d ++ (w ++ piece))) (subst (TakesFrame d ((p ++ (d ++ (f ++ (d ++ w)))) ++ piece) p) joined begins),
+      apart d ((f ++ (d ++ w)) ++ piece) f (w ++ piece) (TakesFrame-more d (f ++ (d ++ w)) f w piece parts.1),
+    )
+apart_more Ended d p f w piece parts = tt
+
+-- what is held before the bytes that wait
+pub held_before : Stage → List ℕ → List ℕ → List ℕ → List ℕ
+held_before Preamble d p f = []
+held_before Waiting d p f = p ++ d
+held_before Found d p f = (p ++ d) ++ (f ++ d)
+held_before Ended d p f = []
+
+pub held_apart : (stage : Stage) (d p f w : List ℕ) → has_ended stage ≡ false → held_at stage d p f w ≡ held_before stage d p f ++ w
+unfolding held_before
+held_apart Preamble d p f w on = refl
+held_apart Waiting d p f w on = sym (append_assoc p d w)
+held_apart Found d p f w on = sym (append_assoc p d (f ++ (d ++ w))) ∙ ap (λ l. (p ++ d) ++ l) (sym (append_assoc f d w)) ∙ sym (append_assoc (p ++ d) (f ++ d) w)
+held_apart Ended d p f w on = cc
+
+module _ (s : Sections) (frames : Framing) (piece : List ℕ) (same : frames.separator ≡ s.frames.separator) (held : frames.held ≡ s.frames.held ++ piece) where
+  pub divided_more : IsDivided s → IsDivided (record s { frames = frames })
+  divided_more parts = rw (same, held) (apart_more s.stage s.frames.separator (concat s.preamble.segments) (concat s.found.segments) s.frames.held piece parts)
+
+  pub held_more : has_ended s.stage ≡ false → held_by (record s { frames = frames }) ≡ held_by s ++ piece
+  held_more on =
+      let d = s.frames.separator in
+      let p = concat s.preamble.segments in
+      let f = concat s.found.segments in
+      let w = s.frames.held in
+      let before = held_before s.stage d p f in
+      let joined = held_apart s.stage d p f (w ++ piece) on ∙ sym (append_assoc before w piece) ∙ ap (λ l. l ++ piece) (sym (held_apart s.stage d p f w on)) in
+      rw (same, held) joined
+
+-- what a push says of a part of the state, and of all of it
+pub push_of_all : {U : Type 0} (held piece : List ℕ) (result : Result U (Refused (List ℕ))) {A B C D : Type 0} → IsPush held piece result A B → (A → C) → (B → D) → IsPush held piece result C D
+push_of_all held piece (Ok u) push all same = record { ok = all push.ok; err = tt; back = tt; too_long = tt; empty = push.empty }
+push_of_all held piece (Err e) push all same = record { ok = tt; err = same push.err; back = push.back; too_long = push.too_long; empty = push.empty }
+
+-- what clauses see
+abbrev seen : Limits → Sections → Parting
+seen limits s = record { delimiter = s.frames.separator; limits = limits; ended = has_ended s.stage; held = held_by s }
+
+module _ (s : Sections) (limits : Limits) (frames : Framing) (piece : List ℕ) (result : Result (Unit {0}) (Refused (List ℕ))) (same : frames.separator ≡ s.frames.separator)
+    (push : IsPush s.frames.held piece result (frames.held ≡ s.frames.held ++ piece) (frames ≡ s.frames)) where
+  pub still_divided : IsDivided s → IsDivided (record s { frames = frames })
+  still_divided parts = push_keeps result push
+    where
+      push_keeps : (result : Result (Unit {0}) (Refused (List ℕ))) → IsPush s.frames.held piece result (frames.held ≡ s.frames.held ++ piece) (frames ≡ s.frames) → IsDivided (record s { frames = frames })
+      push_keeps (Ok u) push = divided_more s frames piece same push.ok parts
+      push_keeps (Err e) push = subst (λ l. IsDivided (record s { frames = l })) (sym push.err) parts
+
+  pub is_pushed : has_ended s.stage ≡ false → (front : List ℕ) × (waiting : List ℕ) × (held_by s ≡ front ++ waiting)
+      × IsPush waiting piece result (seen limits (record s { frames = frames }) ≡ appended (seen limits s) piece) (seen limits (record s { frames = frames }) ≡ seen limits s)
+  is_pushed on = (
+    held_before s.stage s.frames.separator (concat s.preamble.segments) (concat s.found.segments),
+    s.frames.held,
+    held_apart s.stage s.frames.separator (concat s.preamble.segments) (concat s.found.segments) s.frames.held on,
+    push_of_all s.frames.held piece result push
+        (λ held. let more = held_more s frames piece same held on in rw on (λ i. record { delimiter = same i; limits = limits; ended = false; held = more i }))
+        (λ unchanged. ap (λ l. seen limits (record s { frames = l })) unchanged),
+  )
+
+-- ---- without a part
+
+-- no part begins as a close delimiter goes on
+no_dashes : (limits : Limits) (raw : List ℕ) (part : PartBytes) (after : List ℕ) → IsPart limits raw part → raw ++ after ≢ dashes ++ drop 2 (raw ++ after)
+no_dashes limits raw part after is same = not_first is.front is.head (sym (ap (λ l. l ++ after) is.cut.bytes) ∙ same)
+  where
+    follows : List ℕ
+    follows = drop 2 (raw ++ after)
+
+    not_first : (front : List ℕ) → IsHeadIn front part.head → (front ++ (head_end ++ part.body)) ++ after ≡ dashes ++ follows → ⊥
+    not_first [] head same = omega (arith, ap (λ l. get_or l 0 0) same)
+    not_first (c ∷ front) head same = let first : c ≡ 45 = ap (λ l. get_or l 0 0) same in dash front (subst (λ b. IsHeadIn (b ∷ front) part.head) first head)
+      where
+        dash : (front : List ℕ) → IsHeadIn (45 ∷ front) part.head → ⊥
+        dash front (inl p) = omega (arith, ap length p.0)
+        dash front (inr p) = omega (arith, ap (λ l. get_or l 0 0) p)
+
+module _ (d : List ℕ) (limits : Limits) where
+  pub none_in_nothing : NoPart d limits []
+  none_in_nothing part rest takes =
+      omega (
+        arith,
+        ap length takes.begins.bytes,
+        length-append takes.preamble (d ++ takes.after),
+        length-append d takes.after,
+        ap length takes.ends.bytes,
+        length-append takes.raw (d ++ takes.next),
+        ap length takes.is.cut.bytes,
+        length-append takes.is.front (head_end ++ part.body),
+        length-append head_end part.body,
+      )
+
+  pub none_closed : (bytes : List ℕ) → Closes d bytes → NoPart d limits bytes
+  none_closed bytes closing part rest takes =
+      let same = TakesFrame-same d bytes closing.0 takes.preamble (dashes ++ closing.1) takes.after closing.2 takes.begins in
+      let whole : takes.raw ++ (d ++ takes.next) ≡ dashes ++ closing.1 = sym takes.ends.bytes ∙ sym same.1 in
+      no_dashes limits takes.raw part (d ++ takes.next) takes.is (whole ∙ ap (λ l. dashes ++ l) (sym (ap (drop 2) whole)))
+
+module _ (limits : Limits) (old new : Sections) (divided : IsDivided new) where
+  -- after the end
+  pub none_after_end : new.stage ≡ Ended → AfterSearch new.stage old new → NoPart old.frames.separator limits (held_by old)
+  none_after_end stage after = ended (subst (λ stage. AfterSearch stage old new) stage after)
+    where
+      ended : AfterSearch Ended old new → NoPart old.frames.separator limits (held_by old)
+      ended (inl before) =
+          subst (λ stage. NoPart old.frames.separator limits (held_at stage old.frames.separator (concat old.preamble.segments) (concat old.found.segments) old.frames.held)) (sym before)
+          (none_in_nothing old.frames.separator limits)
+      ended (inr closing) = none_closed old.frames.separator limits (held_by old) closing
+
+  module _ (stage : Stage) (is : new.stage ≡ stage) (after : AfterSearch stage old new) where
+    -- nothing is found
+    pub none_waits : stage ≢ Ended → stage ≢ Found → NoPart old.frames.separator limits (held_by old)
+    none_waits = waits stage is after
+      where
+        waits : (stage : Stage) → new.stage ≡ stage → AfterSearch stage old new → stage ≢ Ended → stage ≢ Found → NoPart old.frames.separator limits (held_by old)
+        waits Preamble is after not_ended not_found = no_part_yet old.frames.separator limits (held_by old) after.3
+        waits Waiting is after not_ended not_found = no_part_yet old.frames.separator limits (held_by old) after.3
+        waits Found is after not_ended not_found = absurd (not_found refl)
+        waits Ended is after not_ended not_found = absurd (not_ended refl)
+
+    -- too many bytes wait
+    pub much_waits : stage ≢ Ended → stage ≢ Found → limits.head + limits.body + length new.frames.separator < length new.frames.held → (more : List ℕ)
+        → NoPart old.frames.separator limits (held_by old ++ more)
+    much_waits = waits stage is after
+      where
+        waits : (stage : Stage) → new.stage ≡ stage → AfterSearch stage old new → stage ≢ Ended → stage ≢ Found → limits.head + limits.body + length new.frames.separator < length new.frames.held
+            → (more : List ℕ) → NoPart old.frames.separator limits (held_by old ++ more)
+        waits Preamble is after not_ended not_found much more =
+            let same = after.0 in
+            let held : held_by old ≡ new.frames.held =
+            sym same.held ∙ ap (λ stage. held_at stage new.frames.separator (concat new.preamble.segments) (concat new.found.segments) new.frames.held) is in
+            rw held (long_preamble old.frames.separator limits new.frames.held after.1 (omega (arith, much, ap length same.delimiter)) more)
+        waits Waiting is after not_ended not_found much more =
+            let same = after.0 in
+            let p = concat new.preamble.segments in
+            let w = new.frames.held in
+            let held : held_by old ≡ p ++ (old.frames.separator ++ w) =
+            sym same.held ∙ ap (λ stage. held_at stage new.frames.separator p (concat new.found.segments) w) is ∙ ap (λ l. p ++ (l ++ w)) same.delimiter in
+            let begins = subst (λ stage. AreApart stage new.frames.separator p (concat new.found.segments) w) is divided in
+            rw held (long_part old.frames.separator limits p w (subst (λ l. TakesFrame l (p ++ (l ++ w)) p w) same.delimiter begins) after.1 (omega (arith, much, ap length same.delimiter)) more)
+        waits Found is after not_ended not_found much more = absurd (not_found refl)
+        waits Ended is after not_ended not_found much more = absurd (not_ended refl)
+
+-- the bytes that are held now are those from before
+pub none_of_same : (old new : Sections) → SameSections old new → (limits : Limits) (more : List ℕ) → NoPart new.frames.separator limits (held_by new ++ more)
+    → NoPart old.frames.separator limits (held_by old ++ more)
+none_of_same old new same limits more none =
+    subst (λ l. NoPart l limits (held_by old ++ more)) same.delimiter (subst (λ l. NoPart new.frames.separator limits (l ++ more)) same.held none)
+
+-- ---- the name
+
+module _ (key text before after : List ℕ) (begins : AreHalvesAtFirst text key before after) where
+  pub no_quote : (¬ Occurs quote after) → (other : List ℕ) → ¬ IsQuoted key text other
+  no_quote none other is =
+      let same = TakesFrame-same key text before is.before after is.after (record { bytes = sym begins.joined; first = begins.first }) is.begins in
+      none (length other, subst (λ l. OccursAt quote l (length other)) (sym same.1) is.ends.first.here)
+
+-- the lines before these are no such header, and this one is
+pub first_of : (all before : List (List ℕ)) (line : List ℕ) (others : List (List ℕ)) (value : List ℕ) → all ≡ before ++ line ∷ others → All NoDisposition before → IsDisposition line value
+    → IsFirstDisposition all value
+first_of all before line others value parts none is = record { before = before; line = line; others = others; parts = parts; none = none; is = is }
+
+-- ---- what is in a raw part
+
+-- no head ends
+pub no_head_end : (limits : Limits) (raw : List ℕ) (part : PartBytes) → (¬ Occurs head_end raw) → ¬ IsPart limits raw part
+no_head_end limits raw part none is = none (length is.front, is.cut.first.here)
+
+-- what is before the end of the head is no head
+pub no_head : (limits : Limits) (raw front body : List ℕ) (part : PartBytes) → TakesFrame head_end raw front body → ((head : List ℕ) → ¬ IsHeadIn front head) → ¬ IsPart limits raw part
+no_head limits raw front body part cut none is =
+    let same = TakesFrame-same head_end raw front is.front body part.body cut is.cut in
+    none part.head (subst (λ l. IsHeadIn l part.head) (sym same.0) is.head)
+
+-- a head that ends within the limits, and a body within them
+pub is_part : (limits : Limits) (raw : List ℕ) (len : ℕ) (head : List ℕ) → TakesFrame head_end raw (take len raw) (drop (len + length head_end) raw) → IsHeadIn (take len raw) head
+    → len + length head_end ≤ length raw → len + length head_end ≤ limits.head → length raw - (len + length head_end) ≤ limits.body
+    → IsPart limits raw (part_bytes head (drop (len + length head_end) raw))
+is_part limits raw len head cut is within small short = record {
+  front = take len raw;
+  cut = cut;
+  head = is;
+  small = omega (arith, small, length-take-le len raw (omega (arith, within)));
+  short = omega (arith, short, length-drop (len + length head_end) raw);
+}

@@ -1,0 +1,14 @@
+use Rattle.std.proofs.Common.{rules, sym, ◌∙◌}
+use Rattle.bytes_utils_run.proofs.MultipartLemmas.{still_divided, is_pushed}
+use Rattle.bytes_utils_run.proofs.examples.multipart.PartReader.push.Goals as goal
+
+pub invariant_of-self : goal.invariant_of-self
+invariant_of-self c =
+    let s = c.self.inside.sections in
+    still_divided s c.self.inside.limits c.push.new.self c.args.piece c.push.result c.push.ensures.separator c.push.ensures.pushed c.self.invariant
+
+pub returns-clause-pushed : goal.returns-clause-pushed
+returns-clause-pushed c =
+    let s = c.self.inside.sections in
+    let on = sym c.has_ended.ensures.value ∙ c.if-has_ended.false in
+    rw (← c.self.view_is) (is_pushed s c.self.inside.limits c.push.new.self c.args.piece c.push.result c.push.ensures.separator c.push.ensures.pushed (rw (← c.self.view_is) at on))

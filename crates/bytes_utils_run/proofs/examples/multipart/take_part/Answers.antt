@@ -1,0 +1,37 @@
+use Rattle.std.proofs.Common.{rules, arith, ◌≡◌, ◌≤◌, ◌+◌, ◌∙◌, sym, length}
+use Rattle.std.specs.List.{concat}
+use Rattle.std.proofs.lemmas.Result.{err_from_is_err_and}
+use Rattle.bytes_utils_run.proofs.MultipartLemmas.{none_in_found, part_in_found}
+use Rattle.bytes_utils_run.proofs.examples.multipart.take_part.Goals as goal
+
+pub returns-in_err-head-clause-malformed : goal.returns-in_err-head-clause-malformed
+returns-in_err-head-clause-malformed c =
+    let out = err_from_is_err_and c.from_residual.result c.from_residual.ensures.1 in
+    rw out.1 (λ is any more. none_in_found c.args.sections.now c.requires.found c.requires.divided any (c.in_err-head.ensures.malformed (sym out.2 ∙ is) any) more)
+
+pub returns-in_err-head-clause-too_large : goal.returns-in_err-head-clause-too_large
+returns-in_err-head-clause-too_large c =
+    let out = err_from_is_err_and c.from_residual.result c.from_residual.ensures.1 in
+    rw out.1 (λ is more. none_in_found c.args.sections.now c.requires.found c.requires.divided c.args.limits (c.in_err-head.ensures.too_large (sym out.2 ∙ is)) more)
+
+pub returns-in_err-head-clause-not_utf8 : goal.returns-in_err-head-clause-not_utf8
+returns-in_err-head-clause-not_utf8 c =
+    let s = c.args.sections.now in
+    let few : length (concat s.preamble.segments) ≤ c.args.limits.head + c.args.limits.body = omega (arith, c.if-remaining-most.false, c.remaining.ensures, c.most.ensures) in
+    let out = err_from_is_err_and c.from_residual.result c.from_residual.ensures.1 in
+    rw out.1 (λ is.
+    let found = c.in_err-head.ensures.not_utf8 (sym out.2 ∙ is) in
+    let takes = part_in_found s c.requires.found c.requires.divided c.args.limits found.0 found.1 few in
+    (found.0, takes.0, takes.1, found.2))
+
+pub returns-clause-name : goal.returns-clause-name
+returns-clause-name c =
+    let disposition = rw c.as_str.ensures.value at c.in_ok-disposition.ensures.ok in
+    let quotes = rw c.as_ref.ensures.value at c.in_ok-name.ensures.ok in
+    (c.in_ok-disposition.disposition, disposition, quotes)
+
+pub returns-clause-file_name : goal.returns-clause-file_name
+returns-clause-file_name c =
+    let disposition = rw c.as_str.ensures.value at c.in_ok-disposition.ensures.ok in
+    let quotes = rw c.as_ref-2.ensures.value at c.in_ok-file_name.ensures.ok in
+    (c.in_ok-disposition.disposition, disposition, quotes)

@@ -1,0 +1,116 @@
+//! What is between the delimiters of a stream.
+ghost use Rattle.std.specs.Prelude.{◌≡◌, ◌↔◌, ◌+◌, ◌^◌, ◌<◌, [], length, IsTrue, OnOk, OnErr, IfErr};
+ghost use Rattle.bytes_utils.specs.Occurrence.{Occurs};
+ghost use Rattle.bytes_utils_run.specs.Multipart.{AfterSearch, IsDivided, SameSections};
+
+use bytes::Bytes;
+use bytes_utils::frame::Frames;
+use bytes_utils::{Reason, SegmentedBuf};
+use std::alloc::Global;
+use std::mem::replace;
+
+/// What has been found of the next part.
+#[derive(Clone, Copy, Debug, Eq, PartialEq)]
+pub(super) enum Stage {
+    /// Nothing: the first delimiter may be to come.
+    Preamble,
+    /// The delimiter before it.
+    Waiting,
+    /// The delimiters before and after it.
+    Found,
+    /// The close delimiter, in its place.
+    Ended,
+}
+
+/// The bytes of a stream, cut at its delimiters as these are found. What was found stays until a
+/// part is taken.
+#[derive(Debug, Drop)]
+pub(super) struct Sections {
+    pub(super) frames: Frames,
+    pub(super) stage: Stage,
+    pub(super) preamble: SegmentedBuf<Bytes>,
+    pub(super) found: SegmentedBuf<Bytes>,
+}
+
+impl Sections {
+    /// Searches for the delimiters before and after the next part, or for the close delimiter.
+    pub(super) fn search(&mut self, alloc: Global) -> Result<(), Reason>
+        requires { IsDivided self.old }
+        ensures divided { IsDivided self.new }
+        ensures ok { OnOk result (AfterSearch self.new.stage self.old self.new) }
+        ensures err { OnErr result (SameSections self.old self.new) }
+        ensures delimiter { self.new.frames.separator ≡ self.old.frames.separator }
+        ensures reason { IfErr result (λ reason. reason ≡ Reason.OutOfMemory) }
+    {
+        self.pass_preamble(alloc)?;
+        if self.stage == Stage::Waiting {
+            self.find_next(alloc)?;
+        }
+        Ok(())
+    }
+
+    /// Finds the delimiter before the next part, if it has come.
+    fn pass_preamble(&mut self, alloc: Global) -> Result<(), Reason>
+        requires { IsDivided self.old }
+        ensures divided { IsDivided self.new }
+        ensures same { SameSections self.old self.new }
+        ensures waits { OnOk result (self.new.stage ≡ Stage.Preamble
+            → ¬ Occurs self.old.frames.separator self.new.frames.held) }
+        ensures ended { self.new.stage ≡ Stage.Ended → self.old.stage ≡ Stage.Ended }
+        ensures reason { IfErr result (λ reason. reason ≡ Reason.OutOfMemory) }
+    {
+        if self.stage == Stage::Preamble
+            && let Some(preamble) = self.frames.next_frame_segments(alloc)?
+        {
+            self.preamble = preamble;
+            self.stage = Stage::Waiting;
+        }
+        Ok(())
+    }
+
+    /// Finds the delimiter after the next part, if it has come, or ends, if two dashes follow the one
+    /// before it.
+    fn find_next(&mut self, alloc: Global) -> Result<(), Reason>
+        requires divided { IsDivided self.old }
+        requires waiting { self.old.stage ≡ Stage.Waiting }
+        ensures divided { IsDivided self.new }
+        ensures ok { OnOk result (AfterSearch self.new.stage self.old self.new) }
+        ensures err { OnErr result (SameSections self.old self.new) }
+        ensures delimiter { self.new.frames.separator ≡ self.old.frames.separator }
+        ensures reason { IfErr result (λ reason. reason ≡ Reason.OutOfMemory) }
+    {
+        if self.frames.starts_with(b"--") {
+            self.stage = Stage::Ended;
+            return Ok(());
+        }
+        if let Some(found) = self.frames.next_frame_segments(alloc)? {
+            self.found = found;
+            self.stage = Stage::Found;
+        }
+        Ok(())
+    }
+
+    /// Whether more bytes than these wait for a delimiter, without the bytes of one.
+    pub(super) fn is_over(&self, most: usize) -> bool
+        ensures over { IsTrue result
+            ↔ (most + length self.now.frames.separator < length self.now.frames.held) }
+        ensures fits { length self.now.frames.held < 2 ^ 64 }
+    {
+        self.frames
+            .remaining()
+            .saturating_sub(self.frames.separator().len())
+            > most
+    }
+
+    /// Removes what was found, up to the delimiter after it, and returns it.
+    pub(super) fn take(&mut self, alloc: Global) -> SegmentedBuf<Bytes>
+        ensures found { result ≡ self.old.found }
+        ensures frames { self.new.frames ≡ self.old.frames }
+        ensures stage { self.new.stage ≡ Stage.Waiting }
+        ensures preamble { self.new.preamble.segments ≡ [] }
+    {
+        self.stage = Stage::Waiting;
+        self.preamble = SegmentedBuf::new(alloc);
+        replace(&mut self.found, SegmentedBuf::new(alloc))
+    }
+}

@@ -1,0 +1,160 @@
+//! Parts in pieces.
+use crate::examples::multipart::{Limits, Part, PartError, PartReader};
+use bytes::{Buf, Bytes};
+use bytes_utils::Str;
+use std::alloc::Global;
+use std::str;
+use std::test::Fail;
+
+/// Limits that the good bodies below stay within.
+const LIMITS: Limits = Limits {
+    head: 100,
+    body: 90,
+};
+
+/// The example of RFC 2046, section 5.1.1: a preamble, a part without a header, one with a header,
+/// and an epilogue.
+const MAIL: &[u8] = b"This is the preamble.  It is to be ignored, though it\r\n\
+is a handy place for composition agents to include an\r\n\
+explanatory note to non-MIME conformant readers.\r\n\
+\r\n\
+--simple boundary\r\n\
+\r\n\
+This is implicitly typed plain US-ASCII text.\r\n\
+It does NOT end with a linebreak.\r\n\
+--simple boundary\r\n\
+Content-type: text/plain; charset=us-ascii\r\n\
+\r\n\
+This is explicitly typed plain US-ASCII text.\r\n\
+It DOES end with a linebreak.\r\n\
+\r\n\
+--simple boundary--\r\n\
+\r\n\
+This is the epilogue.  It is also to be ignored.\r\n";
+
+const IN_MAIL: &str = "|-|-|This is implicitly typed plain US-ASCII text.\r\n\
+It does NOT end with a linebreak.|\
+Content-type: text/plain; charset=us-ascii|-|-|This is explicitly typed plain US-ASCII text.\r\n\
+It DOES end with a linebreak.\r\n|";
+
+/// A field as in RFC 7578, section 4.5, and a file. After a delimiter there are a space and a tab.
+/// The file has a line that begins as a delimiter.
+const FORM: &[u8] = b"--AaB03x\r\n\
+content-disposition: form-data; name=\"field1\"\r\n\
+content-type: text/plain;charset=UTF-8\r\n\
+\r\n\
+Joe owes =E2=82=AC100.\r\n\
+--AaB03x \t\r\n\
+Content-Type: text/plain\r\n\
+Content-Disposition: form-data; filename=\"a%22.txt\"; name=\"files\"\r\n\
+\r\n\
+\r\n\
+--AaB03\r\n\
+\r\n\
+--AaB03x--";
+
+const IN_FORM: &str = "content-disposition: form-data; name=\"field1\"\r\n\
+content-type: text/plain;charset=UTF-8|field1|-|Joe owes =E2=82=AC100.|\
+Content-Type: text/plain\r\n\
+Content-Disposition: form-data; filename=\"a%22.txt\"; name=\"files\"|files|a%22.txt|\r\n\
+--AaB03\r\n|";
+
+fn or_dash(text: &Option<Str>) -> &str {
+    match text {
+        Some(text) => text.as_str(),
+        None => "-",
+    }
+}
+
+/// Writes what a part has, with a bar after each.
+fn write_part(alloc: Global, text: &mut String, part: &Part) -> Result<(), Fail> {
+    let body = part.body.peek_bytes(alloc, part.body.remaining())?;
+    let body = str::from_utf8(body.as_slice())?;
+    let (name, file_name) = (or_dash(&part.name), or_dash(&part.file_name));
+    write!(text, "{}|{name}|{file_name}|{body}|", part.head.as_str())?;
+    Ok(())
+}
+
+/// Whether these two pieces have two parts, as they are written, and end.
+fn are_parts(
+    alloc: Global,
+    boundary: &[u8],
+    pieces: (&'static [u8], &'static [u8]),
+    wanted: &str,
+) -> Result<bool, Fail> {
+    let mut parts = PartReader::new(alloc, boundary, LIMITS)?;
+    parts.push(Bytes::from_static(pieces.0))?;
+    let mut text = String::new(alloc);
+    for _ in 0..4 {
+        match parts.next_part(alloc)? {
+            Some(part) => write_part(alloc, &mut text, &part)?,
+            None if parts.has_ended() => {}
+            None => parts.push(Bytes::from_static(pieces.1))?,
+        }
+    }
+    Ok(text.as_str() == wanted && parts.has_ended())
+}
+
+#[test]
+fn mail_and_form_cut_at_each_place(rt: HostRuntime) -> Result<(), Fail> {
+    for cut in 0..MAIL.len() {
+        assert!(rt; are_parts(rt.alloc(), b"simple boundary", MAIL.split_at(cut), IN_MAIL)?);
+    }
+    for cut in 0..FORM.len() {
+        assert!(rt; are_parts(rt.alloc(), b"AaB03x", FORM.split_at(cut), IN_FORM)?);
+    }
+    Ok(())
+}
+
+/// What a body with the boundary `b` gives first. In order:
+///
+/// - no part at all, an empty part
+/// - no close delimiter, half of one
+/// - a boundary that only begins a line, other bytes after a delimiter, a line feed alone
+/// - a head without an empty line, of one line and of none
+/// - a head of 100 and of 101 bytes with its line ends, a body of 90 and of 91
+const ODD: &str = "--b-->the end|--b\r\n\r\n\r\n--b>a part|\
+    --b\r\n\r\na\r\n>waits|--b\r\n\r\na\r\n-->waits|--b->waits|\
+    --bc\r\n\r\na\r\n--b-->malformed|--b -\r\n\r\na\r\n--b-->malformed|--b\n\n\r\n--b-->malformed|\
+    --b\r\nA: b\r\n--b-->malformed|--b\r\n--b-->malformed|\
+    --b\r\nA: 12345678901234567890123456789012345678901234567890123456789012345678901234567890\
+    12345678901\r\n\r\n\r\n--b>a part|\
+    --b\r\nA: 12345678901234567890123456789012345678901234567890123456789012345678901234567890\
+    123456789012\r\n\r\n\r\n--b>too large|\
+    --b\r\n\r\n12345678901234567890123456789012345678901234567890123456789012345678901234567890\
+    1234567890\r\n--b>a part|\
+    --b\r\n\r\n12345678901234567890123456789012345678901234567890123456789012345678901234567890\
+    12345678901\r\n--b>too large";
+
+const DASHES: &[u8] = &[b'-'; 194];
+
+/// What comes first.
+fn first_of(alloc: Global, body: &'static [u8]) -> Result<&'static str, Fail> {
+    let mut parts = PartReader::new(alloc, b"b", LIMITS)?;
+    parts.push(Bytes::from_static(body))?;
+    Ok(match parts.next_part(alloc) {
+        Ok(Some(_)) => "a part",
+        Ok(None) if parts.has_ended() => "the end",
+        Ok(None) => "waits",
+        Err(PartError::Malformed) => "malformed",
+        Err(PartError::NotUtf8) => "not UTF-8",
+        Err(PartError::TooLarge) => "too large",
+        Err(PartError::Refused(_)) => "refused",
+    })
+}
+
+#[test]
+fn odd_bodies(rt: HostRuntime) -> Result<(), Fail> {
+    for row in ODD.split('|') {
+        let (body, wanted) = row.split_once('>').ok_or("no body")?;
+        assert_eq!(rt; first_of(rt.alloc(), body.as_bytes())?, wanted);
+    }
+    assert_eq!(rt;
+        first_of(rt.alloc(), b"--b\r\n\xff\r\n\r\n\r\n--b")?,
+        "not UTF-8"
+    );
+    // With the line end before them, 195 bytes may wait for the first delimiter.
+    assert_eq!(rt; first_of(rt.alloc(), &DASHES[..193])?, "waits");
+    assert_eq!(rt; first_of(rt.alloc(), DASHES)?, "too large");
+    Ok(())
+}
