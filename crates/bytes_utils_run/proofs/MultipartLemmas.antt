@@ -1,5 +1,5 @@
 -- Parts between boundaries.
-use Rattle.std.proofs.Common.{◌≡◌, ◌≢◌, ℕ, ◌+◌, ◌<◌, ◌≤◌, List, [], ◌∷◌, ◌++◌, length, take, drop, get_or, ap, ◌∙◌, sym, refl, subst, arith, length-append, length-drop, ◌-◌, append_assoc, take-append-drop, ⊎_elim, inl, inr, true, false, All, Option, None, Some, MatchOption, Result, Ok, Err}
+use Rattle.std.proofs.Common.{◌≡◌, ◌≢◌, ℕ, ◌+◌, ◌<◌, ◌≤◌, List, [], ◌∷◌, ◌++◌, length, take, drop, get_or, ap, ◌∙◌, sym, refl, subst, arith, length-append, length-drop, ◌-◌, append_assoc, take-append-drop, ⊎_elim, inl, inr, false, All, Result, Ok, Err}
 use Rattle.std.proofs.lemmas.Bool.{cases_lt}
 use Rattle.std.proofs.lemmas.List.{append_cancel_left, length-take-le}
 use Rattle.std.specs.List.{concat}
@@ -10,7 +10,7 @@ use Rattle.bytes_utils.specs.Pushing.{IsPush}
 use Rattle.bytes_utils_buf.specs.declared.refused.Refused.{Refused}
 use Rattle.bytes_utils.proofs.FramesLemmas.{TakesFrame-more, TakesFrame-same}
 use Rattle.bytes_utils.proofs.OccurrenceLemmas.{OccursAt-between, OccursAt-front}
-use Rattle.bytes_utils_run.specs.Multipart.{Parting, appended, line_end, dashes, head_end, PartBytes, part_bytes, without_padding, IsHeadIn, IsPart, TakesPart, NoPart, Closes, LacksNext, held_at, AreApart, has_ended, quote, IsQuoted, IsDisposition, NoDisposition, IsFirstDisposition, held_by, IsDivided, SameSections, AfterSearch}
+use Rattle.bytes_utils_run.specs.Multipart.{Parting, appended, line_end, dashes, head_end, PartBytes, part_bytes, IsHeadIn, IsPart, TakesPart, NoPart, Closes, LacksNext, held_at, AreApart, has_ended, quote, IsQuoted, IsDisposition, NoDisposition, IsFirstDisposition, held_by, IsDivided, SameSections, AfterSearch}
 use Rattle.bytes_utils_run.specs.declared.examples.multipart.Limits.{Limits}
 use Rattle.bytes_utils_run.specs.declared.examples.multipart.sections.Sections.{Sections}
 use Rattle.bytes_utils_run.specs.declared.examples.multipart.sections.Stage.{Stage}

@@ -78,8 +78,8 @@ impl From<Reason> for PartError {
 /// line; and the body up to the next delimiter. What is before the first delimiter is dropped, and
 /// so is all that comes after the close delimiter, which two dashes follow.
 ///
-/// The pieces of a body that came with more than 512 bytes are shared. What is held is searched
-/// once.
+/// The pieces of a body that came with more than 512 bytes are shared. Pieces that wait for a
+/// delimiter are not searched again.
 #[derive(Debug, Drop)]
 pub struct PartReader {
     sections: Sections,
@@ -102,8 +102,8 @@ impl Model for PartReader {
 }
 
 impl PartReader {
-    /// Makes a reader that has read nothing. `boundary` is that of the content type. Fails with
-    /// `OutOfMemory` if memory is refused.
+    /// Makes a reader that has read nothing. `boundary` is the parameter of the content type, without
+    /// quotes. Fails with `OutOfMemory` if memory is refused.
     pub fn new(alloc: Global, boundary: &[u8], limits: Limits) -> Result<PartReader, Reason>
         ensures ok { IfOk result (λ r. r ≡ record {
           delimiter = delimiter_of boundary.now;

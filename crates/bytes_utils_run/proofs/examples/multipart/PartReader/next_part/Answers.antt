@@ -1,4 +1,4 @@
-use Rattle.std.proofs.Common.{arith, ◌≡◌, ◌<◌, ◌+◌, ◌++◌, ◌∙◌, sym, refl, subst, length}
+use Rattle.std.proofs.Common.{arith, ◌<◌, ◌+◌, ◌∙◌, sym, refl, subst, length}
 use Rattle.std.proofs.lemmas.Result.{err_from_is_err_and}
 use Rattle.bytes_utils_run.specs.Multipart.{AfterSearch}
 use Rattle.bytes_utils_run.proofs.MultipartLemmas.{much_waits, none_after_end, none_waits, none_of_same}

@@ -1,4 +1,4 @@
-use Rattle.std.proofs.Common.{rules, sym, ◌∙◌}
+use Rattle.std.proofs.Common.{sym, ◌∙◌}
 use Rattle.bytes_utils_run.proofs.MultipartLemmas.{still_divided, is_pushed}
 use Rattle.bytes_utils_run.proofs.examples.multipart.PartReader.push.Goals as goal
 

@@ -1,4 +1,3 @@
-use Rattle.std.proofs.Common.{rules}
 use Rattle.bytes_utils_run.proofs.MultipartLemmas.{no_quote}
 use Rattle.bytes_utils_run.proofs.examples.multipart.head.quoted.Goals as goal
 

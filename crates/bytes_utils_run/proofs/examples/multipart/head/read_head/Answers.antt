@@ -1,4 +1,4 @@
-use Rattle.std.proofs.Common.{rules, arith, ◌≡◌, ◌+◌, take, drop, length}
+use Rattle.std.proofs.Common.{rules, arith, ◌+◌, take, drop, length}
 use Rattle.std.specs.List.{concat}
 use Rattle.bytes_utils.specs.Frames.{TakesFrame}
 use Rattle.bytes_utils_run.specs.Multipart.{head_end, part_bytes}

@@ -1,4 +1,4 @@
-use Rattle.std.proofs.Common.{rules, ◌≡◌, ◌≢◌, take}
+use Rattle.std.proofs.Common.{rules, ◌≢◌, take}
 use Rattle.bytes_utils_run.specs.Multipart.{dashes}
 use Rattle.bytes_utils_run.proofs.MultipartLemmas.{none_found}
 use Rattle.bytes_utils_run.proofs.examples.multipart.sections.Sections.find_next.Goals as goal
