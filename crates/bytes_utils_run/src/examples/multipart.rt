@@ -102,8 +102,8 @@ impl Model for PartReader {
 }
 
 impl PartReader {
-    /// Makes a reader that has read nothing. `boundary` is the parameter of the content type, without
-    /// quotes. Fails with `OutOfMemory` if memory is refused.
+    /// Makes a reader that has read nothing. `boundary` is the parameter of the content type,
+    /// without quotes. Fails with `OutOfMemory` if memory is refused.
     pub fn new(alloc: Global, boundary: &[u8], limits: Limits) -> Result<PartReader, Reason>
         ensures ok { IfOk result (λ r. r ≡ record {
           delimiter = delimiter_of boundary.now;
@@ -126,10 +126,10 @@ impl PartReader {
         Ok(PartReader { sections, limits })
     }
 
-    /// Appends a piece, or drops it if the close delimiter was read. A piece of at most 512 bytes is
-    /// copied; a longer one is shared. Fails with `TooLong` if the number of bytes that wait for a
-    /// delimiter would pass `usize::MAX`, and with `OutOfMemory` if memory is refused; then nothing
-    /// has changed and `piece` comes back.
+    /// Appends a piece, or drops it if the close delimiter was read. A piece of at most 512 bytes
+    /// is copied; a longer one is shared. Fails with `TooLong` if the number of bytes that wait for
+    /// a delimiter would pass `usize::MAX`, and with `OutOfMemory` if memory is refused; then
+    /// nothing has changed and `piece` comes back.
     pub fn push(&mut self, piece: Bytes) -> Result<(), Refused<Bytes>>
         ensures pushed { (front : List ℕ) × (waiting : List ℕ)
             × (self.old.held ≡ front ++ waiting)
@@ -151,8 +151,8 @@ impl PartReader {
         self.sections.stage == Stage::Ended
     }
 
-    /// Returns the next part, or `None` while some of it or of the delimiter after it is to come, and
-    /// after the close delimiter. Fails with `Malformed` if the held bytes begin with no part,
+    /// Returns the next part, or `None` while some of it or of the delimiter after it is to come,
+    /// and after the close delimiter. Fails with `Malformed` if the held bytes begin with no part,
     /// whatever comes after them, with `TooLarge` if they begin with none within the limits, with
     /// `NotUtf8` if the head isn't UTF-8, and with `Refused` if memory is refused; then nothing has
     /// changed.
@@ -164,7 +164,8 @@ impl PartReader {
         ensures file_name { IfOk result (λ next. IfSome next
             (λ part. HasParameter file_name_key part.head part.file_name)) }
         ensures goes_on { IfOk result (λ next. IfSome next
-            (λ _. (self.old.ended ≡ false) × (self.new ≡ record self.old { held = self.new.held }))) }
+            (λ _. (self.old.ended ≡ false)
+            × (self.new ≡ record self.old { held = self.new.held }))) }
         ensures waits { IfOk result (λ next. IfNone next
             (NoPart self.old.delimiter self.old.limits self.old.held)) }
         ensures idle { IfOk result (λ next. IfNone next (IsIdle self.old self.new)) }
@@ -191,8 +192,8 @@ impl PartReader {
     }
 }
 
-/// The laws of a run of calls. The parts, and what is left, depend on the joined pieces alone, not on
-/// where these are cut or when parts are asked for.
+/// The laws of a run of calls. The parts, and what is left, depend on the joined pieces alone, not
+/// on where these are cut or when parts are asked for.
 #[tactic(auto, using(crate::proofs::MultipartLaws::part_laws))]
 pub fn part_laws()
     ensures run { PartsLaw }

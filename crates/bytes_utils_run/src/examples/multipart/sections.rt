@@ -68,8 +68,8 @@ impl Sections {
         Ok(())
     }
 
-    /// Finds the delimiter after the next part, if it has come, or ends, if two dashes follow the one
-    /// before it.
+    /// Finds the delimiter after the next part, if it has come, or ends, if two dashes follow the
+    /// one before it.
     fn find_next(&mut self, alloc: Global) -> Result<(), Reason>
         requires divided { IsDivided self.old }
         requires waiting { self.old.stage ≡ Stage.Waiting }
