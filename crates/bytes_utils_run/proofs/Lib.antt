@@ -38,3 +38,4 @@ pub mod FieldsLemmas
 pub mod RedisLemmas
 pub mod MultipartLemmas
 pub mod MultipartLaws
+pub mod EventsLemmas

@@ -1,5 +1,6 @@
 //! Examples of code over the library, to copy. Each does one thing and has a contract.
 
+pub mod events;
 pub mod fields;
 pub mod files;
 pub mod headers;

@@ -1,4 +1,5 @@
 //! Each example on a typical input, and with refusals.
+mod events;
 mod fields;
 mod files;
 mod headers;

@@ -1,0 +1,170 @@
+-- Event streams.
+use Rattle.std.proofs.Common.{◌≡◌, ◌≢◌, ℕ, ◌+◌, ◌-◌, ◌==◌, ◌<◌, ◌≤◌, List, [], ◌∷◌, ◌++◌, inl, inr, Bool, true, false, length, take, drop, get_or, Option, None, Some, ap, ◌∙◌, sym, refl, subst, arith, append_assoc, append-nil, length-append, if◌then◌else◌, IsUtf8, unwrap_or}
+use Rattle.std.specs.Prelude.{IfNone, MatchOption, nat_eq, ◌&&◌}
+use Rattle.std.specs.List.{after_first, position_or_len, starts_with}
+use Rattle.std.specs.Str.{IsCharBoundary}
+use Rattle.std.proofs.Math.Seq.{drop-append_seam}
+use Rattle.std.proofs.lemmas.Bool.{ne_eqb}
+use Rattle.std.proofs.lemmas.List.{take-append-drop}
+use Rattle.std.proofs.lemmas.List.Elements.{All-head, All-tail}
+use Rattle.std.proofs.lemmas.Str.{IsCharBoundary-at_seam}
+use denote.Ref.{Bor}
+use Rattle.bytes_utils.specs.Lines.{line_feed, carriage_return}
+use Rattle.bytes_utils.specs.StreamRuns.{AreFirst}
+use Rattle.bytes_utils.specs.UniversalLines.{IsInLine, IsUniversalEnd, LacksEnds, LineReading, TakesUniversalLine, after_push, without_feed}
+use Rattle.bytes_utils.proofs.StreamRunsLemmas.{AreFirst-next}
+use Rattle.bytes_utils.proofs.UniversalLinesLemmas.{line_shortens}
+use Rattle.bytes_utils_run.specs.Events.{Awaits, DoesLine, Eventing, IsEndOf, IsOver, IsTooLarge, Reads, ReadsLine, TakesNext, Telling, after_field, after_line, byte_order_mark, content, field_name, field_value, is_colon, pushed, text_len, without_space}
+use Rattle.bytes_utils_run.specs.declared.examples.events.Limits.{Limits}
+
+-- one more line is read
+pub reads_more : (start old taken new : Eventing) (line : List ℕ) → Reads start old → TakesNext old line taken → DoesLine taken line new → Reads start new
+reads_more start old taken new line reads takes does =
+    (reads.0 ++ line ∷ [], AreFirst-next ReadsLine start reads.0 old line new reads.1 (record { taken = taken; takes = takes; does = does }))
+
+-- ---- what a line does
+
+pub if_none : {A P Q : Type 0} → (o : Option A) → IfNone o P → (P → Q) → IfNone o Q
+if_none None is so = so is
+if_none (Some x) is so = is
+
+-- an empty line where there is no data
+pub does_empty : (old mid : Eventing) (line : List ℕ) → length line ≤ old.limits.line → content old.at_start line ≡ [] → old.told.text ≡ None
+    → mid ≡ record old { told = record old.told { name = None } } → DoesLine old line (record mid { at_start = false })
+does_empty old mid line short empty none is = record {
+  short = short;
+  ends_none = λ _. none;
+  after = rw (is, empty) refl;
+  small = rw (is, none) (omega arith);
+}
+
+field_told : (told : Telling) (text : List ℕ) → text ≢ [] → after_line told text ≡ after_field told (field_name text) (field_value text)
+field_told told [] some = absurd (some refl)
+field_told told (c ∷ t) some = refl
+
+-- a field
+pub does_field : (old mid : Eventing) (line : List ℕ) → length line ≤ old.limits.line → content old.at_start line ≢ []
+    → mid ≡ record old { told = after_field old.told (field_name (content old.at_start line)) (field_value (content old.at_start line)) }
+    → text_len mid.told.text ≤ mid.limits.data → DoesLine old line (record mid { at_start = false })
+does_field old mid line short some is small =
+    let told = field_told old.told (content old.at_start line) some in
+    let limits : mid.limits ≡ old.limits = ap (λ (r : Eventing). r.limits) is in
+    record {
+      short = short;
+      ends_none = λ empty. absurd (some empty);
+      after = ap (λ (r : Eventing). record r { at_start = false }) (is ∙ ap (λ t. record old { told = t }) (sym told));
+      small = subst (λ (l : Limits). text_len mid.told.text ≤ l.data) limits small;
+    }
+
+-- the number of lines that wait
+abbrev pub waiting_count : Option (List ℕ) → ℕ
+waiting_count None = 0
+waiting_count (Some line) = 1
+
+-- each line that is read is taken off the held bytes, or waits no more
+pub reads_less : (old taken new : Eventing) (line : List ℕ) → TakesNext old line taken → DoesLine taken line new
+    → length new.lines.held + waiting_count new.waiting < length old.lines.held + waiting_count old.waiting
+reads_less old taken new line takes does =
+    by old.waiting takes.next
+  where
+    lines : new.lines ≡ taken.lines
+    lines = ap (λ (r : Eventing). r.lines) does.after
+    none : new.waiting ≡ None
+    none = ap (λ (r : Eventing). r.waiting) does.after ∙ ap (λ (r : Eventing). r.waiting) takes.others
+    by : (waiting : Option (List ℕ)) → MatchOption waiting (TakesUniversalLine old.lines line taken.lines × IsUtf8 line) (λ w. (line ≡ w) × (taken.lines ≡ old.lines))
+        → length new.lines.held + waiting_count new.waiting < length old.lines.held + waiting_count waiting
+    by None next = rw (lines, none) (omega (arith, line_shortens old.lines line taken.lines next.0))
+    by (Some w) next = rw (lines, none, next.1) (omega arith)
+
+-- ---- lines that can't be read
+
+-- what a piece makes of the held bytes begins with them
+held_first : (reading : LineReading) (more : List ℕ) → (rest : List ℕ) × ((after_push reading more).held ≡ reading.held ++ rest)
+held_first reading [] = ([], sym (append-nil reading.held))
+held_first reading (c ∷ t) = (_, refl)
+
+-- the first byte of an end is in no line
+end_first : (end rest : List ℕ) → IsUniversalEnd end rest → (c : ℕ) × (t : List ℕ) × (end ≡ c ∷ t) × (IsInLine c → ⊥)
+end_first end rest (inl fed) = (line_feed, [], fed, λ inside. inside.0 refl)
+end_first end rest (inr (inl both)) = (carriage_return, line_feed ∷ [], both, λ inside. inside.1 refl)
+end_first end rest (inr (inr returned)) = (carriage_return, [], returned.0, λ inside. inside.1 refl)
+
+-- bytes in which no line ends are the first of a line, if they are the first of the bytes
+lacks_first : (held rest line : List ℕ) (c : ℕ) (t : List ℕ) → LacksEnds held → held ++ rest ≡ line ++ (c ∷ t) → (IsInLine c → ⊥) → length held ≤ length line
+lacks_first [] rest line c t lacks whole out = omega arith
+lacks_first (h ∷ held) rest [] c t lacks whole out = absurd (out (subst IsInLine (ap (λ l. get_or l 0 0) whole) (All-head IsInLine h held lacks)))
+lacks_first (h ∷ held) rest (b ∷ line) c t lacks whole out =
+    let less = lacks_first held rest line c t (All-tail IsInLine h held lacks) (ap (drop 1) whole) out in
+    omega arith
+
+-- the held bytes are more than a line may have
+pub over_long : (reading : Eventing) → reading.waiting ≡ None → LacksEnds reading.lines.held → reading.limits.line < length reading.lines.held → IsOver reading
+over_long reading none lacks long more line taken takes =
+    let next : TakesUniversalLine (after_push reading.lines more) line taken.lines × IsUtf8 line =
+    subst (λ w. MatchOption w (TakesUniversalLine (after_push reading.lines more) line taken.lines × IsUtf8 line)
+    (λ waiting. (line ≡ waiting) × (taken.lines ≡ after_push reading.lines more))) none takes.next in
+    let held = held_first reading.lines more in
+    let ended = next.0.ended in
+    let first = end_first next.0.end taken.lines.held ended.ends in
+    let whole : reading.lines.held ++ held.0 ≡ line ++ (first.0 ∷ first.1 ++ taken.lines.held) =
+    sym held.1 ∙ ended.whole ∙ ap (λ l. line ++ (l ++ taken.lines.held)) first.2 in
+    let less = lacks_first reading.lines.held held.0 line first.0 (first.1 ++ taken.lines.held) lacks whole first.3 in
+    let same : taken.limits.line ≡ reading.limits.line = ap (λ (r : Eventing). r.limits.line) takes.others in
+    inl (omega arith)
+
+-- a line that can't be read waits
+pub over_waiting : (taken : Eventing) (line : List ℕ) → IsTooLarge taken line → IsOver (record taken { waiting = Some line })
+over_waiting taken line large more next after takes =
+    let same : next ≡ line = takes.next.0 in
+    let limits : after.limits ≡ taken.limits = ap (λ (r : Eventing). r.limits) takes.others in
+    let start : after.at_start ≡ taken.at_start = ap (λ (r : Eventing). r.at_start) takes.others in
+    let told : after.told ≡ taken.told = ap (λ (r : Eventing). r.told) takes.others in
+    subst (λ l. IsTooLarge after l) (sym same) (rw (limits, start, told) large)
+
+-- ---- the ends of a line
+
+end_self : (text : List ℕ) → IsEndOf text text
+end_self text = ([], refl)
+
+end_drop : (text : List ℕ) (n : ℕ) → IsEndOf text (drop n text)
+end_drop text n = (take n text, sym (take-append-drop n text))
+
+pub end_end : (line text value : List ℕ) → IsEndOf line text → IsEndOf text value → IsEndOf line value
+end_end line text value first second =
+    (first.0 ++ second.0, first.1 ∙ ap (λ l. first.0 ++ l) second.1 ∙ sym (append_assoc first.0 second.0 value))
+
+pub content_end : (at_start : Bool) (line : List ℕ) → IsEndOf line (content at_start line)
+content_end at_start line = by (at_start && starts_with nat_eq line byte_order_mark)
+  where
+    by : (marked : Bool) → IsEndOf line (if marked then drop 3 line else line)
+    by true = end_drop line 3
+    by false = end_self line
+
+space_end : (text : List ℕ) → IsEndOf text (without_space text)
+space_end [] = end_self []
+space_end (c ∷ t) = by (c == 32)
+  where
+    by : (is : Bool) → IsEndOf (c ∷ t) (if is then t else c ∷ t)
+    by true = (c ∷ [], refl)
+    by false = end_self (c ∷ t)
+
+pub value_end : (text : List ℕ) → IsEndOf text (field_value text)
+value_end text = end_end text (after_first is_colon text) (field_value text) (end_drop text (position_or_len is_colon text + 1)) (space_end (after_first is_colon text))
+
+-- where an end may be cut off
+pub end_boundary : (line end : List ℕ) → IsEndOf line end → IsUtf8 end → IsCharBoundary line (length line - length end)
+end_boundary line end is utf8 =
+    let place : length line - length end ≡ length is.0 = omega (arith, ap length is.1, length-append is.0 end) in
+    subst (IsCharBoundary line) (sym place) (IsCharBoundary-at_seam line is.0 end is.1 utf8)
+
+pub end_dropped : (line end : List ℕ) → IsEndOf line end → drop (length line - length end) line ≡ end
+end_dropped line end is =
+    let place : length line - length end ≡ length is.0 = omega (arith, ap length is.1, length-append is.0 end) in
+    rw (place) (ap (drop (length is.0)) is.1 ∙ drop-append_seam is.0 end)
+
+-- by what a search for a space found
+pub without_space_found : (text : List ℕ) (found : Option (Bor (List ℕ))) → MatchOption found ((rest : List ℕ) → text ≢ 32 ∷ rest) (λ x. text ≡ 32 ∷ x.now)
+    → (other : Bor (List ℕ)) → other.now ≡ text → (unwrap_or found other).now ≡ without_space text
+without_space_found text (Some x) is other same = rw is refl
+without_space_found [] None none other same = same
+without_space_found (c ∷ t) None none other same = rw (ne_eqb c 32 (λ e. none t (ap (λ x. x ∷ t) e))) same
