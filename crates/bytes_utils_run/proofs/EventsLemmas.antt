@@ -1,10 +1,12 @@
 -- Event streams.
 use Rattle.std.proofs.Common.{◌≡◌, ◌≢◌, ℕ, ◌+◌, ◌-◌, ◌==◌, ◌<◌, ◌≤◌, List, [], ◌∷◌, ◌++◌, inl, inr, Bool, true, false, length, take, drop, get_or, Option, None, Some, ap, ◌∙◌, sym, refl, subst, arith, append_assoc, append-nil, length-append, if◌then◌else◌, IsUtf8, unwrap_or}
-use Rattle.std.specs.Prelude.{IfNone, MatchOption, nat_eq, ◌&&◌}
-use Rattle.std.specs.List.{after_first, position_or_len, starts_with}
+use Rattle.std.specs.Prelude.{IfNone, MatchOption, nat_eq, nat_lt, ◌^◌, ◌&&◌}
+use Rattle.std.specs.Char.{digit_value}
+use Rattle.std.specs.List.{after_first, list_all, position_or_len, starts_with}
+use Rattle.std.specs.Str.Parse.{AllDigits, digits_value}
 use Rattle.std.specs.Str.{IsCharBoundary}
 use Rattle.std.proofs.Math.Seq.{drop-append_seam}
-use Rattle.std.proofs.lemmas.Bool.{ne_eqb}
+use Rattle.std.proofs.lemmas.Bool.{and_from, and_parts, cases_Bool, cond-false, cond-true, lt-ltb, ltb-true, ne_eqb}
 use Rattle.std.proofs.lemmas.List.{take-append-drop}
 use Rattle.std.proofs.lemmas.List.Elements.{All-head, All-tail}
 use Rattle.std.proofs.lemmas.Str.{IsCharBoundary-at_seam}
@@ -14,7 +16,8 @@ use Rattle.bytes_utils.specs.StreamRuns.{AreFirst}
 use Rattle.bytes_utils.specs.UniversalLines.{IsInLine, IsUniversalEnd, LacksEnds, LineReading, TakesUniversalLine, after_push, without_feed}
 use Rattle.bytes_utils.proofs.StreamRunsLemmas.{AreFirst-next}
 use Rattle.bytes_utils.proofs.UniversalLinesLemmas.{line_shortens}
-use Rattle.bytes_utils_run.specs.Events.{Awaits, DoesLine, Eventing, IsEndOf, IsOver, IsTooLarge, Reads, ReadsLine, TakesNext, Telling, after_field, after_line, byte_order_mark, content, field_name, field_value, is_colon, pushed, text_len, without_space}
+use Rattle.bytes_utils_run.specs.Events.{Awaits, DoesLine, Eventing, IsEndOf, IsOver, IsTooLarge, Reads, ReadsLine, TakesNext, Telling, after_field, after_line, byte_order_mark, content, field_name, field_value, is_colon, is_number, number_of, pushed, text_len, without_space}
+use Rattle.bytes_utils_run.specs.Requests.{WriteNumber}
 use Rattle.bytes_utils_run.specs.declared.examples.events.Limits.{Limits}
 
 -- one more line is read
@@ -41,6 +44,13 @@ does_empty old mid line short empty none is = record {
 field_told : (told : Telling) (text : List ℕ) → text ≢ [] → after_line told text ≡ after_field told (field_name text) (field_value text)
 field_told told [] some = absurd (some refl)
 field_told told (c ∷ t) some = refl
+
+-- a field with which the data would be too large
+pub field_too_large : (old : Eventing) (line text : List ℕ) → text ≡ content old.at_start line → text ≢ []
+    → old.limits.data < text_len (after_field old.told (field_name text) (field_value text)).text → IsTooLarge old line
+field_too_large old line text is some large =
+    let told : old.limits.data < text_len (after_line old.told text).text = subst (λ (t : Telling). old.limits.data < text_len t.text) (sym (field_told old.told text some)) large in
+    inr ((λ e. some (is ∙ e)), subst (λ t. old.limits.data < text_len (after_line old.told t).text) is told)
 
 -- a field
 pub does_field : (old mid : Eventing) (line : List ℕ) → length line ≤ old.limits.line → content old.at_start line ≢ []
@@ -69,8 +79,10 @@ reads_less old taken new line takes does =
   where
     lines : new.lines ≡ taken.lines
     lines = ap (λ (r : Eventing). r.lines) does.after
+
     none : new.waiting ≡ None
     none = ap (λ (r : Eventing). r.waiting) does.after ∙ ap (λ (r : Eventing). r.waiting) takes.others
+
     by : (waiting : Option (List ℕ)) → MatchOption waiting (TakesUniversalLine old.lines line taken.lines × IsUtf8 line) (λ w. (line ≡ w) × (taken.lines ≡ old.lines))
         → length new.lines.held + waiting_count new.waiting < length old.lines.held + waiting_count waiting
     by None next = rw (lines, none) (omega (arith, line_shortens old.lines line taken.lines next.0))
@@ -84,7 +96,7 @@ held_first reading [] = ([], sym (append-nil reading.held))
 held_first reading (c ∷ t) = (_, refl)
 
 -- the first byte of an end is in no line
-end_first : (end rest : List ℕ) → IsUniversalEnd end rest → (c : ℕ) × (t : List ℕ) × (end ≡ c ∷ t) × (IsInLine c → ⊥)
+pub end_first : (end rest : List ℕ) → IsUniversalEnd end rest → (c : ℕ) × (t : List ℕ) × (end ≡ c ∷ t) × (IsInLine c → ⊥)
 end_first end rest (inl fed) = (line_feed, [], fed, λ inside. inside.0 refl)
 end_first end rest (inr (inl both)) = (carriage_return, line_feed ∷ [], both, λ inside. inside.1 refl)
 end_first end rest (inr (inr returned)) = (carriage_return, [], returned.0, λ inside. inside.1 refl)
@@ -168,3 +180,29 @@ pub without_space_found : (text : List ℕ) (found : Option (Bor (List ℕ))) �
 without_space_found text (Some x) is other same = rw is refl
 without_space_found [] None none other same = same
 without_space_found (c ∷ t) None none other same = rw (ne_eqb c 32 (λ e. none t (ap (λ x. x ∷ t) e))) same
+
+-- ---- a time to wait
+
+digits_listed : (text : List ℕ) → AllDigits 10 text → list_all (λ c. nat_lt (digit_value c) 10) text ≡ true
+digits_listed [] all = refl
+digits_listed (c ∷ t) all = and_from (nat_lt (digit_value c) 10) _ (lt-ltb (digit_value c) 10 all.0) (digits_listed t all.1)
+
+listed_digits : (text : List ℕ) → list_all (λ c. nat_lt (digit_value c) 10) text ≡ true → AllDigits 10 text
+listed_digits [] all = tt
+listed_digits (c ∷ t) all =
+    let parts = and_parts (nat_lt (digit_value c) 10) (list_all (λ c. nat_lt (digit_value c) 10) t) all in
+    (ltb-true (digit_value c) 10 parts.0, listed_digits t parts.1)
+
+pub number_found : (text : List ℕ) (found : Option ℕ) → MatchOption found ((n : ℕ) → WriteNumber text n → ⊥) (λ n. WriteNumber text n) → found ≡ number_of text
+number_found text (Some n) writes =
+    let below : nat_lt (digits_value 10 text) (2 ^ 64) ≡ true = lt-ltb (digits_value 10 text) (2 ^ 64) (omega (arith, writes.1, writes.2)) in
+    let is : is_number text ≡ true =
+    and_from (nat_lt 0 (length text)) _ (lt-ltb 0 (length text) writes.0.0) (and_from (list_all (λ c. nat_lt (digit_value c) 10) text) _ (digits_listed text writes.0.1) below) in
+    ap Some (sym writes.1) ∙ sym (cond-true (is_number text) (Some (digits_value 10 text)) None is)
+number_found text None none = elim (cases_Bool (is_number text)) [
+  | inl is ↦
+      let parts = and_parts (nat_lt 0 (length text)) _ is in
+      let others = and_parts (list_all (λ c. nat_lt (digit_value c) 10) text) _ parts.1 in
+      absurd (none (digits_value 10 text) ((ltb-true 0 (length text) parts.0, listed_digits text others.0), refl, ltb-true (digits_value 10 text) (2 ^ 64) others.1))
+  | inr is_not ↦ sym (cond-false (is_number text) (Some (digits_value 10 text)) None is_not)
+]

@@ -39,3 +39,4 @@ pub mod RedisLemmas
 pub mod MultipartLemmas
 pub mod MultipartLaws
 pub mod EventsLemmas
+pub mod EventRunsLemmas

@@ -1,19 +1,23 @@
 -- Event streams, as the HTML standard defines them (sections 9.2.5 and 9.2.6, https://html.spec.whatwg.org/multipage/server-sent-events.html).
-use Rattle.std.specs.Prelude.{◌≡◌, ◌≢◌, ℕ, Bool, false, ◌<◌, ◌≤◌, ◌⊎◌, ◌==◌, ◌&&◌, not, if◌then◌else◌, nat_eq, List, [], ◌∷◌, ◌++◌, length, drop, codes, Option, None, Some, MatchOption, IsUtf8}
+use Rattle.std.specs.Prelude.{◌≡◌, ◌≢◌, ℕ, Bool, false, ◌<◌, ◌≤◌, ◌⊎◌, ◌==◌, ◌&&◌, not, if◌then◌else◌, nat_eq, nat_lt, ◌^◌, List, [], ◌∷◌, ◌++◌, length, drop, codes, Option, None, Some, MatchOption, IsUtf8}
 use Rattle.std.specs.Cmp.Lexicographic.{pointwise}
-use Rattle.std.specs.List.{after_first, before_first, list_any, starts_with}
+use Rattle.std.specs.Char.{digit_value}
+use Rattle.std.specs.List.{after_first, before_first, list_all, list_any, starts_with}
+use Rattle.std.specs.Option.{option_or}
+use Rattle.std.specs.Str.Parse.{digits_value}
 use Rattle.bytes_utils.specs.Lines.{line_feed}
 use Rattle.bytes_utils.specs.StreamRuns.{AreFirst}
 use Rattle.bytes_utils.specs.UniversalLines.{LacksEnds, LineReading, TakesUniversalLine, after_push}
 use Rattle.bytes_utils_run.specs.declared.examples.events.Event.{Event}
 use Rattle.bytes_utils_run.specs.declared.examples.events.Limits.{Limits}
 
--- What the lines since the last event said of the next one: its name, and its text, which is the lines of data, joined. The identifier is the last one
--- of the stream.
+-- What the lines since the last event said of the next one: its name, and its text, which is the lines of data, joined. The identifier and the time
+-- to wait before connecting again, in milliseconds, are the last ones of the stream.
 pub record Telling : Type 0 where
   pub name : Option (List ℕ)
   pub text : Option (List ℕ)
   pub id : Option (List ℕ)
+  pub retry : Option ℕ
 
 -- What clauses see of an `EventReader`: the bytes that no line was taken off, a line that was taken and not read, if there is one, whether no line
 -- was read, and what the lines that were read said.
@@ -25,7 +29,7 @@ pub record Eventing : Type 0 where
   pub limits : Limits
 
 abbrev pub nothing_told : Telling
-nothing_told = record { name = None; text = None; id = None }
+nothing_told = record { name = None; text = None; id = None; retry = None }
 
 -- a piece came
 abbrev pub pushed : Eventing → List ℕ → Eventing
@@ -66,12 +70,21 @@ abbrev pub with_line : Option (List ℕ) → List ℕ → List ℕ
 with_line None line = line
 with_line (Some before) line = before ++ line_feed ∷ line
 
--- What a field of this name and value makes of what was said. An identifier with a zero is passed over, and so is a field of any other name.
+-- the bytes are one ASCII digit or more and nothing else, and the number that they write is below 2 ^ 64
+abbrev pub is_number : List ℕ → Bool
+is_number digits = nat_lt 0 (length digits) && (list_all (λ c. nat_lt (digit_value c) 10) digits && nat_lt (digits_value 10 digits) (2 ^ 64))
+
+abbrev pub number_of : List ℕ → Option ℕ
+number_of digits = if is_number digits then Some (digits_value 10 digits) else None
+
+-- What a field of this name and value makes of what was said. An identifier with a zero, and a time that is no number, change nothing, and neither does
+-- a field of any other name.
 abbrev pub after_field : Telling → List ℕ → List ℕ → Telling
 after_field told name value =
     if pointwise nat_eq name (codes "data") then record told { text = Some (with_line told.text value) }
     else if pointwise nat_eq name (codes "event") then record told { name = some_name value }
     else if pointwise nat_eq name (codes "id") && not (list_any (λ c. nat_eq c 0) value) then record told { id = Some value }
+    else if pointwise nat_eq name (codes "retry") then record told { retry = option_or (number_of value) told.retry }
     else told
 
 -- an empty line that ends no event takes the name back

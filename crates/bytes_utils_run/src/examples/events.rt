@@ -1,11 +1,14 @@
 //! Server-sent events, of a stream that comes in pieces.
 ghost use Rattle.std.specs.Prelude.{◌≡◌, ◌≢◌, ◌<◌, ◌≤◌, ◌↔◌, ◌++◌, ◌∷◌, true, length, string_bytes, IfOk, IfErr, IfSome, IfNone, IsTrue, None, OnOk, OnErr, Some};
+ghost use Rattle.std.specs.Option.{option_or};
 ghost use Rattle.bytes_utils.specs.Lines.{line_feed};
 ghost use Rattle.bytes_utils.specs.Pushing.{IsPush};
 ghost use Rattle.bytes_utils.specs.UniversalLines.{nothing_read};
 ghost use Rattle.bytes_utils_run.specs.EventData.{text_if_any, text_of};
-ghost use Rattle.bytes_utils_run.specs.Events.{DoesLine, EndsEvent, Gives, IsEndOf, IsIdle, IsOver, IsTooLarge, LosesNothing, PassesFault, Reads, TakesFault, TakesNext, after_field, content, text_len, field_name, field_value, nothing_told, pushed, some_name, with_line, without_space};
+ghost use Rattle.bytes_utils_run.specs.EventRuns.{EventRunLaw, SameEventLaw};
+ghost use Rattle.bytes_utils_run.specs.Events.{DoesLine, EndsEvent, Gives, IsEndOf, IsIdle, IsOver, IsTooLarge, LosesNothing, PassesFault, Reads, TakesFault, TakesNext, after_field, content, text_len, field_name, field_value, nothing_told, number_of, pushed, some_name, with_line, without_space};
 
+use super::requests::number;
 use bytes::Bytes;
 use bytes_utils::frame::{LineError, UniversalLines};
 use bytes_utils::{Reason, Refused, Str};
@@ -67,7 +70,7 @@ enum Data {
 /// A stream that comes in pieces, and the events in it.
 ///
 /// ```text
-/// let limits = Limits { line: 64 << 10, data: 1 << 20 };
+/// let limits = Limits { data: 1 << 20, line: 64 << 10 };
 /// let mut events = EventReader::new(alloc, limits);
 /// events.push(first)?;             // a `Bytes` of `event: add\ndata: 73\r\nda`
 /// events.next_event(alloc)?        // `None`
@@ -75,9 +78,8 @@ enum Data {
 /// events.next_event(alloc)?        // the event `add` with the data `73\n9`
 /// ```
 ///
-/// The format is that of the HTML standard, sections 9.2.5 and 9.2.6. The field `retry` is passed
-/// over, as are fields that the standard doesn't name. An event that no empty line ends is never
-/// given.
+/// The format is that of the HTML standard, sections 9.2.5 and 9.2.6. Comments, and fields that the
+/// standard doesn't name, are passed over. An event that no empty line ends is never given.
 ///
 /// A line is read when its end has come, and its bytes are let go then. Names, identifiers and data
 /// of one line share the bytes of their lines, and several lines of data are copied into one text.
@@ -87,8 +89,9 @@ pub struct EventReader {
     waiting: Option<Str>,
     at_start: bool,
     name: Option<Str>,
-    data: Option<Data>,
+    text: Option<Data>,
     id: Option<Str>,
+    retry: Option<u64>,
     limits: Limits,
 }
 
@@ -103,11 +106,11 @@ impl Model for EventReader {
       lines = r.lines;
       waiting = r.waiting;
       at_start = r.at_start;
-      told = record { name = r.name; text = text_if_any r.data; id = r.id };
+      told = record { name = r.name; text = text_if_any r.text; id = r.id; retry = r.retry };
       limits = r.limits;
     } };
 
-    ghost invariant = { λ r. text_len (text_if_any r.data) ≤ r.limits.data };
+    ghost invariant = { λ r. text_len (text_if_any r.text) ≤ r.limits.data };
 }
 
 impl EventReader {
@@ -126,8 +129,9 @@ impl EventReader {
             waiting: None,
             at_start: true,
             name: None,
-            data: None,
+            text: None,
             id: None,
+            retry: None,
             limits,
         }
     }
@@ -171,6 +175,24 @@ impl EventReader {
             }
         }
         Ok(None)
+    }
+
+    /// Returns how many milliseconds a client is to wait before it connects again, if the lines that
+    /// were read gave such a number below 2^64.
+    pub fn retry(&self) -> Option<u64>
+        ensures { result ≡ self.now.told.retry }
+    {
+        self.retry
+    }
+
+    /// Returns the number of held bytes: those of lines that were not taken.
+    pub fn remaining(&self) -> usize
+        ensures value { result ≡ length self.now.lines.held }
+
+        // True of every value, after any calls.
+        ensures small { text_len self.now.told.text ≤ self.now.limits.data }
+    {
+        self.lines.remaining()
     }
 
     /// Takes the next line: the one that waits, or the next of the stream.
@@ -242,7 +264,7 @@ impl EventReader {
         ensures err { OnErr result (self.new ≡ self.old) }
         ensures reason { IfErr result (λ reason. reason ≡ Reason.OutOfMemory) }
     {
-        let Some(data) = self.data.take() else {
+        let Some(data) = self.text.take() else {
             self.name = None;
             return Ok(None);
         };
@@ -252,7 +274,7 @@ impl EventReader {
                 Ok(Some(Event { name, data, id }))
             }
             Err(Refused { reason, back }) => {
-                self.data = Some(back);
+                self.text = Some(back);
                 Err(reason)
             }
         }
@@ -261,8 +283,10 @@ impl EventReader {
     /// Does what the field says that is at the end of the line.
     fn read_field(&mut self, alloc: Global, line: &Str, text: &str) -> Result<(), EventError>
         requires { IsEndOf line.now text.now }
-        ensures ok { OnOk result (self.new ≡ record self.old { told = after_field self.old.told
-            (field_name text.now) (field_value text.now) }) }
+        ensures ok { OnOk result (self.new ≡ record self.old {
+          told = after_field self.old.told
+              (field_name text.now) (field_value text.now);
+        }) }
         ensures err { OnErr result (self.new ≡ self.old) }
         ensures too_large { IfErr result (λ e. e ≡ EventError.TooLarge → self.old.limits.data
             < text_len (after_field self.old.told (field_name text.now) (field_value text.now)).text) }
@@ -277,6 +301,8 @@ impl EventReader {
             self.name = some_name(line, value)?;
         } else if name == "id" && !value.as_bytes().contains(&0) {
             self.id = Some(end_of(line, value)?);
+        } else if name == "retry" {
+            set_number(&mut self.retry, value);
         }
         Ok(())
     }
@@ -284,8 +310,11 @@ impl EventReader {
     /// Adds a line to the data, which is at the end of the line of the stream.
     fn add_line(&mut self, alloc: Global, line: &Str, value: &str) -> Result<(), EventError>
         requires { IsEndOf line.now value.now }
-        ensures ok { OnOk result (self.new ≡ record self.old { told = record self.old.told {
-          text = Some (with_line self.old.told.text value.now) } }) }
+        ensures ok { OnOk result (self.new ≡ record self.old {
+          told = record self.old.told {
+            text = Some (with_line self.old.told.text value.now);
+          };
+        }) }
         ensures err { OnErr result (self.new ≡ self.old) }
         ensures too_large { IfErr result (λ e. e ≡ EventError.TooLarge
             → self.old.limits.data < length (with_line self.old.told.text value.now)) }
@@ -293,13 +322,22 @@ impl EventReader {
         ensures reason { IfErr result (λ e. (reason : _) → e ≡ EventError.Refused reason
             → reason ≡ Reason.OutOfMemory) }
     {
-        if !has_room(&self.data, value, self.limits.data) {
+        if !has_room(&self.text, value, self.limits.data) {
             return Err(EventError::TooLarge);
         }
-        add_line(alloc, &mut self.data, line, value)?;
+        add_line(alloc, &mut self.text, line, value)?;
         Ok(())
     }
 }
+
+/// The laws of a run of calls. It gives the first events of the joined pieces, wherever these are cut,
+/// whenever events are asked for, and whichever calls are refused memory. These are the same for
+/// every run over the same bytes.
+#[tactic(auto, using(crate::proofs::EventRunsLemmas::event_laws))]
+pub fn event_laws()
+    ensures run { EventRunLaw }
+    ensures same { SameEventLaw }
+{}
 
 /// Whether the data may have one more line.
 fn has_room(so_far: &Option<Data>, line: &str, limit: usize) -> bool
@@ -343,7 +381,10 @@ fn data_and_id(
 {
     let id = match same(id) {
         Ok(id) => id,
-        Err(reason) => return Err(Refused { reason, back: so_far }),
+        Err(reason) => return Err(Refused {
+            reason,
+            back: so_far,
+        }),
     };
     match so_far {
         Data::One(text) => Ok((text, id)),
@@ -413,6 +454,15 @@ fn end_of(line: &Str, end: &str) -> Result<Str, Reason>
     ensures reason { IfErr result (λ reason. reason ≡ Reason.OutOfMemory) }
 {
     line.slice_from(line.len() - end.len())
+}
+
+/// Sets the number to the one that the text writes, if it writes one.
+fn set_number(number_so_far: &mut Option<u64>, text: &str)
+    ensures { number_so_far.new ≡ option_or (number_of text.now) number_so_far.old }
+{
+    if let Some(n) = number(text.as_bytes()) {
+        *number_so_far = Some(n as u64);
+    }
 }
 
 /// Two lines as one text.

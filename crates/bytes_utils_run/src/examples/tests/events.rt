@@ -6,46 +6,101 @@ use std::alloc::Global;
 use std::test::Fail;
 
 /// Limits that the streams below stay within.
-const LIMITS: Limits = Limits { line: 40, data: 20 };
+const LIMITS: Limits = Limits { line: 23, data: 14 };
 
-/// Streams, most of them of the HTML standard (section 9.2.6), and their events: a name, an
-/// identifier and the data, each followed by a bar. A dash is none, and `\r` ends a stream here.
-const STREAMS: &str = "data: YHOO\ndata: +2\ndata: 10\n\n>-|-|YHOO\n+2\n10|\
-    \r: test stream\n\ndata: first event\nid: 1\n\ndata:second event\nid\n\ndata:  third event\n>\
-    -|1|first event|-||second event|\
-    \r: test stream\n\ndata: first event\nid: 1\n\ndata:second event\nid\n\ndata:  third event\n\n>\
-    -|1|first event|-||second event|-|| third event|\
-    \rdata\n\ndata\ndata\n\ndata:\n>-|-||-|-|\n|\
-    \rdata:test\n\ndata: test\n\n>-|-|test|-|-|test|\
-    \revent: add\ndata: 73857293\n\nevent: remove\ndata: 2153\n\nevent: add\ndata: 113411\n\n>\
-    add|-|73857293|remove|-|2153|add|-|113411|\
-    \r\u{feff}data: a\n\n\u{feff}data: b\n\ndata: \u{feff}c\n\n>-|-|a|-|-|\u{feff}c|\
-    \revent: a\n\ndata: b\n\nevent: a\nevent\ndata: b\nid: 7\nid: 1\0\nDATA: c\n data: c\n\n>\
-    -|-|b|-|7|b|\
-    \r";
+/// Streams, and after `>` their events. In order:
+///
+/// - those of the HTML standard (section 9.2.6): three lines of data; four blocks, of which the last
+///   one has its end or not; three blocks, of which the last one has no end; two values that are the
+///   same; named events
+/// - a byte order mark at the start, on a later line, and in a value
+/// - each kind of end, one after another
+/// - a name that an empty line and an empty name take back, a name in capitals, a space before a
+///   name, an identifier with a zero
+const STREAMS: &str = "data: YHOO\ndata: +2\ndata: 10\n\n>-|-|YHOO\n+2\n10|~\
+    : test stream\n\ndata: first event\nid: 1\n\ndata:second event\nid\n\ndata:  third event\n>\
+    -|1|first event|-||second event|~\
+    : test stream\n\ndata: first event\nid: 1\n\ndata:second event\nid\n\ndata:  third event\n\n>\
+    -|1|first event|-||second event|-|| third event|~\
+    data\n\ndata\ndata\n\ndata:\n>-|-||-|-|\n|~\
+    data:test\n\ndata: test\n\n>-|-|test|-|-|test|~\
+    event: add\ndata: 73857293\n\nevent: remove\ndata: 2153\n\nevent: add\ndata: 113411\n\n>\
+    add|-|73857293|remove|-|2153|add|-|113411|~\
+    \u{feff}data: a\n\n\u{feff}data: b\n\ndata: \u{feff}c\n\n>-|-|a|-|-|\u{feff}c|~\
+    data: a\r\ndata: b\rid: 1\n\r\ndata: c\r\rdata: d\n\r>-|1|a\nb|-|1|c|-|1|d|~\
+    event: a\n\ndata: b\n\nevent: a\nevent\ndata: b\nid: 7\nid: 1\0\nDATA: c\n data: c\n\n>\
+    -|-|b|-|7|b|";
 
+/// Whether this is the text, where a dash is none.
 fn is_text(text: &Option<Str>, wanted: &str) -> bool {
     match text {
         Some(text) => text.eq_str(wanted),
         None => wanted == "-",
     }
 }
+
+/// What is wanted after this event, if it is wanted first: by its name, identifier and data.
+fn after_event<'w>(event: &Event, wanted: &'w str) -> Option<&'w str> {
+    let (name, rest) = wanted.split_once('|')?;
+    let (id, rest) = rest.split_once('|')?;
+    let (data, rest) = rest.split_once('|')?;
+    if is_text(&event.name, name) && is_text(&event.id, id) && event.data.eq_str(data) {
+        return Some(rest);
+    }
+    None
+}
+
+/// What is wanted after the events that are there now.
+fn after_events<'w>(
+    alloc: Global,
+    events: &mut EventReader,
+    wanted: &'w str,
+) -> Result<&'w str, Fail> {
+    let mut rest = wanted;
+    while let Some(event) = events.next_event(alloc)? {
+        rest = after_event(&event, rest).ok_or("another event")?;
+    }
+    Ok(rest)
+}
+
 #[test]
-fn quick(rt: HostRuntime) -> Result<(), Fail> {
-    for row in STREAMS.split('\r') {
-        let Some((stream, wanted)) = row.split_once('>') else { break };
+fn streams_cut_at_each_place(rt: HostRuntime) -> Result<(), Fail> {
+    for row in STREAMS.split('~') {
+        let (stream, wanted) = row.split_once('>').ok_or("no stream")?;
+        for cut in 0..stream.len() {
+            let (front, back) = stream.as_bytes().split_at(cut);
+            let mut events = EventReader::new(rt.alloc(), LIMITS);
+            events.push(Bytes::from_static(front))?;
+            let rest = after_events(rt.alloc(), &mut events, wanted)?;
+            events.push(Bytes::from_static(back))?;
+            assert_eq!(rt; after_events(rt.alloc(), &mut events, rest)?, "");
+        }
+    }
+    Ok(())
+}
+
+/// Whether the first call fails so, and the second one too if it is for a limit.
+fn fails(alloc: Global, events: &mut EventReader, wanted: &str) -> bool {
+    match events.next_event(alloc) {
+        Err(EventError::NotUtf8) => wanted == "not utf-8",
+        Err(EventError::TooLarge) => {
+            wanted == "too large" && events.next_event(alloc).err() == Some(EventError::TooLarge)
+        }
+        _ => false,
+    }
+}
+
+/// What passes a limit: a line with and without its end, a line of data, and lines of data together.
+const BAD: &str = ":4567890123456789012345|: 3456789012345678901234\n|data: 123456789012345\n|\
+    data: 123456\ndata: 12345678\n";
+
+#[test]
+fn bad_streams(rt: HostRuntime) -> Result<(), Fail> {
+    for stream in BAD.split('|') {
         let mut events = EventReader::new(rt.alloc(), LIMITS);
         events.push(Bytes::from_static(stream.as_bytes()))?;
-        let mut rest = wanted;
-        while let Some(event) = events.next_event(rt.alloc())? {
-            let (name, after) = rest.split_once('|').ok_or("no name")?;
-            let (id, after) = after.split_once('|').ok_or("no id")?;
-            let (data, after) = after.split_once('|').ok_or("no data")?;
-            println!(rt; "{:?}", event)?;
-            assert!(rt; is_text(&event.name, name) && is_text(&event.id, id) && event.data.eq_str(data));
-            rest = after;
-        }
-        assert!(rt; rest.is_empty(), "{rest}");
+        events.push(Bytes::from_static(b"4"))?;
+        assert!(rt; fails(rt.alloc(), &mut events, "too large"));
     }
     Ok(())
 }

@@ -1,5 +1,6 @@
 //! Each call whose request for memory is refused. With enough memory none is; a run that refuses one
 //! prints a line for it.
+use crate::examples::events::{self, EventReader};
 use crate::examples::fields::fields_of;
 use crate::examples::headers::headers;
 use crate::examples::inbox::Inbox;
@@ -75,6 +76,15 @@ fn of_parts(alloc: Global) -> Named {
     let back = Bytes::from_static(b"llo\r\n--b--");
     parts.push(back).ok().ok_or("PartReader::push")?;
     parts.next_part(alloc).ok().ok_or("PartReader::next_part")?;
+fn of_events(alloc: Global, events: &mut EventReader) -> Named {
+    let front = Bytes::from_static(b"id: 1\nevent: a\ndata: b\nda");
+    events.push(front).ok().ok_or("EventReader::push")?;
+    let back = Bytes::from_static(b"ta: c\n\n");
+    events.push(back).ok().ok_or("EventReader::push")?;
+    events
+        .next_event(alloc)
+        .ok()
+        .ok_or("EventReader::next_event")?;
     Ok(())
 }
 
@@ -111,6 +121,8 @@ fn of_all(alloc: Global) -> Named {
         items: 9,
     };
     of_replies(alloc, &mut ReplyReader::new(alloc, limits))?;
+    let limits = events::Limits { line: 9, data: 9 };
+    of_events(alloc, &mut EventReader::new(alloc, limits))?;
     let mut records = Records::new(alloc, 9).ok().ok_or("Records::new")?;
     of_records(alloc, &mut records)?;
     drop(records);
