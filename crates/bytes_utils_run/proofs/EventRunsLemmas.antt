@@ -1,18 +1,18 @@
 -- Runs of calls for events.
-use Rattle.std.proofs.Common.{◌≡◌, ◌≢◌, ℕ, ◌+◌, ◌<◌, ◌≤◌, List, [], ◌∷◌, ◌++◌, inl, inr, Bool, true, false, length, get_or, Option, None, Some, ap, ◌∙◌, sym, refl, subst, arith, append_assoc, append-nil, length-append, if◌then◌else◌, IsUtf8, unwrap_or}
+use Rattle.std.proofs.Common.{◌≡◌, ℕ, ◌<◌, List, [], ◌∷◌, ◌++◌, inl, inr, Bool, true, false, length, get_or, Option, None, Some, ap, ◌∙◌, sym, refl, subst, arith, append_assoc, append-nil, length-append, if◌then◌else◌, IsUtf8, unwrap_or}
 use Rattle.std.specs.Prelude.{MatchOption, ◌⊎◌}
 use Rattle.std.specs.List.{flat_map}
 use Rattle.std.specs.Option.{option_to_list}
 use Rattle.std.proofs.lemmas.Bool.{cases_Bool, cases_eq, false≢true, ne_eqb, true≢false}
 use Rattle.std.proofs.lemmas.List.{append_cancel_left, append_cancel_right}
 use Rattle.std.proofs.lemmas.List.Concat.{flat_map-append}
-use Rattle.bytes_utils.specs.Lines.{carriage_return}
-use Rattle.bytes_utils.specs.StreamRuns.{AreFirst, Pushed, SameFirstLaw, StreamEvent, Taken, given_by, pushed_by}
-use Rattle.bytes_utils.specs.UniversalLines.{EndsLine, IsFirstLine, LineReading, TakesUniversalLine, after_push, nothing_read, without_feed}
+use Rattle.std.proofs.lemmas.List.Elements.{All-head, All-tail}
+use Rattle.bytes_utils.specs.StreamRuns.{AreFirst, Pushed, Taken}
+use Rattle.bytes_utils.specs.UniversalLines.{EndsLine, IsFirstLine, IsInLine, LacksEnds, LineReading, TakesUniversalLine, after_push, nothing_read, without_feed}
 use Rattle.bytes_utils.proofs.StreamRunsLemmas.{AreFirst-next, run_keeps, same_first_law}
 use Rattle.bytes_utils.proofs.UniversalLinesLemmas.{line_shortens, same_universal_law, universal_run_law}
-use Rattle.bytes_utils_run.specs.EventRuns.{EventRunLaw, Returns, SameEventLaw, nothing_held}
-use Rattle.bytes_utils_run.specs.Events.{Awaits, DoesLine, EndsEvent, Eventing, Gives, LosesNothing, ReadsLine, TakesNext, pushed}
+use Rattle.bytes_utils_run.specs.EventRuns.{EventRunLaw, NoEventLaw, Returns, SameEventLaw, nothing_held}
+use Rattle.bytes_utils_run.specs.Events.{Awaits, DoesLine, EndsEvent, Eventing, Gives, IsIdle, LosesNothing, ReadsLine, TakesNext, pushed}
 use Rattle.bytes_utils_run.specs.declared.examples.events.Event.{Event}
 use Rattle.bytes_utils_run.specs.declared.examples.events.Limits.{Limits}
 use Rattle.bytes_utils_run.proofs.EventsLemmas.{end_first}
@@ -365,5 +365,34 @@ same_event_law = same_first_law Gives (λ old e f a b p q.
     given_same old p.reads.0 q.reads.0 p.before q.before e f a b p.reads.1 q.reads.1
     (record { line = p.line; taken = p.taken; takes = p.takes; ends = p.ends })
     (record { line = q.line; taken = q.taken; takes = q.takes; ends = q.ends }))
+
+-- ---- no event is there
+
+lacks_end : (line : List ℕ) (c : ℕ) (t : List ℕ) → LacksEnds (line ++ (c ∷ t)) → IsInLine c
+lacks_end [] c t lacks = All-head IsInLine c t lacks
+lacks_end (b ∷ line) c t lacks = lacks_end line c t (All-tail IsInLine b (line ++ (c ∷ t)) lacks)
+
+-- no line is there
+idle_takes : (reading : Eventing) (line : List ℕ) (taken : Eventing) → IsIdle reading → TakesNext reading line taken → ⊥
+idle_takes reading line taken idle takes =
+    let next : TakesUniversalLine reading.lines line taken.lines × IsUtf8 line =
+    subst (λ w. MatchOption w (TakesUniversalLine reading.lines line taken.lines × IsUtf8 line) (λ waiting. (line ≡ waiting) × (taken.lines ≡ reading.lines))) idle.none takes.next in
+    let first = end_first next.0.end taken.lines.held next.0.ended.ends in
+    let whole : reading.lines.held ≡ line ++ (first.0 ∷ first.1 ++ taken.lines.held) = next.0.ended.whole ∙ ap (λ l. line ++ (l ++ taken.lines.held)) first.2 in
+    first.3 (lacks_end line first.0 (first.1 ++ taken.lines.held) (subst LacksEnds whole idle.lacks))
+
+none_there : (old : Eventing) (xs ys : List (List ℕ)) (m n : Eventing) (event : Event) (end : Eventing) → AreFirst ReadsLine old xs m → IsIdle m → AreFirst ReadsLine old ys n → Stops n event end → ⊥
+none_there old [] [] m n event end p idle q stops =
+    idle_takes old stops.line stops.taken (subst IsIdle (sym p) idle) (subst (λ r. TakesNext r stops.line stops.taken) (sym q) stops.takes)
+none_there old [] (y ∷ ys) m n event end p idle q stops = idle_takes old y q.1.taken (subst IsIdle (sym p) idle) q.1.takes
+none_there old (x ∷ xs) [] m n event end p idle q stops = goes_on old x p.0 event end p.1 (subst (λ r. Stops r event end) (sym q) stops)
+none_there old (x ∷ xs) (y ∷ ys) m n event end p idle q stops =
+    let same = reads_same old x y p.0 q.0 p.1 q.1 in
+    none_there q.0 xs ys m n event end (subst (λ r. AreFirst ReadsLine r xs m) same p.2) idle q.2 stops
+
+pub no_event_law : NoEventLaw
+no_event_law old new reads idle event end gives =
+    none_there old reads.0 gives.reads.0 new gives.before event end reads.1 idle gives.reads.1
+    (record { line = gives.line; taken = gives.taken; takes = gives.takes; ends = gives.ends })
 
 pub ruleset event_laws = (event_run_law, same_event_law)

@@ -12,11 +12,10 @@ use Rattle.std.proofs.lemmas.List.Elements.{All-head, All-tail}
 use Rattle.std.proofs.lemmas.Str.{IsCharBoundary-at_seam}
 use denote.Ref.{Bor}
 use Rattle.bytes_utils.specs.Lines.{line_feed, carriage_return}
-use Rattle.bytes_utils.specs.StreamRuns.{AreFirst}
-use Rattle.bytes_utils.specs.UniversalLines.{IsInLine, IsUniversalEnd, LacksEnds, LineReading, TakesUniversalLine, after_push, without_feed}
+use Rattle.bytes_utils.specs.UniversalLines.{IsInLine, IsUniversalEnd, LacksEnds, LineReading, TakesUniversalLine, after_push}
 use Rattle.bytes_utils.proofs.StreamRunsLemmas.{AreFirst-next}
 use Rattle.bytes_utils.proofs.UniversalLinesLemmas.{line_shortens}
-use Rattle.bytes_utils_run.specs.Events.{Awaits, DoesLine, Eventing, IsEndOf, IsOver, IsTooLarge, Reads, ReadsLine, TakesNext, Telling, after_field, after_line, byte_order_mark, content, field_name, field_value, is_colon, is_number, number_of, pushed, text_len, without_space}
+use Rattle.bytes_utils_run.specs.Events.{DoesLine, Eventing, IsEndOf, IsOver, IsTooLarge, Reads, ReadsLine, TakesNext, Telling, after_field, after_line, byte_order_mark, content, field_name, field_value, is_colon, is_number, number_of, text_len, without_space}
 use Rattle.bytes_utils_run.specs.Requests.{WriteNumber}
 use Rattle.bytes_utils_run.specs.declared.examples.events.Limits.{Limits}
 

@@ -4,7 +4,7 @@ use Rattle.std.specs.List.{flat_map}
 use Rattle.std.specs.Option.{option_to_list}
 use Rattle.bytes_utils.specs.StreamRuns.{AreFirst, IsRunOver, SameFirstLaw, StreamEvent, given_by, pushed_by}
 use Rattle.bytes_utils.specs.UniversalLines.{nothing_read}
-use Rattle.bytes_utils_run.specs.Events.{Eventing, Gives, LosesNothing, nothing_told, pushed}
+use Rattle.bytes_utils_run.specs.Events.{Eventing, Gives, IsIdle, LosesNothing, Reads, nothing_told, pushed}
 use Rattle.bytes_utils_run.specs.declared.examples.events.Event.{Event}
 use Rattle.bytes_utils_run.specs.declared.examples.events.Limits.{Limits}
 
@@ -26,6 +26,10 @@ IsEventRun limits events end = IsRunOver pushed Returns (nothing_held limits) ev
 abbrev pub EventRunLaw : Type 0
 EventRunLaw = (limits : Limits) (events : List (StreamEvent (Option Event))) (end : Eventing) → IsEventRun limits events end
     → (mid : Eventing) × AreFirst Gives (pushed (nothing_held limits) (pushed_by events)) (flat_map option_to_list (given_by events)) mid × LosesNothing mid end
+
+-- if a call gave none, and wasn't refused, no event was there
+abbrev pub NoEventLaw : Type 0
+NoEventLaw = (old new : Eventing) → Reads old new → IsIdle new → (event : Event) (end : Eventing) → ¬ Gives old event end
 
 -- two lists of first events of the same bytes that have the same length are the same, with the same state after them
 abbrev pub SameEventLaw : Type 0

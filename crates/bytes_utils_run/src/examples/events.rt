@@ -5,7 +5,7 @@ ghost use Rattle.bytes_utils.specs.Lines.{line_feed};
 ghost use Rattle.bytes_utils.specs.Pushing.{IsPush};
 ghost use Rattle.bytes_utils.specs.UniversalLines.{nothing_read};
 ghost use Rattle.bytes_utils_run.specs.EventData.{text_if_any, text_of};
-ghost use Rattle.bytes_utils_run.specs.EventRuns.{EventRunLaw, SameEventLaw};
+ghost use Rattle.bytes_utils_run.specs.EventRuns.{EventRunLaw, NoEventLaw, SameEventLaw};
 ghost use Rattle.bytes_utils_run.specs.Events.{DoesLine, EndsEvent, Gives, IsEndOf, IsIdle, IsOver, IsTooLarge, LosesNothing, PassesFault, Reads, TakesFault, TakesNext, after_field, content, text_len, field_name, field_value, nothing_told, number_of, pushed, some_name, with_line, without_space};
 
 use super::requests::number;
@@ -332,11 +332,12 @@ impl EventReader {
 
 /// The laws of a run of calls. It gives the first events of the joined pieces, wherever these are cut,
 /// whenever events are asked for, and whichever calls are refused memory. These are the same for
-/// every run over the same bytes.
+/// every run over the same bytes. If a call gave none, and was not refused, no event was there.
 #[tactic(auto, using(crate::proofs::EventRunsLemmas::event_laws))]
 pub fn event_laws()
     ensures run { EventRunLaw }
     ensures same { SameEventLaw }
+    ensures none { NoEventLaw }
 {}
 
 /// Whether the data may have one more line.

@@ -79,28 +79,27 @@ fn streams_cut_at_each_place(rt: HostRuntime) -> Result<(), Fail> {
     Ok(())
 }
 
-/// Whether the first call fails so, and the second one too if it is for a limit.
-fn fails(alloc: Global, events: &mut EventReader, wanted: &str) -> bool {
-    match events.next_event(alloc) {
-        Err(EventError::NotUtf8) => wanted == "not utf-8",
-        Err(EventError::TooLarge) => {
-            wanted == "too large" && events.next_event(alloc).err() == Some(EventError::TooLarge)
-        }
-        _ => false,
-    }
+/// Whether a call says that a limit is passed, and the same call says so once more.
+fn is_too_large(alloc: Global, events: &mut EventReader) -> bool {
+    let first = events.next_event(alloc).err();
+    first == Some(EventError::TooLarge) && events.next_event(alloc).err() == first
 }
 
 /// What passes a limit: a line with and without its end, a line of data, and lines of data together.
-const BAD: &str = ":4567890123456789012345|: 3456789012345678901234\n|data: 123456789012345\n|\
+const LARGE: &str = ":4567890123456789012345|: 3456789012345678901234\n|data: 123456789012345\n|\
     data: 123456\ndata: 12345678\n";
 
 #[test]
-fn bad_streams(rt: HostRuntime) -> Result<(), Fail> {
-    for stream in BAD.split('|') {
+fn bad_lines(rt: HostRuntime) -> Result<(), Fail> {
+    for stream in LARGE.split('|') {
         let mut events = EventReader::new(rt.alloc(), LIMITS);
         events.push(Bytes::from_static(stream.as_bytes()))?;
         events.push(Bytes::from_static(b"4"))?;
-        assert!(rt; fails(rt.alloc(), &mut events, "too large"));
+        assert!(rt; is_too_large(rt.alloc(), &mut events));
     }
+    let mut events = EventReader::new(rt.alloc(), LIMITS);
+    events.push(Bytes::from_static(b"data: \xff\ndata: a\n\n"))?;
+    assert!(rt; events.next_event(rt.alloc()).err() == Some(EventError::NotUtf8));
+    assert_eq!(rt; after_events(rt.alloc(), &mut events, "-|-|a|")?, "");
     Ok(())
 }
