@@ -50,14 +50,17 @@ fn after_event<'w>(event: &Event, wanted: &'w str) -> Option<&'w str> {
     None
 }
 
-/// What is wanted after the events that are there now.
+/// What is wanted after the events that are there now, of which there are at most three.
 fn after_events<'w>(
     alloc: Global,
     events: &mut EventReader,
     wanted: &'w str,
 ) -> Result<&'w str, Fail> {
     let mut rest = wanted;
-    while let Some(event) = events.next_event(alloc)? {
+    for _ in 0..4 {
+        let Some(event) = events.next_event(alloc)? else {
+            break;
+        };
         rest = after_event(&event, rest).ok_or("another event")?;
     }
     Ok(rest)
@@ -101,5 +104,45 @@ fn bad_lines(rt: HostRuntime) -> Result<(), Fail> {
     events.push(Bytes::from_static(b"data: \xff\ndata: a\n\n"))?;
     assert!(rt; events.next_event(rt.alloc()).err() == Some(EventError::NotUtf8));
     assert_eq!(rt; after_events(rt.alloc(), &mut events, "-|-|a|")?, "");
+    Ok(())
+}
+
+/// Data of one line, in a piece of more than 512 bytes, shares that piece.
+#[test]
+fn data_of_one_line_is_shared(rt: HostRuntime) -> Result<(), Fail> {
+    let mut piece = [b'a'; 600];
+    piece[..6].copy_from_slice(b"data: ");
+    piece[598..].copy_from_slice(b"\n\n");
+    let limits = Limits {
+        line: 598,
+        data: 592,
+    };
+    let mut events = EventReader::new(rt.alloc(), limits);
+    let piece = Bytes::copy_from_slice(rt.alloc(), &piece)?;
+    events.push(piece.clone()?)?;
+    let event = events.next_event(rt.alloc())?.ok_or("no event")?;
+    drop(events);
+    assert!(rt; event.data.len() == 592 && !piece.is_unique());
+    drop(event);
+    assert!(rt; piece.is_unique());
+    Ok(())
+}
+
+/// Many comments and empty lines, and then single bytes.
+#[test]
+fn a_long_stream(rt: HostRuntime) -> Result<(), Fail> {
+    let mut events = EventReader::new(rt.alloc(), LIMITS);
+    for _ in 0..1_000 {
+        events.push(Bytes::from_static(b": a\n:\n\n"))?;
+        assert!(rt; events.next_event(rt.alloc())?.is_none() && events.remaining() == 0);
+    }
+    let stream: &'static [u8] = b"retry: 1\ndata: abc\n";
+    for byte in stream.chunks(1) {
+        events.push(Bytes::from_static(byte))?;
+        assert!(rt; events.next_event(rt.alloc())?.is_none());
+    }
+    events.push(Bytes::from_static(b"\n"))?;
+    assert_eq!(rt; after_events(rt.alloc(), &mut events, "-|-|abc|")?, "");
+    assert!(rt; events.retry() == Some(1));
     Ok(())
 }

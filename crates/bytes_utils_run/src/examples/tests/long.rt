@@ -1,5 +1,4 @@
 //! Many parts and long streams: no call is refused while there is memory.
-use crate::examples::events::{EventReader, Limits};
 use crate::examples::fields::fields_of;
 use crate::examples::headers::headers;
 use crate::examples::inbox::Inbox;
@@ -103,24 +102,5 @@ fn a_long_request(rt: HostRuntime) -> Result<(), Fail> {
     drop(head);
     let body = requests.next_body(rt.alloc(), 100_000)?.ok_or("no body")?;
     assert!(rt; body.remaining() == 100_000);
-    Ok(())
-}
-
-// Many comments and empty lines, and then single bytes.
-#[test]
-fn a_long_stream(rt: HostRuntime) -> Result<(), Fail> {
-    let limits = Limits { line: 9, data: 9 };
-    let mut events = EventReader::new(rt.alloc(), limits);
-    for _ in 0..1_000 {
-        events.push(Bytes::from_static(b": a\n:\n\n"))?;
-        assert!(rt; events.next_event(rt.alloc())?.is_none() && events.remaining() == 0);
-    }
-    let line: &'static [u8] = b"data: abc\n";
-    for byte in line.chunks(1) {
-        events.push(Bytes::from_static(byte))?;
-        assert!(rt; events.next_event(rt.alloc())?.is_none());
-    }
-    events.push(Bytes::from_static(b"retry: 1\n\n"))?;
-    assert!(rt; events.next_event(rt.alloc())?.is_some() && events.retry() == Some(1));
     Ok(())
 }

@@ -1,6 +1,5 @@
 //! Parts share the bytes that they were cut from. In each test there is one more owner of these bytes,
 //! which are then the only ones of its block.
-use crate::examples::events::{EventReader, Limits};
 use crate::examples::fields::fields_of;
 use crate::examples::headers::headers;
 use crate::examples::inbox::Inbox;
@@ -98,24 +97,6 @@ fn a_record_in_one_piece_is_shared(rt: HostRuntime) -> Result<(), Fail> {
     let record = records.next_record(rt.alloc()).ok().flatten();
     drop(records);
     assert_lets_go(&rt, record.ok_or("no record")?.into_inner(), other);
-    Ok(())
-}
-
-#[test]
-fn data_of_one_line_is_shared(rt: HostRuntime) -> Result<(), Fail> {
-    let mut stream = [b'a'; 600];
-    stream[..6].copy_from_slice(b"data: ");
-    stream[598..].copy_from_slice(b"\n\n");
-    let limits = Limits {
-        line: 598,
-        data: 592,
-    };
-    let mut events = EventReader::new(rt.alloc(), limits);
-    let (bytes, other) = piece(rt.alloc(), &stream)?;
-    events.push(bytes)?;
-    let event = events.next_event(rt.alloc())?.ok_or("no event")?;
-    drop(events);
-    assert_lets_go(&rt, event.data.into_inner(), other);
     Ok(())
 }
 
