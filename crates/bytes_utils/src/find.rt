@@ -9,6 +9,7 @@ ghost use Rattle.bytes_utils.specs.Occurrence.{Occurs};
 #[cfg(test)]
 mod tests;
 
+use crate::frame::search::find_by_first_byte;
 use bytes::{Buf, Bytes};
 use bytes_utils_buf::Reason;
 use bytes_utils_buf::contiguous::ContiguousBuf;
@@ -190,7 +191,7 @@ fn find_starting_in<B: ContiguousBuf + Drop>(
     if from >= segment.len() {
         return None;
     }
-    if let Some(at) = finder.find(&segment[from..]) {
+    if let Some(at) = find_by_first_byte(finder, &segment[from..]) {
         return Some(from + at);
     }
     let most = finder.needle().len() - 1;

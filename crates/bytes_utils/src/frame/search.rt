@@ -248,6 +248,15 @@ pub(crate) fn find_in_piece(finder: &Finder, piece: &[u8], from: usize) -> Optio
     }
 }
 
+/// The first place of the needle in a piece, looked for by its first byte.
+#[inline]
+pub(crate) fn find_by_first_byte(finder: &Finder, piece: &[u8]) -> Option<usize>
+    requires { 0 < length finder.now }
+    ensures { FindsNeedle piece.now finder.now 0 result }
+{
+    find_in_piece(finder, piece, prefix_without_first_byte(finder.needle(), piece))
+}
+
 /// The first place of the byte `first`, soon found if it is near the start.
 #[inline]
 #[tactic(auto, using(crate::proofs::FrameSearchLemmas::first_byte_from_places))]
