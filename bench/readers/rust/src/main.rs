@@ -1,8 +1,9 @@
 //! Readers of protocols, as a Rust program has them: `readers READER HOW PIECE KEPT ROUNDS`, with the stream as its
 //! input. READER is `replies`, of Redis; `bulks`, the bulk strings of Redis alone; `prefixed`, frames after their
-//! lengths, by a loop, or `codec`, by tokio-util's `LengthDelimitedCodec`. Each is over one growing `BytesMut`, to which
-//! a piece of PIECE bytes is appended; HOW means nothing here. The last KEPT messages are held. It prints the messages,
-//! a sum over them, and the least nanoseconds of all rounds.
+//! lengths, by a loop, or `codec`, by tokio-util's `LengthDelimitedCodec`; `events`, Server-Sent Events; or `parts`,
+//! of a multipart body. Each is over one growing `BytesMut`, to which a piece of PIECE bytes is appended; HOW means
+//! nothing here. The last KEPT messages are held. It prints the messages, a sum over them, and the least nanoseconds
+//! of all rounds.
 use bytes::{Bytes, BytesMut};
 use std::collections::VecDeque;
 use std::env;
@@ -12,10 +13,16 @@ use std::time::Instant;
 use tokio_util::codec::{Decoder, LengthDelimitedCodec};
 
 mod bulk;
+mod events;
+mod multipart;
 mod prefixed;
 mod redis;
 
-use redis::{Item, Limits, Replies};
+use events::{Event, Events};
+use multipart::{Part, Parts};
+use redis::{Item, Replies};
+
+const BOUNDARY: &[u8] = b"----WebKitFormBoundary7MA4YWxkTrZu0gW";
 
 /// Whatever takes pieces in, and gives the messages that have come.
 trait Reader {
@@ -42,6 +49,41 @@ impl Reader for Replies {
 
     fn size(items: &Vec<Item>) -> u64 {
         items.iter().map(Item::size).sum()
+    }
+}
+
+impl Reader for Events {
+    type Message = Event;
+
+    fn push(&mut self, piece: &[u8]) {
+        Events::push(self, piece);
+    }
+
+    fn next(&mut self) -> Option<Event> {
+        self.next_event().expect("events")
+    }
+
+    fn size(event: &Event) -> u64 {
+        let texts = [event.name.as_deref(), Some(&event.data), event.id.as_deref()];
+        texts.iter().flatten().map(|it| it.len() as u64).sum()
+    }
+}
+
+impl Reader for Parts {
+    type Message = Part;
+
+    fn push(&mut self, piece: &[u8]) {
+        Parts::push(self, piece);
+    }
+
+    fn next(&mut self) -> Option<Part> {
+        self.next_part().expect("parts")
+    }
+
+    fn size(part: &Part) -> u64 {
+        let names = [part.name.as_deref(), part.file_name.as_deref()];
+        let names: usize = names.iter().flatten().map(|it| it.len()).sum();
+        (part.head.len() + names + part.body.len()) as u64
     }
 }
 
@@ -143,8 +185,16 @@ fn round_of(reader: &str, all: &[u8], asked: Asked) -> (Seen, u128) {
     let held = BytesMut::new();
     match reader {
         "replies" => {
-            let limits = Limits { line: 64 << 10, bulk: 512 << 20, items: 1 << 20 };
+            let limits = redis::Limits { line: 64 << 10, bulk: 512 << 20, items: 1 << 20 };
             round(Replies::new(limits), all, asked)
+        }
+        "events" => {
+            let limits = events::Limits { line: 1 << 20, data: 1 << 20 };
+            round(Events::new(limits), all, asked)
+        }
+        "parts" => {
+            let limits = multipart::Limits { head: 64 << 10, body: 512 << 20 };
+            round(Parts::new(BOUNDARY, limits), all, asked)
         }
         "bulks" => round(Bulks(held), all, asked),
         "prefixed" => round(Prefixed(held), all, asked),
