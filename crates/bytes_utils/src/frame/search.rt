@@ -254,7 +254,11 @@ pub(crate) fn find_by_first_byte(finder: &Finder, piece: &[u8]) -> Option<usize>
     requires { 0 < length finder.now }
     ensures { FindsNeedle piece.now finder.now 0 result }
 {
-    find_in_piece(finder, piece, prefix_without_first_byte(finder.needle(), piece))
+    find_in_piece(
+        finder,
+        piece,
+        prefix_without_first_byte(finder.needle(), piece),
+    )
 }
 
 /// The first place of the byte `first`, soon found if it is near the start.
