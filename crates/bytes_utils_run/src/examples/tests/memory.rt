@@ -76,6 +76,9 @@ fn of_parts(alloc: Global) -> Named {
     let back = Bytes::from_static(b"llo\r\n--b--");
     parts.push(back).ok().ok_or("PartReader::push")?;
     parts.next_part(alloc).ok().ok_or("PartReader::next_part")?;
+    Ok(())
+}
+
 fn of_events(alloc: Global, events: &mut EventReader) -> Named {
     let front = Bytes::from_static(b"id: 1\nevent: a\ndata: b\nda");
     events.push(front).ok().ok_or("EventReader::push")?;
