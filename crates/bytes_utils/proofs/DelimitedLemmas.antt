@@ -1,15 +1,15 @@
 -- Frames that a separator ends, searched from a place on.
-use Rattle.std.proofs.Common.{◌≡◌, ℕ, ◌+◌, ◌-◌, ◌<◌, ◌≤◌, max, List, [], ◌∷◌, ◌++◌, length, take, drop, Option, None, Some, Result, Ok, Err, ap, ◌∙◌, sym, refl, subst, arith, take-append-drop, ⊎_elim, inl}
+use Rattle.std.proofs.Common.{◌≡◌, ℕ, ◌+◌, ◌-◌, ◌<◌, ◌≤◌, max, List, [], ◌∷◌, ◌++◌, length, take, drop, Option, None, Some, Result, Ok, Err, ap, ◌∙◌, sym, refl, subst, arith, take-append-drop, ⊎_elim}
 use Rattle.std.proofs.lemmas.Bool.{cases_lt}
 use Rattle.std.proofs.lemmas.List.{length-take-le}
 use Rattle.memchr.specs.Find.{FindsNeedle}
 use Rattle.memchr.proofs.lemmas.MatchLemmas.{OccursAt-split}
 use Rattle.bytes_utils_buf.specs.declared.refused.Reason.{Reason}
-use Rattle.bytes_utils_buf.specs.declared.refused.Reason.TheVariants.{OutOfMemory, TooLong}
-use Rattle.bytes_utils.specs.Occurrence.{OccursAt, OccursFirstAt}
+use Rattle.bytes_utils_buf.specs.declared.refused.Reason.TheVariants.{TooLong}
+use Rattle.bytes_utils.specs.Occurrence.{OccursAt}
 use Rattle.bytes_utils.specs.Frames.{AreFrames, TakesFrame}
 use Rattle.bytes_utils.specs.StreamRuns.{AreFirst}
-use Rattle.bytes_utils.specs.Decoding.{Decoding, Item, Last, Decodes, DecodesAtEnd, HasSameNext, AreItems}
+use Rattle.bytes_utils.specs.Decoding.{Decoding, Item, Last, Decodes, HasSameNext}
 use Rattle.bytes_utils.specs.Delimited.{Delimiting, delimiting, from_start, TakesFrameFrom, AwaitsSeparator, gives_delimited, fails_delimited, SearchesOn, OnlySearches, TakesDelimited, DelimitedFramesLaw}
 use Rattle.bytes_utils.specs.DelimitedLaws.{occurs_in_front, occurs_after, TakesFrameFrom-more}
 use Rattle.bytes_utils.proofs.Boundaries.{HasNeedleAt-from_occurs, OccursAt-fits}

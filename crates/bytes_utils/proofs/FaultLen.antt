@@ -1,5 +1,5 @@
 -- How many bytes a fault has: what comes after a fault doesn't change it.
-use Rattle.std.proofs.Common.{◌≡◌, ℕ, ◌+◌, ◌<◌, ◌≤◌, true, List, [], ◌∷◌, ◌++◌, length, take, drop, Option, None, Some, true≢false, arith, ⊎_elim, ap, ◌∙◌, sym, refl, subst, take_all, take-append-drop, length-take}
+use Rattle.std.proofs.Common.{◌≡◌, ℕ, ◌<◌, ◌≤◌, List, [], ◌∷◌, ◌++◌, length, take, drop, Option, None, Some, true≢false, arith, ⊎_elim, ap, ◌∙◌, sym, refl, subst, take_all, take-append-drop, length-take}
 use Rattle.std.proofs.lemmas.Bool.{cases_lt}
 use Rattle.std.proofs.lemmas.Bool.Decides.{nat_tests}
 use Rattle.std.specs.Option.{IsSome}

@@ -1,6 +1,6 @@
 -- A search in a part of the bytes, and what follows for all of them.
 use Rattle.std.proofs.Common.{◌≡◌, ◌≢◌, ℕ, ◌+◌, ◌-◌, ◌<◌, ◌≤◌, List, [], ◌∷◌, ◌++◌, zero, suc, inl, inr, length, take, drop, get_or, slice_index, Bool, Option, None, Some, Result, Ok, Err, OnOk, OnErr, ap, ◌∙◌, sym, refl, subst, arith, length-append, length-drop, length-take, append_assoc, append-nil, drop-drop, drop_at, get_or-drop, take-append-drop, ⊎_elim}
-use Rattle.std.proofs.lemmas.List.{drop_all, length-take-le, take-append-le, get_or_append_left, drop-append-le, nil_from_length}
+use Rattle.std.proofs.lemmas.List.{drop_all, length-take-le, get_or_append_left, drop-append-le, nil_from_length}
 use Rattle.std.proofs.lemmas.Bool.{cases_lt, cases_Bool, eq-eqb, false≢true}
 use Rattle.std.specs.List.{concat}
 use Rattle.memchr.specs.Find.{Nowhere, NoneBefore, IsFirstByte, OccursAt, Passes, FindsNeedle, TakesFirst, is_byte, places}

@@ -12,7 +12,7 @@ use Rattle.memchr.proofs.lemmas.MatchLemmas.{OccursAt-part, OccursAt-split}
 use Rattle.bytes_utils_buf.specs.declared.refused.Reason.{Reason}
 use Rattle.bytes_utils_buf.specs.declared.refused.Reason.TheVariants.{OutOfMemory, TooLong}
 use Rattle.bytes_utils_buf.specs.Packing.{Packs}
-use Rattle.bytes_utils_buf.specs.Segments.{Held, Skips, after_accepting}
+use Rattle.bytes_utils_buf.specs.Segments.{Held, after_accepting}
 use Rattle.bytes_utils_buf.proofs.Lists.{Skips-more}
 use Rattle.bytes_utils.specs.Occurrence.{Occurs, OccursAt, OccursFirstAt}
 use Rattle.bytes_utils.specs.Parts.{IsCutAtFirst, AreForwardParts}

@@ -1,5 +1,5 @@
 -- Lines with a limit on their length, from pieces.
-use Rattle.std.proofs.Common.{◌≡◌, ◌≢◌, ℕ, ◌==◌, false, List, [], ◌∷◌, ◌++◌, length, drop, get_or, map, Option, None, Some, Result, Ok, Err, ap, ◌∙◌, sym, refl, arith, append-nil, length-append, ◌<◌, inl, inr}
+use Rattle.std.proofs.Common.{◌≡◌, ◌≢◌, ℕ, false, List, [], ◌∷◌, ◌++◌, length, drop, get_or, map, Option, None, Some, Result, Ok, Err, ap, ◌∙◌, sym, refl, arith, append-nil, length-append, ◌<◌, inl, inr}
 use Rattle.std.proofs.lemmas.Bool.{cond-true, cond-false}
 use Rattle.std.proofs.lemmas.Bool.Decides.{eqb_tells}
 use Rattle.std.proofs.lemmas.List.{append_cancel_right, map-append}
@@ -12,7 +12,7 @@ use Rattle.bytes_utils.specs.declared.frame.lines.LineError.{LineError}
 use Rattle.bytes_utils.specs.declared.frame.lines.LineError.TheVariants.{Refused, NotUtf8}
 use Rattle.bytes_utils.specs.Errors.{refused_storage}
 use Rattle.bytes_utils.specs.Lines.{line_feed, carriage_return, IsWithoutReturn}
-use Rattle.bytes_utils.specs.StreamRuns.{pushed_by, given_by}
+use Rattle.bytes_utils.specs.StreamRuns.{pushed_by}
 use Rattle.bytes_utils.specs.LimitedFrames.{Limiting, IsLimitedStep, limiting, appended, report_of}
 use Rattle.bytes_utils.specs.LimitedLines.{IsLimitedLineStep, IsLimitedLineCall, line_report_of, without_return, LimitedLinesLaw, FramesAsLinesLaw}
 use Rattle.bytes_utils.proofs.StreamRunsLemmas.{run_keeps}

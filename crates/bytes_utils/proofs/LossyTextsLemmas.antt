@@ -1,5 +1,5 @@
 -- Runs of a reader of lossy texts.
-use Rattle.std.proofs.Common.{◌≡◌, ◌⊎◌, ◌<◌, ◌≤◌, ℕ, List, [], ◌∷◌, ◌++◌, length, take, drop, Option, None, Some, IsUtf8, inl, inr, ⊎_elim, arith, ap, ◌∙◌, sym, refl, subst, append_assoc, append-nil, length-take, take-append-drop}
+use Rattle.std.proofs.Common.{◌≡◌, ◌<◌, ◌≤◌, ℕ, List, [], ◌∷◌, ◌++◌, length, take, drop, Option, None, Some, IsUtf8, inl, inr, ⊎_elim, arith, ap, ◌∙◌, sym, refl, subst, append_assoc, append-nil, length-take, take-append-drop}
 use Rattle.std.proofs.Math.ListN.{drop_of_length-le}
 use Rattle.std.proofs.lemmas.Bool.{cases_lt}
 use Rattle.std.proofs.lemmas.Str.{utf8_lossy_empty}

@@ -1,9 +1,9 @@
 -- Bytes from a reader, and the frames taken from them.
-use Rattle.std.proofs.Common.{◌≡◌, refl, sym, ap, subst, ◌∙◌, ℕ, List, [], ◌∷◌, ◌++◌, Option, None, Some, append_assoc, append-nil}
+use Rattle.std.proofs.Common.{◌≡◌, sym, ap, subst, ◌∙◌, ℕ, List, [], ◌∷◌, ◌++◌, Option, None, Some, append_assoc, append-nil}
 use Rattle.std.proofs.KnownBytes.{Consumes-nil, Consumes-trans, Consumes-whole}
 use Rattle.std.specs.Io.KnownBytes.{Consumes}
 use Rattle.bytes_utils.specs.Frames.{AreFrames, TakesFrame}
-use Rattle.bytes_utils.specs.ReadFrame.{IsReadRun, ReadFramesLaw, ReadsFrame, ReadsOn, WholeInputLaw, frames_of}
+use Rattle.bytes_utils.specs.ReadFrame.{ReadFramesLaw, ReadsFrame, ReadsOn, WholeInputLaw, frames_of}
 use Rattle.bytes_utils.proofs.FramesLemmas.{TakesFrame-more}
 
 -- one more read

@@ -1,12 +1,11 @@
 -- Bytes from a reader, and the items taken from them.
-use Rattle.std.proofs.Common.{◌≡◌, refl, sym, ap, subst, ◌∙◌, ℕ, List, [], ◌∷◌, ◌++◌, Option, None, Some, Result, Ok, Err, inl, inr, append_assoc, append-nil}
+use Rattle.std.proofs.Common.{◌≡◌, refl, sym, subst, ◌∙◌, ℕ, List, [], ◌∷◌, ◌++◌, Option, None, Some, Result, Ok, Err, inr}
 use Rattle.std.proofs.KnownBytes.{Consumes-nil, Consumes-trans, Consumes-whole}
 use Rattle.std.specs.Prelude.{◌⊎◌, IfOk, IfErr, IfSome, IfNone}
 use Rattle.std.specs.Io.KnownBytes.{Consumes, IsAtEnd}
-use Rattle.bytes_utils.specs.StreamRuns.{AreFirst}
 use Rattle.bytes_utils.specs.Decoding.{Decoding, Next, Item, Last, Gives, fed, HasSameNext, LacksItem, IsStable, IsSingle, AreItems}
 use Rattle.bytes_utils.specs.ReadError.{IsDue}
-use Rattle.bytes_utils.specs.ReadItem.{ReadsNext, ReadsMore, TakesHeld, TakesLast, IsItemDue, IsOfDecoder, item_back_bytes, IsReadDue, IsItemRun, IsWholeRead, items_of, ReadItemsLaw, ReadWholeLaw, ReadSameLaw}
+use Rattle.bytes_utils.specs.ReadItem.{ReadsNext, ReadsMore, TakesHeld, TakesLast, IsItemDue, IsOfDecoder, item_back_bytes, IsReadDue, items_of, ReadItemsLaw, ReadWholeLaw, ReadSameLaw}
 use Rattle.bytes_utils.specs.declared.frame.read.error.ReadError.{ReadError}
 use Rattle.bytes_utils.specs.declared.frame.read.error.ReadError.TheVariants.{Io, TooManyReads, Refused, Unshared, Unpushed}
 use Rattle.bytes_utils.specs.declared.decode.read.error.ReadItemError.{ReadItemError}

@@ -1,5 +1,5 @@
 -- What the decoder of lines did, by what it returned.
-use Rattle.std.proofs.Common.{◌≡◌, ℕ, ◌<◌, List, [], length, Option, None, Some, Result, Ok, Err, inl, inr, sym, ap, ◌∙◌, refl, subst}
+use Rattle.std.proofs.Common.{◌≡◌, ℕ, ◌<◌, List, length, Option, None, Some, Result, Ok, Err, inr, sym, ◌∙◌, subst}
 use Rattle.bytes_utils_buf.specs.declared.refused.Reason.{Reason}
 use Rattle.bytes_utils_buf.specs.declared.refused.Reason.TheVariants.{OutOfMemory, TooLong}
 use Rattle.bytes_utils.specs.Decoding.{Decoding, Item, Last, Decodes, DecodesAtEnd, HasSameNext}

@@ -1,11 +1,11 @@
 -- Lines that end with a line feed, a carriage return, or both.
-use Rattle.std.proofs.Common.{◌≡◌, ◌≢◌, ◌==◌, ℕ, ◌+◌, ◌<◌, List, [], ◌∷◌, ◌++◌, inl, inr, Bool, true, false, length, drop, get_or, ap, ◌∙◌, sym, refl, subst, arith, append_assoc, append-nil, if◌then◌else◌, IsUtf8, length-append}
+use Rattle.std.proofs.Common.{◌≡◌, ◌≢◌, ◌==◌, ℕ, ◌<◌, List, [], ◌∷◌, ◌++◌, inl, inr, Bool, true, false, length, drop, get_or, ap, ◌∙◌, sym, refl, subst, arith, append_assoc, append-nil, if◌then◌else◌, IsUtf8, length-append}
 use Rattle.std.proofs.lemmas.Bool.{cases_eq, cases_Bool, ne_eqb, and_left, false≢true}
 use Rattle.std.proofs.lemmas.List.{append_cancel_left}
 use Rattle.std.proofs.lemmas.List.Elements.{All-nil, All-cons, All-head, All-tail}
 use Rattle.bytes_utils.specs.Lines.{line_feed, carriage_return, first_led_by}
 use Rattle.bytes_utils.specs.StreamLines.{last_line}
-use Rattle.bytes_utils.specs.StreamRuns.{StreamEvent, Pushed, Taken, pushed_by, given_by, AreFirst}
+use Rattle.bytes_utils.specs.StreamRuns.{StreamEvent, Pushed, Taken, pushed_by, given_by}
 use Rattle.bytes_utils.specs.UniversalLines.{universal_lines, IsInLine, LacksEnds, IsUniversalEnd, EndsLine, IsFirstLine, LineReading, nothing_read, without_feed, after_push, TakesUniversalLine, IsUniversalRun, AreFirstUniversal, UniversalRunLaw, AllUniversalLaw, TextUniversalLaw, SameUniversalLaw}
 use Rattle.bytes_utils.proofs.StreamLinesLemmas.{before_utf8, after_utf8}
 use Rattle.bytes_utils.proofs.StreamRunsLemmas.{AreFirst-next, same_first_law}

@@ -1,5 +1,5 @@
 -- Reading on in held bytes, which stay held.
-use Rattle.std.specs.Prelude.{◌≡◌, ◌≢◌, ℕ, ◌+◌, ◌<◌, ◌≤◌, List, [], ◌∷◌, ◌++◌, length, take, drop}
+use Rattle.std.specs.Prelude.{◌≡◌, ◌≢◌, ℕ, ◌+◌, ◌<◌, List, [], ◌∷◌, ◌++◌, length, drop}
 use Rattle.bytes_utils.specs.Occurrence.{OccursFirstAt}
 use Rattle.bytes_utils.specs.Frames.{TakesFrame}
 use Rattle.bytes_utils.specs.StreamLines.{TakesLine}

@@ -1,10 +1,10 @@
 -- The laws of the decoder of frames that a separator ends.
-use Rattle.std.proofs.Common.{◌≡◌, ℕ, ◌+◌, ◌<◌, ◌≤◌, List, ◌++◌, length, take, drop, None, Some, ap, ◌∙◌, sym, refl, arith, append_assoc, length-append, ⊎_elim}
+use Rattle.std.proofs.Common.{◌≡◌, ℕ, ◌+◌, ◌≤◌, List, ◌++◌, length, take, drop, None, Some, ap, ◌∙◌, sym, refl, arith, append_assoc, length-append, ⊎_elim}
 use Rattle.std.proofs.lemmas.Bool.{cases_lt}
 use Rattle.std.proofs.lemmas.List.{length-drop, take-append-le, drop-append-le, take_at, drop_at}
 use Rattle.bytes_utils.specs.Occurrence.{OccursAt}
-use Rattle.bytes_utils.specs.Decoding.{Decoding, Item, Last, IsStable, IsSingle, WaitsForItem}
-use Rattle.bytes_utils.specs.Delimited.{Delimiting, TakesFrameFrom, AwaitsSeparator, gives_delimited}
+use Rattle.bytes_utils.specs.Decoding.{Item, Last, IsStable, IsSingle, WaitsForItem}
+use Rattle.bytes_utils.specs.Delimited.{TakesFrameFrom, AwaitsSeparator, gives_delimited}
 
 -- what occurs in the whole and ends within a beginning occurs in the beginning
 pub occurs_in_front : (p xs ys : List ℕ) (k : ℕ) → OccursAt p (xs ++ ys) k → k + length p ≤ length xs → OccursAt p xs k

@@ -1,9 +1,9 @@
 -- The laws of the decoder of frames that come after their lengths.
-use Rattle.std.proofs.Common.{◌≡◌, inl, inr, ℕ, ◌+◌, ◌<◌, ◌≤◌, List, ◌++◌, length, take, drop, None, Some, ap, ◌∙◌, sym, refl, subst, arith, length-append, length-drop}
+use Rattle.std.proofs.Common.{◌≡◌, inl, inr, ℕ, ◌+◌, ◌≤◌, List, ◌++◌, length, take, drop, None, Some, ap, ◌∙◌, sym, refl, subst, arith, length-append, length-drop}
 use Rattle.std.proofs.lemmas.List.{take-append-le, drop-append-le}
 use Rattle.std.specs.Int.{w32, from_be_bytes}
-use Rattle.bytes_utils.specs.Decoding.{Decoding, Item, Last, IsStable, IsSingle, WaitsForItem}
-use Rattle.bytes_utils.specs.Prefixed.{TakesPrefixed, awaits_prefixed, gives_prefixed, stated_len}
+use Rattle.bytes_utils.specs.Decoding.{Item, Last, IsStable, IsSingle, WaitsForItem}
+use Rattle.bytes_utils.specs.Prefixed.{awaits_prefixed, gives_prefixed, stated_len}
 
 stated_len-more : (bytes more : List ℕ) → 4 ≤ length bytes → stated_len (bytes ++ more) ≡ stated_len bytes
 stated_len-more bytes more four = ap (from_be_bytes w32) (take-append-le 4 bytes more four)

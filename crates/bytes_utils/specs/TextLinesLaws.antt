@@ -1,12 +1,12 @@
 -- The laws of the decoder of lines.
-use Rattle.std.proofs.Common.{◌≡◌, ℕ, ◌<◌, List, [], ◌∷◌, ◌++◌, length, drop, Ok, Err, None, Some, inl, inr, ap, ◌∙◌, sym, refl, subst, arith}
+use Rattle.std.proofs.Common.{◌≡◌, ℕ, List, [], ◌∷◌, length, drop, Ok, Err, None, Some, inl, inr, ap, ◌∙◌, sym, refl, subst, arith}
 use Rattle.std.proofs.lemmas.List.{append_cancel_right}
 use Rattle.std.specs.Str.{valid_up_to, error_len}
 use Rattle.std.specs.Str.Lossy.{utf8_error_len}
 use Rattle.bytes_utils.specs.Errors.{fault_of, refused_storage}
 use Rattle.bytes_utils.specs.Lines.{IsWithoutReturn, carriage_return}
-use Rattle.bytes_utils.specs.Decoding.{Decoding, Item, Last, IsStable, IsSingle, WaitsForItem}
-use Rattle.bytes_utils.specs.Delimited.{Delimiting, AwaitsSeparator}
+use Rattle.bytes_utils.specs.Decoding.{Item, Last, IsStable, IsSingle, WaitsForItem}
+use Rattle.bytes_utils.specs.Delimited.{AwaitsSeparator}
 use Rattle.bytes_utils.specs.DelimitedLaws.{TakesFrameFrom-same, delimited_stable, delimited_waits}
 use Rattle.bytes_utils.specs.TextLines.{TextOrFault, IsTextOf, IsLineOf, gives_text_line}
 

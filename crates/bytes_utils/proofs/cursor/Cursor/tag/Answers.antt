@@ -1,4 +1,4 @@
-use Rattle.std.proofs.Common.{◌≡◌, length, take, refl, arith, ap, ◌∙◌, sym, length-take-le, take_all}
+use Rattle.std.proofs.Common.{◌≡◌, take, refl, arith, ap, ◌∙◌, sym, length-take-le, take_all}
 use Rattle.bytes_utils.specs.Cursor.{unread}
 use Rattle.bytes_utils.proofs.CursorLemmas.{begun, passed_tag}
 use Rattle.bytes_utils.proofs.cursor.Cursor.tag.Goals as goal

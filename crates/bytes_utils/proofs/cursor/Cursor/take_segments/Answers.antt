@@ -1,6 +1,5 @@
-use Rattle.std.proofs.Common.{◌≡◌, ◌-◌, ◌+◌, ◌≤◌, length, take, drop, arith, ap, ◌∙◌}
+use Rattle.std.proofs.Common.{◌≡◌, ◌-◌, ◌+◌, take, drop, arith, ap, ◌∙◌}
 use Rattle.std.specs.List.{concat}
-use Rattle.bytes_utils.specs.Cursor.{unread}
 use Rattle.bytes_utils.proofs.CursorLemmas.{TakesFirst-passed}
 use Rattle.bytes_utils.proofs.cursor.Cursor.take_segments.Goals as goal
 

@@ -1,4 +1,4 @@
-use Rattle.std.proofs.Common.{rules, [], inl, ◌≡◌}
+use Rattle.std.proofs.Common.{rules, [], inl}
 use Rattle.bytes_utils.specs.Decoding.{Item}
 use Rattle.bytes_utils.specs.ReadError.{back_bytes}
 use Rattle.bytes_utils.specs.ReadItem.{IsItemDue}

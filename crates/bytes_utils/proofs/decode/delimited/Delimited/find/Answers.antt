@@ -1,4 +1,3 @@
-use Rattle.std.proofs.Common.{rules}
 use Rattle.bytes_utils.proofs.decode.delimited.Delimited.find.Goals as goal
 
 pub returns-clause-found : goal.returns-clause-found

@@ -1,5 +1,4 @@
 use Rattle.std.proofs.Common.{rules}
-use Rattle.bytes_utils.specs.Decoding.{decoding}
 use Rattle.bytes_utils.proofs.DelimitedLemmas.{SameNext-searched}
 use Rattle.bytes_utils.proofs.decode.delimited.DelimitedDecoder.decode_eof.Goals as goal
 
