@@ -1,8 +1,7 @@
 -- Replies of the Redis protocol.
-use Rattle.std.proofs.Common.{◌≡◌, ◌≢◌, ℕ, zero, suc, ◌+◌, ◌-◌, ◌==◌, Bool, true, false, cond, IsUtf8, ◌<◌, ◌≤◌, List, [], ◌∷◌, ◌++◌, length, drop, get_or, Option, None, Some, ap, ◌∙◌, sym, refl, subst, arith, append_assoc, append-nil, length-append, ⊎_elim}
+use Rattle.std.proofs.Common.{◌≡◌, ◌≢◌, ℕ, zero, suc, ◌+◌, ◌-◌, ◌==◌, Bool, true, false, cond, IsUtf8, ◌<◌, ◌≤◌, List, [], ◌∷◌, ◌++◌, length, drop, get_or, Option, None, Some, ap, ◌∙◌, sym, refl, subst, arith, append_assoc, append-nil, length-append}
 use Rattle.std.specs.Prelude.{ℤ}
 use Rattle.std.specs.Option.{option_map}
-use Rattle.std.proofs.lemmas.Bool.{cases_lt}
 use Rattle.std.proofs.lemmas.Bool.Decides.{nat_tests}
 use Rattle.std.proofs.lemmas.List.{append_cancel_left}
 use Rattle.std.proofs.lemmas.Fmt.{IsAscii-from_digits}
@@ -17,7 +16,6 @@ use Rattle.bytes_utils.specs.Occurrence.{Occurs}
 use Rattle.bytes_utils.specs.StreamRuns.{AreFirst}
 use Rattle.bytes_utils.proofs.FramesLemmas.{TakesFrame-more, TakesFrame-same}
 use Rattle.bytes_utils.proofs.Joins.{append_same}
-use Rattle.bytes_utils.proofs.OccurrenceLemmas.{OccursAt-front}
 use Rattle.bytes_utils.proofs.StreamRunsLemmas.{AreFirst-next}
 use Rattle.bytes_utils_run.specs.Requests.{WriteNumber}
 use Rattle.bytes_utils_run.specs.Redis.{line_end, no_length, IsPlain, WriteInteger, WriteLength, first_byte, Says, IsLineOf, body, after_line, items_in, IsHeadOf, HasNoBody, TakesItem, NoItem, AreWhole, TakesReply, NoReply}
