@@ -8,6 +8,7 @@ ghost use Rattle.bytes_utils.specs.Lines.{line_feed};
 ghost use Rattle.bytes_utils.specs.Occurrence.{Occurs, OccursFirstAt};
 ghost use Rattle.bytes_utils.specs.StreamLines.{TakesLine};
 
+pub mod read;
 #[cfg(test)]
 mod tests;
 
@@ -246,6 +247,31 @@ impl<'a, B: ContiguousBuf + Drop> Cursor<'a, B> {
         ensures too_long { IfErr result (λ reason. reason ≡ Reason.TooLong
             → NeverEndsWithin most needle.now (unread self.old)) }
     {
+        let Some(len) = self.find_within(alloc, needle, most)? else {
+            return Ok(None);
+        };
+        Ok(Some(self.take_found(alloc, len, needle)?))
+    }
+
+    /// As `find`, if at most `most` bytes are before the needle.
+    fn find_within(
+        &self,
+        alloc: Global,
+        needle: &[u8],
+        most: usize,
+    ) -> Result<Option<usize>, Reason>
+        requires { 0 < length needle.now }
+        ensures found { IfOk result (λ place. IfSome place (λ n.
+            OccursFirstAt needle.now (unread self.now) n)) }
+        ensures within { IfOk result (λ place. IfSome place (λ n.
+            (n ≤ most) × (n + length needle.now ≤ length (unread self.now)))) }
+        ensures missed { IfOk result (λ place. IfNone place
+            (¬ Occurs needle.now (unread self.now))) }
+        ensures few { IfOk result (λ place. IfNone place
+            (length (unread self.now) < most + length needle.now)) }
+        ensures too_long { IfErr result (λ reason. reason ≡ Reason.TooLong
+            → NeverEndsWithin most needle.now (unread self.now)) }
+    {
         let Some(len) = self.find(alloc, needle)? else {
             if needle.len() <= self.remaining() && most <= self.remaining() - needle.len() {
                 return Err(Reason::TooLong);
@@ -255,7 +281,7 @@ impl<'a, B: ContiguousBuf + Drop> Cursor<'a, B> {
         if len > most {
             return Err(Reason::TooLong);
         }
-        Ok(Some(self.take_found(alloc, len, needle)?))
+        Ok(Some(len))
     }
 
     /// As `take_until`, but the needle isn't passed: the cursor is at its first byte then.

@@ -237,6 +237,23 @@ length-concat-cut_le (x ∷ xs) zero k =
     omega (arith, length-append x (concat xs), length-append (drop k x) (concat xs), length-drop k x)
 length-concat-cut_le (x ∷ xs) (suc p) k = omega (arith, length-append x (concat xs), length-concat-cut_le xs p k)
 
+-- bytes of the first list after the skipped ones are still in the first list
+pub front_of_skips : (n m : ℕ) (xs ys : List (List ℕ)) → Skips n xs ys → 0 < m → n + m ≤ length (front_of xs) → m ≤ length (front_of ys)
+front_of_skips n m [] ys s some within = absurd (omega (arith, some, within))
+front_of_skips n m (x ∷ xs) ys s some within = by s.passed s.rest
+  where
+    left : length (concat ys) + n ≡ length x + length (concat xs)
+    left = omega (arith, within, ap length s.bytes, length-drop n (x ++ concat xs), length-append x (concat xs))
+
+    by : (p : ℕ) → ys ≡ cut_front s.cut (drop p (x ∷ xs)) → m ≤ length (front_of ys)
+    by zero rest =
+        let first = ap (λ l. length (front_of l)) rest in
+        let whole = ap (λ l. length (concat l)) rest in
+        omega (arith, left, within, first, whole, length-append (drop s.cut x) (concat xs))
+    by (suc p) rest =
+        let whole = ap (λ l. length (concat l)) rest in
+        absurd (omega (arith, left, some, within, whole, length-concat-cut_le xs p s.cut))
+
 -- at most as many lists lose their last byte as bytes are lost
 count_unread-cut : (xs : List (List ℕ)) (p k n : ℕ) → length (concat xs) ≤ length (concat (cut_front k (drop p xs))) + n
     → count_unread xs ≤ count_unread (cut_front k (drop p xs)) + n

@@ -1,7 +1,8 @@
 //! Single bytes and ranges, read or shared and not taken.
 ghost use Rattle.std.specs.Prelude.{◌≡◌, ◌+◌, ◌-◌, ◌≤◌, List, ℕ, length, slice_range, IsTrue, ◌↔◌, IsOk, IfOk, IfErr};
 ghost use Rattle.std.specs.List.{concat, slice_get};
-ghost use Rattle.bytes_utils_buf.specs.Segments.{newly_held, Skips, take_bytes};
+ghost use Rattle.std.specs.Cow.{cow_slice_items};
+ghost use Rattle.bytes_utils_buf.specs.Segments.{front_of, newly_held, Skips, take_bytes};
 
 use super::SegmentedBuf;
 use crate::Reason;
@@ -10,6 +11,7 @@ use crate::segmented::pieces::{copy_pieces, part_at, rest_at, share_pieces, star
 use crate::segmented::place::find_place;
 use bytes::Bytes;
 use std::alloc::Global;
+use std::borrow::CowSlice;
 use std::ops::Range;
 
 impl<B: ContiguousBuf + Drop> SegmentedBuf<B> {
@@ -82,5 +84,30 @@ impl<B: ContiguousBuf + Drop> SegmentedBuf<B> {
         let mut copy = Vec::with_capacity(alloc, len)?;
         copy_pieces(&self.segments, from, &mut copy, len);
         Ok(Bytes::from_vec(copy)?)
+    }
+
+    /// As `copy_range`, for bytes that are only read: they are borrowed if one segment has them all,
+    /// and else copied into one `Vec`. Nothing is shared.
+    pub fn read_range(&self, alloc: Global, range: Range<usize>) -> Result<CowSlice<'_, u8>, Reason>
+        requires ordered { range.start ≤ range.end }
+        requires within { range.end ≤ length (concat self.now.segments) }
+        ensures value { IfOk result (λ bytes. cow_slice_items bytes
+            ≡ slice_range (concat self.now.segments) range.start range.end) }
+        ensures reason { IfErr result (λ reason. reason ≡ Reason.OutOfMemory) }
+        ensures none { range.start ≡ range.end → IsOk result }
+        ensures first { range.end ≤ length (front_of self.now.segments) → IsOk result }
+    {
+        let len = range.end - range.start;
+        if len == 0 {
+            return Ok(CowSlice::Borrowed(&[]));
+        }
+        let from = find_place(&self.segments, range.start);
+        let rest = rest_at(&self.segments, from);
+        if len <= rest.len() {
+            return Ok(CowSlice::Borrowed(&rest[..len]));
+        }
+        let mut copy = Vec::with_capacity(alloc, len)?;
+        copy_pieces(&self.segments, from, &mut copy, len);
+        Ok(CowSlice::Owned(copy))
     }
 }

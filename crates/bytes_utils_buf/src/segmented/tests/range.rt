@@ -4,6 +4,7 @@ use crate::fixtures::{FOUR, JOINED, held, hold, put};
 use crate::segmented::SegmentedBuf;
 use bytes::{Buf, Bytes};
 use std::alloc::Global;
+use std::borrow::CowSlice;
 use std::process::Abort;
 use std::test::Fail;
 
@@ -13,6 +14,16 @@ fn bytes_at_places(rt: HostRuntime) -> Result<(), Fail> {
     assert!(rt;
         buf.byte_at(5) == Some(b' ') && buf.holds_at(3, b"lo W") && buf.eq_bytes(JOINED.as_bytes())
     );
+    Ok(())
+}
+
+#[test]
+fn a_range_in_one_segment_is_borrowed(rt: HostRuntime) -> Result<(), Fail> {
+    let buf = held(rt.alloc(), &FOUR)?;
+    let alone = buf.read_range(rt.alloc(), 1..4)?;
+    assert!(rt; matches!(&alone, CowSlice::Borrowed(_)) && alone.as_slice() == b"ell".as_slice());
+    let across = buf.read_range(rt.alloc(), 3..8)?;
+    assert!(rt; matches!(&across, CowSlice::Owned(_)) && across.as_slice() == b"lo Wo".as_slice());
     Ok(())
 }
 

@@ -1,6 +1,7 @@
 //! Refused memory: ranges of a body.
 use super::{LETTERS, gives_letters, holding};
-use crate::fixtures::refusals::gives_bytes;
+use crate::fixtures::assert_bytes;
+use crate::fixtures::refusals::{gives_bytes, report};
 use bytes::Buf;
 use std::test::Fail;
 
@@ -16,5 +17,10 @@ fn ranges(rt: HostRuntime) -> Result<(), Fail> {
         "SegmentedBuf::copy_range",
         buf.copy_range(rt.alloc(), 1..5),
         "bcde",
-    )
+    )?;
+    match buf.read_range(rt.alloc(), 1..5) {
+        Ok(bytes) => assert_bytes(&rt, bytes.as_slice(), "bcde"),
+        Err(reason) => report(&rt, "SegmentedBuf::read_range", reason)?,
+    }
+    Ok(())
 }

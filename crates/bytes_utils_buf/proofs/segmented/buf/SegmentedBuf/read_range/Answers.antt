@@ -1,0 +1,13 @@
+use Rattle.std.proofs.Common.{ap, arith, length, ◌-◌, ◌<◌}
+use Rattle.bytes_utils_buf.specs.Segments.{front_of}
+use Rattle.bytes_utils_buf.proofs.Lists.{front_of_skips}
+use Rattle.bytes_utils_buf.proofs.segmented.buf.SegmentedBuf.read_range.Goals as goal
+
+-- src/segmented/buf/range.rt:114:24
+pub returns-in_err-copy-clause-first : goal.returns-in_err-copy-clause-first
+returns-in_err-copy-clause-first g c within =
+    let len = c.args.range.end - c.args.range.start in
+    let some : 0 < len = omega (arith, c.if-len-eq0.false, c.requires.ordered) in
+    let first = ap (λ held. length (front_of held.segments)) c.self.view_is in
+    let rest = front_of_skips _ len _ _ c.find_place-from.ensures.skips some (omega (arith, within, first, c.requires.ordered)) in
+    absurd (omega (arith, c.if-len-rest.false, rest, ap length c.rest_at-rest.ensures))
