@@ -1,5 +1,5 @@
 //! A search for a needle in the bytes of many segments.
-ghost use Rattle.std.specs.Prelude.{◌≡◌, ◌+◌, ◌-◌, ◌*◌, ◌<◌, ◌≤◌, [], ◌++◌, length, min, take, drop, slice_index_or, IsOk, IfOk, IfErr, IfSome, IfNone, OnErr};
+ghost use Rattle.std.specs.Prelude.{◌≡◌, ◌+◌, ◌-◌, ◌*◌, ◌<◌, ◌≤◌, [], ◌++◌, length, min, take, drop, Some, slice_index_or, IsOk, IfOk, IfErr, IfSome, IfNone, OnErr};
 ghost use Rattle.std.specs.List.{concat};
 ghost use Rattle.memchr.specs.Find.{FindsNeedle, IsFirst, OccursAt};
 ghost use Rattle.bytes_utils_buf.specs.Segments.{CountsPass, IsPaid, Skips};
@@ -9,11 +9,12 @@ ghost use Rattle.bytes_utils.specs.Occurrence.{Occurs};
 #[cfg(test)]
 mod tests;
 
-use crate::frame::search::find_by_first_byte;
+use crate::frame::search::{find_by_first_byte, prefix_without_first_byte};
 use bytes::{Buf, Bytes};
 use bytes_utils_buf::Reason;
 use bytes_utils_buf::contiguous::ContiguousBuf;
 use bytes_utils_buf::segmented::SegmentedBuf;
+use memchr::arch::all::is_prefix;
 use memchr::memmem::Finder;
 use std::alloc::Global;
 
@@ -155,6 +156,22 @@ fn find_by<B: ContiguousBuf + Drop>(
     requires room { 2 * length needle.now ≤ length window.old }
     ensures { FindsNeedle (concat buf.now.segments) needle.now start result }
 {
+    if let Some(at) = find_near(buf, start, needle) {
+        return Some(at);
+    }
+    find_in_segments(buf, start, needle, window)
+}
+
+/// As `find_by`, segment by segment.
+fn find_in_segments<B: ContiguousBuf + Drop>(
+    buf: &SegmentedBuf<B>,
+    start: usize,
+    needle: &[u8],
+    window: &mut [u8],
+) -> Option<usize>
+    requires room { 2 * length needle.now ≤ length window.old }
+    ensures { FindsNeedle (concat buf.now.segments) needle.now start result }
+{
     let remaining = buf.remaining();
     if needle.is_empty() {
         return (start <= remaining).then_some(start);
@@ -170,6 +187,29 @@ fn find_by<B: ContiguousBuf + Drop>(
         base += segment.len();
     }
     None
+}
+
+/// The first place of the needle from `start` on, if the first segment has it where the needle's
+/// first byte is there first: then no `Finder` has to be made.
+#[inline]
+fn find_near<B: ContiguousBuf + Drop>(
+    buf: &SegmentedBuf<B>,
+    start: usize,
+    needle: &[u8],
+) -> Option<usize>
+    ensures { IfSome result
+        (λ at. FindsNeedle (concat buf.now.segments) needle.now start (Some at)) }
+{
+    let first = buf.segment(0)?;
+    if needle.is_empty() || start > first.len() {
+        return None;
+    }
+    let rest = &first[start..];
+    let at = prefix_without_first_byte(needle, rest);
+    if !is_prefix(&rest[at..], needle) {
+        return None;
+    }
+    Some(start + at)
 }
 
 /// The first place from `from` on at which the needle begins in `segment`. It may end in the

@@ -195,7 +195,7 @@ fn rest_from(piece: &[u8], from: usize) -> &[u8]
 /// The number of bytes at the start of the piece that are skipped at once, because the needle's
 /// first byte is not among them.
 #[inline]
-fn prefix_without_first_byte(needle: &[u8], piece: &[u8]) -> usize
+pub(crate) fn prefix_without_first_byte(needle: &[u8], piece: &[u8]) -> usize
     requires { 0 < length needle.now }
     ensures within { result ≤ length piece.now }
     ensures none { (k : ℕ) → k < result → slice_index piece.now k ≢ slice_index needle.now 0 }
