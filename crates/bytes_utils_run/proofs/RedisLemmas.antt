@@ -1,9 +1,11 @@
 -- Replies of the Redis protocol.
 use Rattle.std.proofs.Common.{◌≡◌, ◌≢◌, ℕ, zero, suc, ◌+◌, ◌-◌, ◌==◌, Bool, true, false, cond, IsUtf8, ◌<◌, ◌≤◌, List, [], ◌∷◌, ◌++◌, length, drop, get_or, Option, None, Some, ap, ◌∙◌, sym, refl, subst, arith, append_assoc, append-nil, length-append}
 use Rattle.std.specs.Prelude.{ℤ}
+use Rattle.std.specs.List.{slice_get}
 use Rattle.std.specs.Option.{option_map}
 use Rattle.std.proofs.lemmas.Bool.Decides.{nat_tests}
 use Rattle.std.proofs.lemmas.List.{append_cancel_left}
+use Rattle.std.proofs.lemmas.Option.{same_Some}
 use Rattle.std.proofs.lemmas.Fmt.{IsAscii-from_digits}
 use Rattle.std.proofs.lemmas.Str.{IsUtf8-from_ascii}
 use Rattle.std.proofs.lemmas.Str.Ascii.{IsAscii-nil}
@@ -18,7 +20,7 @@ use Rattle.bytes_utils.proofs.FramesLemmas.{TakesFrame-more, TakesFrame-same}
 use Rattle.bytes_utils.proofs.Joins.{append_same}
 use Rattle.bytes_utils.proofs.StreamRunsLemmas.{AreFirst-next}
 use Rattle.bytes_utils_run.specs.Requests.{WriteNumber}
-use Rattle.bytes_utils_run.specs.Redis.{line_end, no_length, IsPlain, WriteInteger, WriteLength, first_byte, Says, IsLineOf, body, after_line, items_in, IsHeadOf, HasNoBody, TakesItem, NoItem, AreWhole, TakesReply, NoReply}
+use Rattle.bytes_utils_run.specs.Redis.{line_end, no_length, BeginsText, IsPlain, IsText, WriteInteger, WriteLength, first_byte, Says, IsLineOf, body, after_line, items_in, IsHeadOf, HasNoBody, TakesItem, TakesNoHead, NoItem, AreWhole, TakesReply, NoReply}
 use Rattle.bytes_utils_run.specs.declared.examples.redis.Head.TheVariants.{Body}
 use Rattle.bytes_utils_run.specs.declared.examples.redis.Item.{Item}
 use Rattle.bytes_utils_run.specs.declared.examples.redis.Item.TheVariants.{Simple, Error, Integer, Bulk, Array}
@@ -251,6 +253,29 @@ no_kind kind said simple error integer bulk array = of_kind kind said no_item
     no_item (Integer a) e says = integer e
     no_item (Bulk a) e says = bulk e
     no_item (Array a) e says = array e
+
+-- ---- which of the two kinds of lines comes
+
+module _ (old line rest : List ℕ) (framed : TakesFrame line_end old line rest) where
+  -- an item's line begins as what came does
+  first_of_line : (item : Item) → IsLineOf item line → slice_get old 0 ≡ Some (first_byte item)
+  first_of_line item is = ap (λ l. slice_get l 0) (framed.bytes ∙ ap (λ l. l ++ (line_end ++ rest)) is.1)
+
+  pub no_text_head : BeginsText old → ((item : Item) → IsText (first_byte item) → ¬ IsLineOf item line) → TakesNoHead old
+  no_text_head begins none = record {
+    line = line;
+    rest = rest;
+    bytes = framed;
+    none = λ item is. none item (subst IsText (same_Some begins.0 (first_byte item) (sym begins.1 ∙ first_of_line item is)) begins.2) is;
+  }
+
+  pub no_number_head : (¬ BeginsText old) → ((item : Item) → (¬ IsText (first_byte item)) → ¬ IsLineOf item line) → TakesNoHead old
+  no_number_head begins none = record {
+    line = line;
+    rest = rest;
+    bytes = framed;
+    none = λ item is. none item (λ text. begins (first_byte item, first_of_line item is, text)) is;
+  }
 
 -- ---- items in a row
 

@@ -1,6 +1,7 @@
 -- Replies of the Redis protocol, version 2 (https://redis.io/docs/latest/develop/reference/protocol-spec/).
-use Rattle.std.specs.Prelude.{◌≡◌, ◌≢◌, ℕ, ℤ, ◌+◌, ◌-◌, ◌<◌, ◌≤◌, List, [], ◌∷◌, ◌++◌, length, Option, None, Some, option_map, FitsSigned}
+use Rattle.std.specs.Prelude.{◌≡◌, ◌≢◌, ◌⊎◌, ℕ, ℤ, ◌+◌, ◌-◌, ◌<◌, ◌≤◌, List, [], ◌∷◌, ◌++◌, length, Option, None, Some, option_map, FitsSigned}
 use Rattle.std.specs.Int.{w64}
+use Rattle.std.specs.List.{slice_get}
 use Rattle.std.specs.Str.Parse.{IsNumeral, signed_digits_value, without_leading_sign}
 use Rattle.memchr.specs.Find.{Nowhere, Passes, is_byte2}
 use Rattle.bytes_utils.specs.Frames.{TakesFrame}
@@ -46,6 +47,14 @@ first_byte (Error text) = 45
 first_byte (Integer n) = 58
 first_byte (Bulk body) = 36
 first_byte (Array count) = 42
+
+-- the first byte of the line of a text or of an error
+abbrev pub IsText : ℕ → Type 0
+IsText kind = (kind ≡ 43) ⊎ (kind ≡ 45)
+
+-- the bytes begin with such a byte
+abbrev pub BeginsText : List ℕ → Type 0
+BeginsText bytes = (kind : ℕ) × (slice_get bytes 0 ≡ Some kind) × IsText kind
 
 -- the others
 abbrev pub Says : Item → List ℕ → Type 0
@@ -97,6 +106,20 @@ pub record TakesItem (limits : Limits) (old : List ℕ) (item : Item) (rest : Li
 abbrev pub IsHeadOf : Head → List ℕ → Type 0
 IsHeadOf (Whole item) line = IsLineOf item line × (after_line item ≡ []) × (body item ≡ [])
 IsHeadOf (Body len) line = (said : List ℕ) × (line ≡ 36 ∷ said) × WriteNumber said len
+
+-- the old bytes are a line of at most this many bytes that reports this, its end, and the rest
+pub record TakesHead (most : ℕ) (old : List ℕ) (head : Head) (rest : List ℕ) : Type 0 where
+  pub line : List ℕ
+  pub bytes : TakesFrame line_end old line rest
+  pub is : IsHeadOf head line
+  pub short : length line ≤ most
+
+-- the old bytes begin with a line that is that of no item
+pub record TakesNoHead (old : List ℕ) : Type 0 where
+  pub line : List ℕ
+  pub rest : List ℕ
+  pub bytes : TakesFrame line_end old line rest
+  pub none : (item : Item) → ¬ IsLineOf item line
 
 -- the bytes don't begin with this number of bytes and an end of a line
 abbrev pub HasNoBody : ℕ → List ℕ → Type 0

@@ -5,7 +5,7 @@ ghost use Rattle.bytes_utils.specs.Pushing.{IsPush};
 ghost use Rattle.bytes_utils.specs.Cursor.{NeverEndsWithin, unread};
 ghost use Rattle.bytes_utils.specs.Frames.{TakesFrame};
 ghost use Rattle.bytes_utils.specs.Occurrence.{Occurs};
-ghost use Rattle.bytes_utils_run.specs.Redis.{HasNoBody, IsHeadOf, IsLineOf, IsPlain, NoItem, NoReply, Replying, TakesItem, TakesReply, WriteInteger, WriteLength, items_in, line_end};
+ghost use Rattle.bytes_utils_run.specs.Redis.{BeginsText, HasNoBody, IsHeadOf, IsLineOf, IsPlain, IsText, NoItem, NoReply, Replying, TakesHead, TakesItem, TakesNoHead, TakesReply, WriteInteger, WriteLength, first_byte, items_in, line_end};
 
 use super::requests::number;
 use bytes::{Buf, Bytes};
@@ -224,11 +224,8 @@ fn next_item<B: ContiguousBuf + Drop>(
     ensures reason { IfErr result (λ e. (reason : _) → e ≡ ReplyError.Refused reason
         → reason ≡ Reason.OutOfMemory) }
 {
-    let Some(line) = next_line(cursor, alloc, limits.line)? else {
+    let Some(head) = next_head(cursor, alloc, limits.line)? else {
         return Ok(None);
-    };
-    let Some(head) = head_of(line) else {
-        return Err(ReplyError::Malformed);
     };
     match head {
         Head::Whole(item) => Ok(Some(item)),
@@ -241,27 +238,59 @@ fn next_item<B: ContiguousBuf + Drop>(
     }
 }
 
-/// Passes the next line, of at most `most` bytes.
-fn next_line<B: ContiguousBuf + Drop>(
+/// Passes the next line, of at most `most` bytes, and returns what it reports.
+#[tactic(auto, using(crate::proofs::RedisLemmas::no_text_head, crate::proofs::RedisLemmas::no_number_head))]
+fn next_head<B: ContiguousBuf + Drop>(
     cursor: &mut Cursor<'_, B>,
     alloc: Global,
     most: usize,
-) -> Result<Option<Bytes>, ReplyError>
-    ensures line { IfOk result (λ next. IfSome next (λ line.
-        TakesFrame line_end (unread cursor.old) line (unread cursor.new))) }
-    ensures short { IfOk result (λ next. IfSome next (λ line. length line ≤ most)) }
+) -> Result<Option<Head>, ReplyError>
+    ensures head { IfOk result (λ next. IfSome next (λ head.
+        TakesHead most (unread cursor.old) head (unread cursor.new))) }
     ensures all { cursor.new.all ≡ cursor.old.all }
     ensures waits { IfOk result (λ next. IfNone next (¬ Occurs line_end (unread cursor.old))) }
-    ensures well_formed { IfErr result (λ e. e ≢ ReplyError.Malformed) }
+    ensures malformed { IfErr result
+        (λ e. e ≡ ReplyError.Malformed → TakesNoHead (unread cursor.old)) }
     ensures too_large { IfErr result (λ e. e ≡ ReplyError.TooLarge
         → NeverEndsWithin most line_end (unread cursor.old)) }
     ensures reason { IfErr result (λ e. (reason : _) → e ≡ ReplyError.Refused reason
         → reason ≡ Reason.OutOfMemory) }
 {
-    match cursor.take_until_within(alloc, LINE_END, most) {
-        Ok(line) => Ok(line),
-        Err(Reason::TooLong) => Err(ReplyError::TooLarge),
-        Err(reason) => Err(ReplyError::Refused(reason)),
+    if begins_text(cursor) {
+        let line = cursor.take_until_within(alloc, LINE_END, most);
+        let Some(line) = line.map_err(line_error)? else {
+            return Ok(None);
+        };
+        let Some(head) = text_of(line) else {
+            return Err(ReplyError::Malformed);
+        };
+        return Ok(Some(head));
+    }
+    let line = cursor.read_until_within(alloc, LINE_END, most);
+    let Some(line) = line.map_err(line_error)? else {
+        return Ok(None);
+    };
+    let Some(head) = number_of(&line) else {
+        return Err(ReplyError::Malformed);
+    };
+    Ok(Some(head))
+}
+
+/// Whether the next line is that of a text or of an error, whose bytes are handed on.
+fn begins_text<B: ContiguousBuf + Drop>(cursor: &Cursor<'_, B>) -> bool
+    ensures { IsTrue result ↔ BeginsText (unread cursor.now) }
+{
+    matches!(cursor.peek(), Some(b'+' | b'-'))
+}
+
+/// Why there is no line.
+fn line_error(reason: Reason) -> ReplyError
+    ensures too_long { reason ≡ Reason.TooLong → result ≡ ReplyError.TooLarge }
+    ensures refused { reason ≢ Reason.TooLong → result ≡ ReplyError.Refused reason }
+{
+    match reason {
+        Reason::TooLong => ReplyError::TooLarge,
+        _ => ReplyError::Refused(reason),
     }
 }
 
@@ -304,33 +333,37 @@ enum Head {
     Body(usize),
 }
 
-/// What a line reports, or `None` if it is that of no item.
-fn head_of(line: Bytes) -> Option<Head>
+/// What the line of a text or of an error reports, or `None` if it is that of neither.
+fn text_of(mut line: Bytes) -> Option<Head>
     ensures some { IfSome result (λ head. IsHeadOf head line) }
-    ensures none { IfNone result ((item : Item) → ¬ IsLineOf item line) }
+    ensures none { IfNone result
+        ((item : Item) → IsText (first_byte item) → ¬ IsLineOf item line) }
 {
-    let (kind, text) = cut_kind(line)?;
+    let kind = *line.first()?;
+    line.advance(1);
     match kind {
-        b'+' => Some(Head::Whole(Item::Simple(plain(text)?))),
-        b'-' => Some(Head::Whole(Item::Error(plain(text)?))),
-        b':' => Some(Head::Whole(Item::Integer(integer(text.as_slice())?))),
-        b'$' => match length_of(text.as_slice())? {
-            Some(len) => Some(Head::Body(len)),
-            None => Some(Head::Whole(Item::Bulk(None))),
-        },
-        b'*' => Some(Head::Whole(Item::Array(length_of(text.as_slice())?))),
+        b'+' => Some(Head::Whole(Item::Simple(plain(line)?))),
+        b'-' => Some(Head::Whole(Item::Error(plain(line)?))),
         _ => None,
     }
 }
 
-/// The first byte of a line, and the others.
-fn cut_kind(mut line: Bytes) -> Option<(u8, Bytes)>
-    ensures some { IfSome result (λ cut. line ≡ cut.0 ∷ cut.1) }
-    ensures none { IfNone result (line ≡ []) }
+/// What the line of another item reports, or `None` if it is that of none.
+fn number_of(line: &[u8]) -> Option<Head>
+    ensures some { IfSome result (λ head. IsHeadOf head line.now) }
+    ensures none { IfNone result
+        ((item : Item) → (¬ IsText (first_byte item)) → ¬ IsLineOf item line.now) }
 {
-    let kind = *line.first()?;
-    line.advance(1);
-    Some((kind, line))
+    let (&kind, number) = line.split_first()?;
+    match kind {
+        b':' => Some(Head::Whole(Item::Integer(integer(number)?))),
+        b'$' => match length_of(number)? {
+            Some(len) => Some(Head::Body(len)),
+            None => Some(Head::Whole(Item::Bulk(None))),
+        },
+        b'*' => Some(Head::Whole(Item::Array(length_of(number)?))),
+        _ => None,
+    }
 }
 
 /// The text, if no byte of it is a carriage return or a line feed.
