@@ -106,8 +106,8 @@ impl<B: ContiguousBuf + Drop> SegmentedBuf<B> {
         if len <= rest.len() {
             return Ok(CowSlice::Borrowed(&rest[..len]));
         }
-        let mut copy = Vec::with_capacity(alloc, len)?;
-        copy_pieces(&self.segments, from, &mut copy, len);
-        Ok(CowSlice::Owned(copy))
+        let mut bytes = Vec::with_capacity(alloc, len)?;
+        copy_pieces(&self.segments, from, &mut bytes, len);
+        Ok(CowSlice::Owned(bytes))
     }
 }

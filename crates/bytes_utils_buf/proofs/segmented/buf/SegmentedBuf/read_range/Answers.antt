@@ -4,8 +4,8 @@ use Rattle.bytes_utils_buf.proofs.Lists.{front_of_skips}
 use Rattle.bytes_utils_buf.proofs.segmented.buf.SegmentedBuf.read_range.Goals as goal
 
 -- src/segmented/buf/range.rt:114:24
-pub returns-in_err-copy-clause-first : goal.returns-in_err-copy-clause-first
-returns-in_err-copy-clause-first g c within =
+pub returns-in_err-bytes-clause-first : goal.returns-in_err-bytes-clause-first
+returns-in_err-bytes-clause-first g c within =
     let len = c.args.range.end - c.args.range.start in
     let some : 0 < len = omega (arith, c.if-len-eq0.false, c.requires.ordered) in
     let first = ap (λ held. length (front_of held.segments)) c.self.view_is in
