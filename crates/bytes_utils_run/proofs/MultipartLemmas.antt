@@ -1,5 +1,5 @@
 -- Parts between boundaries.
-use Rattle.std.proofs.Common.{◌≡◌, ◌≢◌, ℕ, ◌+◌, ◌<◌, ◌≤◌, List, [], ◌∷◌, ◌++◌, length, take, drop, get_or, ap, ◌∙◌, sym, refl, subst, arith, length-append, length-drop, ◌-◌, append_assoc, take-append-drop, ⊎_elim, inl, inr, false, All, Result, Ok, Err}
+use Rattle.std.proofs.Common.{◌≡◌, ◌≢◌, ℕ, ◌+◌, ◌<◌, ◌≤◌, List, [], ◌∷◌, ◌++◌, length, take, drop, get_or, ap, ◌∙◌, sym, refl, subst, arith, length-append, length-drop, ◌-◌, append_assoc, take-append-drop, ⊎_elim, inl, inr, false, All, Result, Ok, Err, OnOk, OnErr}
 use Rattle.std.proofs.lemmas.Bool.{cases_lt}
 use Rattle.std.proofs.lemmas.List.{append_cancel_left, length-take-le}
 use Rattle.std.specs.List.{concat}
@@ -240,21 +240,27 @@ push_of_all held piece (Err e) push all same = record { ok = tt; err = same push
 abbrev seen : Limits → Sections → Parting
 seen limits s = record { delimiter = s.frames.separator; limits = limits; ended = has_ended s.stage; held = held_by s }
 
+module _ (s : Sections) (frames : Framing) (piece : List ℕ) (same : frames.separator ≡ s.frames.separator) where
+  pub still_divided : {E : Type 0} (result : Result (Unit {0}) E) → OnOk result (frames.held ≡ s.frames.held ++ piece) → OnErr result (frames ≡ s.frames) → IsDivided s
+      → IsDivided (record s { frames = frames })
+  still_divided (Ok u) held unchanged parts = divided_more s frames piece same held parts
+  still_divided (Err e) held unchanged parts = subst (λ l. IsDivided (record s { frames = l })) (sym unchanged) parts
+
+-- the bytes that wait are the last ones that are held
+pub waiting_last : (s : Sections) → has_ended s.stage ≡ false → (front : List ℕ) × (held_by s ≡ front ++ s.frames.held)
+waiting_last s on = (
+  held_before s.stage s.frames.separator (concat s.preamble.segments) (concat s.found.segments),
+  held_apart s.stage s.frames.separator (concat s.preamble.segments) (concat s.found.segments) s.frames.held on,
+)
+
 module _ (s : Sections) (limits : Limits) (frames : Framing) (piece : List ℕ) (result : Result (Unit {0}) (Refused (List ℕ))) (same : frames.separator ≡ s.frames.separator)
     (push : IsPush s.frames.held piece result (frames.held ≡ s.frames.held ++ piece) (frames ≡ s.frames)) where
-  pub still_divided : IsDivided s → IsDivided (record s { frames = frames })
-  still_divided parts = push_keeps result push
-    where
-      push_keeps : (result : Result (Unit {0}) (Refused (List ℕ))) → IsPush s.frames.held piece result (frames.held ≡ s.frames.held ++ piece) (frames ≡ s.frames) → IsDivided (record s { frames = frames })
-      push_keeps (Ok u) push = divided_more s frames piece same push.ok parts
-      push_keeps (Err e) push = subst (λ l. IsDivided (record s { frames = l })) (sym push.err) parts
-
   pub is_pushed : has_ended s.stage ≡ false → (front : List ℕ) × (waiting : List ℕ) × (held_by s ≡ front ++ waiting)
       × IsPush waiting piece result (seen limits (record s { frames = frames }) ≡ appended (seen limits s) piece) (seen limits (record s { frames = frames }) ≡ seen limits s)
-  is_pushed on = (
-    held_before s.stage s.frames.separator (concat s.preamble.segments) (concat s.found.segments),
+  is_pushed on = let last = waiting_last s on in (
+    last.0,
     s.frames.held,
-    held_apart s.stage s.frames.separator (concat s.preamble.segments) (concat s.found.segments) s.frames.held on,
+    last.1,
     push_of_all s.frames.held piece result push
         (λ held. let more = held_more s frames piece same held on in rw on (λ i. record { delimiter = same i; limits = limits; ended = false; held = more i }))
         (λ unchanged. ap (λ l. seen limits (record s { frames = l })) unchanged),

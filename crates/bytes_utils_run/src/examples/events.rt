@@ -1,5 +1,5 @@
 //! Server-sent events, of a stream that comes in pieces.
-ghost use Rattle.std.specs.Prelude.{◌≡◌, ◌≢◌, ◌<◌, ◌≤◌, ◌↔◌, ◌++◌, ◌∷◌, true, length, string_bytes, IfOk, IfErr, IfSome, IfNone, IsTrue, None, OnOk, OnErr, Some};
+ghost use Rattle.std.specs.Prelude.{◌≡◌, ◌≢◌, ◌+◌, ◌^◌, ◌<◌, ◌≤◌, ◌↔◌, [], ◌++◌, ◌∷◌, true, length, string_bytes, IfOk, IfErr, IfSome, IfNone, IsOk, IsTrue, None, OnOk, OnErr, Some};
 ghost use Rattle.std.specs.Option.{option_or};
 ghost use Rattle.bytes_utils.specs.Lines.{line_feed};
 ghost use Rattle.bytes_utils.specs.Pushing.{IsPush};
@@ -144,6 +144,18 @@ impl EventReader {
             (self.new ≡ pushed self.old piece) (self.new ≡ self.old) }
     {
         self.lines.push(piece)
+    }
+
+    /// Appends a copy of `piece`, in a block that it shares with other small pieces: for a caller
+    /// that reads into a buffer of its own. Fails as `push` does; then nothing has changed.
+    pub fn push_slice(&mut self, piece: &[u8]) -> Result<(), Reason>
+        ensures ok { OnOk result (self.new ≡ pushed self.old piece.now) }
+        ensures err { OnErr result (self.new ≡ self.old) }
+        ensures too_long { IfErr result (λ reason. (reason ≡ Reason.TooLong)
+            ↔ (2 ^ 64 ≤ length self.old.lines.held + length piece.now)) }
+        ensures empty { piece.now ≡ [] → IsOk result }
+    {
+        self.lines.push_slice(piece)
     }
 
     /// Returns the next event, or `None` if the empty line that ends it has not come yet. Fails with

@@ -1,6 +1,6 @@
 //! The parts of a body of `multipart/form-data`, or of another multipart type, that comes in pieces
 //! (RFC 2046, section 5.1.1; RFC 7578).
-ghost use Rattle.std.specs.Prelude.{◌≡◌, ◌+◌, ◌-◌, ◌^◌, ℕ, List, [], ◌++◌, min, false, true, IsUtf8, IsOk, IsTrue, IfOk, IfErr, IfSome, IfNone, OnOk, OnErr};
+ghost use Rattle.std.specs.Prelude.{◌≡◌, ◌+◌, ◌-◌, ◌^◌, ◌≤◌, ◌↔◌, ℕ, List, [], ◌++◌, length, min, false, true, IsUtf8, IsOk, IsTrue, IfOk, IfErr, IfSome, IfNone, OnOk, OnErr};
 ghost use Rattle.bytes_utils.specs.Pushing.{IsPush};
 ghost use Rattle.bytes_utils_run.specs.Multipart.{HasParameter, IsDivided, IsIdle, NoPart, PartBytes, PartsLaw, SamePartsLaw, TakesPart, appended, bytes_of, delimiter_of, file_name_key, held_by, line_end, name_key};
 
@@ -141,6 +141,25 @@ impl PartReader {
             return Ok(());
         }
         self.sections.frames.push(piece)
+    }
+
+    /// Appends a copy of `piece`, in a block that it shares with other small pieces, or drops it if
+    /// the close delimiter was read: for a caller that reads into a buffer of its own. Fails as
+    /// `push` does; then nothing has changed.
+    pub fn push_slice(&mut self, piece: &[u8]) -> Result<(), Reason>
+        ensures ok { OnOk result (self.new ≡ appended self.old piece.now) }
+        ensures err { OnErr result (self.new ≡ self.old) }
+        ensures too_long { (front : List ℕ) × (waiting : List ℕ)
+            × (self.old.held ≡ front ++ waiting)
+            × IfErr result (λ reason. (reason ≡ Reason.TooLong)
+            ↔ (2 ^ 64 ≤ length waiting + length piece.now)) }
+        ensures empty { piece.now ≡ [] → IsOk result }
+        ensures drops { self.old.ended ≡ true → IsOk result }
+    {
+        if !self.has_ended() {
+            self.sections.frames.push_slice(piece)?;
+        }
+        Ok(())
     }
 
     /// Returns whether the close delimiter was read: then no part comes any more.

@@ -1,5 +1,5 @@
 //! Replies of the Redis protocol, version 2, with nested arrays, of a stream that comes in pieces.
-ghost use Rattle.std.specs.Prelude.{◌≡◌, ◌≢◌, ℕ, ℤ, Option, ◌+◌, ◌<◌, ◌≤◌, ◌↔◌, List, [], ◌∷◌, ◌++◌, length, drop, option_map, IfOk, IfErr, IfSome, IfNone, OnOk, OnErr, IsTrue};
+ghost use Rattle.std.specs.Prelude.{◌≡◌, ◌≢◌, ℕ, ℤ, Option, ◌+◌, ◌^◌, ◌<◌, ◌≤◌, ◌↔◌, List, [], ◌∷◌, ◌++◌, length, drop, option_map, IfOk, IfErr, IfSome, IfNone, IsOk, OnOk, OnErr, IsTrue};
 ghost use Rattle.std.specs.List.{concat};
 ghost use Rattle.bytes_utils.specs.Pushing.{IsPush};
 ghost use Rattle.bytes_utils.specs.Cursor.{NeverEndsWithin, unread};
@@ -120,6 +120,19 @@ impl ReplyReader {
         ensures limits { self.new.limits ≡ self.old.limits }
     {
         self.pieces.push(self.alloc, piece)
+    }
+
+    /// Appends a copy of `piece`, in a block that it shares with other small pieces: for a caller
+    /// that reads into a buffer of its own. Fails as `push` does; then nothing has changed.
+    pub fn push_slice(&mut self, piece: &[u8]) -> Result<(), Reason>
+        ensures ok { OnOk result (self.new.held ≡ self.old.held ++ piece.now) }
+        ensures err { OnErr result (self.new ≡ self.old) }
+        ensures too_long { IfErr result (λ reason. (reason ≡ Reason.TooLong)
+            ↔ (2 ^ 64 ≤ length self.old.held + length piece.now)) }
+        ensures empty { piece.now ≡ [] → IsOk result }
+        ensures limits { self.new.limits ≡ self.old.limits }
+    {
+        self.pieces.push_slice(self.alloc, piece)
     }
 
     /// Returns the next reply, as its items in order, or `None` while some of it is to come. A bulk

@@ -4,8 +4,7 @@ use Rattle.bytes_utils_run.proofs.examples.multipart.PartReader.push.Goals as go
 
 pub invariant_of-self : goal.invariant_of-self
 invariant_of-self c =
-    let s = c.self.inside.sections in
-    still_divided s c.self.inside.limits c.push.new.self c.args.piece c.push.result c.push.ensures.separator c.push.ensures.pushed c.self.invariant
+    still_divided c.self.inside.sections c.push.new.self c.args.piece c.push.ensures.separator c.push.result c.push.ensures.pushed.ok c.push.ensures.pushed.err c.self.invariant
 
 pub returns-clause-pushed : goal.returns-clause-pushed
 returns-clause-pushed c =
