@@ -1,6 +1,6 @@
 //! The parts of a body of `multipart/form-data`, or of another multipart type, that comes in pieces
 //! (RFC 2046, section 5.1.1; RFC 7578).
-ghost use Rattle.std.specs.Prelude.{◌≡◌, ◌+◌, ◌-◌, ◌^◌, ℕ, List, [], ◌++◌, min, false, true, IsUtf8, IsOk, IsTrue, IfOk, IfErr, IfSome, IfNone, OnOk, OnErr};
+ghost use Rattle.std.specs.Prelude.{◌≡◌, ◌+◌, ◌-◌, ◌^◌, ◌<◌, ℕ, List, [], ◌++◌, length, min, false, true, IsUtf8, IsOk, IsTrue, IfOk, IfErr, IfSome, IfNone, OnOk, OnErr};
 ghost use Rattle.bytes_utils.specs.Pushing.{IsPush};
 ghost use Rattle.bytes_utils_run.specs.Multipart.{HasParameter, IsDivided, IsIdle, NoPart, PartBytes, PartsLaw, SamePartsLaw, TakesPart, appended, bytes_of, delimiter_of, file_name_key, held_by, line_end, name_key};
 
@@ -159,6 +159,8 @@ impl PartReader {
     pub fn next_part(&mut self, alloc: Global) -> Result<Option<Part>, PartError>
         ensures part { IfOk result (λ next. IfSome next (λ part. TakesPart self.old.delimiter
             self.old.limits self.old.held (bytes_of part) self.new.held)) }
+        ensures fewer { IfOk result (λ next. IfSome next
+            (λ _. length self.new.held < length self.old.held)) }
         ensures name { IfOk result (λ next. IfSome next
             (λ part. HasParameter name_key part.head part.name)) }
         ensures file_name { IfOk result (λ next. IfSome next
