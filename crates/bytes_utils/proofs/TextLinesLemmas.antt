@@ -1,5 +1,5 @@
 -- What the decoder of lines did, by what it returned.
-use Rattle.std.proofs.Common.{◌≡◌, ℕ, ◌<◌, ◌≤◌, List, [], ◌∷◌, ◌++◌, length, Option, None, Some, Result, Ok, Err, inl, inr, sym, ap, ◌∙◌, refl, subst, arith, append-nil}
+use Rattle.std.proofs.Common.{◌≡◌, ℕ, ◌<◌, ◌≤◌, List, [], ◌∷◌, ◌++◌, length, Option, None, Some, Result, Ok, Err, inr, sym, ap, ◌∙◌, refl, subst, arith, append-nil}
 use Rattle.std.specs.Option.{option_to_list}
 use Rattle.bytes_utils_buf.specs.declared.refused.Reason.{Reason}
 use Rattle.bytes_utils_buf.specs.declared.refused.Reason.TheVariants.{OutOfMemory, TooLong}
@@ -7,7 +7,7 @@ use Rattle.bytes_utils.specs.Occurrence.{OccursAt}
 use Rattle.bytes_utils.specs.Decoding.{Decoding, Item, Last, Decodes, DecodesAtEnd, HasSameNext}
 use Rattle.bytes_utils.specs.Delimited.{Delimiting, delimiting, from_start, TakesFrameFrom, AwaitsSeparator, SearchesOn, OnlySearches}
 use Rattle.bytes_utils.specs.Lines.{line_feed, lines}
-use Rattle.bytes_utils.specs.StreamLines.{TakesLine, AreFirstLines}
+use Rattle.bytes_utils.specs.StreamLines.{AreFirstLines}
 use Rattle.bytes_utils.specs.StreamRuns.{AreFirst}
 use Rattle.bytes_utils.specs.TextLines.{TextOrFault, IsTextOf, AreTextsOf, gives_text_line, fails_text_line, TakesTextLine, TakesLastTextLine, TextItemsLaw, WholeTextLaw}
 use Rattle.bytes_utils.proofs.DelimitedLemmas.{awaits_on, awaits_back, takes_on, takes_back, takes_first, only_searches, from_start-searched}

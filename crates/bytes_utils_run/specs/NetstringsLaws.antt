@@ -2,7 +2,7 @@
 use Rattle.std.proofs.Common.{◌≡◌, ℕ, List, [], ◌∷◌, ◌++◌, length, None, Some, ap, ◌∙◌, sym, refl, append_assoc}
 use Rattle.std.proofs.lemmas.List.{append_cancel_left}
 use Rattle.std.specs.Str.Parse.{digits_value}
-use Rattle.bytes_utils.specs.Decoding.{Decoding, Item, Last, IsStable, IsSingle, WaitsForItem}
+use Rattle.bytes_utils.specs.Decoding.{Item, Last, IsStable, IsSingle, WaitsForItem}
 use Rattle.bytes_utils.proofs.FramesLemmas.{TakesFrame-more, TakesFrame-same}
 use Rattle.bytes_utils.proofs.Joins.{append_same}
 use Rattle.bytes_utils_run.specs.Requests.{colon}

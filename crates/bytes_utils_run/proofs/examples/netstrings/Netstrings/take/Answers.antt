@@ -1,4 +1,4 @@
-use Rattle.std.proofs.Common.{rules, arith, ◌+◌, ◌<◌, [], ◌∷◌, length}
+use Rattle.std.proofs.Common.{rules, arith, [], ◌∷◌}
 use Rattle.std.specs.List.{concat}
 use Rattle.bytes_utils.specs.Cursor.{unread}
 use Rattle.bytes_utils.specs.Frames.{TakesFrame}
