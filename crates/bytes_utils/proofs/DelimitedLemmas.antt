@@ -138,7 +138,7 @@ from_start-searched s t only = ap from_start only.on.others
 
 -- ---- the frames of a decoder that has searched nothing
 
-takes_first : (p old frame rest : List ℕ) → TakesFrameFrom p 0 old frame rest → TakesFrame p old frame rest
+pub takes_first : (p old frame rest : List ℕ) → TakesFrameFrom p 0 old frame rest → TakesFrame p old frame rest
 takes_first p old frame rest takes = record {
   bytes = takes.bytes;
   first = record { here = occurs_after p 0 old frame rest takes; none_before = λ j there. takes.first j (omega arith) there };

@@ -6,7 +6,7 @@ use Rattle.std.specs.IoError.{error_kind}
 use Rattle.std.specs.declared.io.ErrorKind.TheVariants.{Interrupted}
 use Rattle.bytes_utils_buf.specs.declared.refused.Reason.TheVariants.{OutOfMemory, TooLong}
 use Rattle.bytes_utils.specs.Decoding.{Decoding, Gives, Next, Item, Last, AreItems, HasSameNext, LacksItem, fed}
-use Rattle.bytes_utils.specs.ReadError.{back_bytes}
+use Rattle.bytes_utils.specs.ReadError.{back_bytes, error_text}
 use Rattle.bytes_utils.specs.declared.frame.read.error.ReadError.{ReadError}
 use Rattle.bytes_utils.specs.declared.frame.read.error.ReadError.TheVariants.{Io, TooManyReads, Refused, Unshared, Unpushed}
 use Rattle.bytes_utils.specs.declared.decode.read.error.ReadItemError.{ReadItemError}
@@ -28,6 +28,11 @@ pub record ReadsMore {D A : Type 0} (gives : Gives D A) (before after : Option (
 abbrev pub item_back_bytes : {E : Type 0} → ReadItemError E → List ℕ
 item_back_bytes (Decoder error) = []
 item_back_bytes (Read error) = back_bytes error
+
+-- what the error prints: what the decoder's error does, or that of the read
+abbrev pub item_error_text : {E : Type 0} → (E → Option (List ℕ)) → ReadItemError E → Option (List ℕ)
+item_error_text text (Decoder error) = text error
+item_error_text text (Read error) = error_text error
 
 -- what a call for the next item of the held bytes did, by what it returned
 abbrev pub TakesHeld : {D A E : Type 0} → Gives D A → (Decoding D → E → Type 0) → Decoding D → Result (Option A) (ReadItemError E) → Decoding D → Type 0

@@ -1,11 +1,13 @@
 -- Lines of a decoder, as texts. Each is ended by a line feed, and the last one also by the end of the stream.
-use Rattle.std.specs.Prelude.{◌≡◌, ℕ, ◌<◌, List, [], length, IsUtf8, Option, None, Some, Result, Ok, Err}
+use Rattle.std.specs.Prelude.{◌≡◌, ℕ, ◌<◌, List, [], ◌∷◌, ◌++◌, length, IsUtf8, Option, None, Some, Result, Ok, Err}
+use Rattle.std.specs.Option.{option_to_list}
 use Rattle.bytes_utils_buf.specs.declared.refused.Reason.{Reason}
 use Rattle.bytes_utils_buf.specs.declared.refused.Reason.TheVariants.{OutOfMemory, TooLong}
 use Rattle.bytes_utils.specs.Errors.{IsFaultOf, fault_of, refused_storage}
-use Rattle.bytes_utils.specs.Lines.{IsWithoutReturn}
-use Rattle.bytes_utils.specs.Decoding.{Decoding, Gives, Item, Last}
-use Rattle.bytes_utils.specs.Delimited.{Delimiting, AwaitsSeparator, OnlySearches, fails_delimited, from_start, gives_delimited}
+use Rattle.bytes_utils.specs.Lines.{IsWithoutReturn, line_feed, lines}
+use Rattle.bytes_utils.specs.Decoding.{Decoding, Gives, Item, Last, AreItems}
+use Rattle.bytes_utils.specs.Delimited.{Delimiting, AwaitsSeparator, OnlySearches, delimiting, fails_delimited, from_start, gives_delimited}
+use Rattle.bytes_utils.specs.StreamLines.{AreFirstLines}
 use Rattle.bytes_utils.specs.declared.string.utf8_error.Utf8Error.{Utf8Error}
 
 -- a text, or the error that has bytes that are none
@@ -45,3 +47,24 @@ TakesLastTextLine old (Ok (Some item)) new =
     (0 < length old.held) × IsTextOf item old.held × (new ≡ record { decoder = from_start old.decoder; held = [] })
 TakesLastTextLine old (Ok None) new = (old.held ≡ []) × (new ≡ record { decoder = from_start old.decoder; held = [] })
 TakesLastTextLine old (Err reason) new = (0 < length old.held) × (reason ≡ OutOfMemory) × (new ≡ old)
+
+-- each item is the text of the bytes at the same place, or they are not UTF-8 and in the error
+abbrev pub AreTextsOf : List TextOrFault → List (List ℕ) → Type 0
+AreTextsOf [] [] = Unit {0}
+AreTextsOf (item ∷ items) (line ∷ lines) = IsTextOf item line × AreTextsOf items lines
+AreTextsOf [] (line ∷ lines) = ⊥
+AreTextsOf (item ∷ items) [] = ⊥
+
+-- these are the items of these bytes, of a decoder of lines that is new
+abbrev pub AreTextLineItems : ℕ → List ℕ → List TextOrFault → Decoding Delimiting → Type 0
+AreTextLineItems limit bytes items end = AreItems gives_text_line (record { decoder = delimiting (line_feed ∷ []) limit; held = bytes }) items end
+
+-- The items are the texts of the first lines of the bytes, which are those that `Lines` takes.
+abbrev pub TextItemsLaw : Type 0
+TextItemsLaw = (limit : ℕ) (bytes : List ℕ) (items : List TextOrFault) (end : Decoding Delimiting) → AreTextLineItems limit bytes items end
+    → (given : List (List ℕ)) × (rest : List ℕ) × AreFirstLines bytes given rest × AreTextsOf items given
+
+-- With the last item at the end of the stream, if there is one, they are the texts of all lines of the bytes.
+abbrev pub WholeTextLaw : Type 0
+WholeTextLaw = (limit : ℕ) (bytes : List ℕ) (items : List TextOrFault) (end : Decoding Delimiting) (last : Option TextOrFault) (after : Decoding Delimiting)
+    → AreTextLineItems limit bytes items end → gives_text_line end (Last last) after → AreTextsOf (items ++ option_to_list last) (lines bytes)

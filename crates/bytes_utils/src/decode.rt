@@ -14,7 +14,7 @@ use bytes_utils_buf::Reason;
 use bytes_utils_buf::segmented::PackedBuf;
 pub use decoded::Decoded;
 pub use delimited::{Delimited, delimited_laws};
-pub use lines::TextLines;
+pub use lines::{TextLines, text_line_laws};
 pub use prefixed::LengthPrefixed;
 pub use read::{ReadItemError, read_item, read_item_laws};
 use std::alloc::Global;

@@ -249,6 +249,8 @@ impl Frames {
             TakesFrame self.old.separator self.old.held frame self.new.held)) }
         ensures skips { IfOk result (λ next. IfSome next (λ frame.
             Skips (length frame + length self.old.separator) self.old.pieces self.new.pieces)) }
+        ensures fewer { IfOk result (λ next. IfSome next
+            (λ _. length self.new.held < length self.old.held)) }
         ensures waits { IfOk result (λ next. IfNone next
             ((self.new ≡ self.old) × (¬ Occurs self.old.separator self.old.held))) }
         ensures separator { self.new.separator ≡ self.old.separator }
@@ -274,6 +276,8 @@ impl Frames {
         ensures skips { IfOk result (λ next. IfSome next (λ frame.
             Skips (length (concat frame.segments) + length self.old.separator)
             self.old.pieces self.new.pieces)) }
+        ensures fewer { IfOk result (λ next. IfSome next
+            (λ _. length self.new.held < length self.old.held)) }
         ensures waits { IfOk result (λ next. IfNone next
             ((self.new ≡ self.old) × (¬ Occurs self.old.separator self.old.held))) }
         ensures separator { self.new.separator ≡ self.old.separator }
@@ -334,6 +338,7 @@ impl Frames {
         ensures within { IfOk result (λ end.
             IfSome end (λ len. len + length self.old.separator ≤ length self.old.held)) }
         ensures waits { IfOk result (λ end. IfNone end (¬ Occurs self.old.separator self.old.held)) }
+        ensures some { 0 < length self.old.separator }
         ensures same { self.new ≡ self.old }
         ensures reason { IfErr result (λ reason. reason ≡ Reason.OutOfMemory) }
     {

@@ -12,11 +12,13 @@ use Rattle.std.proofs.lemmas.List.Elements.{All-head, All-tail}
 use Rattle.std.proofs.lemmas.Str.{IsCharBoundary-at_seam}
 use denote.Ref.{Bor}
 use Rattle.bytes_utils.specs.Lines.{line_feed, carriage_return}
+use Rattle.bytes_utils.specs.StreamRuns.{AreFirst}
 use Rattle.bytes_utils.specs.UniversalLines.{IsInLine, IsUniversalEnd, LacksEnds, LineReading, TakesUniversalLine, after_push}
 use Rattle.bytes_utils.proofs.StreamRunsLemmas.{AreFirst-next}
 use Rattle.bytes_utils.proofs.UniversalLinesLemmas.{line_shortens}
-use Rattle.bytes_utils_run.specs.Events.{DoesLine, Eventing, IsEndOf, IsOver, IsTooLarge, Reads, ReadsLine, TakesNext, Telling, after_field, after_line, byte_order_mark, content, field_name, field_value, is_colon, is_number, number_of, text_len, without_space}
+use Rattle.bytes_utils_run.specs.Events.{DoesLine, Eventing, Gives, IsEndOf, PassesFault, left_to_read, waiting_count, IsOver, IsTooLarge, Reads, ReadsLine, TakesNext, Telling, after_field, after_line, byte_order_mark, content, field_name, field_value, is_colon, is_number, number_of, text_len, without_space}
 use Rattle.bytes_utils_run.specs.Requests.{WriteNumber}
+use Rattle.bytes_utils_run.specs.declared.examples.events.Event.{Event}
 use Rattle.bytes_utils_run.specs.declared.examples.events.Limits.{Limits}
 
 -- one more line is read
@@ -65,27 +67,45 @@ does_field old mid line short some is small =
       small = subst (λ (l : Limits). text_len mid.told.text ≤ l.data) limits small;
     }
 
--- the number of lines that wait
-abbrev pub waiting_count : Option (List ℕ) → ℕ
-waiting_count None = 0
-waiting_count (Some line) = 1
+-- ---- less is left to read
 
--- each line that is read is taken off the held bytes, or waits no more
-pub reads_less : (old taken new : Eventing) (line : List ℕ) → TakesNext old line taken → DoesLine taken line new
-    → length new.lines.held + waiting_count new.waiting < length old.lines.held + waiting_count old.waiting
-reads_less old taken new line takes does =
+-- a line is taken off the held bytes, or waits no more
+taken_less : (old taken : Eventing) (line : List ℕ) → TakesNext old line taken → left_to_read taken < left_to_read old
+taken_less old taken line takes =
     by old.waiting takes.next
   where
-    lines : new.lines ≡ taken.lines
-    lines = ap (λ (r : Eventing). r.lines) does.after
-
-    none : new.waiting ≡ None
-    none = ap (λ (r : Eventing). r.waiting) does.after ∙ ap (λ (r : Eventing). r.waiting) takes.others
+    none : taken.waiting ≡ None
+    none = ap (λ (r : Eventing). r.waiting) takes.others
 
     by : (waiting : Option (List ℕ)) → MatchOption waiting (TakesUniversalLine old.lines line taken.lines × IsUtf8 line) (λ w. (line ≡ w) × (taken.lines ≡ old.lines))
-        → length new.lines.held + waiting_count new.waiting < length old.lines.held + waiting_count waiting
-    by None next = rw (lines, none) (omega (arith, line_shortens old.lines line taken.lines next.0))
-    by (Some w) next = rw (lines, none, next.1) (omega arith)
+        → left_to_read taken < length old.lines.held + waiting_count waiting
+    by None next = rw none (omega (arith, line_shortens old.lines line taken.lines next.0))
+    by (Some w) next = rw (none, next.1) (omega arith)
+
+same_left : (old new : Eventing) → new.lines ≡ old.lines → new.waiting ≡ old.waiting → left_to_read new ≡ left_to_read old
+same_left old new lines waiting = rw (lines, waiting) refl
+
+pub reads_less : (old taken new : Eventing) (line : List ℕ) → TakesNext old line taken → DoesLine taken line new → left_to_read new < left_to_read old
+reads_less old taken new line takes does =
+    let same = same_left taken new (ap (λ (r : Eventing). r.lines) does.after) (ap (λ (r : Eventing). r.waiting) does.after) in
+    omega (arith, same, taken_less old taken line takes)
+
+reads_no_more : (lines : List (List ℕ)) (old new : Eventing) → AreFirst ReadsLine old lines new → left_to_read new ≤ left_to_read old
+reads_no_more [] old new are = omega (arith, ap left_to_read are)
+reads_no_more (line ∷ lines) old new are =
+    omega (arith, reads_less old are.1.taken are.0 line are.1.takes are.1.does, reads_no_more lines are.0 new are.2)
+
+pub gives_less : (old : Eventing) (event : Event) (new : Eventing) → Gives old event new → left_to_read new < left_to_read old
+gives_less old event new gives =
+    let same = same_left gives.taken new (ap (λ (r : Eventing). r.lines) gives.ends.after) (ap (λ (r : Eventing). r.waiting) gives.ends.after) in
+    omega (arith, same, taken_less gives.before gives.taken gives.line gives.takes, reads_no_more gives.reads.0 old gives.before gives.reads.1)
+
+pub fault_less : (old new : Eventing) → PassesFault old new → left_to_read new < left_to_read old
+fault_less old new passes =
+    let mid = passes.0 in
+    let fault = passes.2 in
+    let waiting : new.waiting ≡ mid.waiting = ap (λ (r : Eventing). r.waiting) fault.others in
+    omega (arith, ap waiting_count waiting, line_shortens mid.lines fault.line new.lines fault.takes, reads_no_more passes.1.0 old mid passes.1.1)
 
 -- ---- lines that can't be read
 

@@ -37,6 +37,7 @@ pub mod FilesLemmas
 pub mod FieldsLemmas
 pub mod RedisLemmas
 pub mod MultipartLemmas
+pub mod NetstringsLemmas
 pub mod MultipartLaws
 pub mod EventsLemmas
 pub mod EventRunsLemmas

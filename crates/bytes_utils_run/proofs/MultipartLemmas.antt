@@ -10,7 +10,7 @@ use Rattle.bytes_utils.specs.Pushing.{IsPush}
 use Rattle.bytes_utils_buf.specs.declared.refused.Refused.{Refused}
 use Rattle.bytes_utils.proofs.FramesLemmas.{TakesFrame-more, TakesFrame-same}
 use Rattle.bytes_utils.proofs.OccurrenceLemmas.{OccursAt-between, OccursAt-front}
-use Rattle.bytes_utils_run.specs.Multipart.{Parting, appended, line_end, dashes, head_end, PartBytes, part_bytes, IsHeadIn, IsPart, TakesPart, NoPart, Closes, LacksNext, held_at, AreApart, has_ended, quote, IsQuoted, IsDisposition, NoDisposition, IsFirstDisposition, held_by, IsDivided, SameSections, AfterSearch}
+use Rattle.bytes_utils_run.specs.Multipart.{Parting, appended, line_end, dashes, head_end, PartBytes, part_bytes, IsHeadIn, IsPart, TakesPart, IsPartDue, NoPart, Closes, LacksNext, held_at, AreApart, has_ended, quote, IsQuoted, IsDisposition, NoDisposition, IsFirstDisposition, held_by, IsDivided, SameSections, AfterSearch}
 use Rattle.bytes_utils_run.specs.declared.examples.multipart.Limits.{Limits}
 use Rattle.bytes_utils_run.specs.declared.examples.multipart.sections.Sections.{Sections}
 use Rattle.bytes_utils_run.specs.declared.examples.multipart.sections.Stage.{Stage}
@@ -161,6 +161,17 @@ module _ (s : Sections) (is_found : s.stage ≡ Found) (divided : IsDivided s) w
         let v = s.frames.held in
         let both : AreApart Found d p f v = subst (λ stage. AreApart stage d p f v) is_found divided in
         (d ++ v, subst (λ stage. TakesPart d limits (held_at stage d p f v) part (d ++ v)) (sym is_found) (found_part d limits p f v both.0 both.1 part is few))
+
+    -- the delimiters before and after it have come
+    pub due_in_found : length (concat s.preamble.segments) ≤ limits.head + limits.body → IsPartDue s.frames.separator limits (held_by s)
+    due_in_found few =
+        let d = s.frames.separator in
+        let p = concat s.preamble.segments in
+        let f = concat s.found.segments in
+        let v = s.frames.held in
+        let both : AreApart Found d p f v = subst (λ stage. AreApart stage d p f v) is_found divided in
+        subst (λ stage. IsPartDue d limits (held_at stage d p f v)) (sym is_found)
+        (record { preamble = p; after = f ++ (d ++ v); begins = both.0; raw = f; next = v; ends = both.1; few = few })
 
     -- what was found is no part
     pub none_in_found : ((part : PartBytes) → ¬ IsPart limits (concat s.found.segments) part) → (more : List ℕ) → NoPart s.frames.separator limits (held_by s ++ more)
@@ -354,6 +365,11 @@ pub none_of_same : (old new : Sections) → SameSections old new → (limits : L
     → NoPart old.frames.separator limits (held_by old ++ more)
 none_of_same old new same limits more none =
     subst (λ l. NoPart l limits (held_by old ++ more)) same.delimiter (subst (λ l. NoPart new.frames.separator limits (l ++ more)) same.held none)
+
+pub due_of_same : (old new : Sections) → SameSections old new → (limits : Limits) → IsPartDue new.frames.separator limits (held_by new)
+    → IsPartDue old.frames.separator limits (held_by old)
+due_of_same old new same limits due =
+    subst (λ l. IsPartDue l limits (held_by old)) same.delimiter (subst (λ l. IsPartDue new.frames.separator limits l) same.held due)
 
 -- ---- the name
 

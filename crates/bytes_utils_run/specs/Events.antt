@@ -1,5 +1,5 @@
 -- Event streams, as the HTML standard defines them (sections 9.2.5 and 9.2.6, https://html.spec.whatwg.org/multipage/server-sent-events.html).
-use Rattle.std.specs.Prelude.{◌≡◌, ◌≢◌, ℕ, Bool, false, ◌<◌, ◌≤◌, ◌⊎◌, ◌==◌, ◌&&◌, not, if◌then◌else◌, nat_eq, nat_lt, ◌^◌, List, [], ◌∷◌, ◌++◌, length, drop, codes, Option, None, Some, MatchOption, IsUtf8}
+use Rattle.std.specs.Prelude.{◌≡◌, ◌≢◌, ℕ, ◌+◌, Bool, false, ◌<◌, ◌≤◌, ◌⊎◌, ◌==◌, ◌&&◌, not, if◌then◌else◌, nat_eq, nat_lt, ◌^◌, List, [], ◌∷◌, ◌++◌, length, drop, codes, Option, None, Some, MatchOption, IsUtf8}
 use Rattle.std.specs.Cmp.Lexicographic.{pointwise}
 use Rattle.std.specs.Char.{digit_value}
 use Rattle.std.specs.List.{after_first, before_first, list_all, list_any, starts_with}
@@ -34,6 +34,14 @@ nothing_told = record { name = None; text = None; id = None; retry = None }
 -- a piece came
 abbrev pub pushed : Eventing → List ℕ → Eventing
 pushed old piece = record old { lines = after_push old.lines piece }
+
+-- how much is to be read: the held bytes, and one more for a line that waits
+abbrev pub waiting_count : Option (List ℕ) → ℕ
+waiting_count None = 0
+waiting_count (Some line) = 1
+
+abbrev pub left_to_read : Eventing → ℕ
+left_to_read reading = length reading.lines.held + waiting_count reading.waiting
 
 -- ---- what one line says
 

@@ -83,6 +83,16 @@ pub record TakesPart (delimiter : List ℕ) (limits : Limits) (old : List ℕ) (
   pub few : length preamble ≤ limits.head + limits.body
   pub left : rest ≡ delimiter ++ next
 
+-- the delimiters before and after the next part have come, and the bytes before the first of them are within the limits
+pub record IsPartDue (delimiter : List ℕ) (limits : Limits) (bytes : List ℕ) : Type 0 where
+  pub preamble : List ℕ
+  pub after : List ℕ
+  pub begins : TakesFrame delimiter bytes preamble after
+  pub raw : List ℕ
+  pub next : List ℕ
+  pub ends : TakesFrame delimiter after raw next
+  pub few : length preamble ≤ limits.head + limits.body
+
 -- no part is in the bytes
 abbrev pub NoPart : List ℕ → Limits → List ℕ → Type 0
 NoPart delimiter limits bytes = (part : PartBytes) (rest : List ℕ) → ¬ TakesPart delimiter limits bytes part rest

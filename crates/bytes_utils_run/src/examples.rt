@@ -6,6 +6,7 @@ pub mod files;
 pub mod headers;
 pub mod inbox;
 pub mod multipart;
+pub mod netstrings;
 pub mod paths;
 pub mod records;
 pub mod redis;

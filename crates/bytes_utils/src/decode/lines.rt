@@ -3,7 +3,7 @@ ghost use Rattle.std.specs.Prelude.{◌≡◌, [], ◌∷◌, IfOk, IfErr};
 ghost use Rattle.bytes_utils.specs.Decoding.{decoding};
 ghost use Rattle.bytes_utils.specs.Delimited.{AwaitsSeparator, delimiting};
 ghost use Rattle.bytes_utils.specs.Lines.{line_feed};
-ghost use Rattle.bytes_utils.specs.TextLines.{TakesLastTextLine, TakesTextLine, fails_text_line, gives_text_line};
+ghost use Rattle.bytes_utils.specs.TextLines.{TakesLastTextLine, TakesTextLine, TextItemsLaw, WholeTextLaw, fails_text_line, gives_text_line};
 ghost use Rattle.bytes_utils.specs.TextLinesLaws.{text_line_single, text_line_stable, text_line_waits};
 
 use super::{Decoder, Delimited};
@@ -35,7 +35,7 @@ type Line = Result<Str, Utf8Error<Bytes>>;
 /// next one is the line after it. A line over the limit is an error that stays.
 ///
 /// While it waits, bytes are not searched again. A line that lies in one piece shares the bytes of
-/// the piece. [`Lines`](crate::frame::Lines) is a reader of the same lines.
+/// the piece. [`Lines`](crate::frame::Lines) is a reader of the same lines (`text_line_laws`).
 #[derive(Debug, Drop)]
 pub struct TextLines {
     frames: Delimited,
@@ -130,3 +130,11 @@ impl Decoder for TextLines {
 
     ghost awaits = { text_line_waits };
 }
+
+/// The laws of a decoder that is new. Its items are the texts of the first lines of the bytes, as
+/// [`Lines`](crate::frame::Lines) takes them; with the last one, of all lines. With `decoder_laws`,
+/// so are those of every run, whatever the pieces are.
+pub fn text_line_laws()
+    ensures items { TextItemsLaw }
+    ensures whole { WholeTextLaw }
+{}

@@ -1,5 +1,5 @@
 //! Lines of a stream that comes in pieces.
-ghost use Rattle.std.specs.Prelude.{◌≡◌, ◌+◌, ◌^◌, ◌≤◌, ◌↔◌, [], ◌∷◌, ◌++◌, length, IsUtf8, IfOk, IfErr, IfSome, IfNone, IsOk, OnErr, OnOk};
+ghost use Rattle.std.specs.Prelude.{◌≡◌, ◌+◌, ◌^◌, ◌<◌, ◌≤◌, ◌↔◌, [], ◌∷◌, ◌++◌, length, IsUtf8, IfOk, IfErr, IfSome, IfNone, IsOk, OnErr, OnOk};
 ghost use Rattle.std.specs.List.{concat};
 ghost use Rattle.bytes_utils.specs.Pushing.{IsPush};
 ghost use Rattle.bytes_utils.specs.Errors.{IsFaultOf, fault_of, refused_storage};
@@ -146,6 +146,7 @@ impl Lines {
     pub fn next_line(&mut self, alloc: Global) -> Result<Option<Str>, LineError>
         ensures line { IfOk result
             (λ next. IfSome next (λ line. TakesLine self.old line self.new)) }
+        ensures fewer { IfOk result (λ next. IfSome next (λ _. length self.new < length self.old)) }
         ensures utf8 { IfOk result (λ next. IfSome next IsUtf8) }
         ensures waits { IfOk result (λ next. IfNone next
             ((self.new ≡ self.old) × (¬ Occurs (line_feed ∷ []) self.old))) }

@@ -1,5 +1,5 @@
 //! Lines of a stream that end with a line feed, a carriage return, or both.
-ghost use Rattle.std.specs.Prelude.{◌≡◌, ◌+◌, ◌^◌, ◌≤◌, ◌↔◌, ◌⊎◌, true, [], ◌∷◌, length, take, drop, IsUtf8, IfOk, IfErr, IfSome, IfNone, IsOk, OnErr, OnOk};
+ghost use Rattle.std.specs.Prelude.{◌≡◌, ◌+◌, ◌^◌, ◌<◌, ◌≤◌, ◌↔◌, ◌⊎◌, true, [], ◌∷◌, length, take, drop, IsUtf8, IfOk, IfErr, IfSome, IfNone, IsOk, OnErr, OnOk};
 ghost use Rattle.std.specs.List.{concat};
 ghost use Rattle.bytes_utils.specs.EndSearch.{EndsFirstAt, PassesEnd};
 ghost use Rattle.bytes_utils.specs.Errors.{IsFaultOf, fault_of, refused_storage};
@@ -111,6 +111,8 @@ impl UniversalLines {
     pub fn next_line(&mut self, alloc: Global) -> Result<Option<Str>, LineError>
         ensures line { IfOk result
             (λ next. IfSome next (λ line. TakesUniversalLine self.old line self.new)) }
+        ensures fewer { IfOk result (λ next. IfSome next
+            (λ _. length self.new.held < length self.old.held)) }
         ensures utf8 { IfOk result (λ next. IfSome next IsUtf8) }
         ensures waits { IfOk result (λ next. IfNone next
             ((self.new ≡ self.old) × LacksEnds self.old.held)) }

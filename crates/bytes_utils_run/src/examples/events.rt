@@ -6,7 +6,7 @@ ghost use Rattle.bytes_utils.specs.Pushing.{IsPush};
 ghost use Rattle.bytes_utils.specs.UniversalLines.{nothing_read};
 ghost use Rattle.bytes_utils_run.specs.EventData.{text_if_any, text_of};
 ghost use Rattle.bytes_utils_run.specs.EventRuns.{EventRunLaw, NoEventLaw, SameEventLaw};
-ghost use Rattle.bytes_utils_run.specs.Events.{DoesLine, EndsEvent, Gives, IsEndOf, IsIdle, IsOver, IsTooLarge, LosesNothing, PassesFault, Reads, TakesFault, TakesNext, after_field, content, text_len, field_name, field_value, nothing_told, number_of, pushed, some_name, with_line, without_space};
+ghost use Rattle.bytes_utils_run.specs.Events.{DoesLine, EndsEvent, Gives, IsEndOf, IsIdle, IsOver, IsTooLarge, LosesNothing, PassesFault, Reads, TakesFault, TakesNext, after_field, content, text_len, field_name, field_value, left_to_read, nothing_told, number_of, pushed, some_name, with_line, without_space};
 
 use super::requests::number;
 use bytes::Bytes;
@@ -167,12 +167,16 @@ impl EventReader {
     pub fn next_event(&mut self, alloc: Global) -> Result<Option<Event>, EventError>
         ensures event { IfOk result
             (λ next. IfSome next (λ event. Gives self.old event self.new)) }
+        ensures less { IfOk result
+            (λ next. IfSome next (λ _. left_to_read self.new < left_to_read self.old)) }
         ensures waits { IfOk result (λ next. IfNone next (Reads self.old self.new × IsIdle self.new)) }
         ensures refused { IfErr result (λ e. (reason : _) → e ≡ EventError.Refused reason
             → LosesNothing self.old self.new) }
         ensures reason { IfErr result (λ e. (reason : _) → e ≡ EventError.Refused reason
             → reason ≡ Reason.OutOfMemory) }
         ensures not_utf8 { IfErr result (λ e. e ≡ EventError.NotUtf8 → PassesFault self.old self.new) }
+        ensures less_by_fault { IfErr result (λ e. e ≡ EventError.NotUtf8
+            → left_to_read self.new < left_to_read self.old) }
         ensures too_large { IfErr result (λ e. e ≡ EventError.TooLarge
             → LosesNothing self.old self.new × IsOver self.new) }
     {

@@ -1,8 +1,8 @@
 //! The parts of a body of `multipart/form-data`, or of another multipart type, that comes in pieces
 //! (RFC 2046, section 5.1.1; RFC 7578).
-ghost use Rattle.std.specs.Prelude.{◌≡◌, ◌+◌, ◌-◌, ◌^◌, ◌≤◌, ◌↔◌, ℕ, List, [], ◌++◌, length, min, false, true, IsUtf8, IsOk, IsTrue, IfOk, IfErr, IfSome, IfNone, OnOk, OnErr};
+ghost use Rattle.std.specs.Prelude.{◌≡◌, ◌+◌, ◌-◌, ◌^◌, ◌<◌, ◌≤◌, ◌↔◌, ℕ, List, [], ◌++◌, length, min, false, true, IsUtf8, IsOk, IsTrue, IfOk, IfErr, IfSome, IfNone, OnOk, OnErr};
 ghost use Rattle.bytes_utils.specs.Pushing.{IsPush};
-ghost use Rattle.bytes_utils_run.specs.Multipart.{HasParameter, IsDivided, IsIdle, NoPart, PartBytes, PartsLaw, SamePartsLaw, TakesPart, appended, bytes_of, delimiter_of, file_name_key, held_by, line_end, name_key};
+ghost use Rattle.bytes_utils_run.specs.Multipart.{HasParameter, IsDivided, IsIdle, IsPartDue, NoPart, PartBytes, PartsLaw, SamePartsLaw, TakesPart, appended, bytes_of, delimiter_of, file_name_key, held_by, line_end, name_key};
 
 mod head;
 mod sections;
@@ -174,10 +174,13 @@ impl PartReader {
     /// and after the close delimiter. Fails with `Malformed` if the held bytes begin with no part,
     /// whatever comes after them, with `TooLarge` if they begin with none within the limits, with
     /// `NotUtf8` if the head isn't UTF-8, and with `Refused` if memory is refused; then nothing has
-    /// changed.
+    /// changed. `Malformed` comes only after the delimiter at the end of the part; before that, and
+    /// where too many bytes are before the first delimiter, the error is `TooLarge`.
     pub fn next_part(&mut self, alloc: Global) -> Result<Option<Part>, PartError>
         ensures part { IfOk result (λ next. IfSome next (λ part. TakesPart self.old.delimiter
             self.old.limits self.old.held (bytes_of part) self.new.held)) }
+        ensures fewer { IfOk result (λ next. IfSome next
+            (λ _. length self.new.held < length self.old.held)) }
         ensures name { IfOk result (λ next. IfSome next
             (λ part. HasParameter name_key part.head part.name)) }
         ensures file_name { IfOk result (λ next. IfSome next
@@ -192,6 +195,8 @@ impl PartReader {
         ensures malformed { IfErr result (λ e. e ≡ PartError.Malformed
             → (limits : Limits) (more : List ℕ)
             → NoPart self.old.delimiter limits (self.old.held ++ more)) }
+        ensures due { IfErr result (λ e. e ≡ PartError.Malformed
+            → IsPartDue self.old.delimiter self.old.limits self.old.held) }
         ensures too_large { IfErr result (λ e. e ≡ PartError.TooLarge → (more : List ℕ)
             → NoPart self.old.delimiter self.old.limits (self.old.held ++ more)) }
         ensures not_utf8 { IfErr result (λ e. e ≡ PartError.NotUtf8
@@ -241,6 +246,8 @@ fn take_part(sections: &mut Sections, alloc: Global, limits: Limits) -> Result<P
     ensures malformed { IfErr result (λ e. e ≡ PartError.Malformed
         → (any : Limits) (more : List ℕ)
         → NoPart sections.old.frames.separator any (held_by sections.old ++ more)) }
+    ensures due { IfErr result (λ e. e ≡ PartError.Malformed
+        → IsPartDue sections.old.frames.separator limits (held_by sections.old)) }
     ensures too_large { IfErr result (λ e. e ≡ PartError.TooLarge → (more : List ℕ)
         → NoPart sections.old.frames.separator limits (held_by sections.old ++ more)) }
     ensures not_utf8 { IfErr result (λ e. e ≡ PartError.NotUtf8

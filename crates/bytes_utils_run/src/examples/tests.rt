@@ -7,6 +7,7 @@ mod inbox;
 mod long;
 mod memory;
 mod multipart;
+mod netstrings;
 mod paths;
 mod records;
 mod redis;

@@ -58,6 +58,10 @@ impl<E> From<ReadError> for ReadItemError<E> {
 
 /// Writes what the decoder's error or that of the read does.
 impl<E: fmt::Display> fmt::Display for ReadItemError<E> {
+    ghost use Rattle.bytes_utils.specs.ReadItem.{item_error_text};
+
+    ghost output = { item_error_text E.output };
+
     fn fmt<W: fmt::Write>(&self, f: &mut fmt::Formatter<W>) -> fmt::Result {
         match self {
             ReadItemError::Decoder(error) => fmt::Display::fmt(error, f),

@@ -11,7 +11,7 @@ use crate::examples::redis::{Limits, ReplyReader};
 use crate::examples::requests::Requests;
 use crate::examples::tokens::tokens;
 use bytes::Bytes;
-use bytes_utils::Str;
+use bytes_utils::{Reason, Str};
 use std::alloc::Global;
 use std::process::Abort;
 use std::test::Fail;
@@ -139,6 +139,34 @@ fn each_call(rt: HostRuntime) -> Result<(), Fail> {
     if let Err(name) = of_all(rt.alloc()) {
         println!(rt; "refused {name}")?;
         assert!(rt; of_all(rt.alloc()).is_ok());
+    }
+    Ok(())
+}
+
+/// A piece that is copied. Nine of them don't fit in one block.
+const COPIED: &[u8] = &[b'-'; 512];
+
+// The bytes before the first delimiter take two blocks. After a refused push nothing is lost.
+#[test]
+fn pieces_of_parts(rt: HostRuntime) -> Result<(), Fail> {
+    let limits = PartLimits {
+        head: 9_000,
+        body: 9,
+    };
+    let mut parts = match PartReader::new(rt.alloc(), b"b", limits) {
+        Ok(parts) => parts,
+        Err(reason) => {
+            println!(rt; "refused PartReader::new")?;
+            assert!(rt; reason == Reason::OutOfMemory);
+            PartReader::new(rt.alloc(), b"b", limits)?
+        }
+    };
+    for _ in 0..9 {
+        if let Err(refused) = parts.push(Bytes::from_static(COPIED)) {
+            println!(rt; "refused PartReader::push")?;
+            assert!(rt; refused.reason == Reason::OutOfMemory && refused.back.as_slice() == COPIED);
+            parts.push(refused.back)?;
+        }
     }
     Ok(())
 }

@@ -12,6 +12,7 @@ returns c =
       frame = rw (← c.self.view_is) (found_frame q.finder held c.self.invariant.0 _ found);
       within = rw (← c.self.view_is) (found_within q.finder held c.self.invariant.0 _ found);
       waits = rw (← c.self.view_is) (found_none q.finder held c.self.invariant.0 _ found);
+      some = rw (← c.self.view_is) c.self.invariant.0;
       same = search rules;
       reason = search rules;
     }

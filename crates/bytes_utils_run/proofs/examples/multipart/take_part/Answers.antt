@@ -1,7 +1,7 @@
 use Rattle.std.proofs.Common.{arith, ◌≤◌, ◌+◌, ◌∙◌, sym, length}
 use Rattle.std.specs.List.{concat}
 use Rattle.std.proofs.lemmas.Result.{err_from_is_err_and}
-use Rattle.bytes_utils_run.proofs.MultipartLemmas.{none_in_found, part_in_found}
+use Rattle.bytes_utils_run.proofs.MultipartLemmas.{due_in_found, none_in_found, part_in_found}
 use Rattle.bytes_utils_run.proofs.examples.multipart.take_part.Goals as goal
 
 pub returns-in_err-head-clause-malformed : goal.returns-in_err-head-clause-malformed
@@ -13,6 +13,13 @@ pub returns-in_err-head-clause-too_large : goal.returns-in_err-head-clause-too_l
 returns-in_err-head-clause-too_large c =
     let out = err_from_is_err_and c.from_residual.result c.from_residual.ensures.1 in
     rw out.1 (λ is more. none_in_found c.args.sections.now c.requires.found c.requires.divided c.args.limits (c.in_err-head.ensures.too_large (sym out.2 ∙ is)) more)
+
+pub returns-in_err-head-clause-due : goal.returns-in_err-head-clause-due
+returns-in_err-head-clause-due c =
+    let s = c.args.sections.now in
+    let few : length (concat s.preamble.segments) ≤ c.args.limits.head + c.args.limits.body = omega (arith, c.if-remaining-most.false, c.remaining.ensures, c.most.ensures) in
+    let out = err_from_is_err_and c.from_residual.result c.from_residual.ensures.1 in
+    rw out.1 (λ is. due_in_found s c.requires.found c.requires.divided c.args.limits few)
 
 pub returns-in_err-head-clause-not_utf8 : goal.returns-in_err-head-clause-not_utf8
 returns-in_err-head-clause-not_utf8 c =

@@ -1,7 +1,7 @@
 use Rattle.std.proofs.Common.{arith, ◌<◌, ◌+◌, ◌∙◌, sym, refl, subst, length}
 use Rattle.std.proofs.lemmas.Result.{err_from_is_err_and}
 use Rattle.bytes_utils_run.specs.Multipart.{AfterSearch}
-use Rattle.bytes_utils_run.proofs.MultipartLemmas.{much_waits, none_after_end, none_waits, none_of_same}
+use Rattle.bytes_utils_run.proofs.MultipartLemmas.{due_of_same, much_waits, none_after_end, none_waits, none_of_same}
 use Rattle.bytes_utils_run.proofs.examples.multipart.PartReader.next_part.Goals as goal
 
 pub returns-in_err-take_part-in-Found-clause-malformed : goal.returns-in_err-take_part-in-Found-clause-malformed
@@ -17,6 +17,13 @@ returns-in_err-take_part-in-Found-clause-too_large c =
     let out = err_from_is_err_and c.from_residual-in_err-take_part-in-Found.result c.from_residual-in_err-take_part-in-Found.ensures.1 in
     rw (← c.self.view_is) (rw out.1 (λ is more.
     none_of_same c.self.inside.sections c.search.new.self same c.self.inside.limits more (c.in_err-take_part-in-Found.ensures.too_large (sym out.2 ∙ is) more)))
+
+pub returns-in_err-take_part-in-Found-clause-due : goal.returns-in_err-take_part-in-Found-clause-due
+returns-in_err-take_part-in-Found-clause-due c =
+    let same = subst (λ stage. AfterSearch stage c.self.inside.sections c.search.new.self) c.in-Found.is c.in_ok-search.ensures.ok in
+    let out = err_from_is_err_and c.from_residual-in_err-take_part-in-Found.result c.from_residual-in_err-take_part-in-Found.ensures.1 in
+    rw (← c.self.view_is) (rw out.1 (λ is.
+    due_of_same c.self.inside.sections c.search.new.self same c.self.inside.limits (c.in_err-take_part-in-Found.ensures.due (sym out.2 ∙ is))))
 
 pub returns-in-Ended-clause-waits : goal.returns-in-Ended-clause-waits
 returns-in-Ended-clause-waits c =
