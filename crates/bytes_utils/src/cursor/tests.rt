@@ -1,6 +1,7 @@
 //! What no clause says: that calls succeed, which memory is shared, and the state after a refused
 //! request for memory.
 mod memory;
+mod read;
 
 use crate::cursor::Cursor;
 use crate::{Reason, SegmentedBuf, Str};

@@ -5,6 +5,7 @@ use crate::frame::LineError;
 use crate::{Reason, SegmentedBuf};
 use bytes::Bytes;
 use std::alloc::Global;
+use std::convert::AsSlice;
 use std::io::Print;
 use std::process::Abort;
 
@@ -19,11 +20,11 @@ fn prepared(alloc: Global) -> Option<SegmentedBuf<Bytes>> {
 
 /// Asserts the bytes that a call returned, unless it was refused, which is reported. It leaves the
 /// cursor at this place, and at the first byte if it was refused.
-fn assert_taken<R: Abort + Print>(
+fn assert_taken<R: Abort + Print, T: AsSlice<u8> + Drop>(
     rt: &R,
     call: &str,
     cursor: &Cursor<'_, Bytes>,
-    taken: Result<Option<Bytes>, Reason>,
+    taken: Result<Option<T>, Reason>,
     want: (&str, usize),
 ) {
     match given(rt, call, taken) {
@@ -56,6 +57,21 @@ fn bytes(rt: HostRuntime) {
             taken,
             ("01234567890123456789", 20),
         );
+    }
+}
+
+#[test]
+fn bytes_that_are_read(rt: HostRuntime) {
+    if let Some(buf) = prepared(rt.alloc()) {
+        let mut cursor = Cursor::new(&buf);
+        let read = cursor.read(rt.alloc(), 12);
+        assert_taken(&rt, "Cursor::read", &cursor, read, ("012345678901", 12));
+        let mut cursor = Cursor::new(&buf);
+        let read = cursor.read_until(rt.alloc(), b"12345678901234567");
+        assert_taken(&rt, "Cursor::read_until", &cursor, read, ("0", 18));
+        let mut cursor = Cursor::new(&buf);
+        let read = cursor.read_until_within(rt.alloc(), b"12345678901234567", 1);
+        assert_taken(&rt, "Cursor::read_until_within", &cursor, read, ("0", 18));
     }
 }
 
