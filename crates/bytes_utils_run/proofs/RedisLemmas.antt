@@ -345,3 +345,20 @@ pub too_many_after : (limits : Limits) (more bytes : List ℕ) (xs : List Item) 
     → AreFirst (TakesItem limits) bytes (xs ++ item ∷ []) rest → ArePending 1 (xs ++ item ∷ []) due → limits.items ≤ due → NoReply limits (bytes ++ more)
 too_many_after limits more bytes xs item rest due are pending many =
     too_many limits limits more bytes (xs ++ item ∷ []) rest due are pending (omega (arith, many, length-append xs (item ∷ [])))
+
+-- ---- a reply takes bytes
+
+item_takes : (limits : Limits) (old : List ℕ) (item : Item) (rest : List ℕ) → TakesItem limits old item rest → length rest < length old
+item_takes limits old item rest takes =
+    let two : length line_end ≡ 2 = refl in
+    let following = after_line item ++ rest in
+    omega (arith, two, ap length takes.bytes.bytes, length-append takes.line (line_end ++ following), length-append line_end following, length-append (after_line item) rest)
+
+items_take : (limits : Limits) (items : List Item) (old rest : List ℕ) → AreFirst (TakesItem limits) old items rest → length rest ≤ length old
+items_take limits [] old rest same = omega (arith, ap length same)
+items_take limits (item ∷ items) old rest are = omega (arith, item_takes limits old item are.0 are.1, items_take limits items are.0 rest are.2)
+
+pub reply_takes : (limits : Limits) (old : List ℕ) (items : List Item) (rest : List ℕ) → TakesReply limits old items rest → length rest < length old
+reply_takes limits old [] rest takes = absurd (omega (arith, takes.whole))
+reply_takes limits old (item ∷ items) rest takes =
+    omega (arith, item_takes limits old item takes.are.0 takes.are.1, items_take limits items takes.are.0 rest takes.are.2)

@@ -139,9 +139,12 @@ impl ReplyReader {
     /// item shares the piece that has all of it. Fails with `Malformed` if the held bytes begin with
     /// no reply, whatever comes after them, with `TooLarge` if they begin with none within the
     /// limits, and with `Refused` if memory is refused; then nothing has changed.
+    #[tactic(auto, using(crate::proofs::RedisLemmas::reply_takes))]
     pub fn next_reply(&mut self, alloc: Global) -> Result<Option<Vec<Item>>, ReplyError>
         ensures reply { IfOk result (λ next. IfSome next (λ items.
             TakesReply self.old.limits self.old.held items.items self.new.held)) }
+        ensures fewer { IfOk result (λ next. IfSome next (λ _.
+            length self.new.held < length self.old.held)) }
         ensures waits { IfOk result (λ next. IfNone next
             ((self.new ≡ self.old) × NoReply self.old.limits self.old.held)) }
         ensures err { OnErr result (self.new ≡ self.old) }
