@@ -82,6 +82,19 @@ fn streams_cut_at_each_place(rt: HostRuntime) -> Result<(), Fail> {
     Ok(())
 }
 
+#[test]
+fn streams_in_slices(rt: HostRuntime) -> Result<(), Fail> {
+    for row in STREAMS.split('~') {
+        let (stream, wanted) = row.split_once('>').ok_or("no stream")?;
+        let mut events = EventReader::new(rt.alloc(), LIMITS);
+        for byte in stream.as_bytes().chunks(1) {
+            events.push_slice(byte)?;
+        }
+        assert_eq!(rt; after_events(rt.alloc(), &mut events, wanted)?, "");
+    }
+    Ok(())
+}
+
 /// Whether a call says that a limit is passed, and the same call says so once more.
 fn is_too_large(alloc: Global, events: &mut EventReader) -> bool {
     let first = events.next_event(alloc).err();

@@ -13,6 +13,7 @@ use crate::examples::tokens::tokens;
 use bytes::Bytes;
 use bytes_utils::{Reason, Str};
 use std::alloc::Global;
+use std::io::Print;
 use std::process::Abort;
 use std::test::Fail;
 
@@ -167,6 +168,54 @@ fn pieces_of_parts(rt: HostRuntime) -> Result<(), Fail> {
             assert!(rt; refused.reason == Reason::OutOfMemory && refused.back.as_slice() == COPIED);
             parts.push(refused.back)?;
         }
+    }
+    Ok(())
+}
+
+/// Asserts that a slice was refused for memory, and reports it.
+fn report<R: Abort + Print>(rt: &R, reason: Reason, name: &str) -> Result<(), Fail> {
+    assert_eq!(rt; reason, Reason::OutOfMemory);
+    println!(rt; "refused {name}")?;
+    Ok(())
+}
+
+#[test]
+fn a_slice_of_replies(rt: HostRuntime) -> Result<(), Fail> {
+    let limits = Limits {
+        line: 9,
+        bulk: 9,
+        items: 9,
+    };
+    let mut replies = ReplyReader::new(rt.alloc(), limits);
+    if let Err(reason) = replies.push_slice(b"+OK\r\n") {
+        report(&rt, reason, "ReplyReader::push_slice")?;
+        assert!(rt; replies.next_reply(rt.alloc())?.is_none());
+    }
+    Ok(())
+}
+
+#[test]
+fn a_slice_of_events(rt: HostRuntime) -> Result<(), Fail> {
+    let limits = events::Limits { line: 9, data: 9 };
+    let mut events = EventReader::new(rt.alloc(), limits);
+    if let Err(reason) = events.push_slice(b"data\n\n") {
+        report(&rt, reason, "EventReader::push_slice")?;
+        assert!(rt; events.remaining() == 0);
+    }
+    Ok(())
+}
+
+// The slice doesn't fit into the first block. After it was refused, the close delimiter comes first.
+#[test]
+fn a_slice_of_parts(rt: HostRuntime) -> Result<(), Fail> {
+    let limits = PartLimits { head: 99, body: 9 };
+    let Ok(mut parts) = PartReader::new(rt.alloc(), b"b", limits) else {
+        return Ok(());
+    };
+    if let Err(reason) = parts.push_slice(&[b'-'; 4_096]) {
+        report(&rt, reason, "PartReader::push_slice")?;
+        parts.push_slice(b"--b--")?;
+        assert!(rt; parts.next_part(rt.alloc())?.is_none() && parts.has_ended());
     }
     Ok(())
 }

@@ -122,6 +122,33 @@ fn form_cut_at_each_place(rt: HostRuntime) -> Result<(), Fail> {
     Ok(())
 }
 
+/// Writes the parts of a body that comes in slices of one byte.
+fn write_parts(
+    alloc: Global,
+    parts: &mut PartReader,
+    text: &mut String,
+    body: &[u8],
+) -> Result<(), Fail> {
+    for byte in body.chunks(1) {
+        parts.push_slice(byte)?;
+        if let Some(part) = parts.next_part(alloc)? {
+            write_part(alloc, text, &part)?;
+        }
+    }
+    Ok(())
+}
+
+/// After the close delimiter a slice is dropped.
+#[test]
+fn form_in_slices(rt: HostRuntime) -> Result<(), Fail> {
+    let mut parts = PartReader::new(rt.alloc(), b"AaB03x", LIMITS)?;
+    let mut text = String::new(rt.alloc());
+    write_parts(rt.alloc(), &mut parts, &mut text, FORM.as_bytes())?;
+    write_parts(rt.alloc(), &mut parts, &mut text, FORM.as_bytes())?;
+    assert!(rt; parts.has_ended() && text.as_str() == IN_FORM);
+    Ok(())
+}
+
 /// What a body with the boundary `b` gives first. In order:
 ///
 /// - no part at all, an empty part

@@ -87,6 +87,21 @@ fn replies_cut_at_each_place(rt: HostRuntime) -> Result<(), Fail> {
     Ok(())
 }
 
+/// A reply that comes in slices of one byte comes when its last byte has come, and not before.
+#[test]
+fn replies_in_slices(rt: HostRuntime) -> Result<(), Fail> {
+    for row in REPLIES.split('|') {
+        let (reply, wanted) = row.split_once('>').ok_or("no reply")?;
+        let mut replies = ReplyReader::new(rt.alloc(), LIMITS);
+        for byte in reply.as_bytes().chunks(1) {
+            assert!(rt; replies.next_reply(rt.alloc())?.is_none());
+            replies.push_slice(byte)?;
+        }
+        assert!(rt; is_next(rt.alloc(), &mut replies, wanted)?);
+    }
+    Ok(())
+}
+
 /// What is no reply, or none within the limits. In order:
 ///
 /// - a byte that begins no item, an empty line
