@@ -1,5 +1,5 @@
 -- Reading on in held bytes, which stay held.
-use Rattle.std.specs.Prelude.{◌≡◌, ◌≢◌, ℕ, ◌+◌, ◌<◌, List, [], ◌∷◌, ◌++◌, length, drop}
+use Rattle.std.specs.Prelude.{◌≡◌, ◌≢◌, ℕ, ◌+◌, ◌<◌, List, [], ◌∷◌, ◌++◌, length, drop, Option, Result, IfOk, IfSome, IfNone, OnErr}
 use Rattle.bytes_utils.specs.Occurrence.{OccursFirstAt}
 use Rattle.bytes_utils.specs.Frames.{TakesFrame}
 use Rattle.bytes_utils.specs.StreamLines.{TakesLine}
@@ -38,6 +38,13 @@ NeverBegins wanted bytes = (more rest : List ℕ) → bytes ++ more ≢ wanted +
 -- whatever comes after the bytes, more than this number of them are before the first needle
 abbrev pub NeverEndsWithin : ℕ → List ℕ → List ℕ → Type 0
 NeverEndsWithin most needle bytes = (more front rest : List ℕ) → TakesFrame needle (bytes ++ more) front rest → most < length front
+
+-- what a call that reads a part returns: the part, and then the cursor is after it; none, if the bytes lack it, or an error, and then the cursor stays
+pub record Gives {A E : Type 0} (IsPart : A → List ℕ → List ℕ → Type 0) (Lack : List ℕ → Type 0) (old new : Reading) (result : Result (Option A) E) : Type 0 where
+  pub bytes : IfOk result (λ next. IfSome next (λ part. IsPart part (unread old) (unread new)))
+  pub waits : IfOk result (λ next. IfNone next ((new ≡ old) × Lack (unread old)))
+  pub all : new.all ≡ old.all
+  pub err : OnErr result (new ≡ old)
 
 -- what a caller asks a cursor for
 pub data Wanted : Type 0 where

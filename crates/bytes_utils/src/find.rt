@@ -102,6 +102,9 @@ pub fn find_short<B: ContiguousBuf + Drop>(
     ensures none { IfNone result (start ≤ length (concat buf.now.segments)
         → ¬ Occurs needle.now (drop start (concat buf.now.segments))) }
 {
+    if let Some(at) = find_near(buf, start, needle) {
+        return Some(at);
+    }
     find_by(buf, start, needle, &mut [0; 2 * SHORT])
 }
 
@@ -156,22 +159,6 @@ fn find_by<B: ContiguousBuf + Drop>(
     requires room { 2 * length needle.now ≤ length window.old }
     ensures { FindsNeedle (concat buf.now.segments) needle.now start result }
 {
-    if let Some(at) = find_near(buf, start, needle) {
-        return Some(at);
-    }
-    find_in_segments(buf, start, needle, window)
-}
-
-/// As `find_by`, segment by segment.
-fn find_in_segments<B: ContiguousBuf + Drop>(
-    buf: &SegmentedBuf<B>,
-    start: usize,
-    needle: &[u8],
-    window: &mut [u8],
-) -> Option<usize>
-    requires room { 2 * length needle.now ≤ length window.old }
-    ensures { FindsNeedle (concat buf.now.segments) needle.now start result }
-{
     let remaining = buf.remaining();
     if needle.is_empty() {
         return (start <= remaining).then_some(start);
@@ -189,8 +176,8 @@ fn find_in_segments<B: ContiguousBuf + Drop>(
     None
 }
 
-/// The first place of the needle from `start` on, if the first segment has it where the needle's
-/// first byte is there first: then no `Finder` has to be made.
+/// The first place of the needle from `start` on, if it is in the first segment, at the first place
+/// of the needle's first byte. No `Finder` is made for it.
 #[inline]
 fn find_near<B: ContiguousBuf + Drop>(
     buf: &SegmentedBuf<B>,

@@ -1,7 +1,7 @@
 //! Bytes at a cursor that are only read: borrowed from the buffer where they are in one segment.
 ghost use Rattle.std.specs.Prelude.{◌≡◌, ◌+◌, ◌<◌, ◌≤◌, length, take, IsOk, IfOk, IfErr, IfSome, IfNone, OnErr};
 ghost use Rattle.std.specs.Cow.{cow_slice_items};
-ghost use Rattle.bytes_utils.specs.Cursor.{NeverEndsWithin, TakesFirst, passed_on, unread};
+ghost use Rattle.bytes_utils.specs.Cursor.{Gives, NeverEndsWithin, TakesFirst, passed_on, unread};
 ghost use Rattle.bytes_utils.specs.Frames.{TakesFrame};
 ghost use Rattle.bytes_utils.specs.Occurrence.{Occurs, OccursFirstAt};
 
@@ -15,12 +15,8 @@ impl<'a, B: ContiguousBuf + Drop> Cursor<'a, B> {
     /// As `take`, for bytes that are only read, as those of a length. They are borrowed from the
     /// buffer if one segment has them all, and else copied into one `Vec`.
     pub fn read(&mut self, alloc: Global, len: usize) -> Result<Option<CowSlice<'a, u8>>, Reason>
-        ensures bytes { IfOk result (λ next. IfSome next (λ bytes.
-            TakesFirst len (unread self.old) (cow_slice_items bytes) (unread self.new))) }
-        ensures waits { IfOk result (λ next. IfNone next
-            ((self.new ≡ self.old) × (length (unread self.old) < len))) }
-        ensures all { self.new.all ≡ self.old.all }
-        ensures err { OnErr result (self.new ≡ self.old) }
+        ensures gives { Gives (λ part old new. TakesFirst len old (cow_slice_items part) new)
+            (λ bytes. length bytes < len) self.old self.new result }
         ensures reason { IfErr result (λ reason. reason ≡ Reason.OutOfMemory) }
         ensures none { len ≡ 0 → IsOk result }
     {
@@ -38,12 +34,8 @@ impl<'a, B: ContiguousBuf + Drop> Cursor<'a, B> {
         needle: &[u8],
     ) -> Result<Option<CowSlice<'a, u8>>, Reason>
         requires { 0 < length needle.now }
-        ensures bytes { IfOk result (λ next. IfSome next (λ front.
-            TakesFrame needle.now (unread self.old) (cow_slice_items front) (unread self.new))) }
-        ensures waits { IfOk result (λ next. IfNone next
-            ((self.new ≡ self.old) × (¬ Occurs needle.now (unread self.old)))) }
-        ensures all { self.new.all ≡ self.old.all }
-        ensures err { OnErr result (self.new ≡ self.old) }
+        ensures gives { Gives (λ part old new. TakesFrame needle.now old (cow_slice_items part) new)
+            (λ bytes. ¬ Occurs needle.now bytes) self.old self.new result }
         ensures reason { IfErr result (λ reason. reason ≡ Reason.OutOfMemory) }
     {
         let Some(len) = self.find(alloc, needle)? else {
@@ -60,16 +52,12 @@ impl<'a, B: ContiguousBuf + Drop> Cursor<'a, B> {
         most: usize,
     ) -> Result<Option<CowSlice<'a, u8>>, Reason>
         requires { 0 < length needle.now }
-        ensures bytes { IfOk result (λ next. IfSome next (λ front.
-            TakesFrame needle.now (unread self.old) (cow_slice_items front) (unread self.new))) }
+        ensures gives { Gives (λ part old new. TakesFrame needle.now old (cow_slice_items part) new)
+            (λ bytes. ¬ Occurs needle.now bytes) self.old self.new result }
         ensures within { IfOk result (λ next. IfSome next
-            (λ front. length (cow_slice_items front) ≤ most)) }
-        ensures waits { IfOk result (λ next. IfNone next
-            ((self.new ≡ self.old) × (¬ Occurs needle.now (unread self.old)))) }
+            (λ part. length (cow_slice_items part) ≤ most)) }
         ensures few { IfOk result (λ next. IfNone next
             (length (unread self.old) < most + length needle.now)) }
-        ensures all { self.new.all ≡ self.old.all }
-        ensures err { OnErr result (self.new ≡ self.old) }
         ensures too_long { IfErr result (λ reason. reason ≡ Reason.TooLong
             → NeverEndsWithin most needle.now (unread self.old)) }
     {

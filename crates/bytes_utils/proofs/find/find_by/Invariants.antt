@@ -1,7 +1,7 @@
 use Rattle.std.proofs.Common.{◌≡◌, length, take}
 use Rattle.std.specs.List.{concat}
 use Rattle.memchr.specs.Find.{Nowhere, OccursAt}
-use Rattle.bytes_utils.proofs.find.find_in_segments.Given as goal
+use Rattle.bytes_utils.proofs.find.find_by.Given as goal
 
 abbrev pub invariant-loop-place : goal.invariant-loop-place
 invariant-loop-place g l = record {

@@ -3,7 +3,7 @@ use Rattle.std.proofs.lemmas.List.{take_all}
 use Rattle.std.specs.List.{concat}
 use Rattle.memchr.specs.Find.{Nowhere, OccursAt}
 use Rattle.bytes_utils.proofs.FindLemmas.{has_read, found_begun, missed_segment, missed_all}
-use Rattle.bytes_utils.proofs.find.find_in_segments.Goals as goal
+use Rattle.bytes_utils.proofs.find.find_by.Goals as goal
 
 pub returns-in-Some : goal.returns-in-Some
 returns-in-Some g c =
