@@ -40,7 +40,7 @@ abbrev pub NeverEndsWithin : ℕ → List ℕ → List ℕ → Type 0
 NeverEndsWithin most needle bytes = (more front rest : List ℕ) → TakesFrame needle (bytes ++ more) front rest → most < length front
 
 -- what a call that reads a part returns: the part, and then the cursor is after it; none, if the bytes lack it, or an error, and then the cursor stays
-pub record Gives {A E : Type 0} (IsPart : A → List ℕ → List ℕ → Type 0) (Lack : List ℕ → Type 0) (old new : Reading) (result : Result (Option A) E) : Type 0 where
+pub record ReadsPart {A E : Type 0} (IsPart : A → List ℕ → List ℕ → Type 0) (Lack : List ℕ → Type 0) (old new : Reading) (result : Result (Option A) E) : Type 0 where
   pub bytes : IfOk result (λ next. IfSome next (λ part. IsPart part (unread old) (unread new)))
   pub waits : IfOk result (λ next. IfNone next ((new ≡ old) × Lack (unread old)))
   pub all : new.all ≡ old.all

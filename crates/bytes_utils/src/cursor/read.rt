@@ -1,7 +1,7 @@
 //! Bytes at a cursor that are only read: borrowed from the buffer where they are in one segment.
 ghost use Rattle.std.specs.Prelude.{◌≡◌, ◌+◌, ◌<◌, ◌≤◌, length, take, IsOk, IfOk, IfErr, IfSome, IfNone, OnErr};
 ghost use Rattle.std.specs.Cow.{cow_slice_items};
-ghost use Rattle.bytes_utils.specs.Cursor.{Gives, NeverEndsWithin, TakesFirst, passed_on, unread};
+ghost use Rattle.bytes_utils.specs.Cursor.{NeverEndsWithin, ReadsPart, TakesFirst, passed_on, unread};
 ghost use Rattle.bytes_utils.specs.Frames.{TakesFrame};
 ghost use Rattle.bytes_utils.specs.Occurrence.{Occurs, OccursFirstAt};
 
@@ -15,7 +15,7 @@ impl<'a, B: ContiguousBuf + Drop> Cursor<'a, B> {
     /// As `take`, for bytes that are only read, as those of a length. They are borrowed from the
     /// buffer if one segment has them all, and else copied into one `Vec`.
     pub fn read(&mut self, alloc: Global, len: usize) -> Result<Option<CowSlice<'a, u8>>, Reason>
-        ensures gives { Gives (λ part old new. TakesFirst len old (cow_slice_items part) new)
+        ensures gives { ReadsPart (λ part old new. TakesFirst len old (cow_slice_items part) new)
             (λ bytes. length bytes < len) self.old self.new result }
         ensures reason { IfErr result (λ reason. reason ≡ Reason.OutOfMemory) }
         ensures none { len ≡ 0 → IsOk result }
@@ -34,7 +34,7 @@ impl<'a, B: ContiguousBuf + Drop> Cursor<'a, B> {
         needle: &[u8],
     ) -> Result<Option<CowSlice<'a, u8>>, Reason>
         requires { 0 < length needle.now }
-        ensures gives { Gives (λ part old new. TakesFrame needle.now old (cow_slice_items part) new)
+        ensures gives { ReadsPart (λ part old new. TakesFrame needle.now old (cow_slice_items part) new)
             (λ bytes. ¬ Occurs needle.now bytes) self.old self.new result }
         ensures reason { IfErr result (λ reason. reason ≡ Reason.OutOfMemory) }
     {
@@ -52,7 +52,7 @@ impl<'a, B: ContiguousBuf + Drop> Cursor<'a, B> {
         most: usize,
     ) -> Result<Option<CowSlice<'a, u8>>, Reason>
         requires { 0 < length needle.now }
-        ensures gives { Gives (λ part old new. TakesFrame needle.now old (cow_slice_items part) new)
+        ensures gives { ReadsPart (λ part old new. TakesFrame needle.now old (cow_slice_items part) new)
             (λ bytes. ¬ Occurs needle.now bytes) self.old self.new result }
         ensures within { IfOk result (λ next. IfSome next
             (λ part. length (cow_slice_items part) ≤ most)) }
