@@ -20,6 +20,7 @@ fn bytes_at_places(rt: HostRuntime) -> Result<(), Fail> {
 #[test]
 fn a_range_in_one_segment_is_borrowed(rt: HostRuntime) -> Result<(), Fail> {
     let buf = held(rt.alloc(), &FOUR)?;
+    assert!(rt; buf.remaining() >= 8);
     let alone = buf.read_range(rt.alloc(), 1..4)?;
     assert!(rt; matches!(&alone, CowSlice::Borrowed(_)) && alone.as_slice() == b"ell".as_slice());
     let across = buf.read_range(rt.alloc(), 3..8)?;
