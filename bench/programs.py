@@ -13,8 +13,10 @@ DEBIAN = ["source.crates-io.replace-with='debian'", "source.debian.directory='/u
 def options(description, beside_crate=False):
     """The options that a measurement is given; `--crate` of those beside the Rust crate."""
     parser = argparse.ArgumentParser(description=description, formatter_class=argparse.RawDescriptionHelpFormatter)
-    parser.add_argument("--quick", action="store_true", help="ours alone on short inputs: whether its counts are right, and no time")
-    parser.add_argument("--in", dest="folder", help="where the programs are built and stay; one that is there is run as it is")
+    quick = "ours alone on short inputs: whether its counts are right, and no time"
+    parser.add_argument("--quick", action="store_true", help=quick)
+    place = "where the programs are built and stay; one that is there is run as it is"
+    parser.add_argument("--in", dest="folder", help=place)
     if beside_crate:
         parser.add_argument("--crate", help="the folder of bytes-utils 0.1.4, which has its Cargo.toml")
     asked = parser.parse_args()
@@ -33,7 +35,8 @@ def called(words, folder=".", given=""):
 
 @contextmanager
 def programs(folder, builds):
-    """A folder, this one or a temporary one, that has the programs of these names; each is built by its function of the folder."""
+    """A folder, this one or a temporary one, that has the programs of these names. Each is built by its function of the
+    folder."""
     with tempfile.TemporaryDirectory(prefix="bench-") as made:
         room = os.path.realpath(folder or made)
         os.makedirs(room, exist_ok=True)
@@ -44,8 +47,8 @@ def programs(folder, builds):
 
 
 def ours(bench, *libraries, is_quick=False):
-    """How our program of a bench is built, over the crates of the repository and the kit's. With `is_quick` over what `rt ci` or
-    `rt lib` left, else `rt lib` builds the crates before, as far as they have changed."""
+    """How our program of a bench is built, over the crates of the repository and the kit's. With `is_quick` over what
+    `rt ci` or `rt lib` left, else `rt lib` builds the crates before, as far as they have changed."""
 
     def built(room):
         if not is_quick:
@@ -53,7 +56,8 @@ def ours(bench, *libraries, is_quick=False):
         os.makedirs(f"{room}/ours_source/src", exist_ok=True)
         for name in os.listdir(f"{ROOT}/bench/{bench}/ours"):
             shutil.copy(f"{ROOT}/bench/{bench}/ours/{name}", f"{room}/ours_source/src/{name.removesuffix('.txt')}")
-        said = build(f"{bench}_bench", ["std", *libraries], f"{room}/ours_source", f"{room}/ours_kept", f"{room}/ours_made")
+        source, kept, made = (f"{room}/ours_{it}" for it in ("source", "kept", "made"))
+        said = build(f"{bench}_bench", ["std", *libraries], source, kept, made)
         if not os.path.isfile(f"{room}/ours_made"):
             sys.exit(f"our program of bench/{bench} isn't proved:\n{said[-3000:]}")
         return f"{room}/ours_made"
@@ -62,7 +66,8 @@ def ours(bench, *libraries, is_quick=False):
 
 
 def rust(bench, original=""):
-    """How the Rust program of a bench is built: over Debian's crates, and over bytes-utils in the folder `original`, where it is asked for."""
+    """How the Rust program of a bench is built: over Debian's crates, and over bytes-utils in the folder `original`, if
+    that is given."""
 
     def built(room):
         shutil.copytree(f"{ROOT}/bench/{bench}/rust", f"{room}/rust_source", dirs_exist_ok=True)
@@ -75,7 +80,8 @@ def rust(bench, original=""):
 
 
 def judge(cases):
-    """Counts the cases, each its name, what was reported and what is right; the last line is 'N passed, M failed'. Ends with the status."""
+    """Counts the cases, each its name, what was reported and what is right. The last line is 'N passed, M failed'. Ends
+    with the status."""
     wrong = [(name, reported, right) for name, reported, right in cases if reported != right]
     for name, reported, right in wrong:
         print(f"{name}: {reported}, where {right} is right")

@@ -5,7 +5,7 @@ DEVIL = "\U0001f608"
 AT_COMMAS = [","], lambda text: text.split(",")
 AT_DEVILS = [DEVIL], lambda text: text.split(DEVIL)
 CHARACTERS = [DEVIL], lambda text: ["", *text, ""]
-# what stands between the words of a work's text, and how Python cuts it
+# what is between the words of a work's text, and how Python cuts it
 WORKS = {
     **dict.fromkeys(["split", "splitn", "rsplit", "rsplitn", "fields"], AT_COMMAS),
     "inclusive": ([","], lambda text: re.findall("[^,]*,|[^,]+$", text)),

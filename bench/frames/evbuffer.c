@@ -1,8 +1,8 @@
-/* Frames out of pieces with libevent's evbuffer: `evbuffer HOW END SIZE PIECE LEAST MOST ROUNDS`. HOW is `copied_lent`
-   or `copied_moved` (evbuffer_add), or `referred_lent` or `referred_moved` (evbuffer_add_reference). A piece that is
-   moved is a block of its own, freed within the time. END is `lf` (evbuffer_readln) or `crlf2` (evbuffer_search, on
-   from where it stopped). Each frame is handed out in a block of its own. It prints the frames, their bytes, and the
-   least nanoseconds of all rounds. */
+/* Frames out of pieces with libevent's evbuffer: `evbuffer HOW END SIZE PIECE LEAST MOST ROUNDS`. HOW is
+   `copied_borrowed` or `copied_moved` (evbuffer_add), or `referred_borrowed` or `referred_moved`
+   (evbuffer_add_reference). A piece that is moved is a block of its own, freed within the time. END is `lf`
+   (evbuffer_readln) or `crlf2` (evbuffer_search, on from where it stopped). Each frame comes in a block of its own. It
+   prints the frames, their bytes, and the least nanoseconds of all rounds. */
 #include <event2/buffer.h>
 #include <stdint.h>
 #include <stdio.h>

@@ -60,19 +60,19 @@ def counts(client):
 
 
 def parts(client):
-    chunked = ["-T", "-", "-H", "Expect:"]
+    chunked, whole = ["-T", "-", "-H", "Expect:"], ["--data-binary", "@-"]
     rows = io.StringIO()
     csv.writer(rows).writerows([f"é{i}", "a,b" * (i % 3), "two\nlines"][: 1 + i % 3] for i in range(50_000))
     text = rows.getvalue().encode()
     client.expect("records of one to three fields", "/records", b"50000\n\n200", *chunked, given=text)
-    client.expect("records of no text", "/records", b"2\n\n200", "--data-binary", "@-", given=b"\xff,1\r\n\"\n\",2")
+    client.expect("records of no text", "/records", b"2\n\n200", *whole, given=b"\xff,1\r\n\"\n\",2")
     client.expect("records of an empty body", "/records", b"0\n\n200", "--data-binary", "")
     marked = b'\xef\xbb\xbf"a""\n",b\r\n\r\n,\n"'
-    client.expect("records after a mark, the last one open", "/records", b"3\n\n200", "--data-binary", "@-", given=marked)
+    client.expect("records after a mark, the last one open", "/records", b"3\n\n200", *whole, given=marked)
     client.expect("a record of 16 MiB of commas", "/records", b"1\n\n200", *chunked, given=b"," * (16 << 20))
     head = "GET /a?b=é HTTP/1.1\r\nHost: h\r\n\r\nGET /other".encode()
-    client.expect("the target of a head", "/target", "/a?b=é\n200".encode(), "--data-binary", "@-", given=head)
-    client.expect("a head that breaks off", "/target", b"\n400", "--data-binary", "@-", given=head[:30])
+    client.expect("the target of a head", "/target", "/a?b=é\n200".encode(), *whole, given=head)
+    client.expect("a head that breaks off", "/target", b"\n400", *whole, given=head[:30])
 
 
 def heads(client):
@@ -209,9 +209,10 @@ def drips(client, service):
     host, _, port = client.at.rpartition(":")
     one, link = b"a" * 100_000, os.urandom(1_448) * 20_000
     length = b"Content-Length: %d\r\n\r\n"
+    chunked, chunks = b"Transfer-Encoding: chunked\r\n\r\n", [b"1\r\na\r\n"] * len(one) + [b"0\r\n\r\n"]
     for what, head, pieces, body, most in (
         ("single bytes", length % len(one), [b"a"] * len(one), one, 16 << 20),
-        ("chunks of one byte", b"Transfer-Encoding: chunked\r\n\r\n", [b"1\r\na\r\n"] * len(one) + [b"0\r\n\r\n"], one, 16 << 20),
+        ("chunks of one byte", chunked, chunks, one, 16 << 20),
         ("1,448 bytes", length % len(link), [link[:1_448]] * 20_000, link, 128 << 20),
     ):
         with socket.create_connection((host, int(port)), 60) as it:

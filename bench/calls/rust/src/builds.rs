@@ -19,7 +19,7 @@ fn built_of_characters(characters: &[char]) -> Str {
     text.freeze()
 }
 
-/// One time of a work on the pieces of a text of so many bytes.
+/// One time of a work on the pieces of a text of `size` bytes.
 pub fn time(work: &str, size: usize) -> Taken {
     let text = text(size, &[DEVIL]);
     if work == "push_str" {

@@ -24,7 +24,7 @@ fn parts(work: &str, text: Str) -> Vec<Str> {
     }
 }
 
-/// One time of a work on so many bytes.
+/// One time of a work on `size` bytes.
 pub fn time(work: &str, size: usize) -> Taken {
     let text = Str::from_inner(Bytes::from(text(size, between(work)))).expect("a text");
     timed(text, |text| parts(work, text), |parts| sum_of(parts.iter().map(|part| part.len())))

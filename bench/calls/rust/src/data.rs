@@ -11,7 +11,7 @@ fn numbers() -> impl Iterator<Item = u64> {
     successors(Some(12345), following).skip(1)
 }
 
-/// What stands between the words of the text that is cut.
+/// What is between the words of the text that is cut.
 pub fn between(work: &str) -> &'static [&'static str] {
     match work {
         "split4" | "rsplit4" | "characters" | "rcharacters" => &[DEVIL],

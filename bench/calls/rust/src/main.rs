@@ -1,6 +1,6 @@
-//! What bytes-utils 0.1.4 does, timed: `calls WORK SIZE TIMES`, as our program. In front of WORK may stand `std40_`, where
-//! std's own search cuts the text, or `floor_`, where as many parts are made with no search. It prints how many elements
-//! came, how many bytes those have together, and the least nanoseconds of all times.
+//! What bytes-utils 0.1.4 does, timed: `calls WORK SIZE TIMES`, as our program. Before WORK may come `std40_`, where
+//! std's own search cuts the text, or `floor_`, where as many parts are made with no search. It prints the number of
+//! elements, the number of their bytes, and the least nanoseconds of all times.
 mod builds;
 mod cuts;
 mod data;

@@ -44,7 +44,7 @@ fn table_of(all: &SegmentedBuf<Bytes>) -> Vec<IoSlice<'_>> {
     table
 }
 
-/// One time of a work on so many segments.
+/// One time of a work on `size` segments.
 pub fn time(work: &str, size: usize) -> Taken {
     let segments = segments(size);
     if work == "push" {

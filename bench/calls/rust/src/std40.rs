@@ -43,13 +43,13 @@ fn seen(parts: &Vec<Owned>) -> (usize, usize) {
     sum_of(parts.iter().map(|it| it.part.len()))
 }
 
-/// One time of std's search on so many bytes.
+/// One time of std's search on `size` bytes.
 pub fn time(work: &str, size: usize) -> Taken {
     let text = text(size, between(work));
     timed(&text[..], |text| parts(work, text), seen)
 }
 
-/// One time of as many empty parts as a work makes. It tells the bytes that those of the work have.
+/// One time of as many empty parts as a work makes. It reports the bytes of those of the work.
 pub fn time_floor(work: &str, size: usize) -> Taken {
     let (count, bytes) = seen(&parts(work, &text(size, between(work))));
     timed(count, |count| owned(repeat("").take(count)), |made| (made.len(), bytes))

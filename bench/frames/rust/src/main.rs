@@ -1,10 +1,10 @@
 //! Frames out of pieces, as a Rust program has them today: `frames HOW END SIZE PIECE LEAST MOST ROUNDS`. HOW is
-//! `memmem_lent` or `memmem_moved`, a loop of `memmem` over one growing `BytesMut` that searches on from where it
-//! stopped, or `codec_lent` or `codec_moved`, tokio-util's `LinesCodec`, for END `lf` alone. Pieces are lent as slices
-//! of the whole, or moved as blocks of their own, which are dropped once they are copied in. HOW `floor` has no pieces:
-//! it searches the whole stream in one block, and counts one owner for each frame. END is `lf` or `crlf2`, or one of
-//! the streams that attack a search: `returns`, `beginnings` or `run`. It prints the frames, their bytes, and the least
-//! nanoseconds of all rounds.
+//! `memmem_borrowed` or `memmem_moved`, a loop of `memmem` over one growing `BytesMut` that searches on from where it
+//! stopped, or `codec_borrowed` or `codec_moved`, tokio-util's `LinesCodec`, for END `lf` alone. Pieces are borrowed as
+//! slices of the whole, or moved as blocks of their own, which are dropped once they are copied in. HOW `floor` has no
+//! pieces: it searches the whole stream in one block, and counts one owner for each frame. END is `lf` or `crlf2`, or
+//! one of the streams that attack a search: `returns`, `beginnings` or `run`. It prints the frames, their bytes, and
+//! the least nanoseconds of all rounds.
 use bytes::{Bytes, BytesMut};
 use memchr::memmem::Finder;
 use std::env;

@@ -1,8 +1,8 @@
 //! Pieces that are held, as a Rust program has them today: `memory HOW TOTAL BLOCK FIRST SECOND`. HOW is `buffer`, one
 //! growing `BytesMut` that they are copied into, or `queue`, a `VecDeque` of `Bytes`, as the `SegmentedBuf` of
-//! bytes-utils 0.1.4 has. Pieces of FIRST and of SECOND bytes come in turn, each the beginning of a block of BLOCK bytes
-//! of its own, until TOTAL bytes or some more are held. It prints how many bytes are held, and holds them until its
-//! input ends.
+//! bytes-utils 0.1.4 has. Pieces of FIRST and of SECOND bytes come in turn, each the beginning of a block of BLOCK
+//! bytes of its own, until TOTAL bytes or some more are held. It prints how many bytes are held, and holds them until
+//! its input ends.
 use bytes::{Bytes, BytesMut};
 use std::collections::VecDeque;
 use std::env;

@@ -1,5 +1,6 @@
 //! Four commands of our program, over bytes-utils 0.1.4: `split SEPARATOR`, `rsplit SEPARATOR`, `words` and `lines`, a
-//! line of standard input with the text behind it. Each part is written as its length, a colon, its bytes and a line feed.
+//! line of standard input with the text after it. Each part is written as its length, a colon, its bytes and a line
+//! feed.
 use bytes::Bytes;
 use bytes_utils::Str;
 use std::io::{self, BufWriter, Read, Write};

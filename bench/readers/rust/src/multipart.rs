@@ -100,7 +100,7 @@ impl Parts {
         }
     }
 
-    /// Takes so many bytes, and passes the delimiter.
+    /// Takes `len` bytes, and passes the delimiter.
     fn pass(&mut self, len: usize) -> Bytes {
         let bytes = self.held.split_to(len).freeze();
         self.held.advance(self.delimiter.needle().len());

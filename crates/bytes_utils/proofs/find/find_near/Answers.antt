@@ -6,7 +6,6 @@ use Rattle.bytes_utils.proofs.FindLemmas.{begun_inside, has_read, found_begun}
 use Rattle.bytes_utils.proofs.FrameSearchLemmas.{found_at_start, found_from}
 use Rattle.bytes_utils.proofs.find.find_near.Goals as goal
 
--- src/find.rt:181:1
 pub returns : goal.returns
 returns g c =
     let p = c.args.needle.now in

@@ -87,7 +87,7 @@ impl<B: ContiguousBuf + Drop> SegmentedBuf<B> {
     }
 
     /// As `copy_range`, for bytes that are only read: they are borrowed if one segment has them all,
-    /// and else copied into one `Vec`. Nothing is shared.
+    /// and else copied into one `Vec`. Nothing is shared. A range within the first segment never fails.
     pub fn read_range(&self, alloc: Global, range: Range<usize>) -> Result<CowSlice<'_, u8>, Reason>
         requires ordered { range.start ≤ range.end }
         requires within { range.end ≤ length (concat self.now.segments) }

@@ -2,6 +2,5 @@ use Rattle.std.proofs.Common.{arith}
 use Rattle.std.proofs.lemmas.Grind.{common_steps}
 use Rattle.bytes_utils.proofs.string.utf8_error.Utf8ErrorDisplay.fmt.Goals as goal
 
--- src/string/utf8_error.rt:48:5
 pub returns-in-Some-clause-writes : goal.returns-in-Some-clause-writes
 returns-in-Some-clause-writes g c = grind (arith, common_steps)

@@ -3,7 +3,6 @@ use Rattle.bytes_utils_buf.specs.Segments.{front_of}
 use Rattle.bytes_utils_buf.proofs.Lists.{front_of_skips}
 use Rattle.bytes_utils_buf.proofs.segmented.buf.SegmentedBuf.read_range.Goals as goal
 
--- src/segmented/buf/range.rt:114:24
 pub returns-in_err-bytes-clause-first : goal.returns-in_err-bytes-clause-first
 returns-in_err-bytes-clause-first g c within =
     let len = c.args.range.end - c.args.range.start in
