@@ -56,22 +56,36 @@ module _ (all p part more : List ℕ) (base : ℕ) (within : base ≤ length all
   pub missed_in_part : FindsNeedle part p 0 None → (j : ℕ) → base ≤ j → j + length p ≤ base + length part → ¬ OccursAt all p j
   missed_in_part missed j low fits here = missed (j - base) (omega arith) (omega arith) (occurs_in_part j low fits here)
 
--- A piece in which the first byte of the needle does not occur before a place. The needle does not begin before that place.
-module _ (p piece : List ℕ) (from : ℕ) (within : from ≤ length piece) (some : 0 < length p) (none : (k : ℕ) → k < from → slice_index piece k ≢ slice_index p 0) where
-  pub none_before_first : Nowhere (OccursAt piece p) 0 from
-  none_before_first j low high here =
-      let same : j ≡ j + 0 = omega arith in
-      none j high (ap (λ n. get_or piece n 0) same ∙ here.reads 0 some)
+-- the first byte of the needle does not occur before a place, so the needle does not begin there
+pub none_before_first : (p piece : List ℕ) (from : ℕ) → 0 < length p → ((k : ℕ) → k < from → slice_index piece k ≢ slice_index p 0) → Nowhere (OccursAt piece p) 0 from
+none_before_first p piece from some none j low high here =
+    let same : j ≡ j + 0 = omega arith in
+    none j high (ap (λ n. get_or piece n 0) same ∙ here.reads 0 some)
 
+-- A piece before a place of which the needle does not begin.
+module _ (p piece : List ℕ) (from : ℕ) (within : from ≤ length piece) (none : Nowhere (OccursAt piece p) 0 from) where
   rest_of : drop from piece ≡ drop from piece ++ []
   rest_of = sym (append-nil (drop from piece))
 
   pub found_from : (k at : ℕ) → at ≡ from + k → FindsNeedle (drop from piece) p 0 (Some k) → FindsNeedle piece p 0 (Some at)
-  found_from k at same found = found_in_part piece p (drop from piece) [] from within rest_of k at same none_before_first found
+  found_from k at same found = found_in_part piece p (drop from piece) [] from within rest_of k at same none found
+
+  in_rest : (j : ℕ) → from ≤ j → OccursAt piece p j → OccursAt (drop from piece) p (j - from)
+  in_rest j low here = occurs_in_part piece p (drop from piece) [] from within rest_of j low (omega (arith, here.fits, within, length-drop from piece)) here
 
   pub missed_from : FindsNeedle (drop from piece) p 0 None → FindsNeedle piece p 0 None
-  missed_from missed = Nowhere-then none_before_first (λ j low high here.
-      missed_in_part piece p (drop from piece) [] from within rest_of missed j low (omega (arith, here.fits, within, length-drop from piece)) here)
+  missed_from missed = Nowhere-then none (λ j low high here. missed (j - from) (omega arith) (omega (arith, (in_rest j low here).fits)) (in_rest j low here))
+
+  -- nor does it begin at that place, or where its first byte isn't
+  pub none_before_next : (next : ℕ) → 0 < length p → (¬ OccursAt (drop from piece) p 0) → ((k : ℕ) → from + 1 ≤ k → k < next → slice_index piece k ≢ slice_index p 0)
+      → Nowhere (OccursAt piece p) 0 next
+  none_before_next next some not_here none_after j low high here = ⊎_elim
+      (λ below. none j low below here)
+      (λ from_here. ⊎_elim
+      (λ after. let same : j ≡ j + 0 = omega arith in none_after j (omega (arith, after)) high (ap (λ n. get_or piece n 0) same ∙ here.reads 0 some))
+      (λ at_most. let at : j - from ≡ 0 = omega (arith, at_most) in not_here (subst (OccursAt (drop from piece) p) at (in_rest j from_here here)))
+      (cases_lt from j))
+      (cases_lt j from)
 
 -- the first place of the first byte of the needle, or that there is none
 pub none_before_byte : (p piece : List ℕ) (from : ℕ) → NoneBefore (Passes (is_byte (get_or p 0 0)) piece) 0 (length piece) from
@@ -193,7 +207,7 @@ module _ (p bytes held piece : List ℕ) (base : ℕ) (s : Searched p bytes base
       let alone : piece ≡ held ++ piece = sym (ap (λ l. l ++ piece) none) in
       let within : length piece ≤ length piece = omega arith in
       let missed : FindsNeedle piece p 0 None = λ j low high here.
-      none_before_first p piece (length piece) within some absent j low (omega (arith, here.fits, some)) here in
+      none_before_first p piece (length piece) some absent j low (omega (arith, here.fits, some)) here in
       let back : HoldsBack p piece (length piece) = record { within = within; short = omega (arith, some); none = λ k low more. absent k low } in
       Searched-missed (length piece) next held some same (subst (λ l. FindsNeedle l p 0 None) alone missed) (subst (λ l. HoldsBack p l (length piece)) alone back)
       (none ∙ sym (ap (drop (length piece)) (sym alone) ∙ drop_all (length piece) piece within))

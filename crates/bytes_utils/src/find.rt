@@ -9,12 +9,13 @@ ghost use Rattle.bytes_utils.specs.Occurrence.{Occurs};
 #[cfg(test)]
 mod tests;
 
-use crate::frame::search::{find_by_first_byte, prefix_without_first_byte};
+use crate::frame::search::{
+    NEAR_LOOKS, find_by_first_byte, look_at_first_bytes, prefix_without_first_byte,
+};
 use bytes::{Buf, Bytes};
 use bytes_utils_buf::Reason;
 use bytes_utils_buf::contiguous::ContiguousBuf;
 use bytes_utils_buf::segmented::SegmentedBuf;
-use memchr::arch::all::is_prefix;
 use memchr::memmem::Finder;
 use std::alloc::Global;
 
@@ -176,8 +177,8 @@ fn find_by<B: ContiguousBuf + Drop>(
     None
 }
 
-/// The first place of the needle from `start` on, if it is in the first segment, at the first place
-/// of the needle's first byte. No `Finder` is made for it.
+/// The first place of the needle from `start` on, if it is in the first segment and
+/// `look_at_first_bytes` finds it. No `Finder` is made for it.
 #[inline]
 fn find_near<B: ContiguousBuf + Drop>(
     buf: &SegmentedBuf<B>,
@@ -192,10 +193,10 @@ fn find_near<B: ContiguousBuf + Drop>(
         return None;
     }
     let rest = &first[start..];
-    let at = prefix_without_first_byte(needle, rest);
-    if !is_prefix(&rest[at..], needle) {
+    let from = prefix_without_first_byte(needle, rest);
+    let Ok(at) = look_at_first_bytes(needle, rest, from, NEAR_LOOKS) else {
         return None;
-    }
+    };
     Some(start + at)
 }
 

@@ -1,15 +1,16 @@
 -- Parts between boundaries.
-use Rattle.std.proofs.Common.{◌≡◌, ◌≢◌, ℕ, ◌+◌, ◌<◌, ◌≤◌, List, [], ◌∷◌, ◌++◌, length, take, drop, get_or, ap, ◌∙◌, sym, refl, subst, arith, length-append, length-drop, ◌-◌, append_assoc, take-append-drop, ⊎_elim, inl, inr, false, All, Result, Ok, Err, OnOk, OnErr}
+use Rattle.std.proofs.Common.{◌≡◌, ◌≢◌, ℕ, ◌+◌, ◌<◌, ◌≤◌, List, [], ◌∷◌, ◌++◌, length, take, drop, get_or, ap, ◌∙◌, sym, refl, subst, arith, length-append, length-drop, ◌-◌, append_assoc, take-append-drop, ⊎_elim, inl, inr, false, All, Bor, Option, None, Some, MatchOption, Result, Ok, Err, OnOk, OnErr}
 use Rattle.std.proofs.lemmas.Bool.{cases_lt}
 use Rattle.std.proofs.lemmas.List.{append_cancel_left, length-take-le}
+use Rattle.std.proofs.lemmas.Str.Pattern.{split_text_parts}
 use Rattle.std.specs.List.{concat}
+use Rattle.std.specs.Str.Pattern.{FindsText, SplitsAroundMatch}
 use Rattle.bytes_utils.specs.Frames.{Framing, TakesFrame}
-use Rattle.bytes_utils.specs.Halves.{AreHalvesAtFirst}
 use Rattle.bytes_utils.specs.Occurrence.{Occurs, OccursAt}
 use Rattle.bytes_utils.specs.Pushing.{IsPush}
 use Rattle.bytes_utils_buf.specs.declared.refused.Refused.{Refused}
 use Rattle.bytes_utils.proofs.FramesLemmas.{TakesFrame-more, TakesFrame-same}
-use Rattle.bytes_utils.proofs.OccurrenceLemmas.{OccursAt-between, OccursAt-front}
+use Rattle.bytes_utils.proofs.OccurrenceLemmas.{OccursAt-between, OccursAt-front, cut_whole}
 use Rattle.bytes_utils_run.specs.Multipart.{Parting, appended, line_end, dashes, head_end, PartBytes, part_bytes, IsHeadIn, IsPart, TakesPart, IsPartDue, NoPart, Closes, LacksNext, held_at, AreApart, has_ended, quote, IsQuoted, IsDisposition, NoDisposition, IsFirstDisposition, held_by, IsDivided, SameSections, AfterSearch}
 use Rattle.bytes_utils_run.specs.declared.examples.multipart.Limits.{Limits}
 use Rattle.bytes_utils_run.specs.declared.examples.multipart.sections.Sections.{Sections}
@@ -373,11 +374,37 @@ due_of_same old new same limits due =
 
 -- ---- the name
 
-module _ (key text before after : List ℕ) (begins : AreHalvesAtFirst text key before after) where
+-- what `split_once` gives at a text, or that the text occurs nowhere
+pub split_at_text : (p text : List ℕ) (r : Option (Bor (List ℕ) × Bor (List ℕ))) → MatchOption r (FindsText p text None) (λ x. SplitsAroundMatch (FindsText p) text x.0.now x.1.now)
+    → MatchOption r (¬ Occurs p text) (λ x. TakesFrame p text x.0.now x.1.now)
+split_at_text p text None lacks = λ occurs.
+    split_text_parts p text None lacks (take occurs.0 text) (drop (occurs.0 + length p) text) (sym (cut_whole p text occurs.0 occurs.1))
+split_at_text p text (Some x) splits =
+    let whole = split_text_parts p text (Some x) splits in
+    record {
+      bytes = whole;
+      first = record {
+        here = subst (λ l. OccursAt p l (length x.0.now)) (sym whole) (OccursAt-between x.0.now p x.1.now);
+        none_before = λ j there.
+            let rest = drop (length p) (drop j text) in
+            let not_before : j < length x.0.now → ⊥ = λ below.
+            splits.2.0 j (omega (arith, below, splits.6)) rest (sym (take-append-drop (length p) (drop j text)) ∙ ap (λ l. l ++ rest) there) in
+            omega (arith, not_before);
+      };
+    }
+
+module _ (key text before after : List ℕ) (begins : TakesFrame key text before after) where
+  pub quoted_to : (value rest : List ℕ) → TakesFrame quote after value rest → IsQuoted key text value
+  quoted_to value rest ends = record { before = before; after = after; begins = begins; rest = rest; ends = ends }
+
   pub no_quote : (¬ Occurs quote after) → (other : List ℕ) → ¬ IsQuoted key text other
   no_quote none other is =
-      let same = TakesFrame-same key text before is.before after is.after (record { bytes = sym begins.joined; first = begins.first }) is.begins in
+      let same = TakesFrame-same key text before is.before after is.after begins is.begins in
       none (length other, subst (λ l. OccursAt quote l (length other)) (sym same.1) is.ends.first.here)
+
+-- a key that occurs nowhere has nothing in quotes after it
+pub no_key : (key text : List ℕ) → (¬ Occurs key text) → (other : List ℕ) → ¬ IsQuoted key text other
+no_key key text none other is = none (length is.before, is.begins.first.here)
 
 -- the lines before these are no such header, and this one is
 pub first_of : (all before : List (List ℕ)) (line : List ℕ) (others : List (List ℕ)) (value : List ℕ) → all ≡ before ++ line ∷ others → All NoDisposition before → IsDisposition line value

@@ -1,8 +1,8 @@
 //! A search over pieces in a row. Bytes are searched once, except the kept tail: the last bytes, in
 //! which the needle may still begin.
-ghost use Rattle.std.specs.Prelude.{◌≡◌, ◌≢◌, ℕ, ◌+◌, ◌-◌, ◌^◌, ◌<◌, ◌≤◌, List, [], ◌++◌, length, take, drop, slice_index, Some, MatchOption, IfOk, IfNone, OnErr, OnSome};
+ghost use Rattle.std.specs.Prelude.{◌≡◌, ◌≢◌, ℕ, ◌+◌, ◌-◌, ◌^◌, ◌<◌, ◌≤◌, List, [], ◌++◌, length, take, drop, slice_index, Some, MatchOption, IfOk, IfErr, IfNone, OnErr, OnSome};
 ghost use Rattle.std.specs.List.{concat};
-ghost use Rattle.memchr.specs.Find.{FindsNeedle, IsFirstByte, is_byte};
+ghost use Rattle.memchr.specs.Find.{FindsNeedle, IsFirstByte, Nowhere, OccursAt, is_byte};
 ghost use Rattle.bytes_utils_buf.specs.Packing.{last_of};
 ghost use Rattle.bytes_utils_buf.specs.Segments.{Skips};
 ghost use Rattle.bytes_utils.specs.FrameSearch.{HoldsBack, Searched, SearchedPieces, StaysAt};
@@ -13,6 +13,10 @@ use memchr::arch::all::is_prefix;
 use memchr::memmem::Finder;
 use memchr::{memchr, memchr_iter};
 use std::alloc::{AllocError, Global};
+
+/// At how many places of its first byte a needle is looked for where a search begins: it is often
+/// near.
+pub(crate) const NEAR_LOOKS: usize = 4;
 
 /// How far a search over pieces has come: how many pieces were searched, and how many bytes of the
 /// next one, and the kept tail: the last searched bytes, from place `base` on, in which the needle
@@ -123,7 +127,8 @@ impl SearchState {
             self.base += from;
             return Ok(None);
         }
-        if let Some(at) = find_next(finder, &mut self.held, piece, from)? {
+        let looks = if self.base == 0 { NEAR_LOOKS } else { 1 };
+        if let Some(at) = find_next(finder, &mut self.held, piece, from, looks)? {
             return Ok(Some(self.base + at));
         }
         self.base += keep_tail(&mut self.held, piece, finder.needle(), from)?;
@@ -211,6 +216,7 @@ fn find_next(
     held: &mut Vec<u8>,
     piece: &[u8],
     from: usize,
+    looks: usize,
 ) -> Result<Option<usize>, AllocError>
     requires short { length held.old.items < length finder.now }
     requires fits { length held.old.items + length piece.now < 2 ^ 64 }
@@ -223,29 +229,64 @@ fn find_next(
     if let Some(at) = find_across_border(finder, held, piece)? {
         return Ok(Some(at));
     }
-    match find_in_piece(finder, piece, from) {
+    match find_in_piece(finder, piece, from, looks) {
         Some(at) => Ok(Some(held.len() + at)),
         None => Ok(None),
     }
 }
 
 /// The first place of the needle in a piece, in which its first byte does not occur before place
-/// `from`. The finder searches only if the needle is not there.
+/// `from`. The finder searches only what is left after `look_at_first_bytes`.
 #[inline]
-pub(crate) fn find_in_piece(finder: &Finder, piece: &[u8], from: usize) -> Option<usize>
+pub(crate) fn find_in_piece(
+    finder: &Finder,
+    piece: &[u8],
+    from: usize,
+    looks: usize,
+) -> Option<usize>
     requires some { 0 < length finder.now }
     requires within { from ≤ length piece.now }
     requires none { (k : ℕ) → k < from → slice_index piece.now k ≢ slice_index finder.now 0 }
     ensures { FindsNeedle piece.now finder.now 0 result }
 {
-    let rest = &piece[from..];
-    if is_prefix(rest, finder.needle()) {
-        return Some(from);
+    match look_at_first_bytes(finder.needle(), piece, from, looks) {
+        Ok(at) => Some(at),
+        Err(left) => {
+            let at = finder.find(&piece[left..])?;
+            Some(left + at)
+        }
     }
-    match finder.find(rest) {
-        Some(at) => Some(from + at),
-        None => None,
+}
+
+/// The first place of the needle in a piece, in which its first byte does not occur before place
+/// `from`. It is looked for at the first `looks` places of that byte. If it isn't there, fails with
+/// the place from which it is still to be looked for.
+#[inline]
+pub(crate) fn look_at_first_bytes(
+    needle: &[u8],
+    piece: &[u8],
+    from: usize,
+    mut looks: usize,
+) -> Result<usize, usize>
+    requires some { 0 < length needle.now }
+    requires within { from ≤ length piece.now }
+    requires none { (k : ℕ) → k < from → slice_index piece.now k ≢ slice_index needle.now 0 }
+    ensures found { IfOk result (λ at. FindsNeedle piece.now needle.now 0 (Some at)) }
+    ensures within { IfErr result (λ left. left ≤ length piece.now) }
+    ensures none { IfErr result (λ left. Nowhere (OccursAt piece.now needle.now) 0 left) }
+{
+    let mut at = from;
+    while at < piece.len() {
+        if is_prefix(&piece[at..], needle) {
+            return Ok(at);
+        }
+        if looks <= 1 {
+            return Err(at + 1);
+        }
+        looks -= 1;
+        at = place_from(needle[0], piece, at + 1);
     }
+    Err(at)
 }
 
 /// The first place of the needle in a piece, looked for by its first byte.
@@ -254,11 +295,8 @@ pub(crate) fn find_by_first_byte(finder: &Finder, piece: &[u8]) -> Option<usize>
     requires { 0 < length finder.now }
     ensures { FindsNeedle piece.now finder.now 0 result }
 {
-    find_in_piece(
-        finder,
-        piece,
-        prefix_without_first_byte(finder.needle(), piece),
-    )
+    let from = prefix_without_first_byte(finder.needle(), piece);
+    find_in_piece(finder, piece, from, 1)
 }
 
 /// The first place of the byte `first`, soon found if it is near the start.

@@ -89,7 +89,7 @@ fn find_long_by(finder: &Finder, text: &str) -> Option<usize>
     let Some(from) = find_byte(finder.needle()[0], bytes) else {
         return None;
     };
-    find_in_piece(finder, bytes, from)
+    find_in_piece(finder, bytes, from, 1)
 }
 
 /// As `rfind_by`, by the separator's last byte. The finder searches only if the separator does not

@@ -261,9 +261,9 @@ fn take_part(sections: &mut Sections, alloc: Global, limits: Limits) -> Result<P
         return Err(PartError::TooLarge);
     }
     let (head, start) = read_head(&sections.found, alloc, limits)?;
-    let disposition = disposition_of(alloc, head.as_str())?;
-    let name = parameter(disposition.as_ref(), "; name=\"")?;
-    let file_name = parameter(disposition.as_ref(), "; filename=\"")?;
+    let disposition = disposition_of(head.as_str());
+    let name = parameter(alloc, disposition, "; name=\"")?;
+    let file_name = parameter(alloc, disposition, "; filename=\"")?;
     let mut body = sections.take(alloc);
     body.advance(start);
     Ok(Part {

@@ -82,19 +82,8 @@ fn is_padding(byte: u8) -> bool
     matches!(byte, b' ' | b'\t')
 }
 
-/// A copy of the value of the first `Content-Disposition` header in a head.
-pub(super) fn disposition_of(alloc: Global, head: &str) -> Result<Option<Str>, Reason>
-    ensures ok { IfOk result (λ value. HasDisposition (lines head.now) value) }
-    ensures reason { IfErr result (λ reason. reason ≡ Reason.OutOfMemory) }
-{
-    match first_disposition(head) {
-        Some(value) => Ok(Some(Str::from_str(alloc, value)?)),
-        None => Ok(None),
-    }
-}
-
 /// The value of the first `Content-Disposition` header in a head.
-fn first_disposition(head: &str) -> Option<&str>
+pub(super) fn disposition_of(head: &str) -> Option<&str>
     ensures { HasDisposition (lines head.now) (option_map (λ value. value.now) result) }
 {
     for line in head.lines() {
@@ -117,32 +106,31 @@ fn disposition_in(line: &str) -> Option<&str>
     Some(value)
 }
 
-/// What is in quotes after `key`, which has the first of them, in a disposition.
-pub(super) fn parameter(disposition: Option<&Str>, key: &str) -> Result<Option<Str>, Reason>
+/// A copy of what is in quotes after `key`, which has the first of them, in a disposition.
+pub(super) fn parameter(
+    alloc: Global,
+    disposition: Option<&str>,
+    key: &str,
+) -> Result<Option<Str>, Reason>
     ensures ok { IfOk result
         (λ value. Quotes key.now (option_map (λ text. text.now) disposition.entry) value) }
     ensures reason { IfErr result (λ reason. reason ≡ Reason.OutOfMemory) }
 {
-    match disposition {
-        Some(text) => quoted(text, key),
+    let Some(text) = disposition else {
+        return Ok(None);
+    };
+    match quoted(text, key) {
+        Some(value) => Ok(Some(Str::from_str(alloc, value)?)),
         None => Ok(None),
     }
 }
 
 /// What is between the first `key` and the next quote, if both are there.
-fn quoted(text: &Str, key: &str) -> Result<Option<Str>, Reason>
-    ensures ok { IfOk result (λ found. MatchOption found
-        ((value : List ℕ) → ¬ IsQuoted key.now text.now value)
-        (λ value. IsQuoted key.now text.now value)) }
-    ensures reason { IfErr result (λ reason. reason ≡ Reason.OutOfMemory) }
+fn quoted<'t>(text: &'t str, key: &str) -> Option<&'t str>
+    ensures some { IfSome result (λ value. IsQuoted key.now text.now value.now) }
+    ensures none { IfNone result ((value : List ℕ) → ¬ IsQuoted key.now text.now value) }
 {
-    let (_, after) = text.try_clone()?.split_once_bytes(key)?;
-    let Some(after) = after else {
-        return Ok(None);
-    };
-    let (value, rest) = after.split_once_bytes("\"")?;
-    match rest {
-        Some(_) => Ok(Some(value)),
-        None => Ok(None),
-    }
+    let (_, after) = text.split_once(key)?;
+    let (value, _) = after.split_once("\"")?;
+    Some(value)
 }

@@ -1,24 +1,18 @@
-use Rattle.std.proofs.Common.{refl, arith}
+use Rattle.std.proofs.Common.{arith}
 use Rattle.bytes_utils.proofs.Pieces.{range_rest}
-use Rattle.bytes_utils.proofs.FrameSearchLemmas.{found_at_start, found_from, missed_from}
+use Rattle.bytes_utils.proofs.FrameSearchLemmas.{found_from, missed_from}
 use Rattle.bytes_utils.proofs.frame.search.find_in_piece.Goals as goal
 
-pub returns-then-is_prefix : goal.returns-then-is_prefix
-returns-then-is_prefix c =
+pub returns-in_err-at-in-Err : goal.returns-in_err-at-in-Err
+returns-in_err-at-in-Err c =
     let piece = c.args.piece.now in
-    let from = c.args.from in
-    let here = rw c.needle.ensures at (c.is_prefix.ensures.0 c.if-is_prefix.true) in
-    found_from c.args.finder.now piece from c.requires.within c.requires.some c.requires.none 0 _ (omega arith)
-    (rw (range_rest piece from) at (found_at_start _ _ here))
+    let left = c.in-Err.left in
+    rw c.from_residual.ensures (missed_from c.args.finder.now piece left c.in-Err.ensures.within (rw c.needle.ensures at c.in-Err.ensures.none)
+    (rw (range_rest piece left, c.in_err-at-in-Err.was) at c.find.ensures))
 
-pub returns-in-Some : goal.returns-in-Some
-returns-in-Some c =
+pub returns-in_ok-at-in-Err : goal.returns-in_ok-at-in-Err
+returns-in_ok-at-in-Err c =
     let piece = c.args.piece.now in
-    let from = c.args.from in
-    found_from c.args.finder.now piece from c.requires.within c.requires.some c.requires.none c.in-Some.at _ refl (rw (range_rest piece from) at c.in-Some.ensures)
-
-pub returns-in-None : goal.returns-in-None
-returns-in-None c =
-    let piece = c.args.piece.now in
-    let from = c.args.from in
-    missed_from c.args.finder.now piece from c.requires.within c.requires.some c.requires.none (rw (range_rest piece from) at c.in-None.ensures)
+    let left = c.in-Err.left in
+    found_from c.args.finder.now piece left c.in-Err.ensures.within (rw c.needle.ensures at c.in-Err.ensures.none) c.in_ok-at-in-Err.at _ (omega arith)
+    (rw (range_rest piece left, c.in_ok-at-in-Err.was) at c.find.ensures)

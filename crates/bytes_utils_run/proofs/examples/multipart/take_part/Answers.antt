@@ -32,13 +32,15 @@ returns-in_err-head-clause-not_utf8 c =
     (found.0, takes.0, takes.1, found.2))
 
 pub returns-clause-name : goal.returns-clause-name
-returns-clause-name c =
-    let disposition = rw c.as_str.ensures.value at c.in_ok-disposition.ensures.ok in
-    let quotes = rw c.as_ref.ensures.value at c.in_ok-name.ensures.ok in
-    (c.in_ok-disposition.disposition, disposition, quotes)
+returns-clause-name c = (
+  _,
+  rw c.as_str.ensures.value at c.disposition_of-disposition.ensures,
+  c.in_ok-name.ensures.ok,
+)
 
 pub returns-clause-file_name : goal.returns-clause-file_name
-returns-clause-file_name c =
-    let disposition = rw c.as_str.ensures.value at c.in_ok-disposition.ensures.ok in
-    let quotes = rw c.as_ref-2.ensures.value at c.in_ok-file_name.ensures.ok in
-    (c.in_ok-disposition.disposition, disposition, quotes)
+returns-clause-file_name c = (
+  _,
+  rw c.as_str.ensures.value at c.disposition_of-disposition.ensures,
+  c.in_ok-file_name.ensures.ok,
+)

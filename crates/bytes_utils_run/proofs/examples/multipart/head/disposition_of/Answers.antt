@@ -5,7 +5,7 @@ use Rattle.std.proofs.lemmas.List.Elements.{All-nil, All-push}
 use Rattle.bytes_utils_run.specs.Multipart.{NoDisposition}
 use Rattle.bytes_utils_run.proofs.HeadLines.{next_given, none_given}
 use Rattle.bytes_utils_run.proofs.MultipartLemmas.{first_of}
-use Rattle.bytes_utils_run.proofs.examples.multipart.head.first_disposition.Goals as goal
+use Rattle.bytes_utils_run.proofs.examples.multipart.head.disposition_of.Goals as goal
 
 pub loop-line-init : goal.loop-line-init
 loop-line-init c = record {

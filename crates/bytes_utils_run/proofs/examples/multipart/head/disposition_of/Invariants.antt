@@ -2,7 +2,7 @@ use Rattle.std.proofs.Common.{◌≡◌, List, ℕ, ◌++◌, All}
 use Rattle.std.specs.Str.Lines.{lines}
 use Rattle.std.proofs.lemmas.Iterator.{YieldsList}
 use Rattle.bytes_utils_run.specs.Multipart.{NoDisposition}
-use Rattle.bytes_utils_run.proofs.examples.multipart.head.first_disposition.Given as goal
+use Rattle.bytes_utils_run.proofs.examples.multipart.head.disposition_of.Given as goal
 
 -- these lines are left, and none of those before them is the header
 abbrev pub invariant-loop-line : goal.invariant-loop-line
