@@ -56,9 +56,9 @@ impl Records {
         Ok(Records { frames })
     }
 
-    /// Appends `piece` without copying it. Fails with `TooLong` if more than `usize::MAX` bytes
-    /// would be held, and with `OutOfMemory` if memory is refused; then nothing has changed and
-    /// `piece` comes back.
+    /// Appends `piece`. If it has at most 512 bytes, it is copied; if not, it is shared. Fails with
+    /// `TooLong` if more than `usize::MAX` bytes would be held, and with `OutOfMemory` if memory is
+    /// refused; then nothing has changed and `piece` comes back.
     pub fn push(&mut self, piece: Bytes) -> Result<(), Refused<Bytes>>
         ensures pushed { IsPush self.old.held piece result
             (self.new ≡ record self.old { held = self.old.held ++ piece }) (self.new ≡ self.old) }
