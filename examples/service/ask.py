@@ -14,7 +14,8 @@ class Client:
         self.judge, self.room, self.at = judge, room, at
 
     def curl(self, path, *words, given=b""):
-        """What curl writes if it asks for the path: the response, and after it a line with the status."""
+        """What curl writes if it asks for the path: the response, and after it a line with the status; or curl itself,
+        if no input is given."""
         how = {"stdin": subprocess.PIPE, "stdout": subprocess.PIPE, "stderr": subprocess.PIPE, "cwd": self.room}
         words = ["-sv", "--max-time", "60", "-X", "POST", "-w", "\n%{http_code}", *words, f"http://{self.at}{path}"]
         it = subprocess.Popen(["curl", *words], **how)
@@ -111,7 +112,7 @@ def connections(client):
 
 
 def early(client):
-    """Requests that are refused by their heads, before any byte of their bodies is sent."""
+    """Requests that are refused by their heads, before any byte of their bodies is sent, and one that isn't."""
     host, _, port = client.at.rpartition(":")
     for what, path, fields, status in (
         ("another path", "/other", "Content-Length: 1000", 404),

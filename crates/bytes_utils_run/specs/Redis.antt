@@ -56,7 +56,7 @@ IsText kind = (kind ≡ 43) ⊎ (kind ≡ 45)
 abbrev pub BeginsText : List ℕ → Type 0
 BeginsText bytes = (kind : ℕ) × (slice_get bytes 0 ≡ Some kind) × IsText kind
 
--- the others
+-- the bytes of the item's line after the first one
 abbrev pub Says : Item → List ℕ → Type 0
 Says (Simple text) said = (text ≡ said) × IsPlain said
 Says (Error text) said = (text ≡ said) × IsPlain said

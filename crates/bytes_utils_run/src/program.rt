@@ -64,7 +64,7 @@ fn print_given<W: Write>(writer: &mut W, answer: Answer<'_>) -> Result<Option<Re
     }
 }
 
-/// Prints the results and flushes. Fails if a write fails or a refusal left results out.
+/// Prints the results and flushes. Fails if a write or the flush fails, or a refusal left some out.
 fn print_answer<W: Write>(writer: &mut W, answer: Answer<'_>) -> Result<(), Fault>
     requires { HasParts answer }
     ensures ok { OnOk result (PrintsGiven answer.entry None

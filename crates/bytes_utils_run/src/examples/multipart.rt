@@ -20,7 +20,7 @@ use std::marker::Model;
 pub struct Limits {
     /// The most bytes before a body, from the delimiter on: spaces, the head, and its line ends.
     pub head: usize,
-    /// The most bytes of a body. Before the first delimiter there may be as many as both limits
+    /// The most bytes of a body. Before the first delimiter there may be two fewer than both limits
     /// allow together.
     pub body: usize,
 }

@@ -16,7 +16,7 @@ use std::alloc::Global;
 /// Why there is no text.
 #[derive(Clone, Copy, Debug, Eq, PartialEq)]
 pub enum NetstringError {
-    /// Memory was refused, or the text is longer than the limit, or its length has too many digits.
+    /// Memory was refused, the text is longer than the limit, or the first 21 bytes have no colon.
     Refused(Reason),
     /// What came is no netstring, whatever comes after it.
     Malformed,

@@ -136,9 +136,9 @@ impl ReplyReader {
     }
 
     /// Returns the next reply, as its items in order, or `None` while some of it is to come. A bulk
-    /// item shares the piece that has all of it. Fails with `Malformed` if the held bytes begin with
-    /// no reply, whatever comes after them, with `TooLarge` if they begin with none within the
-    /// limits, and with `Refused` if memory is refused; then nothing has changed.
+    /// item in one piece of more than 512 bytes is shared. Fails with `Malformed` if the held bytes
+    /// begin with no reply, whatever comes after them, with `TooLarge` if they begin with none
+    /// within the limits, and with `Refused` if memory is refused; then nothing has changed.
     #[tactic(auto, using(crate::proofs::RedisLemmas::reply_takes))]
     pub fn next_reply(&mut self, alloc: Global) -> Result<Option<Vec<Item>>, ReplyError>
         ensures reply { IfOk result (λ next. IfSome next (λ items.

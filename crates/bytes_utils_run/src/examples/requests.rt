@@ -19,8 +19,8 @@ use std::str;
 /// Why the length of a body isn't known.
 #[derive(Clone, Copy, Debug, Eq, PartialEq)]
 pub enum LengthError {
-    /// A line isn't a header: it has no colon, or its name is empty or has a space. A folded line
-    /// is one of these.
+    /// A line isn't a header: it has no colon, or its name is empty or has a byte that isn't
+    /// visible ASCII, such as a space or a tab. A folded line is one of these.
     NotAHeader,
     /// A `Content-Length` isn't a number, or the number isn't a `usize`.
     NotANumber,
@@ -33,8 +33,8 @@ pub enum LengthError {
 /// A stream that comes in pieces, and the requests in it: a head, an empty line, and a body.
 ///
 /// ```text
-/// let head = requests.next_head(alloc)?      // `PUT / HTTP/1.1`, `Content-Length: 5`
-/// let len = body_len(&head)?                 // 5
+/// let Some(head) = requests.next_head(alloc)? else { .. };  // `PUT / ..`, `Content-Length: 5`
+/// let len = body_len(&head)?;                // 5
 /// requests.next_body(alloc, len)?            // `None`, until five bytes more have come
 /// ```
 #[derive(Drop)]
@@ -54,7 +54,7 @@ impl Model for Requests {
 }
 
 impl Requests {
-    /// A reader that holds no bytes.
+    /// Makes a reader that holds no bytes. Fails with `OutOfMemory` if memory is refused.
     pub fn new(alloc: Global) -> Result<Requests, Reason>
         ensures ok { IfOk result (λ requests. requests ≡ []) }
         ensures reason { IfErr result (λ reason. reason ≡ Reason.OutOfMemory) }
@@ -64,7 +64,8 @@ impl Requests {
         })
     }
 
-    /// Appends a piece, as `Frames` does.
+    /// Appends a piece, as `Frames` does. Fails as `Frames` does; then nothing has changed and
+    /// `piece` comes back.
     pub fn push(&mut self, piece: Bytes) -> Result<(), Refused<Bytes>>
         ensures pushed { IsPush self.old piece result
             (self.new ≡ self.old ++ piece) (self.new ≡ self.old) }
@@ -72,7 +73,8 @@ impl Requests {
         self.frames.push(piece)
     }
 
-    /// Returns the head before the next empty line, or `None` while that line is to come.
+    /// Returns the head before the next empty line, or `None` while that line is to come. Fails
+    /// with `OutOfMemory` if memory is refused; then nothing has changed.
     pub fn next_head(&mut self, alloc: Global) -> Result<Option<Bytes>, Reason>
         ensures head { IfOk result
             (λ next. IfSome next (λ head. TakesFrame head_end self.old head self.new)) }
@@ -84,8 +86,8 @@ impl Requests {
         self.frames.next_frame(alloc)
     }
 
-    /// Returns a body of `len` bytes, in pieces as `Frames` returns them, or `None` while some of it
-    /// is to come.
+    /// Returns a body of `len` bytes, in pieces as `Frames` returns them, or `None` while some of
+    /// it is to come. Fails with `OutOfMemory` if memory is refused; then nothing has changed.
     pub fn next_body(
         &mut self,
         alloc: Global,
