@@ -1,4 +1,4 @@
--- Frames of a decoder that a separator ends. It keeps how far it has searched, so that it searches no byte again while it waits.
+-- Frames of a decoder that a separator ends. It keeps how far it has searched, so that while it waits it searches no byte again but the last ones, fewer than the separator has.
 use Rattle.std.specs.Prelude.{◌≡◌, ℕ, ◌+◌, ◌<◌, ◌≤◌, List, ◌++◌, length, Option, None, Some, Result, Ok, Err}
 use Rattle.bytes_utils_buf.specs.declared.refused.Reason.{Reason}
 use Rattle.bytes_utils_buf.specs.declared.refused.Reason.TheVariants.{OutOfMemory, TooLong}

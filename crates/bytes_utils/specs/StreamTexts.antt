@@ -45,7 +45,7 @@ TextRunLaw = (events : List (StreamEvent (List ℕ))) (end : List ℕ) → IsTex
 abbrev pub FaultyRunLaw : Type 0
 FaultyRunLaw = (events : List (StreamEvent (List ℕ))) (end : List ℕ) → IsTextRun [] events end → IsFaulty end → IsFaulty (pushed_by events)
 
--- the joined pieces are UTF-8 exactly if the bytes held at the end are, as no bytes are
+-- if the joined pieces are UTF-8, so are the bytes held at the end
 abbrev pub WholeRunLaw : Type 0
 WholeRunLaw = (events : List (StreamEvent (List ℕ))) (end : List ℕ) → IsTextRun [] events end → IsUtf8 (pushed_by events) → IsUtf8 end
 

@@ -48,7 +48,7 @@ const SMALL: usize = 512;
 ///
 /// Pieces that wait for a separator are not searched again, also if first bytes are taken by
 /// `split_to` or `take_bytes`. After each frame that ends in a piece, that piece is searched once
-/// more. The bytes of a frame that lies in one piece are shared. Pieces of at most 512 bytes are
+/// more. A frame in one piece of more than 512 bytes shares it. Pieces of at most 512 bytes are
 /// copied together, so that a peer that sends single bytes doesn't fill the memory with blocks: see
 /// [`PackedBuf`].
 ///
@@ -241,8 +241,8 @@ impl Frames {
     }
 
     /// Returns the next frame without its separator, or `None` if its end has not come yet. The
-    /// frame is shared if it lies in one piece, and copied into one block if not. Fails with
-    /// `OutOfMemory` if memory is refused; then nothing has changed.
+    /// frame is shared if it lies in one segment of `pieces`, and copied into one block if not.
+    /// Fails with `OutOfMemory` if memory is refused; then nothing has changed.
     #[inline]
     pub fn next_frame(&mut self, alloc: Global) -> Result<Option<Bytes>, Reason>
         ensures frame { IfOk result (λ next. IfSome next (λ frame.

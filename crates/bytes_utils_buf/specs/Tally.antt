@@ -4,7 +4,7 @@ use Rattle.std.specs.Prelude.{◌≡◌, ℕ, ◌+◌, ◌*◌, ◌≤◌, List,
 pub record Tallied : Type 0 where
   -- segments given
   pub given : ℕ
-  -- those of them that were empty, and were dropped at once
+  -- those of them that were dropped at once: empty ones, and those copied to the end of another one
   pub dropped : ℕ
   -- counted calls
   pub calls : ℕ

@@ -209,9 +209,10 @@ fn write_front<W: Write, B: BufParts>(writer: &mut W, buf: &B) -> (usize, io::Re
 /// ```
 ///
 /// Slices of at most 4,096 bytes that follow one another are copied into a block on the stack, and
-/// one call writes up to 1,024 of them. The block has 64 KiB if these slices have more than 32 KiB,
-/// 2 KiB if they fit it, and 16 KiB otherwise. Each larger slice is written by a call of its own,
-/// without a copy, and so is a slice that is alone. For fewer than 16 slices the table is smaller.
+/// one call writes up to 1,024 of them. The block has 64 KiB if the next 1,024 slices, large ones
+/// too, have more than 32 KiB, 2 KiB if they fit it, and 16 KiB otherwise. A larger slice is written
+/// by a call of its own, without a copy, and so is one that is the only one. For fewer than 16
+/// slices the table is smaller.
 ///
 /// A short write is continued. Fails with the writer's own error, after which it makes no further
 /// write, or with `WriteZero` if a write took nothing. Then `buf` has the bytes that were not

@@ -24,8 +24,9 @@ use std::marker::Model;
 /// frames.next_item(alloc)?         // `GET / HTTP/1.1`; `Host` is left
 /// ```
 ///
-/// While it waits, bytes are not searched again. A frame that lies in one piece shares the bytes of
-/// the piece, and any other is copied into one block. A frame over the limit is an error that stays.
+/// While it waits, bytes are not searched again, but for the last ones, in which the separator may
+/// begin. A frame that lies in one segment shares it: a piece of more than 512 bytes, or a block of
+/// copied ones. Any other is copied into one block. A frame over the limit is an error that stays.
 /// At the end of the stream, bytes with no separator after them are left.
 ///
 /// [`Frames`](crate::frame::Frames) is a reader of the same frames.

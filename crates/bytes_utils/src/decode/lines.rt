@@ -34,8 +34,9 @@ type Line = Result<Str, Utf8Error<Bytes>>;
 /// after it a carriage return is part of it. A line that is not UTF-8 is an item, too, so that the
 /// next one is the line after it. A line over the limit is an error that stays.
 ///
-/// While it waits, bytes are not searched again. A line that lies in one piece shares the bytes of
-/// the piece. [`Lines`](crate::frame::Lines) is a reader of the same lines (`text_line_laws`).
+/// While it waits, bytes are not searched again. A line in one piece of more than 512 bytes shares
+/// it, if its line feed is there, too. [`Lines`](crate::frame::Lines) is a reader of the same lines
+/// (`text_line_laws`).
 #[derive(Debug, Drop)]
 pub struct TextLines {
     frames: Delimited,

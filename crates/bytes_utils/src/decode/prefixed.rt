@@ -15,8 +15,9 @@ use std::marker::Model;
 /// A decoder of frames of which each comes after its length: four bytes, the most significant one
 /// first, which don't count themselves.
 ///
-/// A frame that lies in one piece with its length shares the bytes of the piece, and any other is
-/// copied into one block. At the end of the stream, bytes that are no whole frame are left.
+/// A frame that lies with its length in one segment shares it: a piece of more than 512 bytes, or a
+/// block of copied ones. Any other is copied into one block. At the end of the stream, bytes that
+/// are no whole frame are left.
 #[derive(Debug, Drop)]
 pub struct LengthPrefixed {
     max_length: usize,

@@ -20,8 +20,8 @@ use std::marker::Model;
 /// Why a reader of lines returned no line.
 #[derive(Debug, Drop)]
 pub enum LineError {
-    /// A call was refused. From `next_line` the reason is `OutOfMemory`, or for a `LimitedLines`
-    /// `TooLong`.
+    /// A call was refused. From `next_line` the reason is `OutOfMemory`, and for a `LimitedLines`
+    /// also `TooLong`.
     Refused(Reason),
     /// The line is not UTF-8. The error holds its bytes.
     NotUtf8(Utf8Error<Bytes>),
@@ -87,7 +87,7 @@ impl Error for LineError {}
 /// ```
 ///
 /// A line is one of `str::lines`: one carriage return directly before its line feed is no part of
-/// it. The bytes of a line are shared if they lie in one piece with that carriage return.
+/// it. A line in one piece of more than 512 bytes shares it, if that carriage return is there, too.
 ///
 /// Pieces that wait for a line feed are not searched again. After each line that ends in a piece,
 /// that piece is searched once more. There is no limit on the length of a line. For a peer that is

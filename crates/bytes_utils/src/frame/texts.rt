@@ -23,7 +23,7 @@ use std::{fmt, str};
 pub enum TextError {
     /// A call was refused. From `next_text` the reason is `OutOfMemory`.
     Refused(Reason),
-    /// The stream is not UTF-8, whatever comes after the held bytes.
+    /// The stream is not UTF-8, whatever comes after the held bytes, or it ended in a character.
     NotUtf8,
 }
 
@@ -129,11 +129,11 @@ impl Texts {
         self.pieces.try_push(piece)
     }
 
-    /// Returns the next text: whole characters, up to where a piece ends, or the character over that
-    /// border. Returns `None` while the held bytes are the beginning of a character, or none. Fails
-    /// with `NotUtf8` if they begin with no text, and can't whatever follows: as early as that is
-    /// certain, and again at each further call. Fails with `Refused` if memory is refused. Then
-    /// nothing has changed.
+    /// Returns the next text: whole characters, up to where a piece ends or isn't UTF-8, or the
+    /// character over a border. Returns `None` while the held bytes are the beginning of a
+    /// character, or none. Fails with `NotUtf8` if they begin with no text, and can't whatever
+    /// follows: as early as that is certain, and again at each further call. Fails with `Refused`
+    /// if memory is refused. Then nothing has changed.
     pub fn next_text(&mut self, alloc: Global) -> Result<Option<Str>, TextError>
         ensures text { IfOk result
             (λ next. IfSome next (λ text. TakesText self.old text self.new)) }

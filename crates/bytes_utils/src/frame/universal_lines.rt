@@ -34,7 +34,7 @@ use std::marker::Model;
 /// may still follow, so that no line of a live stream waits for the next one. For lines that only a
 /// line feed ends take [`Lines`](super::Lines).
 ///
-/// The bytes of a line are shared if they lie in one piece. Bytes in which no line ends are not
+/// A line in one piece of more than 512 bytes shares it. Bytes in which no line ends are not
 /// searched again. There is no limit on the length of a line: `remaining` returns how many bytes
 /// wait for an end.
 #[derive(Debug, Drop)]

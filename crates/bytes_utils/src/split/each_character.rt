@@ -35,8 +35,8 @@ fn empty_part<S: Storage>(text: StrInner<S>, from: Direction) -> Result<Cut<S>, 
 }
 
 /// Splits off the first character. An empty text is returned whole, as the last part. `cut_around`
-/// with the same place twice is no slip: like a step by any other separator, this one makes two
-/// splits, the rest at the later place and then the part.
+/// with the same place twice is no slip: like a step by any other separator, this one splits at the
+/// later place, and then takes the part by `into_front`.
 #[inline(always)]
 fn first_character<S: Storage>(text: StrInner<S>) -> Result<Cut<S>, Reason>
     ensures gives { IfOk result (λ cut. (limit : Option ℕ) → LeavesMore limit
@@ -54,8 +54,8 @@ fn first_character<S: Storage>(text: StrInner<S>) -> Result<Cut<S>, Reason>
     Ok((part, Some(rest)))
 }
 
-/// Splits off the last character. An empty text is returned whole, as the last part. It makes two
-/// splits, as `first_character` does.
+/// Splits off the last character. An empty text is returned whole, as the last part. It cuts as
+/// `first_character` does.
 #[inline(always)]
 fn last_character<S: Storage>(text: StrInner<S>) -> Result<Cut<S>, Reason>
     ensures gives { IfOk result (λ cut. (limit : Option ℕ) → LeavesMore limit

@@ -14,8 +14,8 @@ impl<S: Storage> StrInner<S> {
     /// let Some(name) = path.strip_prefix_bytes("/users/")? else { .. };
     /// ```
     ///
-    /// Fails for a reason of the storage, `OutOfMemory` for a [`Str`](crate::Str), and only if the
-    /// text begins with a prefix that isn't empty; then the text is dropped.
+    /// A [`Str`](crate::Str) or a `StrMut` doesn't fail here. Another storage may, for its own
+    /// reason, and only if the text begins with a prefix that isn't empty; then the text is dropped.
     pub fn strip_prefix_bytes(self, prefix: &str) -> Result<Option<Self>, Reason>
         ensures rest { IfOk result (λ cut. MatchOption cut (¬ BeginsWith prefix.now self)
             (λ following. prefix.now ++ following ≡ self)) }

@@ -15,8 +15,8 @@ impl<S: Storage> StrInner<S> {
     /// let value = value.trim_bytes()?;   // `text/html` of ` text/html\r\n`
     /// ```
     ///
-    /// Fails for a reason of the storage, `OutOfMemory` for a [`Str`](crate::Str), and only if white
-    /// space is cut off; then the text is dropped.
+    /// A [`Str`](crate::Str) or a `StrMut` doesn't fail here. Another storage may, for its own
+    /// reason, and only if white space is cut off; then the text is dropped.
     pub fn trim_bytes(self) -> Result<Self, Reason>
         ensures part { IfOk result (λ part. part ≡ trim self) }
         ensures place { IfOk result (λ part. IsBetweenSpace part self) }

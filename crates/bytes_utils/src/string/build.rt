@@ -6,7 +6,7 @@ use bytes_utils_buf::Reason;
 use std::alloc::Global;
 
 impl<S: Storage> StrInner<S> {
-    /// Makes an empty text. Fails with the storage's reason (`OutOfMemory` for `Str` and `StrMut`).
+    /// Makes an empty text. Fails with the storage's reason. A `Str` or a `StrMut` doesn't fail here.
     pub fn new(alloc: Global) -> Result<Self, Reason>
         ensures ok { IfOk result (λ text. text ≡ []) }
         ensures reason { IfErr result S.refuses }

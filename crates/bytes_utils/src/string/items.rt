@@ -11,10 +11,10 @@ use bytes_utils_buf::{Reason, Refused};
 use std::alloc::Global;
 
 impl<S: StorageMut> StrInner<S> {
-    /// Appends the characters. Requires that `iter` ends. Fails with the first refused character
-    /// and the storage's reason (`OutOfMemory` for `StrMut`); then those before it are in the text.
-    /// Those after it are dropped with `iter`, but an iterator passed as `&mut iter` continues
-    /// right after the refused character.
+    /// Appends the characters. Requires that `iter` ends, and that its `next` may be called. Fails
+    /// with the first refused character and the storage's reason (`OutOfMemory` for `StrMut`); then
+    /// those before it are in the text. Those after it are dropped with `iter`, but an iterator
+    /// passed as `&mut iter` continues right after the refused character.
     #[tactic(auto, using(crate::proofs::Building::characters_push))]
     pub fn extend_chars<I: Iterator<Item = char> + Drop>(
         &mut self,
@@ -39,10 +39,10 @@ impl<S: StorageMut> StrInner<S> {
         Ok(())
     }
 
-    /// Appends the items. Requires that `iter` ends. Fails with the first refused item and the
-    /// storage's reason (`OutOfMemory` for `StrMut`); then those before it are in the text. Those
-    /// after it are dropped with `iter`, but an iterator passed as `&mut iter` continues right
-    /// after the refused item.
+    /// Appends the items. Requires that `iter` ends, and that its `next` may be called. Fails with
+    /// the first refused item and the storage's reason (`OutOfMemory` for `StrMut`); then those
+    /// before it are in the text. Those after it are dropped with `iter`, but an iterator passed as
+    /// `&mut iter` continues right after the refused item.
     #[tactic(auto, using(crate::proofs::Building::texts_push))]
     pub fn extend_strs<'s, I: Iterator<Item = &'s str> + Drop>(
         &mut self,
@@ -67,10 +67,10 @@ impl<S: StorageMut> StrInner<S> {
         Ok(())
     }
 
-    /// Appends the items. Requires that `iter` ends. Fails with the first refused item and the
-    /// storage's reason (`OutOfMemory` for `StrMut`); then those before it are in the text. Those
-    /// after it are dropped with `iter`, but an iterator passed as `&mut iter` continues right
-    /// after the refused item.
+    /// Appends the items. Requires that `iter` ends, and that its `next` may be called. Fails with
+    /// the first refused item and the storage's reason (`OutOfMemory` for `StrMut`); then those
+    /// before it are in the text. Those after it are dropped with `iter`, but an iterator passed as
+    /// `&mut iter` continues right after the refused item.
     #[tactic(auto, using(crate::proofs::Building::texts_push))]
     pub fn extend_strings<I: Iterator<Item = String> + Drop>(
         &mut self,
@@ -100,8 +100,8 @@ impl<S: Storage> StrInner<S>
 where
     S::Creator: StorageMut,
 {
-    /// Concatenates the characters. Requires that `iter` ends, and what `from_str` requires. Fails
-    /// as `from_str`.
+    /// Concatenates the characters. Requires that `iter` ends, that its `next` may be called, and
+    /// what `from_str` requires. Fails as `from_str`.
     pub fn from_chars<I: Iterator<Item = char> + Drop>(
         alloc: Global,
         iter: I,
@@ -118,8 +118,8 @@ where
         StrInner::from_built(text)
     }
 
-    /// Concatenates the items. Requires that `iter` ends, and what `from_str` requires. Fails as
-    /// `from_str`.
+    /// Concatenates the items. Requires that `iter` ends, that its `next` may be called, and what
+    /// `from_str` requires. Fails as `from_str`.
     pub fn from_strs<'s, I: Iterator<Item = &'s str> + Drop>(
         alloc: Global,
         iter: I,
@@ -136,8 +136,8 @@ where
         StrInner::from_built(text)
     }
 
-    /// Concatenates the items. Requires that `iter` ends, and what `from_str` requires. Fails as
-    /// `from_str`.
+    /// Concatenates the items. Requires that `iter` ends, that its `next` may be called, and what
+    /// `from_str` requires. Fails as `from_str`.
     pub fn from_strings<I: Iterator<Item = String> + Drop>(
         alloc: Global,
         iter: I,

@@ -15,7 +15,7 @@ where
     /// Joins the parts with `separator` between neighbours, as `join` of a slice. No parts give the
     /// empty text. With an empty separator they are concatenated, as by `from_strs`; to split the
     /// text by it again returns single characters between two empty parts. Requires that `parts`
-    /// ends, and what `from_str` requires. Fails as `from_str`.
+    /// ends, that its `next` may be called, and what `from_str` requires. Fails as `from_str`.
     pub fn join<'s, I: Iterator<Item = &'s str> + Drop>(
         alloc: Global,
         parts: I,

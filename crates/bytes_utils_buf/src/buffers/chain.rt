@@ -10,8 +10,8 @@ use bytes::buf::Chain;
 use bytes::{Buf, Bytes};
 use std::alloc::Global;
 
-/// `copy_out` shares the bytes if one of the two buffers has them all, and shares its own. If it
-/// fails, it has taken none.
+/// `copy_out` shares the bytes if one of the two buffers has them all, and its `prefix` shares them,
+/// which that of a `BytesMut` doesn't. If it fails, it has taken none.
 impl<T: ContiguousBuf, U: ContiguousBuf> BufParts for Chain<T, U> {
     ghost loses = { λ _ taken. taken ≡ 0 };
 

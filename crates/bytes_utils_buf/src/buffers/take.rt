@@ -11,7 +11,7 @@ use bytes::buf::Take;
 use std::alloc::Global;
 use std::ops::Range;
 
-/// `copy_out` shares the bytes if the inner buffer does. If it fails, it has taken none.
+/// `copy_out` shares the bytes if the inner `prefix` does. If it fails, it has taken none.
 impl<T: ContiguousBuf> BufParts for Take<T> {
     ghost loses = { λ _ taken. taken ≡ 0 };
 

@@ -96,8 +96,9 @@ impl PackedBuf {
         self.held
     }
 
-    /// Returns the held segments, each as a `Bytes` that shares its block, with a tally of their own.
-    /// Fails with `OutOfMemory` if memory is refused; then the value comes back.
+    /// Returns the held segments, each as a `Bytes` that shares its block, with a tally of their
+    /// own. Fails with `OutOfMemory` if memory is refused; then the value comes back, with the same
+    /// bytes, but blocks may be frozen.
     pub fn into_shared(self, alloc: Global) -> Result<SegmentedBuf<Bytes>, Refused<PackedBuf>>
         ensures ok { IfOk result (λ all. all ≡ newly_held self.held.segments) }
         ensures bytes { IfOk result (λ all. concat all.segments ≡ concat self.held.segments) }
@@ -146,9 +147,9 @@ impl PackedBuf {
         }
     }
 
-    /// Appends a copy of `bytes`: to the end of the last segment if that is a block with room for
-    /// them, or if both together have at most `threshold` bytes, and else in a new block. Fails as
-    /// `push` does; then nothing has changed.
+    /// Appends a copy of `bytes`: to the last segment, if that is a block with room for them; with a
+    /// copy of the last segment in a new block, if both have at most `threshold` bytes together; or
+    /// else alone in a new block. Fails as `push` does; then nothing has changed.
     pub fn push_slice(&mut self, alloc: Global, bytes: &[u8]) -> Result<(), Reason>
         ensures packs { OnOk result (Packs bytes.now self.old.held self.new.held) }
         ensures bytes { OnOk result

@@ -41,7 +41,7 @@ impl Tally {
         }
     }
 
-    /// Counts `count` accepted segments, of which `dropped` were empty and dropped at once.
+    /// Counts `count` accepted segments, of which `dropped` were dropped at once.
     pub(crate) fn give(&mut self, count: usize, dropped: usize)
         ensures { self.new ≡ record self.old {
           given = self.old.given + count;

@@ -16,7 +16,7 @@ use std::fmt;
 pub enum ReadItemError<E> {
     /// The decoder failed.
     Decoder(E),
-    /// Nothing was read, or what was read could not be pushed.
+    /// A read failed, 65,536 reads gave no item, or what was read could not be pushed.
     Read(ReadError),
 }
 

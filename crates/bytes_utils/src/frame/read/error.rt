@@ -1,4 +1,4 @@
-//! Why nothing was read.
+//! Why a reader gave no frame.
 ghost use Rattle.std.specs.Prelude.{◌≡◌, [], ◌++◌, IfOk, IfErr, IsOk, OnOk, OnErr};
 ghost use Rattle.bytes_utils.specs.ReadError.{IsDue, IsUnshared, back_bytes, error_text};
 ghost use Rattle.bytes_utils.specs.declared.frame.read.error.ReadError.TheVariants.{Refused as RefusedError};

@@ -20,7 +20,7 @@ pub(super) fn front_holds<B: Buf>(segments: &VecDeque<B>, len: usize) -> bool
     }
 }
 
-/// Copies `len` bytes out of the first held segment alone.
+/// Takes `len` bytes out of the first held segment alone, by its `copy_out`.
 #[inline]
 pub(super) fn take_from_front<B: BufParts>(
     segments: &mut VecDeque<B>,

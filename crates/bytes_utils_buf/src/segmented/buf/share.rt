@@ -13,7 +13,8 @@ use std::mem::replace;
 
 impl SegmentedBuf<EitherBuf<Bytes, BytesMut>> {
     /// Returns the segments, each as a `Bytes` that shares its block, with a tally of their own.
-    /// Fails with `OutOfMemory` if memory is refused; then the value comes back.
+    /// Fails with `OutOfMemory` if memory is refused; then the value comes back, with the same
+    /// bytes, but blocks may be frozen.
     pub fn into_shared(
         mut self,
         alloc: Global,

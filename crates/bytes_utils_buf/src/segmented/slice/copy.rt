@@ -81,8 +81,8 @@ impl<B: BufParts> SegmentedSlice<'_, B> {
     }
 }
 
-/// Copies `len` bytes out of the first of these buffers alone, and then counts the empty ones at
-/// the front.
+/// Takes `len` bytes out of the first of these buffers alone, by its `copy_out`, and then counts the
+/// empty ones at the front.
 fn take_from_first<B: BufParts>(
     bufs: &mut [B],
     tally: &mut Tally,
