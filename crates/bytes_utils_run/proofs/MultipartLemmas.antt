@@ -402,10 +402,6 @@ module _ (key text before after : List ℕ) (begins : TakesFrame key text before
       let same = TakesFrame-same key text before is.before after is.after begins is.begins in
       none (length other, subst (λ l. OccursAt quote l (length other)) (sym same.1) is.ends.first.here)
 
--- a key that occurs nowhere has nothing in quotes after it
-pub no_key : (key text : List ℕ) → (¬ Occurs key text) → (other : List ℕ) → ¬ IsQuoted key text other
-no_key key text none other is = none (length is.before, is.begins.first.here)
-
 -- the lines before these are no such header, and this one is
 pub first_of : (all before : List (List ℕ)) (line : List ℕ) (others : List (List ℕ)) (value : List ℕ) → all ≡ before ++ line ∷ others → All NoDisposition before → IsDisposition line value
     → IsFirstDisposition all value
