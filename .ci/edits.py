@@ -1,5 +1,5 @@
 """Wrong bodies: how an edit, whose form CONTRIBUTING.md has, is read and applied, and what the check of a copy says of
-it. `rt ci` reads the lines of an edit without '#'."""
+it."""
 import re
 from collections import namedtuple
 from pathlib import Path
@@ -20,8 +20,9 @@ def program_of(name):
     return Program(name, (CRATES | EXAMPLES)[name], files_of(folder), folder)
 
 
-def edits_of(program, kind):
-    paths = sorted(Path(ROOT, program.folder, kind).rglob("*.edit"))
+def edits_of(program, part=""):
+    """The wrong bodies of a program, or those in one folder of them."""
+    paths = sorted(Path(ROOT, program.folder, "wrong-bodies", part).rglob("*.edit"))
     return [edit_of(program, it.stem, it.read_text("utf-8")) for it in paths]
 
 
@@ -75,7 +76,7 @@ def goals_in(said):
 def judged(edit, said):
     """What a check says of an edit: "refused", and at which open goal of a function that it changes, or why not."""
     goals = goals_in(said)
-    if not re.search(r"^logic=", said, re.M):
+    if not re.search(r"^(logic|only)=", said, re.M):
         errors = [it for it in said.split("\n") if "error" in it] or [said[-200:]]
         return f"the prover can't read the copy: {errors[0][:200]}"
     if lost := [it for it in edit.functions if it not in goals]:

@@ -1,10 +1,11 @@
 -- Lists of which two neighbours hold more than a threshold.
 use Rattle.std.proofs.Common.{◌≡◌, ℕ, ◌+◌, ◌-◌, ◌*◌, ◌<◌, ◌≤◌, List, [], ◌∷◌, ◌++◌, zero, suc, length, length-drop, map, drop, get_or, set, ap, ◌∙◌, sym, refl, arith, length-append, append_assoc, append-nil, Result, Ok, Err, OnOk, OnErr}
+use Rattle.std.proofs.lemmas.List.{drop_all}
 use Rattle.std.proofs.lemmas.List.Elements.{All-cons, All-head, All-tail}
 use Rattle.std.specs.List.{concat}
 use Rattle.bytes_utils_buf.proofs.Lists.{length-concat-cut_le}
 use Rattle.bytes_utils_buf.specs.Packing.{PairsHoldOver, IsPacked, after_packing, grow_last, last_of}
-use Rattle.bytes_utils_buf.specs.Segments.{Held, IsPaid, after_accepting, Skips, NoneEmpty, cut_front}
+use Rattle.bytes_utils_buf.specs.Segments.{Held, IsPaid, after_accepting, Skips, NoneEmpty, cut_front, front_of}
 use Rattle.bytes_utils_buf.specs.Tally.{IsBalanced, Tallied}
 
 -- ---- the last list
@@ -84,6 +85,31 @@ same-Skips old new all s = by old s.passed s.rest all (omega (arith, ap length s
           length-append x (concat xs),
           length-concat-cut_le xs p s.cut,
         ))
+
+-- the only list is passed
+pub skips_only : (xs ys : List (List ℕ)) (n : ℕ) → length xs ≡ 1 → n ≡ length (concat xs) → ys ≡ [] → Skips n xs ys
+skips_only [] ys n one all none = absurd (omega (arith, one))
+skips_only (s ∷ []) ys n one all none =
+    record {
+      passed = 1;
+      cut = 0;
+      within = omega arith;
+      rest = none;
+      bytes = ap concat none ∙ sym (drop_all n (concat (s ∷ [])) (omega (arith, all)));
+      front = λ some. absurd (omega (arith, some, ap length none));
+    }
+skips_only (s ∷ t ∷ xs) ys n one all none = absurd (omega (arith, one))
+
+-- a row of one list has that list's bytes
+pub concat_only : (xs : List (List ℕ)) → length xs ≡ 1 → concat xs ≡ front_of xs
+concat_only [] one = absurd (omega (arith, one))
+concat_only (s ∷ []) one = append-nil s
+concat_only (s ∷ t ∷ xs) one = absurd (omega (arith, one))
+
+-- without its only list, a row is empty
+pub none_left : (s : List ℕ) (xs ys : List (List ℕ)) → length xs ≡ 1 → xs ≡ s ∷ ys → ys ≡ []
+none_left s xs [] one is = refl
+none_left s xs (y ∷ ys) one is = absurd (omega (arith, one, ap length is))
 
 -- a piece that was copied to the end of the last segment pays for itself
 pub paid-packing : (held : Held) (piece : List ℕ) → IsPaid held (after_packing held piece)

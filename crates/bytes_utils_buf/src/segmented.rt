@@ -15,3 +15,6 @@ mod walk;
 pub use buf::{Chunks, SegmentedBuf};
 pub use packed::PackedBuf;
 pub use slice::SegmentedSlice;
+
+/// How many bytes a new block has, if it need not have more.
+const BLOCK: usize = 4096;

@@ -6,15 +6,19 @@ ghost use Rattle.bytes_utils_buf.specs.Packing.{IsPacked, Packs, last_of};
 ghost use Rattle.bytes_utils_buf.specs.Segments.{CountsPass, IsPaid, Skips, after_accepting, front_of, newly_held, nothing_held, take_bytes};
 ghost use Rattle.bytes_utils_buf.specs.Slices.{taken_by};
 
-use super::SegmentedBuf;
+use super::{BLOCK, SegmentedBuf};
 use crate::parts::{BufParts, CopyRefused};
 use crate::{EitherBuf, Reason, Refused};
 use bytes::{Buf, Bytes, BytesMut};
-use std::alloc::Global;
+use std::alloc::{AllocError, Global};
 use std::marker::Model;
+use std::mem::replace;
 
-/// How many bytes a new block has, if it need not have more.
-const BLOCK: usize = 4096;
+/// The same as `BLOCK` of a block that follows a longer piece.
+const SMALL_BLOCK: usize = 64;
+
+/// The most bytes of room that are kept while no byte is held.
+const MOST_EMPTIED: usize = 4 * BLOCK;
 
 /// Pieces that read as one buffer, of which small ones are copied together.
 ///
@@ -32,11 +36,16 @@ const BLOCK: usize = 4096;
 ///
 /// So any two neighbouring segments hold more than `threshold` bytes together, except for the first
 /// one, which may be what reading left of a longer one. A block has 4,096 bytes, or twice those
-/// that were copied into it when it was made. What `SegmentedBuf` can do without changing its bytes
-/// is there by [`as_segmented`](PackedBuf::as_segmented).
+/// that are copied into it when it is made. After a longer piece it begins with 64 bytes, and
+/// doubles as it fills. The room that is left of a block that was read to its end takes the next
+/// small piece, so that messages which come one by one share their blocks.
+///
+/// What `SegmentedBuf` can do without changing its bytes is there by
+/// [`as_segmented`](PackedBuf::as_segmented).
 #[derive(Debug, Drop)]
 pub struct PackedBuf {
     held: SegmentedBuf<EitherBuf<Bytes, BytesMut>>,
+    emptied: BytesMut,
     threshold: usize,
 }
 
@@ -58,6 +67,7 @@ impl PackedBuf {
     {
         PackedBuf {
             held: SegmentedBuf::new(alloc),
+            emptied: BytesMut::new(alloc),
             threshold,
         }
     }
@@ -105,12 +115,15 @@ impl PackedBuf {
         ensures back { IfErr result (λ e. e.back ≡ self) }
         ensures reason { IfErr result (λ e. e.reason ≡ Reason.OutOfMemory) }
     {
-        let PackedBuf { held, threshold } = self;
-        match held.into_shared(alloc) {
+        match self.held.into_shared(alloc) {
             Ok(all) => Ok(all),
             Err(Refused { reason, back: held }) => Err(Refused {
                 reason,
-                back: PackedBuf { held, threshold },
+                back: PackedBuf {
+                    held,
+                    emptied: BytesMut::new(alloc),
+                    threshold: self.threshold,
+                },
             }),
         }
     }
@@ -147,9 +160,10 @@ impl PackedBuf {
         }
     }
 
-    /// Appends a copy of `bytes`: to the last segment, if that is a block with room for them; with a
-    /// copy of the last segment in a new block, if both have at most `threshold` bytes together; or
-    /// else alone in a new block. Fails as `push` does; then nothing has changed.
+    /// Appends a copy of `bytes`: to the last segment, if that is a block that has room for them or
+    /// is given it; with a copy of the last segment in a new block, if both have at most `threshold`
+    /// bytes together; or else alone in a block. Fails as `push` does; then nothing has changed.
+    #[inline]
     pub fn push_slice(&mut self, alloc: Global, bytes: &[u8]) -> Result<(), Reason>
         ensures packs { OnOk result (Packs bytes.now self.old.held self.new.held) }
         ensures bytes { OnOk result
@@ -172,9 +186,30 @@ impl PackedBuf {
         if self.held.extend_last(bytes) {
             return Ok(());
         }
+        self.push_grown(alloc, bytes)
+    }
+
+    /// As `push_slice`, where the last segment is no block with room for `bytes`.
+    #[inline(never)]
+    fn push_grown(&mut self, alloc: Global, bytes: &[u8]) -> Result<(), Reason>
+        requires some { 0 < length bytes.now }
+        requires fits { length (concat self.old.held.segments) + length bytes.now < 2 ^ 64 }
+        ensures packs { OnOk result (Packs bytes.now self.old.held self.new.held) }
+        ensures bytes { OnOk result
+            (concat self.new.held.segments ≡ concat self.old.held.segments ++ bytes.now) }
+        ensures threshold { self.new.threshold ≡ self.old.threshold }
+        ensures err { OnErr result (self.new ≡ self.old) }
+        ensures reason { IfErr result (λ reason. reason ≡ Reason.OutOfMemory) }
+        ensures paid { IsPaid self.old.held self.new.held }
+    {
+        self.held.make_room(alloc, bytes.len())?;
+        if self.held.extend_last(bytes) {
+            return Ok(());
+        }
         let size = self.held.last_segment().len() + bytes.len();
         if self.held.segments() > 0 && size <= self.threshold {
-            self.held.replace_last(alloc, bytes, block_len(size))?;
+            self.held
+                .replace_last(alloc, bytes, block_len(size, BLOCK))?;
             return Ok(());
         }
         self.push_block(alloc, bytes)
@@ -211,7 +246,7 @@ impl PackedBuf {
         }
     }
 
-    /// Appends a new block with a copy of `bytes`.
+    /// Appends a block with a copy of `bytes`.
     fn push_block(&mut self, alloc: Global, bytes: &[u8]) -> Result<(), Reason>
         requires some { 0 < length bytes.now }
         requires fits { length (concat self.old.held.segments) + length bytes.now < 2 ^ 64 }
@@ -225,9 +260,42 @@ impl PackedBuf {
         ensures reason { IfErr result (λ reason. reason ≡ Reason.OutOfMemory) }
         ensures paid { IsPaid self.old.held self.new.held }
     {
-        let mut block = BytesMut::with_capacity(alloc, block_len(bytes.len()))?;
+        let least = if self.held.segments() == 0 || self.held.ends_in_block() {
+            BLOCK
+        } else {
+            SMALL_BLOCK
+        };
+        let emptied = replace(&mut self.emptied, BytesMut::new(alloc));
+        let mut block = with_room(alloc, emptied, bytes.len(), least)?;
         block.extend_reserved(bytes);
         Ok(self.held.push(EitherBuf::Right(block))?)
+    }
+
+    /// Takes all bytes of the only segment out, and keeps its room.
+    #[inline(never)]
+    fn take_only_segment(&mut self, alloc: Global) -> Result<Bytes, Reason>
+        requires { length self.old.held.segments ≡ 1 }
+        ensures value { IfOk result (λ all. all ≡ concat self.old.held.segments) }
+        ensures none { OnOk result (self.new.held.segments ≡ []) }
+        ensures threshold { self.new.threshold ≡ self.old.threshold }
+        ensures err { OnErr result (self.new ≡ self.old) }
+        ensures reason { IfErr result (λ reason. reason ≡ Reason.OutOfMemory) }
+        ensures paid { IsPaid self.old.held self.new.held }
+    {
+        let (all, last) = self.held.take_only_segment(alloc)?;
+        self.keep_room(last);
+        Ok(all)
+    }
+
+    /// Keeps the room of a segment that was read, if that is a block and not large.
+    fn keep_room(&mut self, last: EitherBuf<Bytes, BytesMut>)
+        ensures { self.new ≡ self.old }
+    {
+        if let EitherBuf::Right(block) = last
+            && block.capacity() <= MOST_EMPTIED
+        {
+            self.emptied = block;
+        }
     }
 
     /// Takes the first `len` bytes out. The first segment shares them if it has them all. Otherwise
@@ -247,6 +315,9 @@ impl PackedBuf {
         ensures none { len ≡ 0 → IsOk result }
         ensures paid { IsPaid self.old.held self.new.held }
     {
+        if self.held.segments() == 1 && len == self.held.remaining() {
+            return self.take_only_segment(alloc);
+        }
         if self.held.segments() > 0 && len > 0 && len <= self.first_len() {
             return Ok(self.held.copy_to_bytes(alloc, len)?);
         }
@@ -300,16 +371,53 @@ impl PackedBuf {
         ensures counts { CountsPass 1 self.old.held self.new.held }
         ensures paid { IsPaid self.old.held self.new.held }
     {
-        self.held.advance(cnt);
+        if self.held.segments() == 1 && cnt == self.held.remaining() {
+            self.pass_only_segment();
+        } else {
+            self.held.advance(cnt);
+        }
+    }
+
+    /// Passes the only segment, and keeps its room.
+    #[inline(never)]
+    fn pass_only_segment(&mut self)
+        requires { length self.old.held.segments ≡ 1 }
+        ensures none { self.new.held.segments ≡ [] }
+        ensures threshold { self.new.threshold ≡ self.old.threshold }
+        ensures counts { CountsPass 1 self.old.held self.new.held }
+        ensures paid { IsPaid self.old.held self.new.held }
+    {
+        if let Some(last) = self.held.pop() {
+            self.keep_room(last);
+        }
     }
 }
 
-/// How many bytes a new block has that begins with `size` bytes.
-fn block_len(size: usize) -> usize
-    ensures room { size ≤ result }
-    ensures within { (result ≤ 4096) ⊎ (result ≤ 2 * size) }
+/// Returns an empty block with room for `len` bytes: `block`, if it has room for them or can have it
+/// without memory, or else a new one of at least `least` bytes.
+fn with_room(
+    alloc: Global,
+    mut block: BytesMut,
+    len: usize,
+    least: usize,
+) -> Result<BytesMut, AllocError>
+    ensures empty { IfOk result (λ block. block.items ≡ []) }
+    ensures room { IfOk result (λ block. len ≤ block.spare) }
 {
-    size.saturating_mul(2).max(BLOCK)
+    block.clear();
+    let size = block_len(len, least);
+    if len <= block.capacity() || block.try_reclaim(size) {
+        return Ok(block);
+    }
+    BytesMut::with_capacity(alloc, size)
+}
+
+/// How many bytes a new block has that begins with `size` bytes: twice these, and at least `least`.
+fn block_len(size: usize, least: usize) -> usize
+    ensures room { size ≤ result }
+    ensures within { (result ≤ least) ⊎ (result ≤ 2 * size) }
+{
+    size.saturating_mul(2).max(least)
 }
 
 impl Buf for PackedBuf {

@@ -1,12 +1,39 @@
 //! Calls on the first held segment alone.
-ghost use Rattle.std.specs.Prelude.{◌≡◌, ◌<◌, ◌≤◌, length, map, take, IsTrue, ◌↔◌, IfOk, IfErr};
+ghost use Rattle.std.specs.Prelude.{◌≡◌, ◌<◌, ◌≤◌, [], length, map, take, IsTrue, ◌↔◌, IfOk, IfErr, OnOk, OnErr};
+ghost use Rattle.std.specs.List.{concat};
 ghost use Rattle.bytes_utils_buf.specs.Slices.{taken_by};
-ghost use Rattle.bytes_utils_buf.specs.Segments.{cut_front, front_of};
+ghost use Rattle.bytes_utils_buf.specs.Segments.{IsPaid, cut_front, front_of};
 
+use super::SegmentedBuf;
 use crate::parts::{BufParts, CopyRefused};
-use bytes::{Buf, Bytes};
+use crate::{EitherBuf, Reason};
+use bytes::{Buf, Bytes, BytesMut};
 use std::alloc::Global;
 use std::collections::VecDeque;
+
+impl SegmentedBuf<EitherBuf<Bytes, BytesMut>> {
+    /// Takes all bytes of the only segment out, and returns them and that segment, which is empty.
+    pub(crate) fn take_only_segment(
+        &mut self,
+        alloc: Global,
+    ) -> Result<(Bytes, EitherBuf<Bytes, BytesMut>), Reason>
+        requires { length self.old.segments ≡ 1 }
+        ensures value { IfOk result (λ both. both.0 ≡ concat self.old.segments) }
+        ensures none { OnOk result (self.new.segments ≡ []) }
+        ensures paid { IsPaid self.old self.new }
+        ensures err { OnErr result (self.new ≡ self.old) }
+        ensures reason { IfErr result (λ reason. reason ≡ Reason.OutOfMemory) }
+    {
+        let all = take_from_front(&mut self.segments, alloc, self.remaining)?;
+        let Some(last) = self.segments.pop_front() else {
+            unreachable!()
+        };
+        self.tally.call();
+        self.tally.turn();
+        self.remaining = 0;
+        Ok((all, last))
+    }
+}
 
 /// Whether the first held segment has at least `len` bytes.
 #[inline]
@@ -21,7 +48,7 @@ pub(super) fn front_holds<B: Buf>(segments: &VecDeque<B>, len: usize) -> bool
 }
 
 /// Takes `len` bytes out of the first held segment alone, by its `copy_out`.
-#[inline]
+#[inline(always)]
 pub(super) fn take_from_front<B: BufParts>(
     segments: &mut VecDeque<B>,
     alloc: Global,

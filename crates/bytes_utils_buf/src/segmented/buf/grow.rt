@@ -6,14 +6,19 @@ ghost use Rattle.bytes_utils_buf.specs.Packing.{after_packing, grow_last, last_o
 
 use super::SegmentedBuf;
 use crate::contiguous::ContiguousBuf;
+use crate::segmented::BLOCK;
 use crate::{EitherBuf, Reason};
 use bytes::{Buf, Bytes, BytesMut};
-use std::alloc::Global;
+use std::alloc::{AllocError, Global};
 use std::collections::VecDeque;
+
+/// The most bytes that are moved to make room in the only segment.
+const MOST_MOVED: usize = 512;
 
 impl SegmentedBuf<EitherBuf<Bytes, BytesMut>> {
     /// Copies `bytes` to the end of the last segment, if that is a block with room for them, and
     /// returns whether it did.
+    #[inline]
     pub(crate) fn extend_last(&mut self, bytes: &[u8]) -> bool
         requires { length (concat self.old.segments) + length bytes.now < 2 ^ 64 }
         ensures some { OnTrue result (0 < length self.old.segments) }
@@ -27,6 +32,22 @@ impl SegmentedBuf<EitherBuf<Bytes, BytesMut>> {
         self.tally.give(1, 1);
         self.tally.call();
         true
+    }
+
+    /// Makes room for `len` more bytes at the end of the last segment, if that is a block with less
+    /// room than a new one has, or the only segment and short. A block is given room for as many
+    /// bytes as it has, at least, so that the bytes moved are at most twice those pushed.
+    pub(crate) fn make_room(&mut self, alloc: Global, len: usize) -> Result<(), Reason>
+        ensures same { self.new ≡ self.old }
+        ensures reason { IfErr result (λ reason. reason ≡ Reason.OutOfMemory) }
+    {
+        let is_only = self.segments.len() == 1;
+        Ok(grow_back(&mut self.segments, alloc, len, is_only)?)
+    }
+
+    /// Returns whether the last segment is a block.
+    pub(crate) fn ends_in_block(&self) -> bool {
+        matches!(self.segments.back(), Some(EitherBuf::Right(_)))
     }
 
     /// Returns the bytes of the last segment, or none if there is no segment.
@@ -64,7 +85,57 @@ impl SegmentedBuf<EitherBuf<Bytes, BytesMut>> {
     }
 }
 
+/// Makes room for `len` more bytes at the end of the last segment, as `grow_piece` does.
+fn grow_back(
+    segments: &mut VecDeque<EitherBuf<Bytes, BytesMut>>,
+    alloc: Global,
+    len: usize,
+    is_only: bool,
+) -> Result<(), AllocError>
+    ensures { map piece_bytes segments.new.items ≡ map piece_bytes segments.old.items }
+{
+    match segments.back_mut() {
+        Some(last) => grow_piece(last, alloc, len, is_only),
+        None => Ok(()),
+    }
+}
+
+/// Makes room for `len` more bytes at the end of a piece, if it is a block with less room than a new
+/// one has, or is the only piece and short.
+fn grow_piece(
+    piece: &mut EitherBuf<Bytes, BytesMut>,
+    alloc: Global,
+    len: usize,
+    is_only: bool,
+) -> Result<(), AllocError>
+    ensures { piece_bytes piece.new ≡ piece_bytes piece.old }
+{
+    match piece {
+        EitherBuf::Right(block) if is_only && block.len() <= MOST_MOVED => {
+            move_block(block, alloc, len)
+        }
+        EitherBuf::Right(block) if block.capacity() < BLOCK => block.reserve(len.max(block.len())),
+        _ => Ok(()),
+    }
+}
+
+/// Moves the bytes of a block to its front, if that makes room for `len` more. Otherwise, as where
+/// bytes that were taken out still share the block, they are copied into a new one.
+fn move_block(block: &mut BytesMut, alloc: Global, len: usize) -> Result<(), AllocError>
+    ensures { block.new.items ≡ block.old.items }
+{
+    if block.try_reclaim(len.max(MOST_MOVED)) {
+        return Ok(());
+    }
+    let size = len.saturating_add(block.len().max(MOST_MOVED)).max(BLOCK);
+    let mut moved = BytesMut::with_capacity(alloc, size)?;
+    moved.extend_reserved(block.as_slice());
+    *block = moved;
+    Ok(())
+}
+
 /// Copies `bytes` to the end of the last segment, if that is a block with room for them.
+#[inline]
 fn extend_back(segments: &mut VecDeque<EitherBuf<Bytes, BytesMut>>, bytes: &[u8]) -> bool
     ensures some { OnTrue result (0 < length segments.old.items) }
     ensures grown { OnTrue result (map piece_bytes segments.new.items
@@ -78,6 +149,7 @@ fn extend_back(segments: &mut VecDeque<EitherBuf<Bytes, BytesMut>>, bytes: &[u8]
 }
 
 /// Copies `bytes` to the end of a piece, if that is a block with room for them.
+#[inline]
 fn extend_piece(piece: &mut EitherBuf<Bytes, BytesMut>, bytes: &[u8]) -> bool
     ensures grown { OnTrue result (piece_bytes piece.new ≡ piece_bytes piece.old ++ bytes.now) }
     ensures same { OnFalse result (piece.new ≡ piece.old) }

@@ -276,12 +276,80 @@ fn has_blocks(alloc: Global, row: &str) -> Result<bool, Fail> {
     Ok(are_blocks(buf, blocks) == Some(true))
 }
 
-// A block never grows.
+// A block of 4,096 bytes or more doesn't grow.
 #[test]
 fn blocks(rt: HostRuntime) -> Result<(), Fail> {
     for row in BLOCKS.split('|') {
         assert!(rt; has_blocks(rt.alloc(), row)?, "{row}");
     }
+    Ok(())
+}
+
+/// How many bytes are pushed one by one after a longer piece that is shared, and the blocks that hold
+/// them.
+const LATER_BLOCKS: &str = "\
+1: 1 of 64|\
+64: 64 of 64|\
+65: 65 of 128|\
+5000: 4096 of 4096, 904 of 4096";
+
+fn has_later_blocks(alloc: Global, row: &str) -> Result<bool, Fail> {
+    let (count, blocks) = row.split_once(": ").ok_or("no blocks")?;
+    let mut buf = PackedBuf::new(alloc, 10);
+    buf.push(alloc, Bytes::from_static(b"Hello World"))?;
+    put_singles(alloc, &mut buf, count.parse().ok().ok_or("no count")?)?;
+    if buf.remaining() < 11 {
+        return Ok(false);
+    }
+    buf.advance(11);
+    Ok(are_blocks(buf, blocks) == Some(true))
+}
+
+#[test]
+fn blocks_after_a_longer_piece(rt: HostRuntime) -> Result<(), Fail> {
+    for row in LATER_BLOCKS.split('|') {
+        assert!(rt; has_later_blocks(rt.alloc(), row)?, "{row}");
+    }
+    Ok(())
+}
+
+/// Pushes a text and takes it out, and returns whether it shares its block with the room that is
+/// left of that.
+fn shares_room(alloc: Global, buf: &mut PackedBuf, text: &[u8]) -> Result<bool, Fail> {
+    buf.push_slice(alloc, text)?;
+    Ok(buf.remaining() == 3 && shares_taken(alloc, buf)? && buf.segments() == 0)
+}
+
+// The room of a block that was read to its end is kept for the next message, but not that of a large
+// block.
+#[test]
+fn messages_share_a_block(rt: HostRuntime) -> Result<(), Fail> {
+    let mut buf = PackedBuf::new(rt.alloc(), 512);
+    assert!(rt; shares_room(rt.alloc(), &mut buf, b"one")?);
+    assert!(rt; shares_room(rt.alloc(), &mut buf, b"two")?);
+    put(rt.alloc(), &mut buf, 20_000, 0)?;
+    let len = buf.remaining();
+    assert!(rt; buf.take_bytes(rt.alloc(), len)?.is_unique());
+    Ok(())
+}
+
+/// Fills a block, takes all but 196 bytes out, and pushes 500. Returns whether one segment holds
+/// these and the rest.
+fn moves_rest(alloc: Global, buf: &mut PackedBuf) -> Result<bool, Fail> {
+    put_singles(alloc, buf, 4_096)?;
+    if buf.remaining() < 3_900 {
+        return Ok(false);
+    }
+    let taken = buf.take_bytes(alloc, 3_900)?;
+    buf.push_slice(alloc, vec![in alloc; b'y'; 500]?.as_slice())?;
+    Ok(taken.len() == 3_900 && buf.segments() == 1 && buf.remaining() == 696)
+}
+
+#[test]
+fn short_rests_move(rt: HostRuntime) -> Result<(), Fail> {
+    let mut buf = PackedBuf::new(rt.alloc(), 512);
+    assert!(rt; moves_rest(rt.alloc(), &mut buf)?);
+    assert!(rt; buf.last_segment().starts_with(b"xxxx") && buf.last_segment().ends_with(b"yyyy"));
     Ok(())
 }
 

@@ -52,6 +52,22 @@ fn push_of_a_large_piece(rt: HostRuntime) -> Result<(), Fail> {
     Ok(())
 }
 
+// A block of 64 bytes after a longer piece is full, so that one byte more makes it grow.
+#[test]
+fn push_to_a_full_block(rt: HostRuntime) -> Result<(), Fail> {
+    let text = "0123456789abcdef0123456789abcdef0123456789abcdef0123456789abcdef";
+    let mut buf = PackedBuf::new(rt.alloc(), 1);
+    pushes(&rt, rt.alloc(), "no call", &mut buf, ("", "Hello"))?;
+    if buf.push_slice(rt.alloc(), text.as_bytes()).is_err() || buf.remaining() < 5 {
+        return Ok(());
+    }
+    buf.advance(5);
+    let call = "PackedBuf::push to a full block";
+    pushes(&rt, rt.alloc(), call, &mut buf, (text, "g"))?;
+    assert!(rt; buf.segments() == 1 && buf.remaining() == 65);
+    Ok(())
+}
+
 #[test]
 fn push_slice(rt: HostRuntime) -> Result<(), Fail> {
     let mut buf = PackedBuf::new(rt.alloc(), 4);
