@@ -1,16 +1,17 @@
 -- Reading on in held bytes.
-use Rattle.std.proofs.Common.{◌≡◌, ◌≢◌, ℕ, ◌+◌, ◌-◌, ◌<◌, ◌≤◌, List, [], ◌∷◌, ◌++◌, length, take, drop, None, Some, ap, ◌∙◌, sym, refl, subst, arith, append_assoc, append-nil, length-drop, take-append-drop, take_all, drop-drop, ⊎_elim}
-use Rattle.std.proofs.lemmas.Bool.{cases_lt}
+use Rattle.std.proofs.Common.{◌≡◌, ◌≢◌, ◌⊎◌, ℕ, ◌+◌, ◌-◌, ◌<◌, ◌≤◌, List, [], ◌∷◌, ◌++◌, length, take, drop, slice_range, Option, None, Some, leb, ap, ◌∙◌, sym, refl, subst, arith, append_assoc, append-nil, length-drop, take-append-drop, take_all, drop-drop, ⊎_elim}
+use Rattle.std.proofs.lemmas.Bool.{cases_lt, le-leb, lt-leb}
 use Rattle.std.proofs.lemmas.List.{append_cancel_left, length-take-le, take-append-le}
+use Rattle.std.specs.Bool.{then_some}
 use Rattle.memchr.specs.Find.{FindsNeedle}
 use Rattle.memchr.proofs.lemmas.MatchLemmas.{OccursAt-part, OccursAt-from_part}
 use Rattle.bytes_utils.specs.Occurrence.{Occurs, OccursAt, OccursFirstAt}
-use Rattle.bytes_utils.specs.Frames.{TakesFrame}
-use Rattle.bytes_utils.specs.Cursor.{Reading, unread, passed_on, Wanted, Tag, First, Until, UpTo, Line, Reads, AreRead, TakesFirst, TakesUpTo, IsBegun, NeverBegins, SameReadLaw, StaysReadLaw, StaysWrongLaw, OneReplyLaw}
+use Rattle.bytes_utils.specs.Frames.{TakesFrame, HasFrame, HasFrameWithin}
+use Rattle.bytes_utils.specs.Cursor.{Reading, unread, passed_on, Wanted, Tag, First, Until, UpTo, Line, Reads, AreRead, TakesFirst, TakesUpTo, IsBegun, IsFirstWithin, NeverBegins, NeverEndsWithin, SameReadLaw, StaysReadLaw, StaysWrongLaw, OneReplyLaw}
 use Rattle.bytes_utils.proofs.Boundaries.{OccursAt-fits}
-use Rattle.bytes_utils.proofs.FramesLemmas.{TakesFrame-more, TakesFrame-same, first_more}
+use Rattle.bytes_utils.proofs.FramesLemmas.{HasFrame-taken, HasFrameWithin-taken, TakesFrame-more, TakesFrame-same, first_more}
 use Rattle.bytes_utils.proofs.Joins.{append_same}
-use Rattle.bytes_utils.proofs.OccurrenceLemmas.{cut_whole, first_places_same}
+use Rattle.bytes_utils.proofs.OccurrenceLemmas.{OccursAt-front, cut_whole, first_places_same}
 use Rattle.bytes_utils.proofs.StreamLinesLemmas.{TakesLine-more, same_lines_law}
 
 -- ---- a search from a place on
@@ -42,6 +43,69 @@ module _ (p all : List ℕ) (start place : ℕ) (found : FindsNeedle all p start
 
   pub found_fits : (place - start) + length p ≤ length (drop start all)
   found_fits = omega (arith, found.0.low, found.1.fits, length-drop start all)
+
+-- ---- a limit
+
+module _ (p old : List ℕ) where
+  TakesFrame-first : (n : ℕ) → n + length p ≤ length old → OccursFirstAt p old n → TakesFrame p old (take n old) (drop (n + length p) old)
+  TakesFrame-first n fits first = record {
+    bytes = sym (cut_whole p old n first.here);
+    first = subst (OccursFirstAt p old) (sym (length-take-le n old (omega (arith, fits)))) first;
+  }
+
+  -- a front with some bytes has come
+  pub HasFrame-first : (n : ℕ) → n + length p ≤ length old → OccursFirstAt p old n → 0 < n → HasFrame p old
+  HasFrame-first n fits first some = HasFrame-taken p old n fits (TakesFrame-first n fits first) some
+
+  pub HasFrameWithin-first : (most n : ℕ) → n + length p ≤ length old → OccursFirstAt p old n → 0 < n → n ≤ most → HasFrameWithin most p old
+  HasFrameWithin-first most n fits first some within = HasFrameWithin-taken most p old n fits (TakesFrame-first n fits first) some within
+
+  module _ (most : ℕ) (some : 0 < length p) (none : (n : ℕ) → OccursAt p old n → most < n) where
+    -- all places within the limit have come, and the needle begins at none of them
+    pub NeverEndsWithin-none : most + length p ≤ length old → NeverEndsWithin most p old
+    NeverEndsWithin-none all more front rest takes = ⊎_elim
+        (λ above. above)
+        (λ within. none (length front) (OccursAt-front p old more (length front) takes.first.here (omega (arith, within, all))))
+        (cases_lt most (length front))
+
+    -- not all of them have come
+    pub lacks_within : length old < most + length p → ¬ Occurs p old
+    lacks_within few occurs = omega (arith, few, none occurs.0 occurs.1, OccursAt-fits p old occurs.0 some occurs.1)
+
+-- the bytes at a place after the cursor are the needle
+module _ (p all : List ℕ) (at n : ℕ) where
+  pub here_from_held : slice_range all (at + n) ((at + n) + length p) ≡ p → OccursAt p (drop at all) n
+  here_from_held held =
+      let size : length p ≡ ((at + n) + length p) - (at + n) = omega arith in
+      ap (take (length p)) (drop-drop n at all) ∙ ap (λ k. take k (drop (at + n) all)) size ∙ held
+
+  pub held_from_here : 0 < length p → at ≤ length all → OccursAt p (drop at all) n
+      → ((at + n) + length p ≤ length all) × (slice_range all (at + n) ((at + n) + length p) ≡ p)
+  held_from_here some within here =
+      let size : ((at + n) + length p) - (at + n) ≡ length p = omega arith in (
+        omega (arith, OccursAt-fits p (drop at all) n some here, length-drop at all, within),
+        ap (λ k. take k (drop (at + n) all)) size ∙ ap (take (length p)) (sym (drop-drop n at all)) ∙ here,
+      )
+
+-- the first place of the needle, within the limit
+module _ (p old : List ℕ) (most place : ℕ) where
+  pub IsFirstWithin-here : OccursAt p old place → ((k : ℕ) → k < place → ¬ OccursAt p old k) → place ≤ most → IsFirstWithin most p old (Some place)
+  IsFirstWithin-here here none within = (
+    record { here = here; none_before = λ j there. ⊎_elim (λ below. absurd (none j below there)) (λ from. from) (cases_lt j place) },
+    within,
+  )
+
+  pub IsFirstWithin-none : ((k : ℕ) → k < place → ¬ OccursAt p old k) → (most < place) ⊎ (length old ≤ place) → 0 < length p → IsFirstWithin most p old None
+  IsFirstWithin-none none past some n there = ⊎_elim
+      (λ below. absurd (none n below there))
+      (λ from. ⊎_elim (λ after. omega (arith, from, after)) (λ all. absurd (omega (arith, from, all, some, OccursAt-fits p old n some there))) past)
+      (cases_lt n place)
+
+  pub IsFirstWithin-kept : (r : Option ℕ) → OccursFirstAt p old place → r ≡ then_some (leb place most) place → IsFirstWithin most p old r
+  IsFirstWithin-kept r first is = ⊎_elim
+      (λ past. subst (IsFirstWithin most p old) (sym (is ∙ ap (λ b. then_some b place) (lt-leb place most past))) (λ n there. omega (arith, past, first.none_before n there)))
+      (λ within. subst (IsFirstWithin most p old) (sym (is ∙ ap (λ b. then_some b place) (le-leb place most within))) (first, within))
+      (cases_lt most place)
 
 -- ---- a tag
 

@@ -1,5 +1,5 @@
 -- A search in a part of the bytes, and what follows for all of them.
-use Rattle.std.proofs.Common.{◌≡◌, ◌≢◌, ℕ, ◌+◌, ◌-◌, ◌<◌, ◌≤◌, List, [], ◌∷◌, ◌++◌, zero, suc, inl, inr, length, take, drop, get_or, slice_index, Bool, Option, None, Some, Result, Ok, Err, OnOk, OnErr, ap, ◌∙◌, sym, refl, subst, arith, length-append, length-drop, length-take, append_assoc, append-nil, drop-drop, drop_at, get_or-drop, take-append-drop, ⊎_elim}
+use Rattle.std.proofs.Common.{◌≡◌, ◌≢◌, ℕ, ◌+◌, ◌-◌, ◌<◌, ◌≤◌, List, [], ◌∷◌, ◌++◌, zero, suc, inl, inr, length, take, drop, get_or, slice_index, Bool, Option, None, Some, Result, Ok, Err, OnOk, OnErr, vec_capacity, ap, ◌∙◌, sym, refl, subst, arith, length-append, length-drop, length-take, append_assoc, append-nil, drop-drop, drop_at, get_or-drop, take-append-drop, ⊎_elim}
 use Rattle.std.proofs.lemmas.List.{drop_all, length-take-le, get_or_append_left, drop-append-le, nil_from_length}
 use Rattle.std.proofs.lemmas.Bool.{cases_lt, cases_Bool, eq-eqb, false≢true}
 use Rattle.std.specs.List.{concat}
@@ -250,6 +250,7 @@ SearchedPieces-more p pieces next s searched =
       within = omega (arith, searched.within, length-append pieces next);
       inside = same.0;
       searched = rw same.1 searched.searched;
+      room = searched.room;
     }
 
 -- the last piece grows, of which not all was searched
@@ -260,6 +261,7 @@ SearchedPieces-grown p more pieces s partly searched =
       within = omega (arith, partly, length-grow_last more pieces);
       inside = same.0;
       searched = rw same.1 searched.searched;
+      room = searched.room;
     }
 
 -- a piece was accepted
@@ -375,8 +377,8 @@ first_bytes_left n all before rest left after others was is skipped within size 
 pub SearchedPieces-left : (p : List ℕ) (n passed : ℕ) (old new : List (List ℕ)) (s to : SearchState) → Skips n old new → n ≤ length (concat old) → passed + length new ≡ length old
     → SearchedPieces p old s → n ≤ s.base + length s.held.items → to.pieces + passed ≡ s.pieces
     → (to.pieces ≡ 0 → to.offset + n ≡ s.base + length s.held.items) → (0 < to.pieces → to.offset ≡ s.offset)
-    → to.base ≡ s.base - n → to.held.items ≡ drop (n - s.base) s.held.items → SearchedPieces p new to
-SearchedPieces-left p n passed old new s to skips fits count searched few pieces first next base held =
+    → to.base ≡ s.base - n → to.held.items ≡ drop (n - s.base) s.held.items → vec_capacity to.held ≡ vec_capacity s.held → SearchedPieces p new to
+SearchedPieces-left p n passed old new s to skips fits count searched few pieces first next base held room =
     let came = skips.passed in
     let same : passed ≡ came
     = omega (arith, count, skips.within, ap length skips.rest, length-cut_front skips.cut (drop came old), length-drop came old) in
@@ -395,4 +397,5 @@ SearchedPieces-left p n passed old new s to skips fits count searched few pieces
       within = omega (arith, pieces, same, searched.within, ap length skips.rest, length-cut_front skips.cut (drop came old), length-drop came old);
       inside = place.0;
       searched = rw (first_bytes_left n (concat old) before was.0 (concat new) after is.0 was.1 is.1 skips.bytes within long) (Searched-left p before s.held.items s.base n to.base to.held.items searched.searched within base held);
+      room = omega (arith, room, searched.room);
     }

@@ -1,6 +1,6 @@
 -- Frames from pieces.
-use Rattle.std.proofs.Common.{map, All, IsUtf8, drop-drop, Option, ◌≤◌, ◌≡◌, ℕ, ◌+◌, ◌<◌, List, [], ◌∷◌, ◌++◌, length, take, drop, None, Some, inl, inr, ap, ◌∙◌, sym, refl, subst, arith, length-append, append_assoc, append-nil, take-append-drop, ⊎_elim}
-use Rattle.std.proofs.lemmas.Bool.{cases_lt}
+use Rattle.std.proofs.Common.{map, All, IsUtf8, drop-drop, Option, ◌≤◌, ◌≡◌, true, false, ℕ, zero, suc, ◌+◌, ◌<◌, List, [], ◌∷◌, ◌++◌, length, take, drop, None, Some, inl, inr, ap, ◌∙◌, sym, refl, subst, arith, length-append, append_assoc, append-nil, take-append-drop, ⊎_elim}
+use Rattle.std.proofs.lemmas.Bool.{cases_lt, false≢true}
 use Rattle.std.proofs.lemmas.List.{append_cancel_left, length-take-le, take_at, drop_at}
 use Rattle.std.proofs.lemmas.List.Elements.{All-nil, All-cons, All-head, All-tail}
 use Rattle.std.proofs.lemmas.Str.{IsUtf8-drop}
@@ -16,7 +16,7 @@ use Rattle.bytes_utils_buf.specs.Segments.{Held, after_accepting}
 use Rattle.bytes_utils_buf.proofs.Lists.{Skips-more}
 use Rattle.bytes_utils.specs.Occurrence.{Occurs, OccursAt, OccursFirstAt}
 use Rattle.bytes_utils.specs.Parts.{IsCutAtFirst, AreForwardParts}
-use Rattle.bytes_utils.specs.Frames.{DropsFirst, Framing, PacksPiece, PushesPieces, TakesFrame, AreFrames, FrameOrBytes, Frame, First, TakesFrameOrBytes, framed, FramesLaw, FramesAndBytesLaw, FramePartsLaw, PutFramesLaw, SameFramesLaw, AllFramesLaw, TextFramesLaw}
+use Rattle.bytes_utils.specs.Frames.{DropsFirst, Framing, HasFrame, HasFrameWithin, PacksPiece, PushesPieces, TakesFrame, AreFrames, FrameOrBytes, Frame, First, TakesFrameOrBytes, framed, FramesLaw, FramesAndBytesLaw, FramePartsLaw, PutFramesLaw, SameFramesLaw, AllFramesLaw, TextFramesLaw}
 use Rattle.bytes_utils.proofs.Boundaries.{OccursAt-fits, HasNeedleAt-from_occurs}
 use Rattle.bytes_utils.proofs.OccurrenceLemmas.{OccursFirstAt-append, first_places_same}
 use Rattle.bytes_utils.proofs.Joins.{append_same}
@@ -58,6 +58,21 @@ module _ (p held : List ℕ) (some : 0 < length p) where
   pub found_none : (r : Option ℕ) → FindsNeedle held p 0 r → IfNone r (¬ Occurs p held)
   found_none None missed = lacks_missed missed
   found_none (Some at) found = tt
+
+-- what is never refused if it has no bytes has some
+pub some_from_refused : (n : ℕ) → (n ≡ 0 → false ≡ true) → 0 < n
+some_from_refused zero none = absurd (false≢true (none refl))
+some_from_refused (suc n) none = omega arith
+
+-- a frame with some bytes has come
+pub HasFrameWithin-taken : (limit : ℕ) (p held : List ℕ) (len : ℕ) → len + length p ≤ length held → TakesFrame p held (take len held) (drop (len + length p) held) → 0 < len
+    → len ≤ limit → HasFrameWithin limit p held
+HasFrameWithin-taken limit p held len fits takes some within =
+    let size = length-take-le len held (omega (arith, fits)) in
+    (record { frame = take len held; rest = drop (len + length p) held; takes = takes; some = omega (arith, some, size) }, omega (arith, within, size))
+
+pub HasFrame-taken : (p held : List ℕ) (len : ℕ) → len + length p ≤ length held → TakesFrame p held (take len held) (drop (len + length p) held) → 0 < len → HasFrame p held
+HasFrame-taken p held len fits takes some = (HasFrameWithin-taken len p held len fits takes some (omega arith)).0
 
 -- ---- pieces
 

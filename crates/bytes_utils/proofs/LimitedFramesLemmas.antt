@@ -11,7 +11,7 @@ use Rattle.bytes_utils.specs.Occurrence.{OccursAt}
 use Rattle.bytes_utils.specs.FrameSearch.{Searched}
 use Rattle.bytes_utils.proofs.Boundaries.{HasNeedleAt-from_occurs}
 use Rattle.bytes_utils.specs.Frames.{TakesFrame}
-use Rattle.bytes_utils.specs.LimitedFrames.{Limiting, NoneBegins, LosesFront, DiscardsOverlong, IsOverlong, IsLimitedStep, IsLimitedCall, KeepsLimit, HoldsRest, limiting, appended, report_of, within, IsReportOf, LimitedFramesLaw}
+use Rattle.bytes_utils.specs.LimitedFrames.{Limiting, NoneBegins, LosesFront, Discards, DiscardsOverlong, IsOverlong, LacksMemory, IsLimitedStep, IsLimitedCall, KeepsLimit, HoldsRest, limiting, appended, report_of, within, IsReportOf, LimitedFramesLaw}
 use Rattle.bytes_utils.specs.StreamRuns.{pushed_by, given_by}
 use Rattle.bytes_utils.proofs.FramesLemmas.{AreFrames-more, AreFrames-next}
 use Rattle.bytes_utils.proofs.StreamRunsLemmas.{run_keeps}
@@ -54,6 +54,13 @@ LosesFront-searched p bytes held base some s = record {
       (λ late. late)
       (cases_lt k (length (take base bytes)));
 }
+
+-- a frame that has come was not taken out, as memory was refused
+pub IsLimitedStep-refused : {A : Type 0} (bytes_of : A → List ℕ) (old mid new : Limiting) (result : Result (Option A) Reason) (e reason : Reason) → result ≡ Err e → e ≡ reason
+    → reason ≡ OutOfMemory → new ≡ mid → Discards old mid → LacksMemory mid → IsLimitedStep bytes_of old result new
+IsLimitedStep-refused bytes_of old mid new result e reason is gives refused same over lacks =
+    subst (λ s. IsLimitedStep bytes_of old result s) (sym same)
+    (subst (λ r. IsLimitedStep bytes_of old r mid) (sym (is ∙ ap Err (gives ∙ refused))) (over, lacks))
 
 module _ (p : List ℕ) (limit : ℕ) where
   -- a piece is pushed
@@ -149,7 +156,7 @@ module _ (p : List ℕ) (limit : ℕ) where
     reported_call discarding held (Ok None) next s step = rw (append-nil out) (reported_over discarding held next.discarding next.held s step.0)
     reported_call discarding held (Err TooLong) next s step =
         reported_overlong step.0 next.discarding next.held (reported_over discarding held false step.0 s step.1) step.2
-    reported_call discarding held (Err OutOfMemory) next s step = rw (append-nil out) (reported_over discarding held next.discarding next.held s step)
+    reported_call discarding held (Err OutOfMemory) next s step = rw (append-nil out) (reported_over discarding held next.discarding next.held s step.0)
 
 -- ---- runs
 

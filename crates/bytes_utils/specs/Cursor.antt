@@ -1,6 +1,6 @@
 -- Reading on in held bytes, which stay held.
-use Rattle.std.specs.Prelude.{◌≡◌, ◌≢◌, ℕ, ◌+◌, ◌<◌, List, [], ◌∷◌, ◌++◌, length, drop, Option, Result, IfOk, IfSome, IfNone, OnErr}
-use Rattle.bytes_utils.specs.Occurrence.{OccursFirstAt}
+use Rattle.std.specs.Prelude.{◌≡◌, ◌≢◌, ℕ, ◌+◌, ◌<◌, ◌≤◌, List, [], ◌∷◌, ◌++◌, length, drop, Option, None, Some, Result, IfOk, IfSome, IfNone, OnErr}
+use Rattle.bytes_utils.specs.Occurrence.{OccursAt, OccursFirstAt}
 use Rattle.bytes_utils.specs.Frames.{TakesFrame}
 use Rattle.bytes_utils.specs.StreamLines.{TakesLine}
 
@@ -38,6 +38,11 @@ NeverBegins wanted bytes = (more rest : List ℕ) → bytes ++ more ≢ wanted +
 -- whatever comes after the bytes, more than this number of them are before the first needle
 abbrev pub NeverEndsWithin : ℕ → List ℕ → List ℕ → Type 0
 NeverEndsWithin most needle bytes = (more front rest : List ℕ) → TakesFrame needle (bytes ++ more) front rest → most < length front
+
+-- the first place of the needle in the bytes, if that is within the limit
+abbrev pub IsFirstWithin : ℕ → List ℕ → List ℕ → Option ℕ → Type 0
+IsFirstWithin most needle bytes (Some place) = OccursFirstAt needle bytes place × (place ≤ most)
+IsFirstWithin most needle bytes None = (place : ℕ) → OccursAt needle bytes place → most < place
 
 -- what a call that reads a part returns: the part, and then the cursor is after it; none, if the bytes lack it, or an error, and then the cursor stays
 pub record ReadsPart {A E : Type 0} (IsPart : A → List ℕ → List ℕ → Type 0) (Lack : List ℕ → Type 0) (old new : Reading) (result : Result (Option A) E) : Type 0 where

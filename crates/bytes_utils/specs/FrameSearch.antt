@@ -1,5 +1,6 @@
 -- How far a search over pieces in a row has come.
-use Rattle.std.specs.Prelude.{◌≡◌, ◌≢◌, ℕ, ◌+◌, ◌<◌, ◌≤◌, List, [], ◌++◌, length, take, drop, get_or, slice_index}
+use Rattle.std.specs.Prelude.{◌≡◌, ◌≢◌, ℕ, ◌+◌, ◌*◌, ◌<◌, ◌≤◌, List, [], ◌++◌, length, take, drop, get_or, slice_index, Vec, vec_capacity}
+use Rattle.std.specs.declared.alloc.Global.{Global}
 use Rattle.std.specs.List.{concat}
 use Rattle.bytes_utils_buf.specs.Segments.{IsInside}
 use Rattle.memchr.specs.Find.{Nowhere, OccursAt}
@@ -23,11 +24,16 @@ pub record Searched (needle bytes : List ℕ) (base : ℕ) (held : List ℕ) : T
 abbrev pub bytes_before : ℕ → ℕ → List (List ℕ) → List ℕ
 bytes_before k n pieces = concat (take k pieces) ++ take n (get_or pieces k [])
 
+-- there is room for a kept tail and as many bytes after it, each one byte shorter than the needle
+abbrev pub HasRoom : List ℕ → Vec ℕ Global → Type 0
+HasRoom needle held = 2 * length needle ≤ vec_capacity held + 2
+
 -- the first `progress.pieces` pieces were searched, and the first `progress.offset` bytes of the next one
 pub record SearchedPieces (needle : List ℕ) (pieces : List (List ℕ)) (progress : SearchState) : Type 0 where
   pub within : progress.pieces ≤ length pieces
   pub inside : IsInside progress.pieces progress.offset pieces
   pub searched : Searched needle (bytes_before progress.pieces progress.offset pieces) progress.base progress.held.items
+  pub room : HasRoom needle progress.held
 
 -- the search has not come further
 pub record StaysAt (old new : SearchState) : Type 0 where

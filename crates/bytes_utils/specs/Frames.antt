@@ -1,5 +1,5 @@
 -- Frames of a stream of bytes that comes in pieces. Each frame is ended by a separator, which is not empty.
-use Rattle.std.specs.Prelude.{◌≡◌, ◌↔◌, ◌⊎◌, ℕ, ◌<◌, List, [], ◌∷◌, ◌++◌, length, drop, map, None, All, IsUtf8}
+use Rattle.std.specs.Prelude.{◌≡◌, ◌↔◌, ◌⊎◌, ℕ, ◌<◌, ◌≤◌, List, [], ◌∷◌, ◌++◌, length, drop, map, None, All, IsUtf8}
 use Rattle.std.specs.Str.{chars}
 use Rattle.bytes_utils_buf.specs.Packing.{grow_last}
 use Rattle.bytes_utils_buf.specs.Segments.{Skips, without_empty}
@@ -27,6 +27,17 @@ PushesPieces (piece ∷ pieces) old new =
 pub record TakesFrame (separator old frame rest : List ℕ) : Type 0 where
   pub bytes : old ≡ frame ++ (separator ++ rest)
   pub first : OccursFirstAt separator old (length frame)
+
+-- the first frame has come, and has some bytes
+pub record HasFrame (separator bytes : List ℕ) : Type 0 where
+  pub frame : List ℕ
+  pub rest : List ℕ
+  pub takes : TakesFrame separator bytes frame rest
+  pub some : 0 < length frame
+
+-- and they are at most as many as the limit
+abbrev pub HasFrameWithin : ℕ → List ℕ → List ℕ → Type 0
+HasFrameWithin limit separator bytes = (has : HasFrame separator bytes) × (length has.frame ≤ limit)
 
 -- the first n bytes are gone, and the pieces that held them
 pub record DropsFirst (n : ℕ) (old new : Framing) : Type 0 where

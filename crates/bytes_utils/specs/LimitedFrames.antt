@@ -5,7 +5,7 @@ use Rattle.std.specs.List.{flat_map}
 use Rattle.bytes_utils_buf.specs.declared.refused.Reason.{Reason}
 use Rattle.bytes_utils_buf.specs.declared.refused.Reason.TheVariants.{OutOfMemory, TooLong}
 use Rattle.bytes_utils.specs.Occurrence.{Occurs, OccursAt}
-use Rattle.bytes_utils.specs.Frames.{TakesFrame, AreFrames}
+use Rattle.bytes_utils.specs.Frames.{TakesFrame, HasFrameWithin, AreFrames}
 use Rattle.bytes_utils.specs.StreamRuns.{StreamEvent, IsRunOver, pushed_by, given_by}
 
 -- what clauses see of a `LimitedFrames`: as of a `Frames`, the greatest length of a frame, and whether a longer one was reported whose end has not
@@ -68,12 +68,17 @@ pub record Awaits (s : Limiting) : Type 0 where
   pub few : length s.held < s.max_length + length s.separator
   pub skipped : OnTrue s.discarding (length s.held < length s.separator)
 
+-- No frame is skipped, and the next one has come and is within the limit: memory is asked for to take it out.
+pub record LacksMemory (s : Limiting) : Type 0 where
+  pub next : s.discarding ≡ false
+  pub has : HasFrameWithin s.max_length s.separator s.held
+
 -- what a call for the next frame did, by what it returned; `bytes_of` gives the bytes of a frame
 abbrev pub IsLimitedStep : {A : Type 0} → (A → List ℕ) → Limiting → Result (Option A) Reason → Limiting → Type 0
 IsLimitedStep bytes_of old (Ok (Some frame)) new = Gives old (bytes_of frame) new
 IsLimitedStep bytes_of old (Ok None) new = Discards old new × Awaits new
 IsLimitedStep bytes_of old (Err TooLong) new = Reports old new
-IsLimitedStep bytes_of old (Err OutOfMemory) new = Discards old new
+IsLimitedStep bytes_of old (Err OutOfMemory) new = Discards old new × LacksMemory new
 
 -- the separator and the limit stay
 abbrev pub KeepsLimit : Limiting → Limiting → Type 0

@@ -8,7 +8,7 @@ use Rattle.bytes_utils.specs.Lines.{line_feed, carriage_return, IsWithoutReturn}
 use Rattle.bytes_utils.specs.StreamRuns.{StreamEvent, IsRunOver, pushed_by, given_by}
 use Rattle.bytes_utils.specs.Frames.{AreFrames}
 use Rattle.bytes_utils.specs.StreamLines.{AreFirstLines}
-use Rattle.bytes_utils.specs.LimitedFrames.{Limiting, limiting, appended, Awaits, Discards, Gives, Reports, KeepsLimit, IsReportOf}
+use Rattle.bytes_utils.specs.LimitedFrames.{Limiting, limiting, appended, Awaits, LacksMemory, Discards, Gives, Reports, KeepsLimit, IsReportOf}
 use Rattle.bytes_utils.specs.declared.frame.lines.LineError.{LineError}
 use Rattle.bytes_utils.specs.declared.frame.lines.LineError.TheVariants.{Refused, NotUtf8}
 
@@ -21,7 +21,7 @@ abbrev pub IsLimitedLineStep : Limiting → Result (Option (List ℕ)) LineError
 IsLimitedLineStep old (Ok (Some line)) new = GivesLine old line new × IsUtf8 line
 IsLimitedLineStep old (Ok None) new = Discards old new × Awaits new
 IsLimitedLineStep old (Err (Refused TooLong)) new = Reports old new
-IsLimitedLineStep old (Err (Refused OutOfMemory)) new = Discards old new
+IsLimitedLineStep old (Err (Refused OutOfMemory)) new = Discards old new × LacksMemory new
 IsLimitedLineStep old (Err (NotUtf8 fault)) new =
     GivesLine old (refused_storage fault) new × (¬ IsUtf8 (refused_storage fault)) × IsFaultOf (fault_of fault) (refused_storage fault)
 

@@ -26,7 +26,7 @@ gives_prefixed old (Item frame) new = (new.decoder ≡ old.decoder) × TakesPref
 gives_prefixed old (Last None) new = awaits_prefixed old × (new ≡ old)
 gives_prefixed old (Last (Some frame)) new = ⊥
 
--- memory was refused, or the length of the next frame is over the limit
+-- memory was refused for the next frame, which has come and is within the limit, or the length of the next frame is over the limit
 abbrev pub fails_prefixed : Decoding ℕ → Reason → Type 0
-fails_prefixed s OutOfMemory = 4 + stated_len s.held ≤ length s.held
+fails_prefixed s OutOfMemory = (4 + stated_len s.held ≤ length s.held) × (stated_len s.held ≤ s.decoder)
 fails_prefixed s TooLong = (4 ≤ length s.held) × (s.decoder < stated_len s.held)

@@ -1,11 +1,11 @@
 //! Reading on in a buffer that is only borrowed.
 ghost use Rattle.std.specs.Prelude.{◌≡◌, ◌≢◌, ◌+◌, ◌<◌, ◌≤◌, ◌↔◌, ◌++◌, [], ◌∷◌, length, take, drop, IsUtf8, IsTrue, IsOk, IfOk, IfErr, IfSome, IfNone, OnErr};
 ghost use Rattle.std.specs.List.{concat, slice_get};
-ghost use Rattle.bytes_utils.specs.Cursor.{IsBegun, NeverBegins, NeverEndsWithin, OneReplyLaw, SameReadLaw, StaysReadLaw, StaysWrongLaw, TakesFirst, TakesUpTo, passed_on, unread};
+ghost use Rattle.bytes_utils.specs.Cursor.{IsBegun, IsFirstWithin, NeverBegins, NeverEndsWithin, OneReplyLaw, SameReadLaw, StaysReadLaw, StaysWrongLaw, TakesFirst, TakesUpTo, passed_on, unread};
 ghost use Rattle.bytes_utils.specs.Errors.{IsFaultOf, fault_of, refused_storage};
-ghost use Rattle.bytes_utils.specs.Frames.{TakesFrame};
+ghost use Rattle.bytes_utils.specs.Frames.{HasFrame, HasFrameWithin, TakesFrame};
 ghost use Rattle.bytes_utils.specs.Lines.{line_feed};
-ghost use Rattle.bytes_utils.specs.Occurrence.{Occurs, OccursFirstAt};
+ghost use Rattle.bytes_utils.specs.Occurrence.{Occurs, OccursAt, OccursFirstAt};
 ghost use Rattle.bytes_utils.specs.StreamLines.{TakesLine};
 
 pub mod read;
@@ -207,8 +207,8 @@ impl<'a, B: ContiguousBuf + Drop> Cursor<'a, B> {
 
     /// Returns the bytes before the next `needle`, as `take` does, and passes them and the needle.
     /// Returns `None` if it has not come yet. Requires that `needle` is not empty (test:
-    /// `is_empty`). Fails with `OutOfMemory` if memory is refused. The cursor then stays, as with
-    /// `None`.
+    /// `is_empty`). Fails with `OutOfMemory` if memory is refused: for a needle of at most 16 bytes
+    /// only that for the bytes before it. The cursor then stays, as with `None`.
     pub fn take_until(&mut self, alloc: Global, needle: &[u8]) -> Result<Option<Bytes>, Reason>
         requires { 0 < length needle.now }
         ensures bytes { IfOk result (λ next. IfSome next (λ front.
@@ -218,6 +218,7 @@ impl<'a, B: ContiguousBuf + Drop> Cursor<'a, B> {
         ensures all { self.new.all ≡ self.old.all }
         ensures err { OnErr result (self.new ≡ self.old) }
         ensures reason { IfErr result (λ reason. reason ≡ Reason.OutOfMemory) }
+        ensures due { length needle.now ≤ 16 → OnErr result (HasFrame needle.now (unread self.old)) }
     {
         let Some(len) = self.find(alloc, needle)? else {
             return Ok(None);
@@ -227,7 +228,11 @@ impl<'a, B: ContiguousBuf + Drop> Cursor<'a, B> {
 
     /// As `take_until`, if at most `most` bytes are before the needle. Fails with `TooLong` if there
     /// are more, as soon as as many as `most` and the needle together have come without it. Fails
-    /// with `OutOfMemory` if memory is refused. The cursor then stays, as with `None`.
+    /// with `OutOfMemory` if memory for bytes within the limit that have come is refused, never for
+    /// no bytes. The cursor then stays, as with `None`.
+    ///
+    /// If the memory that `find` asks for is refused, the search asks for none and looks at each
+    /// place within the limit.
     pub fn take_until_within(
         &mut self,
         alloc: Global,
@@ -246,6 +251,8 @@ impl<'a, B: ContiguousBuf + Drop> Cursor<'a, B> {
         ensures err { OnErr result (self.new ≡ self.old) }
         ensures too_long { IfErr result (λ reason. reason ≡ Reason.TooLong
             → NeverEndsWithin most needle.now (unread self.old)) }
+        ensures due { IfErr result (λ reason. reason ≡ Reason.OutOfMemory
+            → HasFrameWithin most needle.now (unread self.old)) }
     {
         let Some(len) = self.find_within(alloc, needle, most)? else {
             return Ok(None);
@@ -253,7 +260,7 @@ impl<'a, B: ContiguousBuf + Drop> Cursor<'a, B> {
         Ok(Some(self.take_found(alloc, len, needle)?))
     }
 
-    /// As `find`, if at most `most` bytes are before the needle.
+    /// As `find`, if at most `most` bytes are before the needle. Fails with `TooLong` if not.
     fn find_within(
         &self,
         alloc: Global,
@@ -269,19 +276,61 @@ impl<'a, B: ContiguousBuf + Drop> Cursor<'a, B> {
             (¬ Occurs needle.now (unread self.now))) }
         ensures few { IfOk result (λ place. IfNone place
             (length (unread self.now) < most + length needle.now)) }
-        ensures too_long { IfErr result (λ reason. reason ≡ Reason.TooLong
-            → NeverEndsWithin most needle.now (unread self.now)) }
+        ensures too_long { IfErr result (λ reason. (reason ≡ Reason.TooLong)
+            × NeverEndsWithin most needle.now (unread self.now)) }
     {
-        let Some(len) = self.find(alloc, needle)? else {
-            if needle.len() <= self.remaining() && most <= self.remaining() - needle.len() {
-                return Err(Reason::TooLong);
-            }
-            return Ok(None);
-        };
-        if len > most {
+        if let Some(len) = self.first_within(alloc, needle, most) {
+            return Ok(Some(len));
+        }
+        if self.has_all_within(needle, most) {
             return Err(Reason::TooLong);
         }
-        Ok(Some(len))
+        Ok(None)
+    }
+
+    /// Whether all bytes have come of a needle that begins within the limit, wherever it does.
+    fn has_all_within(&self, needle: &[u8], most: usize) -> bool
+        ensures { IsTrue result ↔ (most + length needle.now ≤ length (unread self.now)) }
+    {
+        needle.len() <= self.remaining() && most <= self.remaining() - needle.len()
+    }
+
+    /// Returns how many bytes after the cursor `needle` occurs first, if these are at most `most`.
+    fn first_within(&self, alloc: Global, needle: &[u8], most: usize) -> Option<usize>
+        requires { 0 < length needle.now }
+        ensures { IsFirstWithin most needle.now (unread self.now) result }
+    {
+        match self.find(alloc, needle) {
+            Ok(Some(place)) => (place <= most).then_some(place),
+            Ok(None) => None,
+            Err(_) => self.look_within(needle, most),
+        }
+    }
+
+    /// As `first_within`, without memory: it looks at each place.
+    fn look_within(&self, needle: &[u8], most: usize) -> Option<usize>
+        requires { 0 < length needle.now }
+        ensures { IsFirstWithin most needle.now (unread self.now) result }
+    {
+        for place in 0..self.remaining() {
+            if place > most {
+                return None;
+            }
+            if self.begins_at(needle, place) {
+                return Some(place);
+            }
+        }
+        None
+    }
+
+    /// Whether `needle` begins `place` bytes after the cursor.
+    fn begins_at(&self, needle: &[u8], place: usize) -> bool
+        requires some { 0 < length needle.now }
+        requires within { place ≤ length (unread self.now) }
+        ensures { IsTrue result ↔ OccursAt needle.now (unread self.now) place }
+    {
+        prove!(place <= self.len - self.at);
+        self.buf.holds_at(self.at + place, needle)
     }
 
     /// As `take_until`, but the needle isn't passed: the cursor is at its first byte then.
@@ -294,6 +343,7 @@ impl<'a, B: ContiguousBuf + Drop> Cursor<'a, B> {
         ensures all { self.new.all ≡ self.old.all }
         ensures err { OnErr result (self.new ≡ self.old) }
         ensures reason { IfErr result (λ reason. reason ≡ Reason.OutOfMemory) }
+        ensures due { length needle.now ≤ 16 → OnErr result (HasFrame needle.now (unread self.old)) }
     {
         let Some(place) = self.find(alloc, needle)? else {
             return Ok(None);
@@ -327,7 +377,7 @@ impl<'a, B: ContiguousBuf + Drop> Cursor<'a, B> {
     /// Passes the next line with its end and returns it, as [`Lines`](crate::frame::Lines) does, or
     /// returns `None` if its line feed has not come yet. Fails with `NotUtf8` if the line is not
     /// UTF-8; its bytes are in the error, and the cursor is after the line. Fails with `Refused` if
-    /// memory is refused. The cursor then stays, as with `None`.
+    /// memory for a line that has come is refused. The cursor then stays, as with `None`.
     pub fn line(&mut self, alloc: Global) -> Result<Option<Str>, LineError>
         ensures line { IfOk result (λ next. IfSome next (λ line.
             TakesLine (unread self.old) line (unread self.new))) }
@@ -339,6 +389,8 @@ impl<'a, B: ContiguousBuf + Drop> Cursor<'a, B> {
             (λ e. (reason : _) → e ≡ LineError.Refused reason → self.new ≡ self.old) }
         ensures reason { IfErr result
             (λ e. (reason : _) → e ≡ LineError.Refused reason → reason ≡ Reason.OutOfMemory) }
+        ensures due { IfErr result (λ e. (reason : _) → e ≡ LineError.Refused reason
+            → HasFrame (line_feed ∷ []) (unread self.old)) }
         ensures bytes { IfErr result (λ e. (fault : _) → e ≡ LineError.NotUtf8 fault
             → TakesLine (unread self.old) (refused_storage fault) (unread self.new)) }
         ensures not_utf8 { IfErr result (λ e. (fault : _) → e ≡ LineError.NotUtf8 fault
@@ -361,6 +413,7 @@ impl<'a, B: ContiguousBuf + Drop> Cursor<'a, B> {
         ensures all { self.new.all ≡ self.old.all }
         ensures err { OnErr result (self.new ≡ self.old) }
         ensures reason { IfErr result (λ reason. reason ≡ Reason.OutOfMemory) }
+        ensures due { OnErr result (HasFrame (line_feed ∷ []) (unread self.old)) }
     {
         let Some(mut line) = self.take_until(alloc, b"\n")? else {
             return Ok(None);
@@ -379,6 +432,7 @@ impl<'a, B: ContiguousBuf + Drop> Cursor<'a, B> {
         ensures all { self.new.all ≡ self.old.all }
         ensures err { OnErr result (self.new ≡ self.old) }
         ensures reason { IfErr result (λ reason. reason ≡ Reason.OutOfMemory) }
+        ensures some { OnErr result (0 < len) }
     {
         let front = self.take_bytes(alloc, len)?;
         self.advance(needle.len());

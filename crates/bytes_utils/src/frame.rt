@@ -5,7 +5,7 @@ ghost use Rattle.std.specs.Bool.{OnFalse, OnTrue};
 ghost use Rattle.bytes_utils_buf.specs.Segments.{Skips, newly_held, take_bytes};
 ghost use Rattle.bytes_utils.specs.Pushing.{IsPush};
 ghost use Rattle.bytes_utils.specs.Occurrence.{Occurs};
-ghost use Rattle.bytes_utils.specs.Frames.{AllFramesLaw, DropsFirst, FramePartsLaw, FramesAndBytesLaw, FramesLaw, PacksPiece, PushesPieces, PutFramesLaw, SameFramesLaw, TakesFrame, TextFramesLaw};
+ghost use Rattle.bytes_utils.specs.Frames.{AllFramesLaw, DropsFirst, FramePartsLaw, FramesAndBytesLaw, FramesLaw, HasFrame, PacksPiece, PushesPieces, PutFramesLaw, SameFramesLaw, TakesFrame, TextFramesLaw};
 ghost use Rattle.bytes_utils.specs.LimitedFrames.{LosesFront};
 
 mod end_search;
@@ -92,7 +92,7 @@ impl Frames {
             alloc,
             finder: Finder::new(separator).into_owned(alloc)?,
             pieces: PackedBuf::new(alloc, SMALL),
-            progress: SearchState::new(alloc),
+            progress: SearchState::new(alloc, separator)?,
         })
     }
 
@@ -242,7 +242,8 @@ impl Frames {
 
     /// Returns the next frame without its separator, or `None` if its end has not come yet. The
     /// frame is shared if it lies in one segment of `pieces`, and copied into one block if not.
-    /// Fails with `OutOfMemory` if memory is refused; then nothing has changed.
+    /// Fails with `OutOfMemory` if memory for a frame that has come is refused, never for an empty
+    /// one; then nothing has changed.
     #[inline]
     pub fn next_frame(&mut self, alloc: Global) -> Result<Option<Bytes>, Reason>
         ensures frame { IfOk result (λ next. IfSome next (λ frame.
@@ -256,8 +257,9 @@ impl Frames {
         ensures separator { self.new.separator ≡ self.old.separator }
         ensures err { OnErr result (self.new ≡ self.old) }
         ensures reason { IfErr result (λ reason. reason ≡ Reason.OutOfMemory) }
+        ensures due { OnErr result (HasFrame self.old.separator self.old.held) }
     {
-        let Some(len) = self.next_len()? else {
+        let Some(len) = self.next_len() else {
             return Ok(None);
         };
         Ok(Some(self.take_frame(alloc, len)?))
@@ -283,8 +285,9 @@ impl Frames {
         ensures separator { self.new.separator ≡ self.old.separator }
         ensures err { OnErr result (self.new ≡ self.old) }
         ensures reason { IfErr result (λ reason. reason ≡ Reason.OutOfMemory) }
+        ensures due { OnErr result (HasFrame self.old.separator self.old.held) }
     {
-        let Some(len) = self.next_len()? else {
+        let Some(len) = self.next_len() else {
             return Ok(None);
         };
         Ok(Some(self.take_frame_segments(alloc, len)?))
@@ -332,17 +335,16 @@ impl Frames {
 
     /// The length of the next frame in bytes, or `None` if its end has not come yet.
     #[inline]
-    fn next_len(&mut self) -> Result<Option<usize>, Reason>
-        ensures frame { IfOk result (λ end. IfSome end (λ len. TakesFrame self.old.separator self.old.held
-            (take len self.old.held) (drop (len + length self.old.separator) self.old.held))) }
-        ensures within { IfOk result (λ end.
-            IfSome end (λ len. len + length self.old.separator ≤ length self.old.held)) }
-        ensures waits { IfOk result (λ end. IfNone end (¬ Occurs self.old.separator self.old.held)) }
+    fn next_len(&mut self) -> Option<usize>
+        ensures frame { IfSome result (λ len. TakesFrame self.old.separator self.old.held
+            (take len self.old.held) (drop (len + length self.old.separator) self.old.held)) }
+        ensures within { IfSome result
+            (λ len. len + length self.old.separator ≤ length self.old.held) }
+        ensures waits { IfNone result (¬ Occurs self.old.separator self.old.held) }
         ensures some { 0 < length self.old.separator }
         ensures same { self.new ≡ self.old }
-        ensures reason { IfErr result (λ reason. reason ≡ Reason.OutOfMemory) }
     {
-        Ok(search::find(&self.finder, self.pieces.as_segmented(), &mut self.progress)?)
+        search::find(&self.finder, self.pieces.as_segmented(), &mut self.progress)
     }
 
     /// Removes a frame of `len` bytes and its separator, and returns the frame.
@@ -354,6 +356,7 @@ impl Frames {
             (DropsFirst (len + length self.old.separator) self.old self.new) }
         ensures err { OnErr result (self.new ≡ self.old) }
         ensures reason { IfErr result (λ reason. reason ≡ Reason.OutOfMemory) }
+        ensures none { len ≡ 0 → IsOk result }
     {
         let frame = self.pieces.take_bytes(alloc, len)?;
         self.progress.restart();
@@ -375,6 +378,7 @@ impl Frames {
             (DropsFirst (len + length self.old.separator) self.old self.new) }
         ensures err { OnErr result (self.new ≡ self.old) }
         ensures reason { IfErr result (λ reason. reason ≡ Reason.OutOfMemory) }
+        ensures none { len ≡ 0 → IsOk result }
     {
         let frame = self.split_to(alloc, len)?;
         self.discard_frame(0);
@@ -395,31 +399,27 @@ impl Frames {
 
     /// Drops all bytes up to the end of the next separator and returns `true`. If that has not come
     /// yet, drops the bytes in which no separator can begin and returns `false`.
-    fn discard_to_separator(&mut self) -> Result<bool, Reason>
-        ensures ended { IfOk result (λ ended. OnTrue ended ((frame : List ℕ)
-            × TakesFrame self.old.separator self.old.held frame self.new.held)) }
-        ensures on { IfOk result (λ ended. OnFalse ended
-            (LosesFront self.old.separator self.old.held self.new.held)) }
-        ensures few { IfOk result (λ ended. OnFalse ended
-            (length self.new.held < length self.old.separator)) }
+    fn discard_to_separator(&mut self) -> bool
+        ensures ended { OnTrue result ((frame : List ℕ)
+            × TakesFrame self.old.separator self.old.held frame self.new.held) }
+        ensures on { OnFalse result (LosesFront self.old.separator self.old.held self.new.held) }
+        ensures few { OnFalse result (length self.new.held < length self.old.separator) }
         ensures separator { self.new.separator ≡ self.old.separator }
-        ensures err { OnErr result (self.new ≡ self.old) }
-        ensures reason { IfErr result (λ reason. reason ≡ Reason.OutOfMemory) }
     {
         if let Some(len) = search::find(
             &self.finder,
             self.pieces.as_segmented(),
             &mut self.progress,
-        )? {
+        ) {
             self.discard_frame(len);
-            return Ok(true);
+            return true;
         }
         let searched = self.progress.base();
         let count = self.pieces.segments();
         self.pieces.advance(searched);
         self.progress
             .leave_front(searched, count, self.pieces.segments());
-        Ok(false)
+        false
     }
 
     /// Drops a frame of `len` bytes and its separator, and restarts the search.

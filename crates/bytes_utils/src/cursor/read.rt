@@ -2,7 +2,7 @@
 ghost use Rattle.std.specs.Prelude.{◌≡◌, ◌+◌, ◌<◌, ◌≤◌, length, take, IsOk, IfOk, IfErr, IfSome, IfNone, OnErr};
 ghost use Rattle.std.specs.Cow.{cow_slice_items};
 ghost use Rattle.bytes_utils.specs.Cursor.{NeverEndsWithin, ReadsPart, TakesFirst, passed_on, unread};
-ghost use Rattle.bytes_utils.specs.Frames.{TakesFrame};
+ghost use Rattle.bytes_utils.specs.Frames.{HasFrame, HasFrameWithin, TakesFrame};
 ghost use Rattle.bytes_utils.specs.Occurrence.{Occurs, OccursFirstAt};
 
 use super::Cursor;
@@ -37,6 +37,7 @@ impl<'a, B: ContiguousBuf + Drop> Cursor<'a, B> {
         ensures gives { ReadsPart (λ part old new. TakesFrame needle.now old (cow_slice_items part) new)
             (λ bytes. ¬ Occurs needle.now bytes) self.old self.new result }
         ensures reason { IfErr result (λ reason. reason ≡ Reason.OutOfMemory) }
+        ensures due { length needle.now ≤ 16 → OnErr result (HasFrame needle.now (unread self.old)) }
     {
         let Some(len) = self.find(alloc, needle)? else {
             return Ok(None);
@@ -60,6 +61,8 @@ impl<'a, B: ContiguousBuf + Drop> Cursor<'a, B> {
             (length (unread self.old) < most + length needle.now)) }
         ensures too_long { IfErr result (λ reason. reason ≡ Reason.TooLong
             → NeverEndsWithin most needle.now (unread self.old)) }
+        ensures due { IfErr result (λ reason. reason ≡ Reason.OutOfMemory
+            → HasFrameWithin most needle.now (unread self.old)) }
     {
         let Some(len) = self.find_within(alloc, needle, most)? else {
             return Ok(None);
@@ -82,6 +85,7 @@ impl<'a, B: ContiguousBuf + Drop> Cursor<'a, B> {
         ensures all { self.new.all ≡ self.old.all }
         ensures err { OnErr result (self.new ≡ self.old) }
         ensures reason { IfErr result (λ reason. reason ≡ Reason.OutOfMemory) }
+        ensures some { OnErr result (0 < len) }
     {
         let front = self.read_bytes(alloc, len)?;
         self.advance(needle.len());

@@ -5,7 +5,7 @@ ghost use Rattle.std.specs.Bool.{OnTrue};
 ghost use Rattle.bytes_utils.specs.Pushing.{IsPush};
 ghost use Rattle.bytes_utils.specs.Occurrence.{Occurs};
 ghost use Rattle.bytes_utils.specs.Frames.{TakesFrame};
-ghost use Rattle.bytes_utils.specs.LimitedFrames.{Awaits, Discards, Gives, IsLimitedStep, IsOverlong, KeepsLimit, LimitedFramesLaw, Reports};
+ghost use Rattle.bytes_utils.specs.LimitedFrames.{Awaits, Discards, Gives, IsLimitedStep, IsOverlong, KeepsLimit, LacksMemory, LimitedFramesLaw, Reports};
 
 use super::Frames;
 use bytes::{Bytes, BytesMut};
@@ -87,9 +87,9 @@ impl LimitedFrames {
     }
 
     /// Returns the next frame without its separator, or `None` if its end has not come yet. Fails
-    /// with `TooLong` once for each frame over the limit. Fails with `OutOfMemory` if memory is
-    /// refused; then the call can be made again, and only bytes of a skipped frame may have been
-    /// dropped.
+    /// with `TooLong` once for each frame over the limit. Fails with `OutOfMemory` if memory for a
+    /// frame within the limit that has come is refused, never for an empty one; then the call can be
+    /// made again, and only bytes of a skipped frame may have been dropped.
     pub fn next_frame(&mut self, alloc: Global) -> Result<Option<Bytes>, Reason>
         ensures step { IsLimitedStep (λ frame. frame) self.old result self.new }
         ensures limit { KeepsLimit self.old self.new }
@@ -123,15 +123,15 @@ impl LimitedFrames {
               held = drop (len + length self.new.separator) self.new.held;
             }))) }
         ensures over { IfOk result (λ next. OnSome next (Discards self.old self.new)) }
+        ensures some { IfOk result
+            (λ next. IfSome next (λ len. 0 < len → LacksMemory self.new)) }
         ensures waits { IfOk result
             (λ next. IfNone next (Discards self.old self.new × Awaits self.new)) }
         ensures too_long { IfErr result
-            (λ reason. reason ≡ Reason.TooLong → Reports self.old self.new) }
-        ensures refused { IfErr result
-            (λ reason. reason ≡ Reason.OutOfMemory → Discards self.old self.new) }
+            (λ reason. (reason ≡ Reason.TooLong) × Reports self.old self.new) }
         ensures limit { KeepsLimit self.old self.new }
     {
-        self.discard_overlong()?;
+        self.discard_overlong();
         if self.discarding {
             return Ok(None);
         }
@@ -139,18 +139,16 @@ impl LimitedFrames {
     }
 
     /// Drops the rest of the frame that is skipped, or those of its bytes that have come.
-    fn discard_overlong(&mut self) -> Result<(), Reason>
+    fn discard_overlong(&mut self)
         ensures over { Discards self.old self.new }
-        ensures few { OnOk result (OnTrue self.new.discarding
-            (length self.new.held < length self.old.separator)) }
+        ensures few { OnTrue self.new.discarding
+            (length self.new.held < length self.old.separator) }
         ensures separator { self.new.separator ≡ self.old.separator }
         ensures max_length { self.new.max_length ≡ self.old.max_length }
-        ensures reason { IfErr result (λ reason. reason ≡ Reason.OutOfMemory) }
     {
-        if self.discarding && self.frames.discard_to_separator()? {
+        if self.discarding && self.frames.discard_to_separator() {
             self.discarding = false;
         }
-        Ok(())
     }
 
     /// As `next_len`, if no frame is skipped.
@@ -161,17 +159,17 @@ impl LimitedFrames {
             × (len + length self.old.separator ≤ length self.old.held)
             × TakesFrame self.old.separator self.old.held (take len self.old.held)
             (drop (len + length self.old.separator) self.old.held))) }
-        ensures too_long { IfErr result (λ reason. reason ≡ Reason.TooLong → IsOverlong
+        ensures some { IfOk result
+            (λ next. IfSome next (λ len. 0 < len → LacksMemory self.new)) }
+        ensures too_long { IfErr result (λ reason. (reason ≡ Reason.TooLong) × IsOverlong
             self.old.separator self.old.max_length self.old.held self.new.discarding self.new.held) }
         ensures waits { IfOk result (λ next. IfNone next ((self.new ≡ self.old)
             × (¬ Occurs self.old.separator self.old.held)
             × (length self.old.held < self.old.max_length + length self.old.separator))) }
-        ensures refused { IfErr result
-            (λ reason. reason ≡ Reason.OutOfMemory → self.new ≡ self.old) }
         ensures separator { self.new.separator ≡ self.old.separator }
         ensures max_length { self.new.max_length ≡ self.old.max_length }
     {
-        match self.frames.next_len()? {
+        match self.frames.next_len() {
             Some(len) if len <= self.max_length => Ok(Some(len)),
             Some(len) => {
                 self.frames.discard_frame(len);

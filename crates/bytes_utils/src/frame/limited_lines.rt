@@ -92,9 +92,10 @@ impl LimitedLines {
 
     /// Returns the next line without its end, or `None` if its line feed has not come yet. Fails
     /// with `Refused`: with `TooLong` once for each line over the limit, and with `OutOfMemory` if
-    /// memory is refused; then the call can be made again, and only bytes of a skipped line may have
-    /// been dropped. Fails with `NotUtf8` if the line is not UTF-8; its bytes are in the error, and
-    /// the next call continues after it.
+    /// memory for a line within the limit that has come is refused, never for an empty one; then the
+    /// call can be made again, and only bytes of a skipped line may have been dropped. Fails with
+    /// `NotUtf8` if the line is not UTF-8; its bytes are in the error, and the next call continues
+    /// after it.
     pub fn next_line(&mut self, alloc: Global) -> Result<Option<Str>, LineError>
         ensures step { IsLimitedLineStep self.old result self.new }
         ensures limit { KeepsLimit self.old self.new }

@@ -1,11 +1,11 @@
 //! A search over pieces in a row. Bytes are searched once, except the kept tail: the last bytes, in
 //! which the needle may still begin.
-ghost use Rattle.std.specs.Prelude.{◌≡◌, ◌≢◌, ℕ, ◌+◌, ◌-◌, ◌^◌, ◌<◌, ◌≤◌, List, [], ◌++◌, length, take, drop, slice_index, Some, MatchOption, IfOk, IfErr, IfNone, OnErr, OnSome};
+ghost use Rattle.std.specs.Prelude.{◌≡◌, ◌≢◌, ℕ, ◌+◌, ◌-◌, ◌^◌, ◌<◌, ◌≤◌, List, [], ◌++◌, length, take, drop, slice_index, Some, MatchOption, IfOk, IfErr, IfNone, OnSome, vec_capacity};
 ghost use Rattle.std.specs.List.{concat};
 ghost use Rattle.memchr.specs.Find.{FindsNeedle, IsFirstByte, Nowhere, OccursAt, is_byte};
 ghost use Rattle.bytes_utils_buf.specs.Packing.{last_of};
 ghost use Rattle.bytes_utils_buf.specs.Segments.{Skips};
-ghost use Rattle.bytes_utils.specs.FrameSearch.{HoldsBack, Searched, SearchedPieces, StaysAt};
+ghost use Rattle.bytes_utils.specs.FrameSearch.{HasRoom, HoldsBack, Searched, SearchedPieces, StaysAt};
 
 use bytes_utils_buf::contiguous::ContiguousBuf;
 use bytes_utils_buf::segmented::SegmentedBuf;
@@ -20,7 +20,7 @@ pub(crate) const NEAR_LOOKS: usize = 4;
 
 /// How far a search over pieces has come: how many pieces were searched, and how many bytes of the
 /// next one, and the kept tail: the last searched bytes, from place `base` on, in which the needle
-/// may still begin.
+/// may still begin. The tail has its memory from the start, so that a search asks for none.
 #[derive(Debug, Drop)]
 pub(crate) struct SearchState {
     pieces: usize,
@@ -30,19 +30,17 @@ pub(crate) struct SearchState {
 }
 
 impl SearchState {
-    /// The state before any search.
-    pub(crate) fn new(alloc: Global) -> SearchState
-        ensures pieces { result.pieces ≡ 0 }
-        ensures offset { result.offset ≡ 0 }
-        ensures base { result.base ≡ 0 }
-        ensures held { result.held.items ≡ [] }
+    /// The state before any search for `needle`.
+    pub(crate) fn new(alloc: Global, needle: &[u8]) -> Result<SearchState, AllocError>
+        requires { 0 < length needle.now }
+        ensures { IfOk result (SearchedPieces needle.now []) }
     {
-        SearchState {
+        Ok(SearchState {
             pieces: 0,
             offset: 0,
             base: 0,
-            held: Vec::new(alloc),
-        }
+            held: Vec::with_capacity(alloc, 2 * (needle.len() - 1))?,
+        })
     }
 
     /// Starts the search again.
@@ -52,6 +50,7 @@ impl SearchState {
         ensures offset { self.new.offset ≡ 0 }
         ensures base { self.new.base ≡ 0 }
         ensures held { self.new.held.items ≡ [] }
+        ensures room { vec_capacity self.new.held ≡ vec_capacity self.old.held }
     {
         self.pieces = 0;
         self.offset = 0;
@@ -106,33 +105,34 @@ impl SearchState {
     /// Searches the next piece for the needle. If it isn't found, the search is at the end of the
     /// piece.
     #[inline]
-    fn step(&mut self, finder: &Finder, piece: &[u8]) -> Result<Option<usize>, AllocError>
+    fn step(&mut self, finder: &Finder, piece: &[u8]) -> Option<usize>
         requires short { length self.old.held.items < length finder.now }
+        requires room { HasRoom finder.now self.old.held }
         requires fits { self.old.base + length self.old.held.items + length piece.now < 2 ^ 64 }
         ensures found { (bytes more : List ℕ)
             → Searched finder.now bytes self.old.base self.old.held.items
-            → IfOk result (λ found. MatchOption found
+            → MatchOption result
             (Searched finder.now (bytes ++ piece.now) self.new.base self.new.held.items)
-            (λ at. FindsNeedle ((bytes ++ piece.now) ++ more) finder.now 0 (Some at))) }
+            (λ at. FindsNeedle ((bytes ++ piece.now) ++ more) finder.now 0 (Some at)) }
         ensures pieces { self.new.pieces ≡ self.old.pieces }
         ensures offset { self.new.offset ≡ self.old.offset }
-        ensures stays { IfOk result (λ found. OnSome found (StaysAt self.old self.new)) }
-        ensures err { OnErr result (StaysAt self.old self.new) }
+        ensures stays { OnSome result (StaysAt self.old self.new) }
+        ensures room { HasRoom finder.now self.new.held }
     {
         if finder.needle().len() == 1 {
-            return Ok(self.step_by_byte(finder, piece));
+            return self.step_by_byte(finder, piece);
         }
         let from = prefix_without_first_byte(finder.needle(), piece);
         if from == piece.len() && self.held.is_empty() {
             self.base += from;
-            return Ok(None);
+            return None;
         }
         let looks = if self.base == 0 { NEAR_LOOKS } else { 1 };
-        if let Some(at) = find_next(finder, &mut self.held, piece, from, looks)? {
-            return Ok(Some(self.base + at));
+        if let Some(at) = find_next(finder, &mut self.held, piece, from, looks) {
+            return Some(self.base + at);
         }
-        self.base += keep_tail(&mut self.held, piece, finder.needle(), from)?;
-        Ok(None)
+        self.base += keep_tail(&mut self.held, piece, finder.needle(), from);
+        None
     }
 
     /// As `step`, for a needle of one byte, of which no tail is kept.
@@ -149,6 +149,7 @@ impl SearchState {
         ensures pieces { self.new.pieces ≡ self.old.pieces }
         ensures offset { self.new.offset ≡ self.old.offset }
         ensures stays { OnSome result (StaysAt self.old self.new) }
+        ensures room { self.new.held ≡ self.old.held }
     {
         match find_byte(finder.needle()[0], piece) {
             Some(at) => Some(self.base + at),
@@ -166,26 +167,25 @@ pub(crate) fn find<B: ContiguousBuf + Drop>(
     finder: &Finder,
     pieces: &SegmentedBuf<B>,
     progress: &mut SearchState,
-) -> Result<Option<usize>, AllocError>
+) -> Option<usize>
     requires fits { length (concat pieces.now.segments) < 2 ^ 64 }
     requires searched { SearchedPieces finder.now pieces.now.segments progress.old }
-    ensures found { IfOk result (λ at. FindsNeedle (concat pieces.now.segments) finder.now 0 at) }
+    ensures found { FindsNeedle (concat pieces.now.segments) finder.now 0 result }
     ensures searched { SearchedPieces finder.now pieces.now.segments progress.new }
     ensures further { progress.old.pieces ≤ progress.new.pieces }
-    ensures all { IfOk result
-        (λ at. IfNone at (progress.new.pieces ≡ length pieces.now.segments)) }
+    ensures all { IfNone result (progress.new.pieces ≡ length pieces.now.segments) }
 {
     while progress.pieces < pieces.segments() {
         let Some(piece) = pieces.segment(progress.pieces) else {
             unreachable!()
         };
-        if let Some(at) = progress.step(finder, rest_from(piece, progress.offset))? {
-            return Ok(Some(at));
+        if let Some(at) = progress.step(finder, rest_from(piece, progress.offset)) {
+            return Some(at);
         }
         progress.pieces += 1;
         progress.offset = 0;
     }
-    Ok(None)
+    None
 }
 
 /// The bytes of the piece from place `from` on.
@@ -217,21 +217,22 @@ fn find_next(
     piece: &[u8],
     from: usize,
     looks: usize,
-) -> Result<Option<usize>, AllocError>
+) -> Option<usize>
     requires short { length held.old.items < length finder.now }
+    requires room { HasRoom finder.now held.old }
     requires fits { length held.old.items + length piece.now < 2 ^ 64 }
     requires within { from ≤ length piece.now }
     requires none { (k : ℕ) → k < from → slice_index piece.now k ≢ slice_index finder.now 0 }
-    ensures found { IfOk result
-        (λ at. FindsNeedle (held.old.items ++ piece.now) finder.now 0 at) }
+    ensures found { FindsNeedle (held.old.items ++ piece.now) finder.now 0 result }
     ensures held { held.new.items ≡ held.old.items }
+    ensures room { HasRoom finder.now held.new }
 {
-    if let Some(at) = find_across_border(finder, held, piece)? {
-        return Ok(Some(at));
+    if let Some(at) = find_across_border(finder, held, piece) {
+        return Some(at);
     }
     match find_in_piece(finder, piece, from, looks) {
-        Some(at) => Ok(Some(held.len() + at)),
-        None => Ok(None),
+        Some(at) => Some(held.len() + at),
+        None => None,
     }
 }
 
@@ -315,21 +316,23 @@ fn find_across_border(
     finder: &Finder,
     held: &mut Vec<u8>,
     piece: &[u8],
-) -> Result<Option<usize>, AllocError>
-    requires { 0 < length finder.now }
-    ensures found { IfOk result (λ at. FindsNeedle
-        (held.old.items ++ take (length finder.now - 1) piece.now) finder.now 0 at) }
+) -> Option<usize>
+    requires short { length held.old.items < length finder.now }
+    requires room { HasRoom finder.now held.old }
+    ensures found { FindsNeedle
+        (held.old.items ++ take (length finder.now - 1) piece.now) finder.now 0 result }
     ensures held { held.new.items ≡ held.old.items }
+    ensures room { HasRoom finder.now held.new }
 {
     if held.is_empty() {
-        return Ok(None);
+        return None;
     }
     let before = held.len();
     let most = finder.needle().len() - 1;
-    held.extend_from_slice(&piece[..most.min(piece.len())])?;
+    append(held, &piece[..most.min(piece.len())]);
     let found = finder.find(held);
     held.truncate(before);
-    Ok(found)
+    found
 }
 
 /// Keeps those last bytes of the tail and the piece in which the needle may still begin. Its first
@@ -340,15 +343,15 @@ fn keep_tail(
     piece: &[u8],
     needle: &[u8],
     from: usize,
-) -> Result<usize, AllocError>
-    requires some { 0 < length needle.now }
+) -> usize
+    requires short { length held.old.items < length needle.now }
+    requires room { HasRoom needle.now held.old }
     requires fits { length held.old.items + length piece.now < 2 ^ 64 }
     requires within { from ≤ length piece.now }
     requires none { (k : ℕ) → k < from → slice_index piece.now k ≢ slice_index needle.now 0 }
-    ensures cut { IfOk result (λ cut. HoldsBack needle.now (held.old.items ++ piece.now) cut) }
-    ensures held { IfOk result
-        (λ cut. held.new.items ≡ drop cut (held.old.items ++ piece.now)) }
-    ensures err { OnErr result (held.new.items ≡ held.old.items) }
+    ensures cut { HoldsBack needle.now (held.old.items ++ piece.now) result }
+    ensures held { held.new.items ≡ drop result (held.old.items ++ piece.now) }
+    ensures room { HasRoom needle.now held.new }
 {
     let most = needle.len() - 1;
     if piece.len() < most {
@@ -359,19 +362,20 @@ fn keep_tail(
 }
 
 /// As `keep_tail`, for a piece with fewer bytes than the needle has after its first.
-fn keep_tail_short(held: &mut Vec<u8>, piece: &[u8], needle: &[u8]) -> Result<usize, AllocError>
-    requires some { 0 < length needle.now }
+fn keep_tail_short(held: &mut Vec<u8>, piece: &[u8], needle: &[u8]) -> usize
+    requires short { length held.old.items < length needle.now }
+    requires room { HasRoom needle.now held.old }
+    requires few { length piece.now + 1 < length needle.now }
     requires fits { length held.old.items + length piece.now < 2 ^ 64 }
-    ensures cut { IfOk result (λ cut. HoldsBack needle.now (held.old.items ++ piece.now) cut) }
-    ensures held { IfOk result
-        (λ cut. held.new.items ≡ drop cut (held.old.items ++ piece.now)) }
-    ensures err { OnErr result (held.new.items ≡ held.old.items) }
+    ensures cut { HoldsBack needle.now (held.old.items ++ piece.now) result }
+    ensures held { held.new.items ≡ drop result (held.old.items ++ piece.now) }
+    ensures room { HasRoom needle.now held.new }
 {
-    held.extend_from_slice(piece)?;
+    append(held, piece);
     let from = held.len().saturating_sub(needle.len() - 1);
     let cut = place_from(needle[0], held, from);
     drop_front(held, cut);
-    Ok(cut)
+    cut
 }
 
 /// As `keep_tail`, for a longer piece.
@@ -381,23 +385,23 @@ fn keep_tail_long(
     piece: &[u8],
     needle: &[u8],
     from: usize,
-) -> Result<usize, AllocError>
-    requires some { 0 < length needle.now }
+) -> usize
+    requires short { length held.old.items < length needle.now }
+    requires room { HasRoom needle.now held.old }
     requires fits { length held.old.items + length piece.now < 2 ^ 64 }
     requires within { from ≤ length piece.now }
     requires none { (k : ℕ) → k < from → slice_index piece.now k ≢ slice_index needle.now 0 }
     requires long { length needle.now ≤ length piece.now + 1 }
-    ensures cut { IfOk result (λ cut. HoldsBack needle.now (held.old.items ++ piece.now) cut) }
-    ensures held { IfOk result
-        (λ cut. held.new.items ≡ drop cut (held.old.items ++ piece.now)) }
-    ensures err { OnErr result (held.new.items ≡ held.old.items) }
+    ensures cut { HoldsBack needle.now (held.old.items ++ piece.now) result }
+    ensures held { held.new.items ≡ drop result (held.old.items ++ piece.now) }
+    ensures room { HasRoom needle.now held.new }
 {
     let before = held.len();
     let last = piece.len() - (needle.len() - 1);
     let cut = place_from(needle[0], piece, from.max(last));
-    held.extend_from_slice(&piece[cut..])?;
+    append(held, &piece[cut..]);
     drop_front(held, before);
-    Ok(before + cut)
+    before + cut
 }
 
 /// The first place from `from` on of the byte `first`, or the end if it does not occur.
@@ -414,11 +418,24 @@ fn place_from(first: u8, bytes: &[u8], from: usize) -> usize
     }
 }
 
+/// Appends `bytes` to the kept tail, which has room for them.
+#[inline]
+fn append(held: &mut Vec<u8>, bytes: &[u8])
+    requires { length held.old.items + length bytes.now ≤ vec_capacity held.old }
+    ensures bytes { held.new.items ≡ held.old.items ++ bytes.now }
+    ensures room { vec_capacity held.old ≤ vec_capacity held.new }
+{
+    let Ok(()) = held.extend_from_slice(bytes) else {
+        unreachable!()
+    };
+}
+
 /// Removes the first `len` bytes.
 #[inline]
 fn drop_front(bytes: &mut Vec<u8>, len: usize)
     requires { len ≤ length bytes.old.items }
-    ensures { bytes.new.items ≡ drop len bytes.old.items }
+    ensures bytes { bytes.new.items ≡ drop len bytes.old.items }
+    ensures room { vec_capacity bytes.new ≡ vec_capacity bytes.old }
 {
     if len > 0 {
         let left = bytes.len() - len;

@@ -7,7 +7,7 @@ use crate::contiguous::ContiguousBuf;
 use crate::frame::search::{SearchState, find};
 use bytes::{Buf, Bytes};
 use memchr::memmem::Finder;
-use std::alloc::Global;
+use std::alloc::{AllocError, Global};
 use std::cell::Cell;
 use std::marker::Model;
 use std::process::Abort;
@@ -64,14 +64,14 @@ impl<'c> Model for Stream<'c> {
 }
 
 impl<'c> Stream<'c> {
-    fn new(alloc: Global, separator: &'c [u8]) -> Stream<'c>
+    fn new(alloc: Global, separator: &'c [u8]) -> Result<Stream<'c>, AllocError>
         requires { 0 < length separator.now }
     {
-        Stream {
+        Ok(Stream {
             finder: Finder::new(separator),
             pieces: SegmentedBuf::new(alloc),
-            progress: SearchState::new(alloc),
-        }
+            progress: SearchState::new(alloc, separator)?,
+        })
     }
 
     /// Pushes a piece.
@@ -81,19 +81,13 @@ impl<'c> Stream<'c> {
     }
 
     /// Drops the next frame. Returns whether its end has come.
-    fn pass<R: Abort>(&mut self, rt: &R) -> bool {
-        match find(&self.finder, &self.pieces, &mut self.progress) {
-            Ok(Some(len)) => {
-                self.pieces.advance(len + self.finder.needle().len());
-                self.progress.restart();
-                true
-            }
-            Ok(None) => false,
-            Err(_) => {
-                assert!(rt; false, "refused");
-                false
-            }
-        }
+    fn pass(&mut self) -> bool {
+        let Some(len) = find(&self.finder, &self.pieces, &mut self.progress) else {
+            return false;
+        };
+        self.pieces.advance(len + self.finder.needle().len());
+        self.progress.restart();
+        true
     }
 
     /// Drops the first bytes.
@@ -108,7 +102,7 @@ impl<'c> Stream<'c> {
     /// Drops all frames whose end has come. Returns their number.
     fn pass_all<R: Abort>(&mut self, rt: &R) -> usize {
         for count in 0..=self.pieces.remaining() {
-            if !self.pass(rt) {
+            if !self.pass() {
                 return count;
             }
         }
@@ -148,7 +142,9 @@ fn frames_and_looks<R: Abort>(
 ) -> (usize, usize) {
     assert!(rt; !separator.is_empty());
     let looked = Cell::new(0);
-    let mut stream = Stream::new(alloc, separator.as_bytes());
+    let Ok(mut stream) = Stream::new(alloc, separator.as_bytes()) else {
+        return (0, 0);
+    };
     let mut passed = 0_usize;
     for _ in 0..100 {
         passed = passed.saturating_add(stream.pass_round(rt, pieces, &looked, each));
@@ -189,11 +185,13 @@ fn looks_at_each_piece_once(rt: HostRuntime) {
 fn looks_at_body<R: Abort>(rt: &R, alloc: Global, separator: &str, len: usize) -> usize {
     assert!(rt; !separator.is_empty());
     let looked = Cell::new(0);
-    let mut stream = Stream::new(alloc, separator.as_bytes());
+    let Ok(mut stream) = Stream::new(alloc, separator.as_bytes()) else {
+        return 0;
+    };
     assert!(rt; stream.pass_round(rt, "aa\r|aa\r|aa\r|aa\r", &looked, true) == 0);
     for _ in 0..12 / len.max(1) {
         stream.leave(rt, len);
-        assert!(rt; !stream.pass(rt));
+        assert!(rt; !stream.pass());
     }
     assert!(rt; stream.pass_round(rt, "a\r\nb", &looked, true) == 1);
     looked.get()

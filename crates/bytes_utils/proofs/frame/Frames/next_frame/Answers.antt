@@ -3,7 +3,7 @@ use Rattle.bytes_utils.proofs.frame.Frames.next_frame.Goals as goal
 
 pub returns-clause-fewer : goal.returns-clause-fewer
 returns-clause-fewer c =
-    let within = rw c.in-Some.is at c.in_ok-len.ensures.within in
+    let within = c.in-Some.ensures.within in
     let left = rw c.next_len.ensures.same at c.in_ok-take_frame.ensures.ok.held in
     let dropped = length-drop (c.in-Some.len + length c.args.self.now.separator) c.args.self.now.held in
     omega (arith, ap length left, dropped, c.next_len.ensures.some, within)

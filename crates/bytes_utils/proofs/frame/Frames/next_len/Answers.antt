@@ -7,12 +7,11 @@ pub returns : goal.returns
 returns c =
     let q = c.self.inside in
     let held = concat q.pieces.held.segments in
-    let found = rw c.as_segmented.ensures at c.in_ok-find.ensures.found in
+    let found = rw c.as_segmented.ensures at c.find.ensures.found in
     record {
       frame = rw (← c.self.view_is) (found_frame q.finder held c.self.invariant.0 _ found);
       within = rw (← c.self.view_is) (found_within q.finder held c.self.invariant.0 _ found);
       waits = rw (← c.self.view_is) (found_none q.finder held c.self.invariant.0 _ found);
       some = rw (← c.self.view_is) c.self.invariant.0;
       same = search rules;
-      reason = search rules;
     }

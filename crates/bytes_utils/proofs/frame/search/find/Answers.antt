@@ -28,26 +28,27 @@ step-requires-clause-fits g c =
       length-append before rest,
     )
 
-pub returns-in-Some-2-clause-found : goal.returns-in-Some-2-clause-found
-returns-in-Some-2-clause-found g c =
+pub returns-in-Some-step-clause-found : goal.returns-in-Some-step-clause-found
+returns-in-Some-step-clause-found g c =
     let pieces = c.args.pieces.now.segments in
     let l = c.loop-progress.progress in
     let around = bytes_before-around pieces l.pieces c.in-Some.piece.now c.in-Some.ensures l.offset in
-    rw around (rw (c.in-Some-2.is, c.rest_from.ensures) at (c.in_ok-at.ensures.found (bytes_before l.pieces l.offset pieces) (concat (drop (l.pieces + 1) pieces)) c.loop-progress.invariant.pieces.searched))
+    rw around (rw c.rest_from.ensures at (c.in-Some-step.ensures.found (bytes_before l.pieces l.offset pieces) (concat (drop (l.pieces + 1) pieces)) c.loop-progress.invariant.pieces.searched))
 
 pub loop-progress-preserved : goal.loop-progress-preserved
 loop-progress-preserved g c =
     let pieces = c.args.pieces.now.segments in
     let l = c.loop-progress.progress in
     let next = bytes_before-rest pieces l.pieces c.in-Some.piece.now c.in-Some.ensures l.offset in
-    let searched = rw (c.in_default-2.is, c.rest_from.ensures) at (c.in_ok-at.ensures.found (bytes_before l.pieces l.offset pieces) [] c.loop-progress.invariant.pieces.searched) in
+    let searched = rw c.rest_from.ensures at (c.in_default-step.ensures.found (bytes_before l.pieces l.offset pieces) [] c.loop-progress.invariant.pieces.searched) in
     record {
       pieces = record {
-        within = omega (arith, c.loop-progress-test.true, c.segments.ensures.count, c.in_ok-at.ensures.pieces);
+        within = omega (arith, c.loop-progress-test.true, c.segments.ensures.count, c.step.ensures.pieces);
         inside = omega arith;
-        searched = rw (c.in_ok-at.ensures.pieces, bytes_before-first pieces (l.pieces + 1), ← next) searched;
+        searched = rw (c.step.ensures.pieces, bytes_before-first pieces (l.pieces + 1), ← next) searched;
+        room = c.step.ensures.room;
       };
-      further = omega (arith, c.loop-progress.invariant.further, c.in_ok-at.ensures.pieces);
+      further = omega (arith, c.loop-progress.invariant.further, c.step.ensures.pieces);
     }
 
 pub returns-clause-found : goal.returns-clause-found

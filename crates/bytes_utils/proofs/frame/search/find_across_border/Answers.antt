@@ -5,5 +5,5 @@ use Rattle.bytes_utils.proofs.frame.search.find_across_border.Goals as goal
 pub returns-clause-found : goal.returns-clause-found
 returns-clause-found c =
     let most = length c.args.finder.now - 1 in
-    let same : c.deref.result.now ≡ c.args.held.now.items ++ take most c.args.piece.now = grind (arith, c.deref.ensures.value, c.in_ok-extend_from_slice.ensures.items, take_min) in
+    let same : c.deref.result.now ≡ c.args.held.now.items ++ take most c.args.piece.now = grind (arith, c.deref.ensures.value, c.append.ensures.bytes, take_min) in
     rw same at c.find-found.ensures

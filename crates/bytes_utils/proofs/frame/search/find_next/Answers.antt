@@ -5,15 +5,15 @@ use Rattle.bytes_utils.proofs.frame.search.find_next.Goals as goal
 pub returns-in-Some-clause-found : goal.returns-in-Some-clause-found
 returns-in-Some-clause-found c =
     let p = c.args.finder.now in
-    found_across p c.args.held.now.items c.args.piece.now (length p - 1) (omega arith) c.in-Some.at (rw c.in-Some.is at c.in_ok-at.ensures.found)
+    found_across p c.args.held.now.items c.args.piece.now (length p - 1) (omega arith) c.in-Some.at c.in-Some.ensures.found
 
 pub returns-in-Some-find_in_piece-clause-found : goal.returns-in-Some-find_in_piece-clause-found
 returns-in-Some-find_in_piece-clause-found c =
     let p = c.args.finder.now in
-    found_after p c.args.held.now.items c.args.piece.now (length p - 1) (omega arith) c.in-Some-find_in_piece.at _ (omega (arith, c.len.ensures, ap length c.in_ok-at.ensures.held))
-    (rw c.in_default.is at c.in_ok-at.ensures.found) c.in-Some-find_in_piece.ensures
+    found_after p c.args.held.now.items c.args.piece.now (length p - 1) (omega arith) c.in-Some-find_in_piece.at _ (omega (arith, c.len.ensures, ap length c.find_across_border.ensures.held))
+    c.in_default.ensures.found c.in-Some-find_in_piece.ensures
 
 pub returns-in-None-clause-found : goal.returns-in-None-clause-found
 returns-in-None-clause-found c =
     let p = c.args.finder.now in
-    missed_next p c.args.held.now.items c.args.piece.now (length p - 1) (omega arith) (rw c.in_default.is at c.in_ok-at.ensures.found) c.in-None.ensures
+    missed_next p c.args.held.now.items c.args.piece.now (length p - 1) (omega arith) c.in_default.ensures.found c.in-None.ensures

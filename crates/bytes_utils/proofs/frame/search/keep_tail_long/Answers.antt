@@ -8,6 +8,6 @@ returns-clause-held c =
     let piece = c.args.piece.now in
     let cut = c.place_from-cut.result in
     let size : length held ≡ c.len-before.result = omega (arith, c.len-before.ensures) in
-    let items : c.extend_from_slice.new.self.items ≡ held ++ drop cut piece = rw (← range_rest piece cut) (grind (arith, c.in_ok-extend_from_slice.ensures.items)) in
-    c.drop_front.ensures ∙ ap (drop c.len-before.result) items ∙ drop_at held (drop cut piece) c.len-before.result size
+    let items : c.append.new.held.items ≡ held ++ drop cut piece = rw (← range_rest piece cut) c.append.ensures.bytes in
+    c.drop_front.ensures.bytes ∙ ap (drop c.len-before.result) items ∙ drop_at held (drop cut piece) c.len-before.result size
     ∙ ap (drop cut) (sym (drop_at held piece c.len-before.result size)) ∙ drop-drop cut c.len-before.result (held ++ piece)
