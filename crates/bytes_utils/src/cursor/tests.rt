@@ -149,6 +149,20 @@ fn a_front_within_a_limit(rt: HostRuntime) -> Result<(), Fail> {
     Ok(())
 }
 
+/// The same with a needle of 17 bytes: one that ends a byte after those that have come, and one that
+/// is at the cursor.
+#[test]
+fn a_long_needle_within_a_limit(rt: HostRuntime) -> Result<(), Fail> {
+    let buf = header(rt.alloc())?;
+    let mut cursor = Cursor::new(&buf);
+    let needle = b"ost: example.org!";
+    assert!(rt; is_too_long(&cursor.take_until_within(rt.alloc(), needle, 0)));
+    assert!(rt; cursor.take_until_within(rt.alloc(), needle, 1)?.is_none() && cursor.at() == 0);
+    let front = cursor.take_until_within(rt.alloc(), b"Host: example.org", 0)?;
+    assert!(rt; front.is_some() && cursor.at() == 17);
+    Ok(())
+}
+
 fn are_shared(parts: &VecDeque<Bytes>) -> bool {
     for part in parts {
         if part.is_unique() {

@@ -18,6 +18,9 @@ use std::marker::Model;
 /// A frame that lies with its length in one segment shares it: a piece of more than 512 bytes, or a
 /// block of copied ones. Any other is copied into one block. At the end of the stream, bytes that
 /// are no whole frame are left.
+///
+/// A call fails with `TooLong` as soon as a length over the limit has come. It fails with
+/// `OutOfMemory` only for a frame within the limit that has come.
 #[derive(Debug, Drop)]
 pub struct LengthPrefixed {
     max_length: usize,

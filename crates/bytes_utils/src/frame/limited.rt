@@ -141,8 +141,7 @@ impl LimitedFrames {
     /// Drops the rest of the frame that is skipped, or those of its bytes that have come.
     fn discard_overlong(&mut self)
         ensures over { Discards self.old self.new }
-        ensures few { OnTrue self.new.discarding
-            (length self.new.held < length self.old.separator) }
+        ensures few { OnTrue self.new.discarding (length self.new.held < length self.old.separator) }
         ensures separator { self.new.separator ≡ self.old.separator }
         ensures max_length { self.new.max_length ≡ self.old.max_length }
     {

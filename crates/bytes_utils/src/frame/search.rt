@@ -312,11 +312,7 @@ pub(crate) fn find_byte(first: u8, bytes: &[u8]) -> Option<usize>
 /// The first place of the needle in the kept tail and those bytes of the next piece that a needle
 /// which begins in the tail can reach.
 #[inline]
-fn find_across_border(
-    finder: &Finder,
-    held: &mut Vec<u8>,
-    piece: &[u8],
-) -> Option<usize>
+fn find_across_border(finder: &Finder, held: &mut Vec<u8>, piece: &[u8]) -> Option<usize>
     requires short { length held.old.items < length finder.now }
     requires room { HasRoom finder.now held.old }
     ensures found { FindsNeedle
@@ -338,12 +334,7 @@ fn find_across_border(
 /// Keeps those last bytes of the tail and the piece in which the needle may still begin. Its first
 /// byte does not occur in the piece before place `from`. Returns the place at which they begin.
 #[inline]
-fn keep_tail(
-    held: &mut Vec<u8>,
-    piece: &[u8],
-    needle: &[u8],
-    from: usize,
-) -> usize
+fn keep_tail(held: &mut Vec<u8>, piece: &[u8], needle: &[u8], from: usize) -> usize
     requires short { length held.old.items < length needle.now }
     requires room { HasRoom needle.now held.old }
     requires fits { length held.old.items + length piece.now < 2 ^ 64 }
@@ -380,12 +371,7 @@ fn keep_tail_short(held: &mut Vec<u8>, piece: &[u8], needle: &[u8]) -> usize
 
 /// As `keep_tail`, for a longer piece.
 #[inline]
-fn keep_tail_long(
-    held: &mut Vec<u8>,
-    piece: &[u8],
-    needle: &[u8],
-    from: usize,
-) -> usize
+fn keep_tail_long(held: &mut Vec<u8>, piece: &[u8], needle: &[u8], from: usize) -> usize
     requires short { length held.old.items < length needle.now }
     requires room { HasRoom needle.now held.old }
     requires fits { length held.old.items + length piece.now < 2 ^ 64 }

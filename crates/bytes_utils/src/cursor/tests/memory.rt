@@ -46,8 +46,9 @@ fn bytes(rt: HostRuntime) {
         let taken = cursor.take_until(rt.alloc(), b"12345678901234567");
         assert_taken(&rt, "Cursor::take_until", &cursor, taken, ("0", 18));
         let mut cursor = Cursor::new(&buf);
-        let taken = cursor.take_until_within(rt.alloc(), b"12345678901234567", 1);
-        assert_taken(&rt, "Cursor::take_until_within", &cursor, taken, ("0", 18));
+        let taken = cursor.take_until_within(rt.alloc(), b"89\n", 18);
+        let want = ("012345678901234567", 21);
+        assert_taken(&rt, "Cursor::take_until_within", &cursor, taken, want);
         let mut cursor = Cursor::new(&buf);
         let taken = cursor.take_to(rt.alloc(), b"\n");
         assert_taken(
@@ -70,8 +71,28 @@ fn bytes_that_are_read(rt: HostRuntime) {
         let read = cursor.read_until(rt.alloc(), b"12345678901234567");
         assert_taken(&rt, "Cursor::read_until", &cursor, read, ("0", 18));
         let mut cursor = Cursor::new(&buf);
-        let read = cursor.read_until_within(rt.alloc(), b"12345678901234567", 1);
-        assert_taken(&rt, "Cursor::read_until_within", &cursor, read, ("0", 18));
+        let read = cursor.read_until_within(rt.alloc(), b"89\n", 18);
+        let want = ("012345678901234567", 21);
+        assert_taken(&rt, "Cursor::read_until_within", &cursor, read, want);
+    }
+}
+
+/// A limit is kept if memory for the search is refused, which asks for none then.
+#[test]
+fn a_limit_without_memory(rt: HostRuntime) {
+    if let Some(buf) = prepared(rt.alloc()) {
+        let mut cursor = Cursor::new(&buf);
+        let needle = b"12345678901234567";
+        assert!(rt;
+            matches!(
+                cursor.take_until_within(rt.alloc(), needle, 0),
+                Err(Reason::TooLong)
+            )
+        );
+        let waits = cursor.take_until_within(rt.alloc(), b"678901234567890\nabc", 100);
+        assert!(rt; matches!(waits, Ok(None)));
+        let taken = cursor.take_until_within(rt.alloc(), needle, 1);
+        assert_taken(&rt, "no call", &cursor, taken, ("0", 18));
     }
 }
 

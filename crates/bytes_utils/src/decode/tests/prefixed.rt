@@ -39,16 +39,20 @@ fn single_bytes(rt: HostRuntime) -> Result<(), Fail> {
     Ok(())
 }
 
-/// A frame over the limit is reported at each call, and stays.
+/// A frame of the limit is given. One over it is reported at each call, before its bytes have come
+/// and after that, and stays.
 #[test]
 fn frame_over_the_limit(rt: HostRuntime) -> Result<(), Fail> {
     let mut reader = Decoded::new(rt.alloc(), LengthPrefixed::new(2));
-    reader.push_slice(b"\0\0\0\x03")?;
-    for _ in 0..2 {
+    reader.push_slice(b"\0\0\0\x02ab")?;
+    assert!(rt; reader.next_item(rt.alloc())?.is_some());
+    for piece in ["\0\0\0\x03", "abc", "\0\0\0\0"] {
+        reader.push_slice(piece.as_bytes())?;
         assert!(rt; matches!(reader.next_item(rt.alloc()), Err(Reason::TooLong)));
     }
+    assert!(rt; matches!(reader.last_item(rt.alloc()), Err(Reason::TooLong)));
     let (_, held) = reader.finish();
-    assert!(rt; held.remaining() == 4);
+    assert!(rt; held.remaining() == 11);
     Ok(())
 }
 

@@ -1,24 +1,63 @@
-//! Frames of at most `limit` bytes: a worked case.
+//! Frames within a limit: worked cases.
 use crate::Reason;
 use crate::frame::LimitedFrames;
-use crate::frame::tests::readers::{Holds, ReadsFrames};
-use bytes::{Buf, Bytes};
+use crate::segmented::SegmentedBuf;
+use bytes::Bytes;
 use std::alloc::Global;
-use std::process::Abort;
 use std::test::Fail;
 
-/// Asserts that a frame of three bytes is too long, and that no other one comes.
-fn assert_too_long<F: Holds + ReadsFrames>(rt: &impl Abort, alloc: Global, reader: &mut F) {
-    assert!(rt; reader.put(Bytes::from_static("abc-d".as_bytes())).is_ok());
-    assert!(rt; matches!(reader.frame(alloc), Err(Reason::TooLong)));
-    assert!(rt; matches!(reader.frame(alloc), Ok(None)));
+/// Whether this was returned: a frame, `long` or `-`.
+fn is_frame(next: Result<Option<Bytes>, Reason>, want: &str) -> bool {
+    match next {
+        Ok(Some(frame)) => frame.as_slice() == want.as_bytes(),
+        Ok(None) => want == "-",
+        Err(reason) => reason == Reason::TooLong && want == "long",
+    }
 }
 
-/// A frame that is too long is reported in its place, and the rest is what is left.
+/// The same in segments.
+fn are_segments(next: Result<Option<SegmentedBuf<Bytes>>, Reason>, want: &str) -> bool {
+    match next {
+        Ok(Some(frame)) => frame.eq_bytes(want.as_bytes()),
+        Ok(None) => want == "-",
+        Err(reason) => reason == Reason::TooLong && want == "long",
+    }
+}
+
+/// Rows of a limit; then a piece and what the call for a frame after it returns, for some pieces;
+/// then what is left. The separator is `<>`.
+const ROWS: &str = "\
+2: ab< -, >abc<>d ab,  long,  -, > -, <> d>, ab -, c -, < long, > -, <> : |\
+2: abc -, < long,  -, <> -, >a -: >a|\
+0: <> , a<>< long, > , a -, b long, c -, < -, ><> : |\
+18446744073709551615: ab -, <> ab, c -: c";
+
+/// Makes the calls of a row, and returns whether each was right.
+fn are_right(alloc: Global, frames: &mut LimitedFrames, calls: &str) -> Result<bool, Fail> {
+    for (i, call) in calls.split(", ").enumerate() {
+        let (piece, want) = call.split_once(' ').ok_or("no reply")?;
+        frames.push_slice(piece.as_bytes())?;
+        let is_right = if i % 2 == 0 {
+            is_frame(frames.next_frame(alloc), want)
+        } else {
+            are_segments(frames.next_frame_segments(alloc), want)
+        };
+        if !is_right {
+            return Ok(false);
+        }
+    }
+    Ok(true)
+}
+
 #[test]
-fn a_frame_that_is_too_long(rt: HostRuntime) -> Result<(), Fail> {
-    let mut frames = LimitedFrames::new(rt.alloc(), "-".as_bytes(), 2)?;
-    assert_too_long(&rt, rt.alloc(), &mut frames);
-    assert!(rt; frames.finish().chunk() == "d".as_bytes());
+fn rows(rt: HostRuntime) -> Result<(), Fail> {
+    for row in ROWS.split('|') {
+        let (limit, rest) = row.split_once(": ").ok_or("no calls")?;
+        let (calls, left) = rest.split_once(": ").ok_or("no rest")?;
+        let limit = limit.parse().ok().ok_or("no limit")?;
+        let mut frames = LimitedFrames::new(rt.alloc(), "<>".as_bytes(), limit)?;
+        assert!(rt; are_right(rt.alloc(), &mut frames, calls)?, "{row}");
+        assert!(rt; frames.finish().eq_bytes(left.as_bytes()), "{row}");
+    }
     Ok(())
 }
