@@ -1,5 +1,5 @@
 -- The first place of a needle in segments, from the needles that begin in each segment.
-use Rattle.std.proofs.Common.{◌≡◌, ℕ, zero, suc, ◌+◌, ◌-◌, ◌<◌, ◌≤◌, max, List, [], ◌∷◌, ◌++◌, length, take, drop, get_or, slice_get, Some, None, ap, ◌∙◌, sym, refl, arith, length-append, length-drop, length-take, append_assoc, append-nil, take-append-drop, drop_at, ⊎_elim}
+use Rattle.std.proofs.Common.{◌≡◌, ℕ, zero, suc, ◌+◌, ◌-◌, ◌<◌, ◌≤◌, max, min, List, [], ◌∷◌, ◌++◌, length, take, drop, get_or, slice_get, Option, Some, None, ap, ◌∙◌, sym, refl, arith, length-append, length-drop, length-take, append_assoc, append-nil, take-append-drop, drop_at, ⊎_elim}
 use Rattle.std.proofs.lemmas.Bool.{cases_lt}
 use Rattle.std.proofs.lemmas.List.{drop-append-le, drop_more}
 use Rattle.std.proofs.lemmas.Option.{get_or_from_slice_get, slice_get_within}
@@ -88,6 +88,13 @@ module _ (p segment following : List ℕ) (from : ℕ) (some : 0 < length p) (in
     },
     rw is (occurs_in_all (segment ++ following) p (drop from segment) following from within_all part k found.1),
   )
+
+  -- A needle that ends in the segment does not begin before a place up to which it was looked for in the rest of the segment.
+  pub missed_near : (left end : ℕ) → Nowhere (OccursAt (drop from segment) p) 0 left → end ≡ from + min left (length (drop from segment) - (length p - 1))
+      → Nowhere (OccursAt (segment ++ following) p) from end
+  missed_near left end none is j low high here =
+      none (j - from) (omega arith) (omega (arith, high, is, low))
+      (occurs_in_part (segment ++ following) p (drop from segment) following from within_all part j low (omega (arith, high, is, some)) here)
 
   missed_inside : FindsNeedle (drop from segment) p 0 None → (j : ℕ) → from ≤ j → j + length p ≤ length segment → ¬ OccursAt (segment ++ following) p j
   missed_inside missed j low fits here =
@@ -179,3 +186,26 @@ module _ {xs : List (List ℕ)} {segment p : List ℕ} {i start base : ℕ} (rea
 
 pub missed_all : (all p : List ℕ) (start : ℕ) → 0 < length p → Nowhere (OccursAt all p) start (length all) → FindsNeedle all p start None
 missed_all all p start some none j low high here = none j low (omega (arith, here.fits, some)) here
+
+-- ---- a search that goes on from a later place
+
+pub found_later : (all p : List ℕ) (start from : ℕ) (r : Option ℕ) → start ≤ from → Nowhere (OccursAt all p) start from → FindsNeedle all p from r
+    → FindsNeedle all p start r
+found_later all p start from None low none missed = Nowhere-then none missed
+found_later all p start from (Some at) low none found = (
+  record { low = omega (arith, low, found.0.low); high = found.0.high; before = Nowhere-then none found.0.before },
+  found.1,
+)
+
+-- ---- the segment that has a place
+
+-- the index of a segment before which there are bytes isn't 0
+pub some_before : (xs : List (List ℕ)) (index base : ℕ) → base ≡ length (concat (take index xs)) → 0 < base → 0 < index
+some_before xs zero base is some = absurd (omega (arith, is, some))
+some_before xs (suc index) base is some = omega arith
+
+pub one_before : (xs : List (List ℕ)) (index base : ℕ) → 0 < index → index ≤ length xs → base ≡ length (concat (take index xs))
+    → base ≡ length (concat (take (index - 1) xs)) + length (get_or xs (index - 1) [])
+one_before xs index base some within is =
+    let all : index - 1 + 1 ≡ index = omega (arith, some) in
+    is ∙ ap (λ n. length (concat (take n xs))) (sym all) ∙ length-concat-take_more xs (index - 1) (omega (arith, some, within))

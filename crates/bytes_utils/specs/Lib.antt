@@ -18,6 +18,7 @@ pub mod Json
 pub mod StreamRuns
 pub mod Frames
 pub mod FrameSearch
+pub mod SegmentPlace
 pub mod LimitedFrames
 pub mod StreamLines
 pub mod Cursor

@@ -1,10 +1,11 @@
 //! A search for a needle in the bytes of many segments.
-ghost use Rattle.std.specs.Prelude.{◌≡◌, ◌+◌, ◌-◌, ◌*◌, ◌<◌, ◌≤◌, [], ◌++◌, length, min, take, drop, Some, slice_index_or, IsOk, IfOk, IfErr, IfSome, IfNone, OnErr};
+ghost use Rattle.std.specs.Prelude.{◌≡◌, ◌+◌, ◌-◌, ◌*◌, ◌^◌, ◌<◌, ◌≤◌, [], ◌++◌, length, min, take, drop, Some, slice_index_or, IsOk, IfOk, IfErr, IfSome, IfNone, OnErr};
 ghost use Rattle.std.specs.List.{concat};
-ghost use Rattle.memchr.specs.Find.{FindsNeedle, IsFirst, OccursAt};
+ghost use Rattle.memchr.specs.Find.{FindsNeedle, IsFirst, Nowhere, OccursAt};
 ghost use Rattle.bytes_utils_buf.specs.Segments.{CountsPass, IsPaid, Skips};
 ghost use Rattle.bytes_utils.specs.Frames.{TakesFrame};
 ghost use Rattle.bytes_utils.specs.Occurrence.{Occurs};
+ghost use Rattle.bytes_utils.specs.SegmentPlace.{HasPlace};
 
 #[cfg(test)]
 mod tests;
@@ -103,10 +104,10 @@ pub fn find_short<B: ContiguousBuf + Drop>(
     ensures none { IfNone result (start ≤ length (concat buf.now.segments)
         → ¬ Occurs needle.now (drop start (concat buf.now.segments))) }
 {
-    if let Some(at) = find_near(buf, start, needle) {
-        return Some(at);
+    match find_near(buf, start, needle) {
+        Ok(at) => Some(at),
+        Err(from) => find_by(buf, from, needle, &mut [0; 2 * SHORT]),
     }
-    find_by(buf, start, needle, &mut [0; 2 * SHORT])
 }
 
 /// Takes out what is before the first `needle`, as one `Bytes`, and drops the needle. Returns
@@ -150,54 +151,163 @@ pub fn take_until<B: ContiguousBuf + Drop>(
     Ok(Some(front))
 }
 
-/// As `find_from`, with a window for the bytes on both sides of a border between segments.
+/// As `find_from`, for a needle that is prepared, with a window for the bytes on both sides of a
+/// border between segments.
+pub(crate) fn find_prepared<B: ContiguousBuf + Drop>(
+    buf: &SegmentedBuf<B>,
+    start: usize,
+    finder: &Finder,
+    window: &mut [u8],
+) -> Option<usize>
+    requires some { 0 < length finder.now }
+    requires room { 2 * (length finder.now - 1) ≤ length window.old }
+    ensures { FindsNeedle (concat buf.now.segments) finder.now start result }
+{
+    match find_near(buf, start, finder.needle()) {
+        Ok(at) => Some(at),
+        Err(from) => find_from_segment(buf, segment_of(buf, from), from, finder, window),
+    }
+}
+
+/// As `find_prepared`, for a needle that is not prepared and may be empty.
 fn find_by<B: ContiguousBuf + Drop>(
     buf: &SegmentedBuf<B>,
     start: usize,
     needle: &[u8],
     window: &mut [u8],
 ) -> Option<usize>
-    requires room { 2 * length needle.now ≤ length window.old }
+    requires room { 2 * (length needle.now - 1) ≤ length window.old }
     ensures { FindsNeedle (concat buf.now.segments) needle.now start result }
 {
-    let remaining = buf.remaining();
     if needle.is_empty() {
-        return (start <= remaining).then_some(start);
+        return (start <= buf.remaining()).then_some(start);
     }
     let finder = Finder::new(needle);
-    let mut base = 0;
-    for place in 0..buf.segments() {
-        let segment = buf.segment(place)?;
-        let from = start.saturating_sub(base);
-        if let Some(at) = find_starting_in(&finder, segment, buf, place + 1, from, window) {
-            return Some(base + at);
-        }
-        base += segment.len();
-    }
-    None
+    find_from_segment(buf, segment_of(buf, start), start, &finder, window)
 }
 
 /// The first place of the needle from `start` on, if it is in the first segment and
-/// `look_at_first_bytes` finds it. No `Finder` is made for it.
+/// `look_at_first_bytes` finds it. No `Finder` is made for it. If it isn't found, fails with the
+/// place from which it is still to be looked for.
 #[inline]
 fn find_near<B: ContiguousBuf + Drop>(
     buf: &SegmentedBuf<B>,
     start: usize,
     needle: &[u8],
-) -> Option<usize>
-    ensures { IfSome result
+) -> Result<usize, usize>
+    ensures found { IfOk result
         (λ at. FindsNeedle (concat buf.now.segments) needle.now start (Some at)) }
+    ensures low { IfErr result (λ from. start ≤ from) }
+    ensures none { IfErr result
+        (λ from. Nowhere (OccursAt (concat buf.now.segments) needle.now) start from) }
 {
-    let first = buf.segment(0)?;
+    let Some(first) = buf.segment(0) else {
+        return Err(start);
+    };
     if needle.is_empty() || start > first.len() {
-        return None;
+        return Err(start);
     }
     let rest = &first[start..];
     let from = prefix_without_first_byte(needle, rest);
-    let Ok(at) = look_at_first_bytes(needle, rest, from, NEAR_LOOKS) else {
-        return None;
-    };
-    Some(start + at)
+    match look_at_first_bytes(needle, rest, from, NEAR_LOOKS) {
+        Ok(at) => Ok(start + at),
+        Err(left) => {
+            let most = needle.len() - 1;
+            Err(start + left.min(rest.len().saturating_sub(most)))
+        }
+    }
+}
+
+/// A segment: its index, and the place of its first byte in the joined bytes.
+#[derive(Clone, Copy)]
+struct SegmentStart {
+    index: usize,
+    base: usize,
+}
+
+/// The segment that has the byte at `place`, looked for from the nearer end, or the end of all
+/// segments if there is no byte.
+fn segment_of<B: ContiguousBuf + Drop>(buf: &SegmentedBuf<B>, place: usize) -> SegmentStart
+    ensures found { HasPlace buf.now.segments place result.index result.base }
+    ensures fits { length (concat buf.now.segments) < 2 ^ 64 }
+{
+    if place <= buf.remaining() / 2 {
+        segment_from_front(buf, place)
+    } else {
+        segment_from_back(buf, place)
+    }
+}
+
+/// As `segment_of`, looked for from the front.
+fn segment_from_front<B: ContiguousBuf + Drop>(buf: &SegmentedBuf<B>, place: usize) -> SegmentStart
+    ensures { HasPlace buf.now.segments place result.index result.base }
+{
+    let mut offset = place;
+    for index in 0..buf.segments() {
+        let len = segment_len(buf, index);
+        if offset < len {
+            return SegmentStart {
+                index,
+                base: place - offset,
+            };
+        }
+        offset -= len;
+    }
+    SegmentStart {
+        index: buf.segments(),
+        base: place - offset,
+    }
+}
+
+/// As `segment_of`, looked for from the back.
+fn segment_from_back<B: ContiguousBuf + Drop>(buf: &SegmentedBuf<B>, place: usize) -> SegmentStart
+    ensures { HasPlace buf.now.segments place result.index result.base }
+{
+    let mut index = buf.segments();
+    let mut base = buf.remaining();
+    while base > place {
+        index -= 1;
+        base -= segment_len(buf, index);
+    }
+    SegmentStart { index, base }
+}
+
+/// The number of bytes of the segment at `index`, 0 if there is none.
+#[inline]
+fn segment_len<B: ContiguousBuf + Drop>(buf: &SegmentedBuf<B>, index: usize) -> usize
+    ensures { result ≡ length (slice_index_or buf.now.segments index []) }
+{
+    match buf.segment(index) {
+        Some(segment) => segment.len(),
+        None => 0,
+    }
+}
+
+/// The first place of the needle from `start` on. The search begins in the segment `first`, which
+/// has the byte at `start`, and looks at none before it.
+fn find_from_segment<B: ContiguousBuf + Drop>(
+    buf: &SegmentedBuf<B>,
+    first: SegmentStart,
+    start: usize,
+    finder: &Finder,
+    window: &mut [u8],
+) -> Option<usize>
+    requires some { 0 < length finder.now }
+    requires room { 2 * (length finder.now - 1) ≤ length window.old }
+    requires first { HasPlace buf.now.segments start first.index first.base }
+    requires fits { length (concat buf.now.segments) < 2 ^ 64 }
+    ensures { FindsNeedle (concat buf.now.segments) finder.now start result }
+{
+    let mut base = first.base;
+    for index in first.index..buf.segments() {
+        let segment = buf.segment(index)?;
+        let from = start.saturating_sub(base);
+        if let Some(at) = find_starting_in(finder, segment, buf, index + 1, from, window) {
+            return Some(base + at);
+        }
+        base += segment.len();
+    }
+    None
 }
 
 /// The first place from `from` on at which the needle begins in `segment`. It may end in the
@@ -212,7 +322,7 @@ fn find_starting_in<B: ContiguousBuf + Drop>(
     window: &mut [u8],
 ) -> Option<usize>
     requires some { 0 < length finder.now }
-    requires room { 2 * length finder.now ≤ length window.old }
+    requires room { 2 * (length finder.now - 1) ≤ length window.old }
     ensures { IsFirst (OccursAt (segment.now ++ concat (drop next buf.now.segments)) finder.now)
         from (length segment.now) result }
 {
