@@ -1,11 +1,12 @@
 -- What the decoder of lines did, by what it returned.
-use Rattle.std.proofs.Common.{◌≡◌, ℕ, ◌<◌, ◌≤◌, List, [], ◌∷◌, ◌++◌, length, Option, None, Some, Result, Ok, Err, inr, sym, ap, ◌∙◌, refl, subst, arith, append-nil}
+use Rattle.std.proofs.Common.{◌≡◌, ℕ, ◌<◌, ◌≤◌, List, [], ◌∷◌, ◌++◌, length, Option, None, Some, Result, Ok, Err, inl, inr, sym, ap, ◌∙◌, refl, subst, arith, append-nil}
 use Rattle.std.specs.Option.{option_to_list}
+use Rattle.std.specs.Result.{IfErr}
 use Rattle.bytes_utils_buf.specs.declared.refused.Reason.{Reason}
 use Rattle.bytes_utils_buf.specs.declared.refused.Reason.TheVariants.{OutOfMemory, TooLong}
 use Rattle.bytes_utils.specs.Occurrence.{OccursAt}
 use Rattle.bytes_utils.specs.Decoding.{Decoding, Item, Last, Decodes, DecodesAtEnd, HasSameNext}
-use Rattle.bytes_utils.specs.Delimited.{Delimiting, delimiting, from_start, TakesFrameFrom, AwaitsSeparator, SearchesOn, OnlySearches}
+use Rattle.bytes_utils.specs.Delimited.{Delimiting, delimiting, from_start, TakesFrameFrom, AwaitsSeparator, SearchesOn, OnlySearches, fails_delimited}
 use Rattle.bytes_utils.specs.Lines.{line_feed, lines}
 use Rattle.bytes_utils.specs.StreamLines.{AreFirstLines}
 use Rattle.bytes_utils.specs.StreamRuns.{AreFirst}
@@ -27,14 +28,23 @@ same_line_at old n held on more (Last (Some item)) after =
 pub SameLine-searched : (s t : Decoding Delimiting) → OnlySearches s t → HasSameNext gives_text_line s t
 SameLine-searched s t only = only_searches (HasSameNext gives_text_line) s t only same_line_at
 
+pub fails_before_end : (s : Decoding Delimiting) (reason : Reason) → fails_delimited s reason → fails_text_line s reason
+fails_before_end s OutOfMemory fails = inl fails
+fails_before_end s TooLong fails = fails
+
 pub decodes_text_line : (s t : Decoding Delimiting) (r : Result (Option TextOrFault) Reason) → TakesTextLine s r t → Decodes gives_text_line AwaitsSeparator fails_text_line s r t
 decodes_text_line s t (Ok (Some item)) took = took
 decodes_text_line s t (Ok None) took = (took.0, SameLine-searched s t took.1)
-decodes_text_line s t (Err reason) took = (took.0, SameLine-searched s t took.1)
+decodes_text_line s t (Err reason) took = (fails_before_end s reason took.0, SameLine-searched s t took.1)
 
-fails_for_memory : (s : Decoding Delimiting) (reason : Reason) → reason ≡ OutOfMemory → 0 < length s.held → fails_text_line s reason
-fails_for_memory s OutOfMemory is some = some
-fails_for_memory s TooLong is some = cc
+-- before the end of the stream it fails as a decoder of frames
+pub fails_as_frames : (s t : Decoding Delimiting) (r : Result (Option TextOrFault) Reason) → TakesTextLine s r t → IfErr r (fails_delimited s)
+fails_as_frames s t (Ok next) took = tt
+fails_as_frames s t (Err reason) took = took.0
+
+fails_at_end : (s : Decoding Delimiting) (reason : Reason) → reason ≡ OutOfMemory → AwaitsSeparator s → 0 < length s.held → fails_text_line s reason
+fails_at_end s OutOfMemory is awaits some = inr (awaits, some)
+fails_at_end s TooLong is awaits some = cc
 
 module _ (s mid t : Decoding Delimiting) (awaits : AwaitsSeparator s) (only : OnlySearches s mid) where
   left : {held : List ℕ} → t ≡ record { decoder = from_start mid.decoder; held = held } → t ≡ record { decoder = from_start s.decoder; held = held }
@@ -44,7 +54,7 @@ module _ (s mid t : Decoding Delimiting) (awaits : AwaitsSeparator s) (only : On
   ends_text_line (Ok (Some item)) took = inr (awaits, subst (λ l. 0 < length l) only.held took.0, subst (IsTextOf item) only.held took.1, left took.2)
   ends_text_line (Ok None) took = (awaits, sym only.held ∙ took.0, left took.1)
   ends_text_line (Err reason) took = (
-    fails_for_memory s reason took.1 (subst (λ l. 0 < length l) only.held took.0),
+    fails_at_end s reason took.1 awaits (subst (λ l. 0 < length l) only.held took.0),
     subst (HasSameNext gives_text_line s) (sym took.2) (SameLine-searched s mid only),
   )
 

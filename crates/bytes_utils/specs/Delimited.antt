@@ -1,5 +1,5 @@
 -- Frames of a decoder that a separator ends. It keeps how far it has searched, so that while it waits it searches no byte again but the last ones, fewer than the separator has.
-use Rattle.std.specs.Prelude.{◌≡◌, ℕ, ◌+◌, ◌<◌, ◌≤◌, List, ◌++◌, length, Option, None, Some, Result, Ok, Err}
+use Rattle.std.specs.Prelude.{◌≡◌, ℕ, ◌+◌, ◌-◌, ◌<◌, ◌≤◌, max, List, ◌++◌, length, Option, None, Some, Result, Ok, Err}
 use Rattle.bytes_utils_buf.specs.declared.refused.Reason.{Reason}
 use Rattle.bytes_utils_buf.specs.declared.refused.Reason.TheVariants.{OutOfMemory, TooLong}
 use Rattle.bytes_utils.specs.Occurrence.{OccursAt}
@@ -39,12 +39,13 @@ gives_delimited old (Item frame) new = (new.decoder ≡ from_start old.decoder) 
 gives_delimited old (Last None) new = AwaitsSeparator old × (new ≡ record old { decoder = from_start old.decoder })
 gives_delimited old (Last (Some frame)) new = ⊥
 
--- Whatever comes after the held bytes, the next frame is longer than the limit. Or memory was refused: for a frame that has come, or to search for a
--- separator of more than 16 bytes.
+-- Whatever comes after the held bytes, the next frame is longer than the limit. Or memory was refused, for a frame that has come, is within the limit
+-- and isn't empty.
 abbrev pub fails_delimited : Decoding Delimiting → Reason → Type 0
 fails_delimited s TooLong = (more : List ℕ) (k : ℕ) → s.decoder.searched ≤ k → OccursAt s.decoder.separator (s.held ++ more) k → s.decoder.max_length < k
 fails_delimited s OutOfMemory =
-    length s.decoder.separator ≤ 16 → (frame : List ℕ) × (rest : List ℕ) × TakesFrameFrom s.decoder.separator s.decoder.searched s.held frame rest
+    (frame : List ℕ) × (rest : List ℕ) × TakesFrameFrom s.decoder.separator s.decoder.searched s.held frame rest
+    × (length frame ≤ s.decoder.max_length) × (0 < length frame)
 
 -- the search came further: no separator begins in the bytes that were passed over, whatever comes after those held
 pub record SearchesOn (held : List ℕ) (old new : Delimiting) : Type 0 where
@@ -52,7 +53,11 @@ pub record SearchesOn (held : List ℕ) (old new : Delimiting) : Type 0 where
   pub further : old.searched ≤ new.searched
   pub none : (more : List ℕ) (k : ℕ) → old.searched ≤ k → OccursAt old.separator (held ++ more) k → new.searched ≤ k
 
--- the same, and nothing is taken
+-- all these bytes are searched now: only those will be searched again in which a separator may begin, fewer than it has
+abbrev pub IsSearched : List ℕ → Delimiting → Delimiting → Type 0
+IsSearched held old new = new.searched ≡ max old.searched (length held - (length old.separator - 1))
+
+-- the search came further, and nothing is taken
 pub record OnlySearches (old new : Decoding Delimiting) : Type 0 where
   pub held : new.held ≡ old.held
   pub on : SearchesOn old.held old.decoder new.decoder
@@ -60,7 +65,7 @@ pub record OnlySearches (old new : Decoding Delimiting) : Type 0 where
 -- what a call for the next frame did, by what it returned
 abbrev pub TakesDelimited : Decoding Delimiting → Result (Option (List ℕ)) Reason → Decoding Delimiting → Type 0
 TakesDelimited old (Ok (Some frame)) new = gives_delimited old (Item frame) new
-TakesDelimited old (Ok None) new = AwaitsSeparator old × OnlySearches old new
+TakesDelimited old (Ok None) new = AwaitsSeparator old × OnlySearches old new × IsSearched old.held old.decoder new.decoder
 TakesDelimited old (Err reason) new = fails_delimited old reason × OnlySearches old new
 
 -- The items of a decoder that has searched nothing are the frames of the bytes, as `Frames` takes them.

@@ -1,12 +1,12 @@
 -- Lines of a decoder, as texts. Each is ended by a line feed, and the last one also by the end of the stream.
-use Rattle.std.specs.Prelude.{◌≡◌, ℕ, ◌<◌, List, [], ◌∷◌, ◌++◌, length, IsUtf8, Option, None, Some, Result, Ok, Err}
+use Rattle.std.specs.Prelude.{◌≡◌, ◌⊎◌, ℕ, ◌<◌, List, [], ◌∷◌, ◌++◌, length, IsUtf8, Option, None, Some, Result, Ok, Err}
 use Rattle.std.specs.Option.{option_to_list}
 use Rattle.bytes_utils_buf.specs.declared.refused.Reason.{Reason}
 use Rattle.bytes_utils_buf.specs.declared.refused.Reason.TheVariants.{OutOfMemory, TooLong}
 use Rattle.bytes_utils.specs.Errors.{IsFaultOf, fault_of, refused_storage}
 use Rattle.bytes_utils.specs.Lines.{IsWithoutReturn, line_feed, lines}
 use Rattle.bytes_utils.specs.Decoding.{Decoding, Gives, Item, Last, AreItems}
-use Rattle.bytes_utils.specs.Delimited.{Delimiting, AwaitsSeparator, OnlySearches, delimiting, fails_delimited, from_start, gives_delimited}
+use Rattle.bytes_utils.specs.Delimited.{Delimiting, AwaitsSeparator, IsSearched, OnlySearches, delimiting, fails_delimited, from_start, gives_delimited}
 use Rattle.bytes_utils.specs.StreamLines.{AreFirstLines}
 use Rattle.bytes_utils.specs.declared.string.utf8_error.Utf8Error.{Utf8Error}
 
@@ -30,16 +30,17 @@ gives_text_line old (Last None) new = AwaitsSeparator old × (old.held ≡ []) �
 gives_text_line old (Last (Some item)) new =
     AwaitsSeparator old × (0 < length old.held) × IsTextOf item old.held × (new ≡ record { decoder = from_start old.decoder; held = [] })
 
--- Whatever comes after the held bytes, the next line is longer than the limit. Or memory was refused, for bytes that are held.
+-- Whatever comes after the held bytes, the next line is longer than the limit. Or memory was refused: for a line that has come and is within the limit,
+-- or at the end of the stream for the bytes that are left.
 abbrev pub fails_text_line : Decoding Delimiting → Reason → Type 0
 fails_text_line s TooLong = fails_delimited s TooLong
-fails_text_line s OutOfMemory = 0 < length s.held
+fails_text_line s OutOfMemory = fails_delimited s OutOfMemory ⊎ (AwaitsSeparator s × (0 < length s.held))
 
 -- what a call for the next line did, by what it returned
 abbrev pub TakesTextLine : Decoding Delimiting → Result (Option TextOrFault) Reason → Decoding Delimiting → Type 0
 TakesTextLine old (Ok (Some item)) new = gives_text_line old (Item item) new
-TakesTextLine old (Ok None) new = AwaitsSeparator old × OnlySearches old new
-TakesTextLine old (Err reason) new = fails_text_line old reason × OnlySearches old new
+TakesTextLine old (Ok None) new = AwaitsSeparator old × OnlySearches old new × IsSearched old.held old.decoder new.decoder
+TakesTextLine old (Err reason) new = fails_delimited old reason × OnlySearches old new
 
 -- what a call for the last line did, by what it returned
 abbrev pub TakesLastTextLine : Decoding Delimiting → Result (Option TextOrFault) Reason → Decoding Delimiting → Type 0

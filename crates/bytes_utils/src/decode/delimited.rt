@@ -3,14 +3,15 @@ ghost use Rattle.std.specs.Prelude.{◌≡◌, ◌+◌, ◌-◌, ◌<◌, ◌≤
 ghost use Rattle.std.specs.List.{concat};
 ghost use Rattle.memchr.specs.Find.{FindsNeedle};
 ghost use Rattle.bytes_utils.specs.Decoding.{decoding};
-ghost use Rattle.bytes_utils.specs.Delimited.{AwaitsSeparator, DelimitedFramesLaw, SearchesOn, TakesDelimited, TakesFrameFrom, delimiting, fails_delimited, from_start, gives_delimited};
+ghost use Rattle.bytes_utils.specs.Delimited.{AwaitsSeparator, DelimitedFramesLaw, IsSearched, SearchesOn, TakesDelimited, TakesFrameFrom, delimiting, fails_delimited, from_start, gives_delimited};
 ghost use Rattle.bytes_utils.specs.DelimitedLaws.{delimited_single, delimited_stable, delimited_waits};
 
 use super::Decoder;
-use crate::find::find_from;
+use crate::find::find_prepared;
 use bytes::{Buf, Bytes};
 use bytes_utils_buf::Reason;
 use bytes_utils_buf::segmented::PackedBuf;
+use memchr::memmem::Finder;
 use std::alloc::Global;
 use std::marker::Model;
 
@@ -25,36 +26,39 @@ use std::marker::Model;
 /// ```
 ///
 /// While it waits, bytes are not searched again, but for the last ones, in which the separator may
-/// begin. A frame that lies in one segment shares it: a piece of more than 512 bytes, or a block of
-/// copied ones. Any other is copied into one block. A frame over the limit is an error that stays.
-/// At the end of the stream, bytes with no separator after them are left.
+/// begin, and no memory is asked for. A frame that lies in one segment shares it: a piece of more
+/// than 512 bytes, or a block of copied ones. Any other is copied into one block. `OutOfMemory`
+/// comes only for a frame within the limit that has come and isn't empty. A frame over the limit is
+/// an error that stays. At the end of the stream, bytes with no separator after them are left.
 ///
 /// [`Frames`](crate::frame::Frames) is a reader of the same frames.
 #[derive(Debug, Drop)]
 pub struct Delimited {
-    separator: Bytes,
+    finder: Finder<'static>,
+    window: Vec<u8>,
     max_length: usize,
     searched: usize,
 }
 
 impl Model for Delimited {
-    ghost use Rattle.std.specs.Prelude.{◌<◌, length};
+    ghost use Rattle.std.specs.Prelude.{◌-◌, ◌*◌, ◌<◌, ◌≤◌, length};
     ghost use Rattle.bytes_utils.specs.Delimited.{Delimiting};
 
     ghost Value = { Delimiting };
 
     ghost view = { λ d. record {
-      separator = d.separator;
+      separator = d.finder;
       max_length = d.max_length;
       searched = d.searched;
     } };
 
-    ghost invariant = { λ d. 0 < length d.separator };
+    ghost invariant = { λ d. (0 < length d.finder)
+        × (2 * (length d.finder - 1) ≤ length d.window.items) };
 }
 
 impl Delimited {
-    /// Makes a decoder of frames of any length, and copies `separator`. Requires that `separator` is
-    /// not empty (test: `is_empty`). Fails with `OutOfMemory` if memory is refused.
+    /// Makes a decoder of frames of any length, as `with_limit`. Requires that `separator` is not
+    /// empty (test: `is_empty`). Fails with `OutOfMemory` if memory is refused.
     pub fn new(alloc: Global, separator: &[u8]) -> Result<Delimited, Reason>
         requires { 0 < length separator.now }
         ensures ok { IfOk result (λ d. d ≡ delimiting separator.now usize.MAX) }
@@ -63,8 +67,9 @@ impl Delimited {
         Delimited::with_limit(alloc, separator, usize::MAX)
     }
 
-    /// Makes a decoder of frames of at most `max_length` bytes, which don't count the separator, and
-    /// copies `separator`. Requires that `separator` is not empty (test: `is_empty`). Fails with
+    /// Makes a decoder of frames of at most `max_length` bytes, which don't count the separator. It
+    /// copies `separator`, and asks for less than twice as many bytes, by which it is searched for
+    /// across segments. Requires that `separator` is not empty (test: `is_empty`). Fails with
     /// `OutOfMemory` if memory is refused.
     pub fn with_limit(
         alloc: Global,
@@ -76,7 +81,8 @@ impl Delimited {
         ensures reason { IfErr result (λ reason. reason ≡ Reason.OutOfMemory) }
     {
         Ok(Delimited {
-            separator: Bytes::copy_from_slice(alloc, separator)?,
+            finder: Finder::new(separator).into_owned(alloc)?,
+            window: vec![in alloc; 0; 2 * (separator.len() - 1)]?,
             max_length,
             searched: 0,
         })
@@ -86,7 +92,7 @@ impl Delimited {
     pub fn separator(&self) -> &[u8]
         ensures { result.now ≡ self.now.separator }
     {
-        self.separator.as_slice()
+        self.finder.needle()
     }
 
     /// Returns the greatest length of a frame, in bytes.
@@ -106,17 +112,17 @@ impl Delimited {
         ensures separator { self.new.separator ≡ self.old.separator }
         ensures threshold { held.new.threshold ≡ held.old.threshold }
     {
-        let Some(len) = self.next_len(alloc, held)? else {
+        let Some(len) = self.next_len(held)? else {
             return Ok(None);
         };
         let frame = held.take_bytes(alloc, len)?;
-        held.advance(self.separator.len());
+        held.advance(self.separator().len());
         self.restart();
         Ok(Some(frame))
     }
 
     /// The length of the next frame, or `None` if its end has not come yet.
-    fn next_len(&mut self, alloc: Global, held: &PackedBuf) -> Result<Option<usize>, Reason>
+    fn next_len(&mut self, held: &PackedBuf) -> Result<Option<usize>, Reason>
         ensures frame { IfOk result (λ next. IfSome next (λ len. TakesFrameFrom self.old.separator
             self.old.searched (concat held.now.held.segments)
             (take len (concat held.now.held.segments))
@@ -124,10 +130,13 @@ impl Delimited {
         ensures within { IfOk result (λ next. IfSome next (λ len. (len ≤ self.old.max_length)
             × (len + length self.old.separator ≤ length (concat held.now.held.segments)))) }
         ensures waits { IfOk result (λ next. IfNone next (AwaitsSeparator (decoding self.old held.now))) }
-        ensures fails { IfErr result (fails_delimited (decoding self.old held.now)) }
+        ensures all { IfOk result (λ next. IfNone next
+            (IsSearched (concat held.now.held.segments) self.old self.new)) }
+        ensures fails { IfErr result (λ reason. (reason ≡ Reason.TooLong)
+            × fails_delimited (decoding self.old held.now) Reason.TooLong) }
         ensures on { SearchesOn (concat held.now.held.segments) self.old self.new }
     {
-        match self.find(alloc, held)? {
+        match self.find(held) {
             Some(len) if len <= self.max_length => Ok(Some(len)),
             Some(_) => Err(Reason::TooLong),
             None => {
@@ -141,14 +150,18 @@ impl Delimited {
     }
 
     /// The place of the next separator, from the searched place on.
-    fn find(&self, alloc: Global, held: &PackedBuf) -> Result<Option<usize>, Reason>
-        ensures found { IfOk result (FindsNeedle (concat held.now.held.segments)
-            self.now.separator self.now.searched) }
-        ensures some { 0 < length self.now.separator }
-        ensures reason { IfErr result (λ reason. reason ≡ Reason.OutOfMemory) }
-        ensures short { length self.now.separator ≤ 16 → IsOk result }
+    fn find(&mut self, held: &PackedBuf) -> Option<usize>
+        ensures found { FindsNeedle (concat held.now.held.segments)
+            self.old.separator self.old.searched result }
+        ensures some { 0 < length self.old.separator }
+        ensures same { self.new ≡ self.old }
     {
-        find_from(held.as_segmented(), alloc, self.searched, self.separator())
+        find_prepared(
+            held.as_segmented(),
+            self.searched,
+            &self.finder,
+            &mut self.window,
+        )
     }
 
     /// Notes that no separator is in the `len` bytes that are held.
@@ -157,7 +170,7 @@ impl Delimited {
           searched = max self.old.searched (len - (length self.old.separator - 1));
         } }
     {
-        let begun = len.saturating_sub(self.separator.len() - 1);
+        let begun = len.saturating_sub(self.separator().len() - 1);
         self.searched = self.searched.max(begun);
     }
 

@@ -1,7 +1,7 @@
 //! Lines as texts.
 ghost use Rattle.std.specs.Prelude.{◌≡◌, [], ◌∷◌, IfOk, IfErr};
-ghost use Rattle.bytes_utils.specs.Decoding.{decoding};
-ghost use Rattle.bytes_utils.specs.Delimited.{AwaitsSeparator, delimiting};
+ghost use Rattle.bytes_utils.specs.Decoding.{Decodes, decoding};
+ghost use Rattle.bytes_utils.specs.Delimited.{AwaitsSeparator, delimiting, fails_delimited};
 ghost use Rattle.bytes_utils.specs.Lines.{line_feed};
 ghost use Rattle.bytes_utils.specs.TextLines.{TakesLastTextLine, TakesTextLine, TextItemsLaw, WholeTextLaw, fails_text_line, gives_text_line};
 ghost use Rattle.bytes_utils.specs.TextLinesLaws.{text_line_single, text_line_stable, text_line_waits};
@@ -32,9 +32,10 @@ type Line = Result<Str, Utf8Error<Bytes>>;
 ///
 /// At the end of the stream the bytes that are left are the last line, whole: without a line feed
 /// after it a carriage return is part of it. A line that is not UTF-8 is an item, too, so that the
-/// next one is the line after it. A line over the limit is an error that stays.
+/// next one is the line after it. A line over the limit is an error that stays. `OutOfMemory` comes
+/// only for a line within the limit that has come, or at the end of the stream for the last one.
 ///
-/// While it waits, bytes are not searched again. A line in one piece of more than 512 bytes shares
+/// While it waits, bytes are not searched again, and no memory is asked for. A line in one piece of more than 512 bytes shares
 /// it, if its line feed is there, too. [`Lines`](crate::frame::Lines) is a reader of the same lines
 /// (`text_line_laws`).
 #[derive(Debug, Drop)]
@@ -114,7 +115,14 @@ impl Decoder for TextLines {
 
     ghost fails = { fails_text_line };
 
-    fn decode(&mut self, alloc: Global, held: &mut PackedBuf) -> Result<Option<Line>, Reason> {
+    fn decode(&mut self, alloc: Global, held: &mut PackedBuf) -> Result<Option<Line>, Reason>
+        ensures step { Decodes gives_text_line AwaitsSeparator fails_text_line
+            (decoding self.old held.old) result (decoding self.new held.new) }
+        ensures threshold { held.new.threshold ≡ held.old.threshold }
+
+        // Before the end of the stream memory is asked for only for a line that has come.
+        ensures before_end { IfErr result (fails_delimited (decoding self.old held.old)) }
+    {
         self.take_line(alloc, held)
     }
 

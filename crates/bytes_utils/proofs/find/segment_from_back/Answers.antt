@@ -1,4 +1,4 @@
-use Rattle.std.proofs.Common.{◌≡◌, ◌<◌, length, take, arith}
+use Rattle.std.proofs.Common.{arith}
 use Rattle.bytes_utils.proofs.FindLemmas.{one_before, some_before}
 use Rattle.bytes_utils.proofs.find.segment_from_back.Goals as goal
 

@@ -1,4 +1,4 @@
-use Rattle.std.proofs.Common.{◌≡◌, length, arith}
+use Rattle.std.proofs.Common.{arith}
 use Rattle.bytes_utils_buf.proofs.Lists.{length-concat-take_more}
 use Rattle.bytes_utils.proofs.find.segment_from_front.Goals as goal
 

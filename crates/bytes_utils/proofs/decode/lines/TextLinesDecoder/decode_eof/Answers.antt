@@ -1,11 +1,12 @@
 use Rattle.std.proofs.Common.{rules}
 use Rattle.bytes_utils.specs.Decoding.{decoding}
-use Rattle.bytes_utils.proofs.TextLinesLemmas.{SameLine-searched, ends_text_line}
+use Rattle.bytes_utils.proofs.TextLinesLemmas.{SameLine-searched, ends_text_line, fails_before_end}
 use Rattle.bytes_utils.proofs.decode.lines.TextLinesDecoder.decode_eof.Goals as goal
 
 pub returns-in_err-line-clause-step : goal.returns-in_err-line-clause-step
 returns-in_err-line-clause-step c =
     let taken = c.in_err-line.ensures.taken in
+    let fails = fails_before_end _ _ taken.0 in
     let same = SameLine-searched _ _ taken.1 in search rules
 
 pub returns-clause-step : goal.returns-clause-step
