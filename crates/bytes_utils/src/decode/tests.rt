@@ -11,6 +11,21 @@ use bytes::Bytes;
 use std::alloc::Global;
 use std::test::Fail;
 
+/// Whether no item is there yet.
+fn waits<D: Decoder<Error = Reason>>(alloc: Global, reader: &mut Decoded<D>) -> bool {
+    matches!(reader.next_item(alloc), Ok(None))
+}
+
+/// Whether each of three calls reports that the next item is over the limit.
+fn stays_too_long<D: Decoder<Error = Reason>>(alloc: Global, reader: &mut Decoded<D>) -> bool {
+    for _ in 0..3 {
+        if !matches!(reader.next_item(alloc), Err(Reason::TooLong)) {
+            return false;
+        }
+    }
+    true
+}
+
 /// Takes the frames that have come, each with a stroke after it.
 fn take_frames<D: Decoder<Item = Bytes, Error = Reason>>(
     alloc: Global,

@@ -1,4 +1,5 @@
 //! Lines as texts, out of pieces.
+use super::stays_too_long;
 use crate::Str;
 use crate::decode::{Decoded, TextLines};
 use crate::string::Utf8Error;
@@ -44,6 +45,34 @@ fn take_last(
     put(line, out)?;
     if reader.last_item(alloc)?.is_some() {
         return Err(Fail::from("one more line"));
+    }
+    Ok(())
+}
+
+/// Streams, with a stroke between them, that begin with a line of more than two bytes. Of some its
+/// end has come.
+const TOO_LONG: &str = "abc|abc\n|ab\r\n|abc\nd\n";
+
+/// Whether a line of two bytes comes, and then the stream's first line is over the limit, and all of
+/// the stream is held.
+fn is_refused(alloc: Global, stream: &str) -> Result<bool, Fail> {
+    let mut reader = Decoded::new(alloc, TextLines::with_limit(alloc, 2)?);
+    for piece in ["a\r\n", stream] {
+        reader.push_slice(piece.as_bytes())?;
+    }
+    let mut out = Vec::new(alloc);
+    put(
+        reader.next_item(alloc)?.ok_or("no line has come")?,
+        &mut out,
+    )?;
+    let stays = stays_too_long(alloc, &mut reader);
+    Ok(stays && out.as_slice() == "a|".as_bytes() && reader.remaining() == stream.len())
+}
+
+#[test]
+fn line_over_the_limit(rt: HostRuntime) -> Result<(), Fail> {
+    for stream in TOO_LONG.split('|') {
+        assert!(rt; is_refused(rt.alloc(), stream)?);
     }
     Ok(())
 }

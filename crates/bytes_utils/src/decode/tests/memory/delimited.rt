@@ -1,11 +1,12 @@
 //! Frames that a separator ends, and lines.
 use crate::decode::{Decoded, Delimited, TextLines};
-use crate::fixtures::refusals::{given, report};
+use crate::fixtures::refusals::{given, report, without_back};
+use bytes::Bytes;
 use std::alloc::Global;
 use std::io::Print;
 use std::process::Abort;
 
-/// A separator for which a search asks for memory.
+/// A separator for which a search that keeps no window asks for memory.
 const LONG: &[u8] = b"0123456789abcdef-";
 
 /// Asserts the frame `a`, unless it was refused, which is reported: then all bytes are still held.
@@ -31,6 +32,26 @@ fn delimited(rt: HostRuntime) {
             assert_frame(&rt, rt.alloc(), &mut reader);
         }
     }
+}
+
+// Its pieces are in two segments. Only these and the decoder take memory.
+#[test]
+fn no_memory_needed_while_it_waits(rt: HostRuntime) {
+    let Some(decoder) = given(&rt, "Delimited::new", Delimited::new(rt.alloc(), LONG)) else {
+        return;
+    };
+    let mut reader = Decoded::new(rt.alloc(), decoder);
+    let pushed = without_back(reader.push(Bytes::from_static(&[b'0'; 600])));
+    if given(&rt, "Decoded::push", pushed).is_none() {
+        return;
+    }
+    for piece in [b"1234", b"5678"] {
+        assert!(rt; matches!(reader.next_item(rt.alloc()), Ok(None)));
+        if given(&rt, "Decoded::push_slice", reader.push_slice(piece)).is_none() {
+            return;
+        }
+    }
+    assert!(rt; matches!(reader.next_item(rt.alloc()), Ok(None)));
 }
 
 /// Asserts the last line `a`, unless it was refused, which is reported: then it is still held.
