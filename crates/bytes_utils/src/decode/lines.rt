@@ -35,9 +35,9 @@ type Line = Result<Str, Utf8Error<Bytes>>;
 /// next one is the line after it. A line over the limit is an error that stays. `OutOfMemory` comes
 /// only for a line within the limit that has come, or at the end of the stream for the last one.
 ///
-/// While it waits, bytes are not searched again, and no memory is asked for. A line in one piece of more than 512 bytes shares
-/// it, if its line feed is there, too. [`Lines`](crate::frame::Lines) is a reader of the same lines
-/// (`text_line_laws`).
+/// While it waits, bytes are not searched again, and no memory is asked for. A line in one piece of
+/// more than 512 bytes shares it, if its line feed is there, too. [`Lines`](crate::frame::Lines) is a
+/// reader of the same lines (`text_line_laws`).
 #[derive(Debug, Drop)]
 pub struct TextLines {
     frames: Delimited,
