@@ -36,6 +36,8 @@ pub mod PathsLemmas
 pub mod FilesLemmas
 pub mod FieldsLemmas
 pub mod RedisLemmas
+pub mod ReplyLines
+pub mod ReplyBeginnings
 pub mod MultipartLemmas
 pub mod NetstringsLemmas
 pub mod MultipartLaws

@@ -1,8 +1,9 @@
 -- Replies of the Redis protocol.
-use Rattle.std.proofs.Common.{◌≡◌, ◌≢◌, ℕ, zero, suc, ◌+◌, ◌-◌, ◌==◌, Bool, true, false, cond, IsUtf8, ◌<◌, ◌≤◌, List, [], ◌∷◌, ◌++◌, length, drop, get_or, Option, None, Some, ap, ◌∙◌, sym, refl, subst, arith, append_assoc, append-nil, length-append}
+use Rattle.std.proofs.Common.{◌≡◌, ◌≢◌, ℕ, zero, suc, ◌+◌, ◌-◌, ◌==◌, Bool, true, false, cond, IsUtf8, ◌<◌, ◌≤◌, ⊎_elim, List, [], ◌∷◌, ◌++◌, length, drop, get_or, Option, None, Some, ap, ◌∙◌, sym, refl, subst, arith, append_assoc, append-nil, length-append}
 use Rattle.std.specs.Prelude.{ℤ}
 use Rattle.std.specs.List.{slice_get}
 use Rattle.std.specs.Option.{option_map}
+use Rattle.std.proofs.lemmas.Bool.{cases_lt}
 use Rattle.std.proofs.lemmas.Bool.Decides.{nat_tests}
 use Rattle.std.proofs.lemmas.List.{append_cancel_left}
 use Rattle.std.proofs.lemmas.Option.{same_Some}
@@ -20,7 +21,7 @@ use Rattle.bytes_utils.proofs.FramesLemmas.{TakesFrame-more, TakesFrame-same}
 use Rattle.bytes_utils.proofs.Joins.{append_same}
 use Rattle.bytes_utils.proofs.StreamRunsLemmas.{AreFirst-next}
 use Rattle.bytes_utils_run.specs.Requests.{WriteNumber}
-use Rattle.bytes_utils_run.specs.Redis.{line_end, no_length, BeginsText, IsPlain, IsText, WriteInteger, WriteLength, first_byte, Says, IsLineOf, body, after_line, items_in, IsHeadOf, HasNoBody, TakesItem, TakesNoHead, NoItem, AreWhole, TakesReply, NoReply}
+use Rattle.bytes_utils_run.specs.Redis.{line_end, no_length, BeginsText, IsPlain, IsText, WriteInteger, WriteLength, first_byte, Says, IsLineOf, body, after_line, items_in, IsHeadOf, IsLineWithin, HasNoBody, TakesItem, TakesNoHead, NoItem, NoItemWithin, AreWhole, TakesReply, NoReply}
 use Rattle.bytes_utils_run.specs.declared.examples.redis.Head.TheVariants.{Body}
 use Rattle.bytes_utils_run.specs.declared.examples.redis.Item.{Item}
 use Rattle.bytes_utils_run.specs.declared.examples.redis.Item.TheVariants.{Simple, Error, Integer, Bulk, Array}
@@ -137,6 +138,14 @@ module _ (limits : Limits) (old more : List ℕ) where
     pub no_head : ((item : Item) → ¬ IsLineOf item line) → NoItem limits (old ++ more)
     no_head none item rest takes = none item (its_line item rest takes).0
 
+    -- the line is that of no item within the limits
+    pub large_line : (room : ℕ) → ((item : Item) → ¬ IsLineWithin limits room item line) → NoItemWithin limits room (old ++ more)
+    large_line room none item rest takes =
+        let same = TakesFrame-same line_end (old ++ more) line takes.line (mid ++ more) (after_line item ++ rest) (TakesFrame-more line_end old line mid more framed) takes.bytes in
+        ⊎_elim (λ large. large)
+        (λ few. absurd (none item (subst (IsLineWithin limits room item) (sym same.0) (record { is = takes.is; short = takes.short; small = takes.small; few = few }))))
+        (cases_lt room (items_in item))
+
     -- the line is that of a bulk item
     module _ (len : ℕ) (head : IsHeadOf (Body len) line) where
       its_body : (item : Item) (rest : List ℕ) (said : List ℕ) → line ≡ first_byte item ∷ said → Says item said → mid ++ more ≡ after_line item ++ rest
@@ -159,13 +168,6 @@ module _ (limits : Limits) (old more : List ℕ) where
           let its = its_line item rest takes in
           let has = its_body item rest its.0.0 its.0.1 its.0.2 its.1 in
           none (body item) rest has.0 has.1
-
-      -- it is too long
-      pub large_body : limits.bulk < len → NoItem limits (old ++ more)
-      large_body large item rest takes =
-          let its = its_line item rest takes in
-          let has = its_body item rest its.0.0 its.0.1 its.0.2 its.1 in
-          omega (arith, large, has.0, takes.small)
 
 module _ (len : ℕ) (old bytes mid : List ℕ) (first : TakesFirst len old bytes mid) where
   -- what follows the bytes
@@ -191,7 +193,7 @@ no_item_of_none item is = absurd (omega (arith, ap length is.1))
 
 module _ (kind : ℕ) (said : List ℕ) where
   -- an item that has this line says what follows its first byte
-  of_kind : ((item : Item) → kind ≡ first_byte item → ¬ Says item said) → (item : Item) → ¬ IsLineOf item (kind ∷ said)
+  pub of_kind : ((item : Item) → kind ≡ first_byte item → ¬ Says item said) → (item : Item) → ¬ IsLineOf item (kind ∷ said)
   of_kind none item is = none item (ap (λ l. get_or l 0 0) is.1) (subst (Says item) (sym (ap (drop 1) is.1)) is.2)
 
 pub no_simple : (said : List ℕ) → (¬ IsPlain said) → (item : Item) → ¬ IsLineOf item (43 ∷ said)
@@ -329,6 +331,17 @@ module _ (limits other : Limits) (more : List ℕ) where
         has_none k [] some whole are = omega (arith, some, whole)
         has_none k (y ∷ ys) some whole are = none y are.0 are.1
 
+    -- an item is to come, and it has more items than the limit allows
+    pub no_room : (room : ℕ) → 0 < due → other.items ≤ length xs + due + room → NoItemWithin other room (left ++ more) → NoReply other (bytes ++ more)
+    no_room room some full none zs rest takes =
+        let later = walk 1 bytes xs left due zs rest are pending takes.are takes.whole in
+        let many = more_than due later.0 some later.2 later.3 in
+        omega (arith, full, many, takes.few, ap length later.1, length-append xs later.0)
+      where
+        more_than : (k : ℕ) (ys : List Item) → 0 < k → AreWhole k ys → AreFirst (TakesItem other) (left ++ more) ys rest → k + room < length ys
+        more_than k [] some whole are = absurd (omega (arith, some, whole))
+        more_than k (y ∷ ys) some whole are = omega (arith, some, none y are.0 are.1, at_least ((k - 1) + items_in y) ys whole.1)
+
     -- more items are to come than the limit allows
     pub too_many : other.items < length xs + due → NoReply other (bytes ++ more)
     too_many many zs rest takes =
@@ -339,12 +352,6 @@ module _ (limits other : Limits) (more : List ℕ) where
 pub whole_reply : (limits : Limits) (bytes : List ℕ) (items : List Item) (rest : List ℕ) → AreFirst (TakesItem limits) bytes items rest → ArePending 1 items 0
     → length items ≤ limits.items → TakesReply limits bytes items rest
 whole_reply limits bytes items rest are pending few = record { are = are; whole = ArePending-none 1 items pending; few = few }
-
--- more items than are allowed are to come after the next one
-pub too_many_after : (limits : Limits) (more bytes : List ℕ) (xs : List Item) (item : Item) (rest : List ℕ) (due : ℕ)
-    → AreFirst (TakesItem limits) bytes (xs ++ item ∷ []) rest → ArePending 1 (xs ++ item ∷ []) due → limits.items ≤ due → NoReply limits (bytes ++ more)
-too_many_after limits more bytes xs item rest due are pending many =
-    too_many limits limits more bytes (xs ++ item ∷ []) rest due are pending (omega (arith, many, length-append xs (item ∷ [])))
 
 -- ---- a reply takes bytes
 

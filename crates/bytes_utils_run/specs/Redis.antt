@@ -1,5 +1,5 @@
 -- Replies of the Redis protocol, version 2 (https://redis.io/docs/latest/develop/reference/protocol-spec/).
-use Rattle.std.specs.Prelude.{◌≡◌, ◌≢◌, ◌⊎◌, ℕ, ℤ, ◌+◌, ◌-◌, ◌<◌, ◌≤◌, List, [], ◌∷◌, ◌++◌, length, Option, None, Some, option_map, FitsSigned}
+use Rattle.std.specs.Prelude.{◌≡◌, ◌≢◌, ◌⊎◌, ⊤, ℕ, ℤ, ◌+◌, ◌-◌, ◌<◌, ◌≤◌, List, [], ◌∷◌, ◌++◌, length, Option, None, Some, option_map, FitsSigned}
 use Rattle.std.specs.Int.{w64}
 use Rattle.std.specs.List.{slice_get}
 use Rattle.std.specs.Str.Parse.{IsNumeral, signed_digits_value, without_leading_sign}
@@ -114,6 +114,39 @@ pub record TakesHead (most : ℕ) (old : List ℕ) (head : Head) (rest : List �
   pub is : IsHeadOf head line
   pub short : length line ≤ most
 
+-- what the line reports is within the limits: a bulk item of at most this many bytes, or an item with at most `room` items of its own
+abbrev pub IsHeadWithin : ℕ → ℕ → Head → Type 0
+IsHeadWithin most room (Whole item) = items_in item ≤ room
+IsHeadWithin most room (Body len) = len ≤ most
+
+-- the line is that of an item within the limits, which has at most `room` items of its own
+pub record IsLineWithin (limits : Limits) (room : ℕ) (item : Item) (line : List ℕ) : Type 0 where
+  pub is : IsLineOf item line
+  pub short : length line ≤ limits.line
+  pub small : length (body item) ≤ limits.bulk
+  pub few : items_in item ≤ room
+
+-- the line is that of a text or of an error
+pub record IsTextLine (line : List ℕ) : Type 0 where
+  pub kind : ℕ
+  pub text : List ℕ
+  pub parts : line ≡ kind ∷ text
+  pub is : IsText kind
+  pub plain : IsPlain text
+
+-- what follows the first byte of a line with a length is nothing, or a sign whose digit is to come
+abbrev pub LacksLength : List ℕ → Type 0
+LacksLength said = (said ≡ []) ⊎ (said ≡ 45 ∷ [])
+
+-- the same of an integer's line
+abbrev pub LacksDigit : List ℕ → Type 0
+LacksDigit said = LacksLength said ⊎ (said ≡ 43 ∷ [])
+
+-- the line is that of no item, and one byte more can make it one: the first byte of all, or the first digit
+abbrev pub LacksByte : List ℕ → Type 0
+LacksByte [] = ⊤
+LacksByte (kind ∷ said) = ((kind ≡ 58) × LacksDigit said) ⊎ (((kind ≡ 36) ⊎ (kind ≡ 42)) × LacksLength said)
+
 -- the old bytes begin with a line that is that of no item
 pub record TakesNoHead (old : List ℕ) : Type 0 where
   pub line : List ℕ
@@ -125,9 +158,21 @@ pub record TakesNoHead (old : List ℕ) : Type 0 where
 abbrev pub HasNoBody : ℕ → List ℕ → Type 0
 HasNoBody len bytes = (front rest : List ℕ) → length front ≡ len → bytes ≢ front ++ (line_end ++ rest)
 
+-- with some bytes after them, the bytes are this number of bytes and an end of a line
+abbrev pub BeginsBody : ℕ → List ℕ → Type 0
+BeginsBody len bytes = (more : List ℕ) × (front : List ℕ) × (length front ≡ len) × (bytes ++ more ≡ front ++ line_end)
+
 -- the bytes don't begin with an item
 abbrev pub NoItem : Limits → List ℕ → Type 0
 NoItem limits bytes = (item : Item) (rest : List ℕ) → ¬ TakesItem limits bytes item rest
+
+-- the bytes don't begin with an item that has at most `room` items of its own
+abbrev pub NoItemWithin : Limits → ℕ → List ℕ → Type 0
+NoItemWithin limits room bytes = (item : Item) (rest : List ℕ) → TakesItem limits bytes item rest → room < items_in item
+
+-- with some bytes after them, the bytes are an item that has at most `room` items of its own
+abbrev pub BeginsItem : Limits → ℕ → List ℕ → Type 0
+BeginsItem limits room bytes = (more : List ℕ) × (item : Item) × TakesItem limits (bytes ++ more) item [] × (items_in item ≤ room)
 
 -- n items are to come, and these are all of them: each is one of those to come, and after an array its own come too
 abbrev pub AreWhole : ℕ → List Item → Type 0
@@ -143,3 +188,7 @@ pub record TakesReply (limits : Limits) (old : List ℕ) (items : List Item) (re
 -- the bytes don't begin with a reply
 abbrev pub NoReply : Limits → List ℕ → Type 0
 NoReply limits bytes = (items : List Item) (rest : List ℕ) → ¬ TakesReply limits bytes items rest
+
+-- the bytes are a beginning of a reply: with some bytes after them, they are one whole reply
+abbrev pub BeginsReply : Limits → List ℕ → Type 0
+BeginsReply limits bytes = (more : List ℕ) × (items : List Item) × TakesReply limits (bytes ++ more) items []

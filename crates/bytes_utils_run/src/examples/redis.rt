@@ -1,11 +1,13 @@
 //! Replies of the Redis protocol, version 2, with nested arrays, of a stream that comes in pieces.
-ghost use Rattle.std.specs.Prelude.{◌≡◌, ◌≢◌, ℕ, ℤ, Option, ◌+◌, ◌^◌, ◌<◌, ◌≤◌, ◌↔◌, List, [], ◌∷◌, ◌++◌, length, drop, option_map, IfOk, IfErr, IfSome, IfNone, IsOk, OnOk, OnErr, IsTrue};
+ghost use Rattle.std.specs.Prelude.{◌≡◌, ◌≢◌, ℕ, ℤ, Option, ◌+◌, ◌^◌, ◌<◌, ◌≤◌, ◌↔◌, List, [], ◌∷◌, ◌++◌, length, drop, option_map, IfOk, IfErr, IfSome, IfNone, IsOk, OnOk, OnErr, IsTrue, MatchOption};
+ghost use Rattle.std.specs.Cow.{cow_slice_items};
 ghost use Rattle.std.specs.List.{concat};
 ghost use Rattle.bytes_utils.specs.Pushing.{IsPush};
 ghost use Rattle.bytes_utils.specs.Cursor.{NeverEndsWithin, unread};
 ghost use Rattle.bytes_utils.specs.Frames.{TakesFrame};
+ghost use Rattle.bytes_utils.specs.Lines.{carriage_return};
 ghost use Rattle.bytes_utils.specs.Occurrence.{Occurs};
-ghost use Rattle.bytes_utils_run.specs.Redis.{BeginsText, HasNoBody, IsHeadOf, IsLineOf, IsPlain, IsText, NoItem, NoReply, Replying, TakesHead, TakesItem, TakesNoHead, TakesReply, WriteInteger, WriteLength, first_byte, items_in, line_end};
+ghost use Rattle.bytes_utils_run.specs.Redis.{BeginsBody, BeginsItem, BeginsReply, BeginsText, HasNoBody, IsHeadOf, IsHeadWithin, IsLineOf, IsLineWithin, IsPlain, IsText, IsTextLine, LacksByte, LacksDigit, LacksLength, NoItem, NoItemWithin, NoReply, Replying, TakesHead, TakesItem, TakesNoHead, TakesReply, WriteInteger, WriteLength, first_byte, items_in, line_end};
 
 use super::requests::number;
 use bytes::{Buf, Bytes};
@@ -15,6 +17,7 @@ use bytes_utils::segmented::PackedBuf;
 use bytes_utils::{Reason, Refused, SegmentedBuf};
 use memchr::memchr2;
 use std::alloc::Global;
+use std::borrow::CowSlice;
 use std::marker::Model;
 use std::str;
 
@@ -82,7 +85,8 @@ impl From<Reason> for ReplyError {
 /// replies.next_reply(alloc)?       // `Array(Some(2))`, `Integer(1)`, `Bulk(Some(hello))`
 /// ```
 ///
-/// Nothing is taken until a reply is whole: each call reads from its first byte.
+/// Nothing is taken until a reply is whole: each call reads from its first byte. What can't become a
+/// reply within the limits is an error as soon as that is certain, so a peer can't send without end.
 #[derive(Drop)]
 pub struct ReplyReader {
     alloc: Global,
@@ -135,10 +139,11 @@ impl ReplyReader {
         self.pieces.push_slice(self.alloc, piece)
     }
 
-    /// Returns the next reply, as its items in order, or `None` while some of it is to come. A bulk
-    /// item in one piece of more than 512 bytes is shared. Fails with `Malformed` if the held bytes
-    /// begin with no reply, whatever comes after them, with `TooLarge` if they begin with none
-    /// within the limits, and with `Refused` if memory is refused; then nothing has changed.
+    /// Returns the next reply, as its items in order, or `None` while the held bytes are only a
+    /// beginning of one within the limits. A bulk item in one piece of more than 512 bytes is
+    /// shared. Fails with `Malformed` if they begin with no reply, whatever comes after them, with
+    /// `TooLarge` if they begin with none within the limits, and with `Refused` if memory is
+    /// refused; then nothing has changed.
     #[tactic(auto, using(crate::proofs::RedisLemmas::reply_takes))]
     pub fn next_reply(&mut self, alloc: Global) -> Result<Option<Vec<Item>>, ReplyError>
         ensures reply { IfOk result (λ next. IfSome next (λ items.
@@ -147,6 +152,8 @@ impl ReplyReader {
             length self.new.held < length self.old.held)) }
         ensures waits { IfOk result (λ next. IfNone next
             ((self.new ≡ self.old) × NoReply self.old.limits self.old.held)) }
+        ensures begins { IfOk result (λ next. IfNone next
+            (BeginsReply self.old.limits self.old.held)) }
         ensures err { OnErr result (self.new ≡ self.old) }
         ensures malformed { IfErr result (λ e. e ≡ ReplyError.Malformed
             → (limits : Limits) (more : List ℕ) → NoReply limits (self.old.held ++ more)) }
@@ -177,6 +184,8 @@ fn read_reply<B: ContiguousBuf + Drop>(
         (drop read.1 (concat held.now.segments)))) }
     ensures waits { IfOk result (λ next. IfNone next
         (NoReply limits (concat held.now.segments))) }
+    ensures begins { IfOk result (λ next. IfNone next
+        (BeginsReply limits (concat held.now.segments))) }
     ensures malformed { IfErr result (λ e. e ≡ ReplyError.Malformed
         → (any : Limits) (more : List ℕ) → NoReply any (concat held.now.segments ++ more)) }
     ensures too_large { IfErr result (λ e. e ≡ ReplyError.TooLarge
@@ -184,24 +193,21 @@ fn read_reply<B: ContiguousBuf + Drop>(
     ensures reason { IfErr result (λ e. (reason : _) → e ≡ ReplyError.Refused reason
         → reason ≡ Reason.OutOfMemory) }
 {
+    if limits.items == 0 {
+        return Err(ReplyError::TooLarge);
+    }
     let mut cursor = Cursor::new(held);
     let mut items = Vec::new(alloc);
     let mut due: usize = 1; // items still to come
-    while items.len() < limits.items {
-        let Some(item) = next_item(&mut cursor, alloc, limits)? else {
+    while due > 0 {
+        let room = limits.items - items.len() - due; // for more items
+        let Some(item) = next_item(&mut cursor, alloc, limits, room)? else {
             return Ok(None);
         };
-        let following = items_in(&item);
-        if following > limits.items - (due - 1) {
-            return Err(ReplyError::TooLarge);
-        }
-        due = due - 1 + following;
+        due = due - 1 + items_in(&item);
         keep(&mut items, item)?;
-        if due == 0 {
-            return Ok(Some((items, cursor.at())));
-        }
     }
-    Err(ReplyError::TooLarge)
+    Ok(Some((items, cursor.at())))
 }
 
 /// The number of items that follow as those of this one.
@@ -223,30 +229,39 @@ fn keep(items: &mut Vec<Item>, item: Item) -> Result<(), Reason>
     Ok(())
 }
 
-/// Passes the next item: of an array its line alone.
+/// Passes the next item: of an array its line alone. The item may have at most `room` items of its
+/// own.
 fn next_item<B: ContiguousBuf + Drop>(
     cursor: &mut Cursor<'_, B>,
     alloc: Global,
     limits: Limits,
+    room: usize,
 ) -> Result<Option<Item>, ReplyError>
     ensures item { IfOk result (λ next. IfSome next (λ item.
         TakesItem limits (unread cursor.old) item (unread cursor.new))) }
+    ensures few { IfOk result (λ next. IfSome next (λ item. items_in item ≤ room)) }
     ensures all { cursor.new.all ≡ cursor.old.all }
     ensures waits { IfOk result (λ next. IfNone next (NoItem limits (unread cursor.old))) }
+    ensures begins { IfOk result (λ next. IfNone next
+        (BeginsItem limits room (unread cursor.old))) }
     ensures malformed { IfErr result (λ e. e ≡ ReplyError.Malformed
         → (any : Limits) (more : List ℕ) → NoItem any (unread cursor.old ++ more)) }
     ensures too_large { IfErr result (λ e. e ≡ ReplyError.TooLarge
-        → (more : List ℕ) → NoItem limits (unread cursor.old ++ more)) }
+        → (more : List ℕ) → NoItemWithin limits room (unread cursor.old ++ more)) }
     ensures reason { IfErr result (λ e. (reason : _) → e ≡ ReplyError.Refused reason
         → reason ≡ Reason.OutOfMemory) }
 {
     let Some(head) = next_head(cursor, alloc, limits.line)? else {
+        check_begun(cursor, alloc, limits, room)?;
         return Ok(None);
     };
+    if !is_within(&head, limits.bulk, room) {
+        return Err(ReplyError::TooLarge);
+    }
     match head {
         Head::Whole(item) => Ok(Some(item)),
         Head::Body(len) => {
-            let Some(bytes) = next_body(cursor, alloc, len, limits.bulk)? else {
+            let Some(bytes) = next_body(cursor, alloc, len)? else {
                 return Ok(None);
             };
             Ok(Some(Item::Bulk(Some(bytes))))
@@ -264,7 +279,8 @@ fn next_head<B: ContiguousBuf + Drop>(
     ensures head { IfOk result (λ next. IfSome next (λ head.
         TakesHead most (unread cursor.old) head (unread cursor.new))) }
     ensures all { cursor.new.all ≡ cursor.old.all }
-    ensures waits { IfOk result (λ next. IfNone next (¬ Occurs line_end (unread cursor.old))) }
+    ensures waits { IfOk result (λ next. IfNone next
+        ((cursor.new ≡ cursor.old) × (¬ Occurs line_end (unread cursor.old)))) }
     ensures malformed { IfErr result
         (λ e. e ≡ ReplyError.Malformed → TakesNoHead (unread cursor.old)) }
     ensures too_large { IfErr result (λ e. e ≡ ReplyError.TooLarge
@@ -310,28 +326,24 @@ fn line_error(reason: Reason) -> ReplyError
     }
 }
 
-/// Passes the bytes of a bulk item and the end of a line.
+/// Passes the `len` bytes of a bulk item and the end of a line.
 fn next_body<B: ContiguousBuf + Drop>(
     cursor: &mut Cursor<'_, B>,
     alloc: Global,
     len: usize,
-    most: usize,
 ) -> Result<Option<Bytes>, ReplyError>
     ensures body { IfOk result (λ next. IfSome next (λ bytes.
         unread cursor.old ≡ bytes ++ (line_end ++ unread cursor.new))) }
     ensures len { IfOk result (λ next. IfSome next (λ bytes. length bytes ≡ len)) }
-    ensures within { IfOk result (λ _. len ≤ most) }
     ensures all { cursor.new.all ≡ cursor.old.all }
     ensures waits { IfOk result (λ next. IfNone next (HasNoBody len (unread cursor.old))) }
+    ensures begins { IfOk result (λ next. IfNone next (BeginsBody len (unread cursor.old))) }
     ensures malformed { IfErr result (λ e. e ≡ ReplyError.Malformed
         → (more : List ℕ) → HasNoBody len (unread cursor.old ++ more)) }
-    ensures too_large { IfErr result (λ e. e ≡ ReplyError.TooLarge → most < len) }
+    ensures too_large { IfErr result (λ e. e ≢ ReplyError.TooLarge) }
     ensures reason { IfErr result (λ e. (reason : _) → e ≡ ReplyError.Refused reason
         → reason ≡ Reason.OutOfMemory) }
 {
-    if len > most {
-        return Err(ReplyError::TooLarge);
-    }
     let Some(bytes) = cursor.take(alloc, len)? else {
         return Ok(None);
     };
@@ -342,11 +354,162 @@ fn next_body<B: ContiguousBuf + Drop>(
     }
 }
 
+/// Checks that the unread bytes, in which no line ends, begin an item within the limits, with at
+/// most `room` items of its own.
+fn check_begun<B: ContiguousBuf + Drop>(
+    cursor: &mut Cursor<'_, B>,
+    alloc: Global,
+    limits: Limits,
+    room: usize,
+) -> Result<(), ReplyError>
+    requires { ¬ Occurs line_end (unread cursor.old) }
+    ensures begins { OnOk result (BeginsItem limits room (unread cursor.old)) }
+    ensures all { cursor.new.all ≡ cursor.old.all }
+    ensures malformed { IfErr result (λ e. e ≡ ReplyError.Malformed
+        → (any : Limits) (more : List ℕ) → NoItem any (unread cursor.old ++ more)) }
+    ensures too_large { IfErr result (λ e. e ≡ ReplyError.TooLarge
+        → (more : List ℕ) → NoItemWithin limits room (unread cursor.old ++ more)) }
+    ensures reason { IfErr result (λ e. (reason : _) → e ≡ ReplyError.Refused reason
+        → reason ≡ Reason.OutOfMemory) }
+{
+    let begun = read_rest(cursor, alloc)?;
+    check_begun_item(&begun, limits, room)
+}
+
+/// Passes all unread bytes and returns them.
+fn read_rest<'a, B: ContiguousBuf + Drop>(
+    cursor: &mut Cursor<'a, B>,
+    alloc: Global,
+) -> Result<CowSlice<'a, u8>, Reason>
+    ensures bytes { IfOk result (λ rest. cow_slice_items rest ≡ unread cursor.old) }
+    ensures all { cursor.new.all ≡ cursor.old.all }
+    ensures reason { IfErr result (λ reason. reason ≡ Reason.OutOfMemory) }
+{
+    let rest = cursor.read(alloc, cursor.remaining())?;
+    Ok(rest.unwrap())
+}
+
+/// Checks that the bytes, in which no line ends, begin an item within the limits.
+fn check_begun_item(begun: &[u8], limits: Limits, room: usize) -> Result<(), ReplyError>
+    requires { ¬ Occurs line_end begun.now }
+    ensures begins { OnOk result (BeginsItem limits room begun.now) }
+    ensures malformed { IfErr result (λ e. e ≡ ReplyError.Malformed
+        → (any : Limits) (more : List ℕ) → NoItem any (begun.now ++ more)) }
+    ensures too_large { IfErr result (λ e. e ≡ ReplyError.TooLarge
+        → (more : List ℕ) → NoItemWithin limits room (begun.now ++ more)) }
+    ensures reason { IfErr result (λ e. (reason : _) → e ≢ ReplyError.Refused reason) }
+{
+    match ended_line(begun) {
+        Some(line) => check_line(line, limits, room),
+        None => check_begun_line(begun, limits, room),
+    }
+}
+
+/// The line, if the first byte of its end has come.
+fn ended_line(begun: &[u8]) -> Option<&[u8]>
+    ensures { MatchOption result ((front : List ℕ) → begun.now ≢ front ++ carriage_return ∷ [])
+        (λ line. begun.now ≡ line.now ++ carriage_return ∷ []) }
+{
+    begun.strip_suffix(b"\r")
+}
+
+/// Checks that the bytes begin the line of an item within the limits.
+fn check_begun_line(begun: &[u8], limits: Limits, room: usize) -> Result<(), ReplyError>
+    ensures begins { OnOk result ((more : List ℕ) × (item : Item)
+        × IsLineWithin limits room item (begun.now ++ more)) }
+    ensures malformed { IfErr result (λ e. e ≡ ReplyError.Malformed
+        → (item : Item) (more : List ℕ) → ¬ IsLineOf item (begun.now ++ more)) }
+    ensures too_large { IfErr result (λ e. e ≡ ReplyError.TooLarge
+        → (item : Item) (more : List ℕ) → ¬ IsLineWithin limits room item (begun.now ++ more)) }
+    ensures reason { IfErr result (λ e. (reason : _) → e ≢ ReplyError.Refused reason) }
+{
+    if !lacks_byte(begun) {
+        return check_line(begun, limits, room);
+    }
+    if begun.len() >= limits.line {
+        return Err(ReplyError::TooLarge);
+    }
+    Ok(())
+}
+
+/// Checks that the line is that of an item within the limits. If it is too large, then it is so with
+/// more bytes, too.
+fn check_line(line: &[u8], limits: Limits, room: usize) -> Result<(), ReplyError>
+    ensures is { OnOk result ((item : Item) × IsLineWithin limits room item line.now) }
+    ensures malformed { IfErr result (λ e. e ≡ ReplyError.Malformed
+        → (item : Item) → ¬ IsLineOf item line.now) }
+    ensures too_large { IfErr result (λ e. e ≡ ReplyError.TooLarge
+        → (item : Item) (more : List ℕ) → ¬ IsLineWithin limits room item (line.now ++ more)) }
+    ensures reason { IfErr result (λ e. (reason : _) → e ≢ ReplyError.Refused reason) }
+{
+    if line.len() > limits.line {
+        return Err(ReplyError::TooLarge);
+    }
+    if is_text(line) {
+        return Ok(());
+    }
+    let Some(head) = number_of(line) else {
+        return Err(ReplyError::Malformed);
+    };
+    if !is_within(&head, limits.bulk, room) {
+        return Err(ReplyError::TooLarge);
+    }
+    Ok(())
+}
+
+/// Whether one byte more can make the bytes the line of an item, which they aren't yet.
+fn lacks_byte(begun: &[u8]) -> bool
+    ensures { IsTrue result ↔ LacksByte begun.now }
+{
+    let Some((&kind, said)) = begun.split_first() else {
+        return true;
+    };
+    match kind {
+        b':' => lacks_digit(said),
+        b'$' | b'*' => lacks_length(said),
+        _ => false,
+    }
+}
+
+/// Whether the bytes of an integer lack its first digit.
+fn lacks_digit(said: &[u8]) -> bool
+    ensures { IsTrue result ↔ LacksDigit said.now }
+{
+    lacks_length(said) || said == b"+".as_slice()
+}
+
+/// Whether the bytes of a length lack its first digit, or that of `-1`.
+fn lacks_length(said: &[u8]) -> bool
+    ensures { IsTrue result ↔ LacksLength said.now }
+{
+    said.is_empty() || said == b"-".as_slice()
+}
+
 /// What a line reports: a whole item, or the number of bytes of a bulk item.
 #[derive(Drop)]
 enum Head {
     Whole(Item),
     Body(usize),
+}
+
+/// Whether what a line reports is within the limits.
+fn is_within(head: &Head, most: usize, room: usize) -> bool
+    ensures { IsTrue result ↔ IsHeadWithin most room head.now }
+{
+    match head {
+        Head::Whole(item) => items_in(item) <= room,
+        Head::Body(len) => *len <= most,
+    }
+}
+
+/// Whether the line is that of a text or of an error.
+fn is_text(line: &[u8]) -> bool
+    ensures { IsTrue result ↔ IsTextLine line.now }
+{
+    let Some((&kind, text)) = line.split_first() else {
+        return false;
+    };
+    matches!(kind, b'+' | b'-') && is_plain(text)
 }
 
 /// What the line of a text or of an error reports, or `None` if it is that of neither.
@@ -387,10 +550,14 @@ fn plain(text: Bytes) -> Option<Bytes>
     ensures some { IfSome result (λ plain. (plain ≡ text) × IsPlain text) }
     ensures none { IfNone result (¬ IsPlain text) }
 {
-    match memchr2(b'\r', b'\n', text.as_slice()) {
-        Some(_) => None,
-        None => Some(text),
-    }
+    is_plain(&text).then_some(text)
+}
+
+/// Whether no byte of the text is a carriage return or a line feed.
+fn is_plain(text: &[u8]) -> bool
+    ensures { IsTrue result ↔ IsPlain text.now }
+{
+    memchr2(b'\r', b'\n', text).is_none()
 }
 
 /// The number that the bytes write, if they are digits after a sign or none.

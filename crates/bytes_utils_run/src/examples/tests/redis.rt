@@ -8,7 +8,7 @@ use std::test::Fail;
 /// Limits that the replies below stay within.
 const LIMITS: Limits = Limits {
     line: 70,
-    bulk: 11,
+    bulk: 300,
     items: 8,
 };
 
@@ -109,32 +109,48 @@ fn replies_in_slices(rt: HostRuntime) -> Result<(), Fail> {
 /// - integers with no digit, with other bytes, and above the greatest
 /// - lengths below none, with a sign, and of no digit
 /// - bytes without an end of a line after them, also within arrays
+/// - beginnings of lines: of no item, of a text, of integers, of lengths
 /// - too long a line, whether it ends or not; too many bytes; too many items
+/// - beginnings of lines with too many bytes, and with too many items
 const BAD: &str = "?\r\n>malformed|\r\n>malformed|\
     +a\rb\r\n>malformed|-a\nb\r\n>malformed|\
     :\r\n>malformed|:-\r\n>malformed|:1a\r\n>malformed|:9223372036854775808\r\n>malformed|\
     $-2\r\n>malformed|$+1\r\n>malformed|$\r\n>malformed|*-2\r\n>malformed|*a\r\n>malformed|\
     $1\r\nab>malformed|$0\r\n\n>malformed|*2\r\n:1\r\n:b\r\n>malformed|*1\r\n*1\r\n!\r\n>malformed|\
+    ?>malformed|\r>malformed|+a\rb>malformed|-\r\r>malformed|\
+    :12a>malformed|:-\r>malformed|:+-1>malformed|:9223372036854775808>malformed|\
+    $x>malformed|$-2>malformed|$1\r1>malformed|*-2>malformed|*+>malformed|*18446744073709551616>malformed|\
     +1234567890123456789012345678901234567890123456789012345678901234567890\r\n>too large|\
     +12345678901234567890123456789012345678901234567890123456789012345678901>too large|\
-    $12\r\n>too large|*9\r\n>too large|*2\r\n:1\r\n$99999999999\r\n>too large|\
-    *8\r\n:1\r\n:2\r\n:3\r\n:4\r\n:5\r\n:6\r\n:7\r\n>too large|\
-    *2\r\n*18446744073709551615\r\n>too large";
+    $301\r\n>too large|*8\r\n>too large|*2\r\n:1\r\n$99999999999\r\n>too large|\
+    *2\r\n*18446744073709551615\r\n>too large|\
+    $301>too large|*8>too large";
 
-/// Each bad input is refused, and refused again.
+/// The error of the next reply, if there is one.
+fn refusal(alloc: Global, replies: &mut ReplyReader) -> &'static str {
+    match replies.next_reply(alloc) {
+        Err(ReplyError::Malformed) => "malformed",
+        Err(ReplyError::TooLarge) => "too large",
+        _ => "no error",
+    }
+}
+
+/// Each bad input is refused, and refused again: alone, and after a bulk item of 300 bytes in the
+/// same array.
 #[test]
 fn bad_input(rt: HostRuntime) -> Result<(), Fail> {
     for row in BAD.split('|') {
         let (bytes, wanted) = row.split_once('>').ok_or("no input")?;
-        let mut replies = ReplyReader::new(rt.alloc(), LIMITS);
-        replies.push(Bytes::from_static(bytes.as_bytes()))?;
-        for _ in 0..2 {
-            let found = match replies.next_reply(rt.alloc()) {
-                Err(ReplyError::Malformed) => "malformed",
-                Err(ReplyError::TooLarge) => "too large",
-                _ => "a reply",
-            };
-            assert_eq!(rt; found, wanted);
+        for follows in [false, true] {
+            let mut replies = ReplyReader::new(rt.alloc(), LIMITS);
+            if follows {
+                replies.push_slice(b"*2\r\n$300\r\n")?;
+                replies.push_slice(&[b'a'; 300])?;
+                replies.push_slice(b"\r\n")?;
+            }
+            replies.push_slice(bytes.as_bytes())?;
+            assert_eq!(rt; refusal(rt.alloc(), &mut replies), wanted);
+            assert_eq!(rt; refusal(rt.alloc(), &mut replies), wanted);
         }
     }
     Ok(())
