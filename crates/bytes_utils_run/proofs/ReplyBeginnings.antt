@@ -1,5 +1,5 @@
 -- Beginnings of replies of the Redis protocol: what can become an item, and what can become a reply.
-use Rattle.std.proofs.Common.{◌≡◌, ◌≢◌, ℕ, zero, suc, ◌+◌, ◌-◌, ◌<◌, ◌≤◌, ◌⊎◌, inl, inr, ⊎_elim, List, [], ◌∷◌, ◌++◌, length, take, drop, get_or, Option, None, Some, ap, ◌∙◌, sym, refl, subst, arith, append_assoc, append-nil, length-append}
+use Rattle.std.proofs.Common.{◌≡◌, ◌≢◌, ℕ, zero, suc, ◌+◌, ◌-◌, ◌<◌, ◌≤◌, ◌⊎◌, inl, inr, ⊎_elim, List, [], ◌∷◌, ◌++◌, length, take, drop, get_or, Some, ap, ◌∙◌, sym, refl, subst, arith, append_assoc, append-nil, length-append}
 use Rattle.std.specs.Prelude.{replicate}
 use Rattle.std.proofs.lemmas.Bool.{cases_lt}
 use Rattle.std.proofs.lemmas.List.{append_cancel_right, length-replicate, nil_from_length, take_at}
@@ -11,7 +11,7 @@ use Rattle.bytes_utils.specs.StreamRuns.{AreFirst}
 use Rattle.bytes_utils.proofs.FramesLemmas.{TakesFrame-more}
 use Rattle.bytes_utils.proofs.StreamRunsLemmas.{AreFirst-more}
 use Rattle.bytes_utils_run.specs.Requests.{WriteNumber}
-use Rattle.bytes_utils_run.specs.Redis.{line_end, BeginsBody, BeginsItem, BeginsReply, IsHeadOf, IsLineOf, IsLineWithin, NoItem, NoItemWithin, TakesItem, TakesReply, AreWhole, after_line, body, items_in}
+use Rattle.bytes_utils_run.specs.Redis.{line_end, BeginsBody, BeginsItem, BeginsReply, IsHeadOf, IsLineOf, IsLineWithin, NoItem, NoItemWithin, TakesItem, AreWhole, after_line, items_in}
 use Rattle.bytes_utils_run.specs.declared.examples.redis.Head.TheVariants.{Body}
 use Rattle.bytes_utils_run.specs.declared.examples.redis.Item.{Item}
 use Rattle.bytes_utils_run.specs.declared.examples.redis.Item.TheVariants.{Simple, Bulk}

@@ -1,5 +1,5 @@
 -- Lines of replies of the Redis protocol, whole and begun.
-use Rattle.std.proofs.Common.{◌≡◌, ◌≢◌, ℕ, zero, suc, ◌+◌, ◌==◌, ◌^◌, Bool, true, false, cond, ◌<◌, ◌≤◌, ◌⊎◌, inl, inr, ⊎_elim, List, [], ◌∷◌, ◌++◌, length, take, drop, get_or, Option, None, Some, ap, ◌∙◌, sym, refl, subst, arith, append-nil, length-append}
+use Rattle.std.proofs.Common.{◌≡◌, ◌≢◌, ℕ, zero, suc, ◌==◌, Bool, true, false, cond, ◌<◌, ◌≤◌, ◌⊎◌, inl, inr, ⊎_elim, List, [], ◌∷◌, ◌++◌, length, take, drop, get_or, Option, None, Some, ap, ◌∙◌, sym, refl, subst, arith, append-nil, length-append}
 use Rattle.std.specs.Prelude.{ℤ, pos, neg_ℤ, ⊤, FitsSigned, replicate}
 use Rattle.std.specs.Int.{w64}
 use Rattle.std.specs.Option.{option_map}
@@ -10,7 +10,7 @@ use Rattle.std.proofs.lemmas.Str.Parse.{digit_at, digit_from_value, digits_value
 use Rattle.memchr.specs.Find.{is_byte2}
 use Rattle.bytes_utils.specs.Frames.{TakesFrame}
 use Rattle.bytes_utils.specs.Lines.{carriage_return, line_feed}
-use Rattle.bytes_utils.specs.Occurrence.{Occurs, OccursAt}
+use Rattle.bytes_utils.specs.Occurrence.{OccursAt}
 use Rattle.bytes_utils_run.specs.Requests.{WriteNumber}
 use Rattle.bytes_utils_run.specs.Redis.{line_end, no_length, IsPlain, IsText, IsTextLine, IsHeadOf, IsHeadWithin, IsLineWithin, LacksByte, LacksDigit, LacksLength, WriteInteger, WriteLength, first_byte, Says, IsLineOf, body, items_in}
 use Rattle.bytes_utils_run.specs.declared.examples.redis.Head.{Head}
@@ -18,7 +18,7 @@ use Rattle.bytes_utils_run.specs.declared.examples.redis.Head.TheVariants.{Whole
 use Rattle.bytes_utils_run.specs.declared.examples.redis.Item.{Item}
 use Rattle.bytes_utils_run.specs.declared.examples.redis.Item.TheVariants.{Simple, Error, Integer, Bulk, Array}
 use Rattle.bytes_utils_run.specs.declared.examples.redis.Limits.{Limits}
-use Rattle.bytes_utils_run.proofs.RedisLemmas.{of_kind, no_item_of_none, no_integer, no_bulk, no_array}
+use Rattle.bytes_utils_run.proofs.RedisLemmas.{no_item_of_none, no_integer, no_bulk, no_array}
 
 -- ---- fronts of texts and numbers
 
@@ -311,7 +311,8 @@ module _ (limits : Limits) (room : ℕ) (line : List ℕ) where
   pub completed_within : LacksByte line → length line < limits.line → (more : List ℕ) × (item : Item) × IsLineWithin limits room item (line ++ more)
   completed_within lacks short =
       let done = completed line lacks in (
-        done.byte ∷ [], done.item,
+        done.byte ∷ [],
+        done.item,
         record { is = done.is; short = omega (arith, short, length-append line (done.byte ∷ [])); small = omega (arith, ap length done.no_body); few = omega (arith, done.alone) },
       )
 

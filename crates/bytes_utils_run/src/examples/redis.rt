@@ -200,7 +200,7 @@ fn read_reply<B: ContiguousBuf + Drop>(
     let mut items = Vec::new(alloc);
     let mut due: usize = 1; // items still to come
     while due > 0 {
-        let room = limits.items - items.len() - due; // for more items
+        let room = limits.items - items.len() - due; // for the items of the next one
         let Some(item) = next_item(&mut cursor, alloc, limits, room)? else {
             return Ok(None);
         };

@@ -1,4 +1,4 @@
-use Rattle.std.proofs.Common.{◌≡◌, [], ◌++◌, ◌∷◌, ◌≤◌, ◌+◌, ◌-◌, ◌∙◌, length, length-append, refl, sym, subst, arith, ap, append-nil, drop}
+use Rattle.std.proofs.Common.{◌≡◌, [], ◌∷◌, ◌-◌, ◌∙◌, length-append, refl, sym, subst, arith, ap, append-nil, drop}
 use Rattle.std.specs.List.{concat}
 use Rattle.std.proofs.lemmas.Result.{err_from_is_err_and}
 use Rattle.bytes_utils.specs.Cursor.{unread}
