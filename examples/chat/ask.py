@@ -105,5 +105,7 @@ def frames(judge, room, at, chat):
     memory(caller, chat, bytes(100_000) + b";;")
 
 
-# the program's arguments, and what is said to it then
-RUNS = [([], lines), ([";;"], frames)]
+HALF = b"a" * 8_000
+
+# the program's arguments, what is said to it then, what else is said to it, and the reply, and half of what is said
+RUNS = [([], lines, b"one\n", b"3\n", HALF), ([";;"], frames, b"one;;", b"3\n", HALF)]

@@ -2,6 +2,8 @@
 import contextlib, csv, io, os, re, resource, socket, subprocess, time
 from concurrent.futures import ThreadPoolExecutor
 
+from kit import processor_time
+
 BODY = 50_000_000
 # what the service may have held after all these requests: its longest body, and this much more
 LIMIT, BESIDE = 64 << 20, 128 << 20
@@ -186,19 +188,14 @@ def crowd(client):
 def descriptors(client, service):
     """Without a free file descriptor the service waits, and goes on once there is one."""
     host, _, port = client.at.rpartition(":")
-
-    def used():
-        ticks = open(f"/proc/{service.pid}/stat").read().rpartition(")")[2].split()[11:13]
-        return sum(map(int, ticks)) / os.sysconf("SC_CLK_TCK")
-
     soft, hard = resource.prlimit(service.pid, resource.RLIMIT_NOFILE)
     resource.prlimit(service.pid, resource.RLIMIT_NOFILE, (20, hard))
     with contextlib.ExitStack() as stack:
         for _ in range(50):
             stack.enter_context(socket.create_connection((host, int(port)), 60))
-        began = used()
+        began = processor_time(service.pid)
         time.sleep(1)
-        client.judge("no free file descriptor: the service waits", used() - began < 0.5)
+        client.judge("no free file descriptor: the service waits", processor_time(service.pid) - began < 0.5)
         held = len(os.listdir(f"/proc/{service.pid}/fd"))
         client.judge(f"50 callers and {held} descriptors of 20", held == 20)
     client.expect("a request once there is one", "/echo", b"next\n200", "--data-binary", "next")
@@ -243,5 +240,9 @@ def ask(judge, room, at, service):
     memory(client, service, LIMIT + BESIDE)
 
 
-# the program's arguments, and what is asked of it then
-RUNS = [([], ask)]
+# a request, of which the response ends with its last bytes, and half of another one
+POST = b"POST /echo HTTP/1.1\r\nHost: h\r\nContent-Length: %d\r\n\r\n%s"
+ONE, HALF = POST % (3, b"one"), POST % (16_000, b"a" * 8_000)
+
+# the program's arguments, what is asked of it then, what else is said to it, and the reply, and half of what is said
+RUNS = [([], ask, ONE, b"\r\n\r\none", HALF)]
