@@ -17,12 +17,23 @@ def options(description, beside_crate=False):
     parser.add_argument("--quick", action="store_true", help=quick)
     place = "where the programs are built and stay; one that is there is run as it is"
     parser.add_argument("--in", dest="folder", help=place)
+    parser.add_argument("--table", type=int, help="that table alone; the first one is 1")
     if beside_crate:
         parser.add_argument("--crate", help="the folder of bytes-utils 0.1.4, which has its Cargo.toml")
     asked = parser.parse_args()
     if beside_crate and not asked.quick and not asked.crate:
         parser.error("--crate is needed: the folder of bytes-utils 0.1.4")
     return asked
+
+
+def print_tables(asked, tables):
+    """Prints the tables that are asked for, each the names of its columns and its rows, as soon as a row is there."""
+    for number, (heads, rows) in enumerate(tables, 1):
+        if asked.table in (None, number):
+            print(f"| {' | '.join(heads)} |\n|{'---|' * len(heads)}")
+            for row in rows:
+                print(f"| {' | '.join(row)} |", flush=True)
+            print()
 
 
 def called(words, folder=".", given=""):

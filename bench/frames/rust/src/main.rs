@@ -3,8 +3,8 @@
 //! stopped, or `codec_borrowed` or `codec_moved`, tokio-util's `LinesCodec`, for END `lf` alone. Pieces are borrowed as
 //! slices of the whole, or moved as blocks of their own, which are dropped once they are copied in. HOW `floor` has no
 //! pieces: it searches the whole stream in one block, and counts one owner for each frame. END is `lf` or `crlf2`, or
-//! one of the streams that attack a search: `returns`, `beginnings` or `run`. It prints the frames, their bytes, and
-//! the least nanoseconds of all rounds.
+//! one of the streams that attack a search: `returns`, `beginnings`, `run` or `pairs`. It prints the frames, their
+//! bytes, and the least nanoseconds of all rounds.
 use bytes::{Bytes, BytesMut};
 use memchr::memmem::Finder;
 use std::env;
@@ -21,6 +21,7 @@ fn end(word: &str) -> (&'static [u8], &'static [u8]) {
         "returns" => (b"\r\n\r\n", b"\r"),
         "beginnings" => (b"\r\n\r\n", b"\r\n\rx"),
         "run" => (RUN, b"a"),
+        "pairs" => (b"abababababababac", b"ab"),
         _ => (b"\r\n\r\n", b"abcdefghijklmnopqrstuvwxyz"),
     }
 }
