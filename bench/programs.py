@@ -1,8 +1,9 @@
 """What the measurements share: their options, the programs that they build and run, and the count of what is right."""
-import argparse, os, shutil, subprocess, sys, tempfile
+import argparse, os, re, shutil, subprocess, sys, tempfile
 from contextlib import contextmanager
 
 ROOT = os.path.dirname(os.path.dirname(os.path.realpath(__file__)))
+SPEED = f"{ROOT}/docs/SPEED.md"
 sys.path.append(f"{ROOT}/.ci")
 from kit import build
 
@@ -18,6 +19,7 @@ def options(description, beside_crate=False):
     place = "where the programs are built and stay; one that is there is run as it is"
     parser.add_argument("--in", dest="folder", help=place)
     parser.add_argument("--table", type=int, help="that table alone; the first one is 1")
+    parser.add_argument("--write", action="store_true", help="put each table into docs/SPEED.md, for that of its columns")
     if beside_crate:
         parser.add_argument("--crate", help="the folder of bytes-utils 0.1.4, which has its Cargo.toml")
     asked = parser.parse_args()
@@ -30,10 +32,28 @@ def print_tables(asked, tables):
     """Prints the tables that are asked for, each the names of its columns and its rows, as soon as a row is there."""
     for number, (heads, rows) in enumerate(tables, 1):
         if asked.table in (None, number):
-            print(f"| {' | '.join(heads)} |\n|{'---|' * len(heads)}")
+            lines = [line_of(heads), f"|{'---|' * len(heads)}"]
+            print(*lines, sep="\n")
             for row in rows:
-                print(f"| {' | '.join(row)} |", flush=True)
+                lines.append(line_of(row))
+                print(lines[-1], flush=True)
             print()
+            if asked.write:
+                write(lines)
+
+
+def line_of(cells):
+    return f"| {' | '.join(cells)} |".replace("|  |", "| |").replace("|  |", "| |")
+
+
+def write(lines):
+    """Puts a table into docs/SPEED.md, in place of the one that has the same columns."""
+    text = open(SPEED, encoding="utf-8").read()
+    place = re.escape(f"{lines[0]}\n") + r"(?:\|.*\n)+"
+    if len(re.findall(place, text)) != 1:
+        sys.exit(f"docs/SPEED.md has no such table, or two: {lines[0]}")
+    table = "".join(f"{it}\n" for it in lines)
+    open(SPEED, "w", encoding="utf-8").write(re.sub(place, lambda _: table, text))
 
 
 def called(words, folder=".", given=""):
