@@ -19,7 +19,7 @@ def options(description, beside_crate=False):
     place = "where the programs are built and stay; one that is there is run as it is"
     parser.add_argument("--in", dest="folder", help=place)
     parser.add_argument("--table", type=int, help="that table alone; the first one is 1")
-    parser.add_argument("--write", action="store_true", help="put each table into docs/SPEED.md, for that of its columns")
+    parser.add_argument("--write", action="store_true", help="also put each table into docs/SPEED.md")
     if beside_crate:
         parser.add_argument("--crate", help="the folder of bytes-utils 0.1.4, which has its Cargo.toml")
     asked = parser.parse_args()
