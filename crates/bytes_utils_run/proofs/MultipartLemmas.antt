@@ -1,8 +1,9 @@
 -- Parts between boundaries.
-use Rattle.std.proofs.Common.{◌≡◌, ◌≢◌, ℕ, ◌+◌, ◌<◌, ◌≤◌, List, [], ◌∷◌, ◌++◌, length, take, drop, get_or, ap, ◌∙◌, sym, refl, subst, arith, length-append, length-drop, ◌-◌, append_assoc, take-append-drop, ⊎_elim, inl, inr, false, All, Bor, Option, None, Some, MatchOption, Result, Ok, Err, OnOk, OnErr}
+use Rattle.std.proofs.Common.{◌≡◌, ◌≢◌, ℕ, ◌+◌, ◌<◌, ◌≤◌, List, [], ◌∷◌, ◌++◌, length, take, drop, get_or, ap, ◌∙◌, sym, refl, subst, arith, length-append, length-drop, ◌-◌, append_assoc, take-append-drop, ⊎_elim, inl, inr, true, false, ◌⊎◌, All, Bor, Option, None, Some, MatchOption, Result, Ok, Err, OnOk, OnErr}
 use Rattle.std.proofs.lemmas.Bool.{cases_lt}
 use Rattle.std.proofs.lemmas.List.{append_cancel_left, length-take-le}
 use Rattle.std.proofs.lemmas.Str.Pattern.{split_text_parts}
+use Rattle.std.specs.Bool.{MatchBool}
 use Rattle.std.specs.List.{concat}
 use Rattle.std.specs.Str.Pattern.{FindsText, SplitsAroundMatch}
 use Rattle.bytes_utils.specs.Frames.{Framing, TakesFrame}
@@ -11,7 +12,7 @@ use Rattle.bytes_utils.specs.Pushing.{IsPush}
 use Rattle.bytes_utils_buf.specs.declared.refused.Refused.{Refused}
 use Rattle.bytes_utils.proofs.FramesLemmas.{TakesFrame-more, TakesFrame-same}
 use Rattle.bytes_utils.proofs.OccurrenceLemmas.{OccursAt-between, OccursAt-front, cut_whole}
-use Rattle.bytes_utils_run.specs.Multipart.{Parting, appended, line_end, dashes, head_end, PartBytes, part_bytes, IsHeadIn, IsPart, TakesPart, IsPartDue, NoPart, Closes, LacksNext, held_at, AreApart, has_ended, quote, IsQuoted, IsDisposition, NoDisposition, IsFirstDisposition, held_by, IsDivided, SameSections, AfterSearch}
+use Rattle.bytes_utils_run.specs.Multipart.{FewWait, IsIdle, Parting, appended, closed, line_end, dashes, head_end, PartBytes, part_bytes, IsHeadIn, IsPart, TakesPart, IsPartDue, NoPart, Closes, LacksNext, held_at, AreApart, has_ended, quote, IsQuoted, IsDisposition, NoDisposition, IsFirstDisposition, held_by, IsDivided, SameSections, AfterSearch}
 use Rattle.bytes_utils_run.specs.declared.examples.multipart.Limits.{Limits}
 use Rattle.bytes_utils_run.specs.declared.examples.multipart.sections.Sections.{Sections}
 use Rattle.bytes_utils_run.specs.declared.examples.multipart.sections.Stage.{Stage}
@@ -130,7 +131,7 @@ module _ (s : Sections) (waiting : s.stage ≡ Waiting) (divided : IsDivided s) 
       → AfterSearch s.stage s (record s { frames = frames })
   none_found frames same none other =
       let d = s.frames.separator in
-      let p = concat s.preamble.segments in
+      let p = s.preamble in
       let f = concat s.found.segments in
       let w = s.frames.held in
       let begins : TakesFrame d (p ++ (d ++ w)) p w = subst (λ stage. AreApart stage d p f w) waiting divided in
@@ -142,32 +143,32 @@ module _ (s : Sections) (waiting : s.stage ≡ Waiting) (divided : IsDivided s) 
 module _ (s : Sections) (is_found : s.stage ≡ Found) (divided : IsDivided s) where
   module _ (limits : Limits) where
     -- what was found is a part, and it is taken
-    pub takes_found : (part : PartBytes) (new : Sections) → IsPart limits (concat s.found.segments) part → length (concat s.preamble.segments) ≤ limits.head + limits.body
-        → new.stage ≡ Waiting → new.frames ≡ s.frames → new.preamble.segments ≡ [] → TakesPart s.frames.separator limits (held_by s) part (held_by new)
+    pub takes_found : (part : PartBytes) (new : Sections) → IsPart limits (concat s.found.segments) part → length s.preamble ≤ limits.head + limits.body
+        → new.stage ≡ Waiting → new.frames ≡ s.frames → new.preamble ≡ [] → TakesPart s.frames.separator limits (held_by s) part (held_by new)
     takes_found part new is few stage frames preamble =
         let d = s.frames.separator in
-        let p = concat s.preamble.segments in
+        let p = s.preamble in
         let f = concat s.found.segments in
         let v = s.frames.held in
         let both : AreApart Found d p f v = subst (λ stage. AreApart stage d p f v) is_found divided in
         let left : held_by new ≡ d ++ v = rw (stage, frames, preamble) refl in
         rw left (subst (λ stage. TakesPart d limits (held_at stage d p f v) part (d ++ v)) (sym is_found) (found_part d limits p f v both.0 both.1 part is few))
 
-    pub part_in_found : (part : PartBytes) → IsPart limits (concat s.found.segments) part → length (concat s.preamble.segments) ≤ limits.head + limits.body
+    pub part_in_found : (part : PartBytes) → IsPart limits (concat s.found.segments) part → length s.preamble ≤ limits.head + limits.body
         → (rest : List ℕ) × TakesPart s.frames.separator limits (held_by s) part rest
     part_in_found part is few =
         let d = s.frames.separator in
-        let p = concat s.preamble.segments in
+        let p = s.preamble in
         let f = concat s.found.segments in
         let v = s.frames.held in
         let both : AreApart Found d p f v = subst (λ stage. AreApart stage d p f v) is_found divided in
         (d ++ v, subst (λ stage. TakesPart d limits (held_at stage d p f v) part (d ++ v)) (sym is_found) (found_part d limits p f v both.0 both.1 part is few))
 
     -- the delimiters before and after it have come
-    pub due_in_found : length (concat s.preamble.segments) ≤ limits.head + limits.body → IsPartDue s.frames.separator limits (held_by s)
+    pub due_in_found : length s.preamble ≤ limits.head + limits.body → IsPartDue s.frames.separator limits (held_by s)
     due_in_found few =
         let d = s.frames.separator in
-        let p = concat s.preamble.segments in
+        let p = s.preamble in
         let f = concat s.found.segments in
         let v = s.frames.held in
         let both : AreApart Found d p f v = subst (λ stage. AreApart stage d p f v) is_found divided in
@@ -178,42 +179,32 @@ module _ (s : Sections) (is_found : s.stage ≡ Found) (divided : IsDivided s) w
     pub none_in_found : ((part : PartBytes) → ¬ IsPart limits (concat s.found.segments) part) → (more : List ℕ) → NoPart s.frames.separator limits (held_by s ++ more)
     none_in_found none more =
         let d = s.frames.separator in
-        let p = concat s.preamble.segments in
+        let p = s.preamble in
         let f = concat s.found.segments in
         let v = s.frames.held in
         let both : AreApart Found d p f v = subst (λ stage. AreApart stage d p f v) is_found divided in
         subst (λ stage. NoPart d limits (held_at stage d p f v ++ more)) (sym is_found) (no_found d limits p f v both.0 both.1 none more)
 
-    -- too many bytes are before it
-    pub much_before_found : limits.head + limits.body < length (concat s.preamble.segments) → (more : List ℕ) → NoPart s.frames.separator limits (held_by s ++ more)
-    much_before_found much more =
-        let d = s.frames.separator in
-        let p = concat s.preamble.segments in
-        let f = concat s.found.segments in
-        let v = s.frames.held in
-        let both : AreApart Found d p f v = subst (λ stage. AreApart stage d p f v) is_found divided in
-        subst (λ stage. NoPart d limits (held_at stage d p f v ++ more)) (sym is_found) (many_before d limits p (f ++ (d ++ v)) both.0 much more)
-
 -- a delimiter is held, and what follows it
-pub divided_at_once : (s : Sections) → s.stage ≡ Waiting → s.preamble.segments ≡ [] → IsDivided s
+pub divided_at_once : (s : Sections) → s.stage ≡ Waiting → s.preamble ≡ [] → IsDivided s
 divided_at_once s stage preamble =
     let d = s.frames.separator in
     let w = s.frames.held in
-    subst (λ stage. AreApart stage d (concat s.preamble.segments) (concat s.found.segments) w) (sym stage)
-    (subst (λ (l : List (List ℕ)). TakesFrame d (concat l ++ (d ++ w)) (concat l) w) (sym preamble) (at_once d w))
+    subst (λ stage. AreApart stage d s.preamble (concat s.found.segments) w) (sym stage)
+    (subst (λ l. TakesFrame d (l ++ (d ++ w)) l w) (sym preamble) (at_once d w))
 
 -- ---- a piece is pushed
 
-apart_more : (stage : Stage) (d p f w piece : List ℕ) → AreApart stage d p f w → AreApart stage d p f (w ++ piece)
-apart_more Preamble d p f w piece parts = tt
-apart_more Waiting d p f w piece parts = apart d ((p ++ (d ++ w)) ++ piece) p (w ++ piece) (TakesFrame-more d (p ++ (d ++ w)) p w piece parts)
-apart_more Found d p f w piece parts =
+apart_more : (stage : Stage) (d p f w piece : List ℕ) → has_ended stage ≡ false → AreApart stage d p f w → AreApart stage d p f (w ++ piece)
+apart_more Preamble d p f w piece on parts = parts
+apart_more Waiting d p f w piece on parts = apart d ((p ++ (d ++ w)) ++ piece) p (w ++ piece) (TakesFrame-more d (p ++ (d ++ w)) p w piece parts)
+apart_more Found d p f w piece on parts =
     let joined : (f ++ (d ++ w)) ++ piece ≡ f ++ (d ++ (w ++ piece)) = append_assoc f (d ++ w) piece ∙ ap (λ l. f ++ l) (append_assoc d w piece) in
     let begins = TakesFrame-more d (p ++ (d ++ (f ++ (d ++ w)))) p (f ++ (d ++ w)) piece parts.0 in (
       apart d ((p ++ (d ++ (f ++ (d ++ w)))) ++ piece) p (f ++ (d ++ (w ++ piece))) (subst (TakesFrame d ((p ++ (d ++ (f ++ (d ++ w)))) ++ piece) p) joined begins),
       apart d ((f ++ (d ++ w)) ++ piece) f (w ++ piece) (TakesFrame-more d (f ++ (d ++ w)) f w piece parts.1),
     )
-apart_more Ended d p f w piece parts = tt
+apart_more Ended d p f w piece on parts = cc
 
 -- what is held before the bytes that wait
 pub held_before : Stage → List ℕ → List ℕ → List ℕ → List ℕ
@@ -230,13 +221,13 @@ held_apart Found d p f w on = sym (append_assoc p d (f ++ (d ++ w))) ∙ ap (λ 
 held_apart Ended d p f w on = cc
 
 module _ (s : Sections) (frames : Framing) (piece : List ℕ) (same : frames.separator ≡ s.frames.separator) (held : frames.held ≡ s.frames.held ++ piece) where
-  pub divided_more : IsDivided s → IsDivided (record s { frames = frames })
-  divided_more parts = rw (same, held) (apart_more s.stage s.frames.separator (concat s.preamble.segments) (concat s.found.segments) s.frames.held piece parts)
+  pub divided_more : has_ended s.stage ≡ false → IsDivided s → IsDivided (record s { frames = frames })
+  divided_more on parts = rw (same, held) (apart_more s.stage s.frames.separator s.preamble (concat s.found.segments) s.frames.held piece on parts)
 
   pub held_more : has_ended s.stage ≡ false → held_by (record s { frames = frames }) ≡ held_by s ++ piece
   held_more on =
       let d = s.frames.separator in
-      let p = concat s.preamble.segments in
+      let p = s.preamble in
       let f = concat s.found.segments in
       let w = s.frames.held in
       let before = held_before s.stage d p f in
@@ -253,16 +244,16 @@ abbrev seen : Limits → Sections → Parting
 seen limits s = record { delimiter = s.frames.separator; limits = limits; ended = has_ended s.stage; held = held_by s }
 
 module _ (s : Sections) (frames : Framing) (piece : List ℕ) (same : frames.separator ≡ s.frames.separator) where
-  pub still_divided : {E : Type 0} (result : Result (Unit {0}) E) → OnOk result (frames.held ≡ s.frames.held ++ piece) → OnErr result (frames ≡ s.frames) → IsDivided s
-      → IsDivided (record s { frames = frames })
-  still_divided (Ok u) held unchanged parts = divided_more s frames piece same held parts
-  still_divided (Err e) held unchanged parts = subst (λ l. IsDivided (record s { frames = l })) (sym unchanged) parts
+  pub still_divided : {E : Type 0} (result : Result (Unit {0}) E) → OnOk result (frames.held ≡ s.frames.held ++ piece) → OnErr result (frames ≡ s.frames) → has_ended s.stage ≡ false
+      → IsDivided s → IsDivided (record s { frames = frames })
+  still_divided (Ok u) held unchanged on parts = divided_more s frames piece same held on parts
+  still_divided (Err e) held unchanged on parts = subst (λ l. IsDivided (record s { frames = l })) (sym unchanged) parts
 
 -- the bytes that wait are the last ones that are held
 pub waiting_last : (s : Sections) → has_ended s.stage ≡ false → (front : List ℕ) × (held_by s ≡ front ++ s.frames.held)
 waiting_last s on = (
-  held_before s.stage s.frames.separator (concat s.preamble.segments) (concat s.found.segments),
-  held_apart s.stage s.frames.separator (concat s.preamble.segments) (concat s.found.segments) s.frames.held on,
+  held_before s.stage s.frames.separator s.preamble (concat s.found.segments),
+  held_apart s.stage s.frames.separator s.preamble (concat s.found.segments) s.frames.held on,
 )
 
 module _ (s : Sections) (limits : Limits) (frames : Framing) (piece : List ℕ) (result : Result (Unit {0}) (Refused (List ℕ))) (same : frames.separator ≡ s.frames.separator)
@@ -316,51 +307,6 @@ module _ (d : List ℕ) (limits : Limits) where
       let whole : takes.raw ++ (d ++ takes.next) ≡ dashes ++ closing.1 = sym takes.ends.bytes ∙ sym same.1 in
       no_dashes limits takes.raw part (d ++ takes.next) takes.is (whole ∙ ap (λ l. dashes ++ l) (sym (ap (drop 2) whole)))
 
-module _ (limits : Limits) (old new : Sections) (divided : IsDivided new) where
-  -- after the end
-  pub none_after_end : new.stage ≡ Ended → AfterSearch new.stage old new → NoPart old.frames.separator limits (held_by old)
-  none_after_end stage after = ended (subst (λ stage. AfterSearch stage old new) stage after)
-    where
-      ended : AfterSearch Ended old new → NoPart old.frames.separator limits (held_by old)
-      ended (inl before) =
-          subst (λ stage. NoPart old.frames.separator limits (held_at stage old.frames.separator (concat old.preamble.segments) (concat old.found.segments) old.frames.held)) (sym before)
-          (none_in_nothing old.frames.separator limits)
-      ended (inr closing) = none_closed old.frames.separator limits (held_by old) closing
-
-  module _ (stage : Stage) (is : new.stage ≡ stage) (after : AfterSearch stage old new) where
-    -- nothing is found
-    pub none_waits : stage ≢ Ended → stage ≢ Found → NoPart old.frames.separator limits (held_by old)
-    none_waits = waits stage is after
-      where
-        waits : (stage : Stage) → new.stage ≡ stage → AfterSearch stage old new → stage ≢ Ended → stage ≢ Found → NoPart old.frames.separator limits (held_by old)
-        waits Preamble is after not_ended not_found = no_part_yet old.frames.separator limits (held_by old) after.3
-        waits Waiting is after not_ended not_found = no_part_yet old.frames.separator limits (held_by old) after.3
-        waits Found is after not_ended not_found = absurd (not_found refl)
-        waits Ended is after not_ended not_found = absurd (not_ended refl)
-
-    -- too many bytes wait
-    pub much_waits : stage ≢ Ended → stage ≢ Found → limits.head + limits.body + length new.frames.separator < length new.frames.held → (more : List ℕ)
-        → NoPart old.frames.separator limits (held_by old ++ more)
-    much_waits = waits stage is after
-      where
-        waits : (stage : Stage) → new.stage ≡ stage → AfterSearch stage old new → stage ≢ Ended → stage ≢ Found → limits.head + limits.body + length new.frames.separator < length new.frames.held
-            → (more : List ℕ) → NoPart old.frames.separator limits (held_by old ++ more)
-        waits Preamble is after not_ended not_found much more =
-            let same = after.0 in
-            let held : held_by old ≡ new.frames.held =
-            sym same.held ∙ ap (λ stage. held_at stage new.frames.separator (concat new.preamble.segments) (concat new.found.segments) new.frames.held) is in
-            rw held (long_preamble old.frames.separator limits new.frames.held after.1 (omega (arith, much, ap length same.delimiter)) more)
-        waits Waiting is after not_ended not_found much more =
-            let same = after.0 in
-            let p = concat new.preamble.segments in
-            let w = new.frames.held in
-            let held : held_by old ≡ p ++ (old.frames.separator ++ w) =
-            sym same.held ∙ ap (λ stage. held_at stage new.frames.separator p (concat new.found.segments) w) is ∙ ap (λ l. p ++ (l ++ w)) same.delimiter in
-            let begins = subst (λ stage. AreApart stage new.frames.separator p (concat new.found.segments) w) is divided in
-            rw held (long_part old.frames.separator limits p w (subst (λ l. TakesFrame l (p ++ (l ++ w)) p w) same.delimiter begins) after.1 (omega (arith, much, ap length same.delimiter)) more)
-        waits Found is after not_ended not_found much more = absurd (not_found refl)
-        waits Ended is after not_ended not_found much more = absurd (not_ended refl)
-
 -- the bytes that are held now are those from before
 pub none_of_same : (old new : Sections) → SameSections old new → (limits : Limits) (more : List ℕ) → NoPart new.frames.separator limits (held_by new ++ more)
     → NoPart old.frames.separator limits (held_by old ++ more)
@@ -371,6 +317,105 @@ pub due_of_same : (old new : Sections) → SameSections old new → (limits : Li
     → IsPartDue old.frames.separator limits (held_by old)
 due_of_same old new same limits due =
     subst (λ l. IsPartDue l limits (held_by old)) same.delimiter (subst (λ l. IsPartDue new.frames.separator limits l) same.held due)
+
+-- ---- few bytes wait
+
+module _ (limits : Limits) (d : List ℕ) where
+  few_in_nothing : FewWait d limits []
+  few_in_nothing = record {
+    for_first = λ _. omega arith;
+    before = λ preamble after takes. omega (arith, ap length takes.bytes, length-append preamble (d ++ after));
+    for_next = λ preamble after takes. omega (arith, ap length takes.bytes, length-append preamble (d ++ after), length-append d after);
+  }
+
+  few_before : (w : List ℕ) → (¬ Occurs d w) → length w ≤ limits.head + limits.body + length d → FewWait d limits w
+  few_before w none few = record {
+    for_first = λ _. few;
+    before = λ preamble after takes. absurd (none (length preamble, takes.first.here));
+    for_next = λ preamble after takes. absurd (none (length preamble, takes.first.here));
+  }
+
+  few_after : (p w : List ℕ) → TakesFrame d (p ++ (d ++ w)) p w → length p ≤ limits.head + limits.body → length w ≤ limits.head + limits.body + length d
+      → FewWait d limits (p ++ (d ++ w))
+  few_after p w begins short few = record {
+    for_first = λ none. absurd (none (length p, begins.first.here));
+    before = λ preamble after takes. omega (arith, short, ap length (TakesFrame-same d (p ++ (d ++ w)) p preamble w after begins takes).0);
+    for_next = λ preamble after takes. omega (arith, few, ap length (TakesFrame-same d (p ++ (d ++ w)) p preamble w after begins takes).1);
+  }
+
+-- ---- after a search
+
+module _ (limits : Limits) (old s : Sections) where
+  -- if it found no part, there is none
+  pub none_after : (stage : Stage) → AfterSearch stage old s → stage ≢ Found → NoPart old.frames.separator limits (held_by old)
+  none_after Preamble after not_found = no_part_yet old.frames.separator limits (held_by old) after.3
+  none_after Waiting after not_found = no_part_yet old.frames.separator limits (held_by old) after.3
+  none_after Found after not_found = absurd (not_found refl)
+  none_after Ended (inl before) not_found =
+      subst (λ stage. NoPart old.frames.separator limits (held_at stage old.frames.separator old.preamble (concat old.found.segments) old.frames.held)) (sym before)
+      (none_in_nothing old.frames.separator limits)
+  none_after Ended (inr closing) not_found = none_closed old.frames.separator limits (held_by old) closing
+
+  abbrev Kept : Type 0
+  Kept = (seen limits s ≡ seen limits old) × (¬ Closes old.frames.separator (held_by old)) × LacksNext old.frames.separator (held_by old)
+
+  abbrev End : Type 0
+  End = (seen limits s ≡ closed (seen limits old)) × ((has_ended old.stage ≡ true) ⊎ Closes old.frames.separator (held_by old))
+
+  idle_kept : has_ended s.stage ≡ false → SameSections old s → (¬ Closes old.frames.separator (held_by old)) → LacksNext old.frames.separator (held_by old)
+      → IsIdle (seen limits old) (seen limits s)
+  idle_kept on same still_open lacks =
+      let unchanged : seen limits s ≡ seen limits old =
+      λ i. record { delimiter = same.delimiter i; limits = limits; ended = same.ended i; held = same.held i } in
+      subst (λ b. MatchBool b End Kept) (sym on) (unchanged, still_open, lacks)
+
+  -- then it changed nothing, or the close delimiter was read
+  pub idle_after : (stage : Stage) → s.stage ≡ stage → s.frames.separator ≡ old.frames.separator → AfterSearch stage old s → stage ≢ Found → IsIdle (seen limits old) (seen limits s)
+  idle_after Preamble is delimiter after not_found = idle_kept (ap has_ended is) after.0 after.2 after.3
+  idle_after Waiting is delimiter after not_found = idle_kept (ap has_ended is) after.0 after.2 after.3
+  idle_after Found is delimiter after not_found = absurd (not_found refl)
+  idle_after Ended is delimiter after not_found =
+      let nothing : held_by s ≡ [] = ap (λ stage. held_at stage s.frames.separator s.preamble (concat s.found.segments) s.frames.held) is in
+      let ended : seen limits s ≡ closed (seen limits old) =
+      λ i. record { delimiter = delimiter i; limits = limits; ended = ap has_ended is i; held = nothing i } in
+      let why : (has_ended old.stage ≡ true) ⊎ Closes old.frames.separator (held_by old) = elim after [ inl before ↦ inl (ap has_ended before) | inr closing ↦ inr closing ] in
+      subst (λ b. MatchBool b End Kept) (sym (ap has_ended is)) (ended, why)
+
+  -- few bytes wait then, if they are within the limits
+  module _ (short : length s.preamble ≤ limits.head + limits.body) (few : length s.frames.held ≤ limits.head + limits.body + length s.frames.separator) where
+    pub few_wait : (stage : Stage) → AfterSearch stage old s → stage ≢ Found → AreApart stage s.frames.separator s.preamble (concat s.found.segments) s.frames.held
+        → FewWait s.frames.separator limits (held_at stage s.frames.separator s.preamble (concat s.found.segments) s.frames.held)
+    few_wait Preamble after not_found parts =
+        few_before limits s.frames.separator s.frames.held (subst (λ d. ¬ Occurs d s.frames.held) (sym after.0.delimiter) after.1) few
+    few_wait Waiting after not_found parts = few_after limits s.frames.separator s.preamble s.frames.held parts short few
+    few_wait Found after not_found parts = absurd (not_found refl)
+    few_wait Ended after not_found parts = few_in_nothing limits s.frames.separator
+
+  -- if they are not, no part comes
+  module _ (more : List ℕ) where
+    same_none : (stage : Stage) → s.stage ≡ stage → SameSections old s
+        → NoPart s.frames.separator limits (held_at stage s.frames.separator s.preamble (concat s.found.segments) s.frames.held ++ more) → NoPart old.frames.separator limits (held_by old ++ more)
+    same_none stage is same none =
+        none_of_same old s same limits more
+        (subst (λ stage. NoPart s.frames.separator limits (held_at stage s.frames.separator s.preamble (concat s.found.segments) s.frames.held ++ more)) (sym is) none)
+
+    pub over_limits : (stage : Stage) → s.stage ≡ stage → AfterSearch stage old s → AreApart stage s.frames.separator s.preamble (concat s.found.segments) s.frames.held
+        → ((limits.head + limits.body < length s.preamble) ⊎ ((s.stage ≢ Found) × (limits.head + limits.body + length s.frames.separator < length s.frames.held)))
+        → NoPart old.frames.separator limits (held_by old ++ more)
+    over_limits Preamble is after parts (inl much) = absurd (omega (arith, much, ap length parts))
+    over_limits Preamble is after parts (inr waits) =
+        same_none Preamble is after.0
+        (long_preamble s.frames.separator limits s.frames.held (subst (λ d. ¬ Occurs d s.frames.held) (sym after.0.delimiter) after.1) waits.1 more)
+    over_limits Waiting is after parts (inl much) = same_none Waiting is after.0 (many_before s.frames.separator limits s.preamble s.frames.held parts much more)
+    over_limits Waiting is after parts (inr waits) =
+        same_none Waiting is after.0
+        (long_part s.frames.separator limits s.preamble s.frames.held parts (subst (λ d. ¬ Occurs d s.frames.held) (sym after.0.delimiter) after.1) waits.1 more)
+    over_limits Found is after parts (inl much) =
+        same_none Found is after
+        (many_before s.frames.separator limits s.preamble (concat s.found.segments ++ (s.frames.separator ++ s.frames.held)) parts.0 much more)
+    over_limits Found is after parts (inr waits) = absurd (waits.0 is)
+    over_limits Ended is after parts (inl much) = absurd (omega (arith, much, ap length parts.0))
+    over_limits Ended is after parts (inr waits) = absurd (omega (arith, waits.1, ap length parts.1))
 
 -- ---- the name
 

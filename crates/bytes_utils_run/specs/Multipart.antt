@@ -17,7 +17,7 @@ use Rattle.bytes_utils_run.specs.declared.examples.multipart.sections.Stage.{Sta
 use Rattle.bytes_utils_run.specs.declared.examples.multipart.sections.Stage.TheVariants.{Preamble, Waiting, Found, Ended}
 
 -- What clauses see of a `PartReader`: the delimiter before and after each part, the limits, whether the close delimiter was read, and the held bytes.
--- The next part comes after the first delimiter in these.
+-- The next part comes after the first delimiter in these. Of the bytes before that delimiter the reader keeps the number alone.
 pub record Parting : Type 0 where
   pub delimiter : List ℕ
   pub limits : Limits
@@ -105,6 +105,12 @@ Closes delimiter bytes = (preamble : List ℕ) × (rest : List ℕ) × TakesFram
 abbrev pub LacksNext : List ℕ → List ℕ → Type 0
 LacksNext delimiter bytes = (preamble after : List ℕ) → TakesFrame delimiter bytes preamble after → ¬ Occurs delimiter after
 
+-- Few bytes wait: those before the first delimiter are within the limits, and those that wait for a delimiter have at most as many more as one.
+pub record FewWait (delimiter : List ℕ) (limits : Limits) (bytes : List ℕ) : Type 0 where
+  pub for_first : (¬ Occurs delimiter bytes) → length bytes ≤ limits.head + limits.body + length delimiter
+  pub before : (preamble after : List ℕ) → TakesFrame delimiter bytes preamble after → length preamble ≤ limits.head + limits.body
+  pub for_next : (preamble after : List ℕ) → TakesFrame delimiter bytes preamble after → length after ≤ limits.head + limits.body + length delimiter
+
 -- ---- the name
 
 abbrev pub content_disposition : List ℕ
@@ -168,14 +174,14 @@ held_at Waiting delimiter preamble found waiting = preamble ++ (delimiter ++ wai
 held_at Found delimiter preamble found waiting = preamble ++ (delimiter ++ (found ++ (delimiter ++ waiting)))
 held_at Ended delimiter preamble found waiting = []
 
--- each delimiter is the first one there
+-- Each delimiter is the first one there. Before the first one, and after the close delimiter, nothing else is kept.
 abbrev pub AreApart : Stage → List ℕ → List ℕ → List ℕ → List ℕ → Type 0
-AreApart Preamble delimiter preamble found waiting = Unit {0}
+AreApart Preamble delimiter preamble found waiting = preamble ≡ []
 AreApart Waiting delimiter preamble found waiting = TakesFrame delimiter (preamble ++ (delimiter ++ waiting)) preamble waiting
 AreApart Found delimiter preamble found waiting =
     TakesFrame delimiter (preamble ++ (delimiter ++ (found ++ (delimiter ++ waiting)))) preamble (found ++ (delimiter ++ waiting))
     × TakesFrame delimiter (found ++ (delimiter ++ waiting)) found waiting
-AreApart Ended delimiter preamble found waiting = Unit {0}
+AreApart Ended delimiter preamble found waiting = (preamble ≡ []) × (waiting ≡ [])
 
 abbrev pub has_ended : Stage → Bool
 has_ended Preamble = false
@@ -184,10 +190,10 @@ has_ended Found = false
 has_ended Ended = true
 
 abbrev pub held_by : Sections → List ℕ
-held_by s = held_at s.stage s.frames.separator (concat s.preamble.segments) (concat s.found.segments) s.frames.held
+held_by s = held_at s.stage s.frames.separator s.preamble (concat s.found.segments) s.frames.held
 
 abbrev pub IsDivided : Sections → Type 0
-IsDivided s = AreApart s.stage s.frames.separator (concat s.preamble.segments) (concat s.found.segments) s.frames.held
+IsDivided s = AreApart s.stage s.frames.separator s.preamble (concat s.found.segments) s.frames.held
 
 -- the same delimiter, end and bytes
 pub record SameSections (old new : Sections) : Type 0 where

@@ -2,15 +2,17 @@
 //! (RFC 2046, section 5.1.1; RFC 7578).
 ghost use Rattle.std.specs.Prelude.{◌≡◌, ◌+◌, ◌-◌, ◌^◌, ◌<◌, ◌≤◌, ◌↔◌, ℕ, List, [], ◌++◌, length, min, false, true, IsUtf8, IsOk, IsTrue, IfOk, IfErr, IfSome, IfNone, OnOk, OnErr};
 ghost use Rattle.bytes_utils.specs.Pushing.{IsPush};
-ghost use Rattle.bytes_utils_run.specs.Multipart.{HasParameter, IsDivided, IsIdle, IsPartDue, NoPart, PartBytes, PartsLaw, SamePartsLaw, TakesPart, appended, bytes_of, delimiter_of, file_name_key, held_by, line_end, name_key};
+ghost use Rattle.bytes_utils_run.specs.Multipart.{FewWait, HasParameter, IsDivided, IsIdle, IsPartDue, NoPart, PartBytes, PartsLaw, SamePartsLaw, TakesPart, appended, bytes_of, delimiter_of, file_name_key, held_by, line_end, name_key};
 
 mod head;
+mod preamble;
 mod sections;
 
 use bytes::{Buf, Bytes};
 use bytes_utils::frame::Frames;
 use bytes_utils::{Reason, Refused, SegmentedBuf, Str};
 use head::{disposition_of, parameter, read_head};
+use preamble::Preamble;
 use sections::{Sections, Stage};
 use std::alloc::Global;
 use std::marker::Model;
@@ -120,7 +122,7 @@ impl PartReader {
         let sections = Sections {
             frames,
             stage: Stage::Preamble,
-            preamble: SegmentedBuf::new(alloc),
+            preamble: Preamble::none(alloc),
             found: SegmentedBuf::new(alloc),
         };
         Ok(PartReader { sections, limits })
@@ -171,11 +173,12 @@ impl PartReader {
     }
 
     /// Returns the next part, or `None` while some of it or of the delimiter after it is to come,
-    /// and after the close delimiter. Fails with `Malformed` if the held bytes begin with no part,
-    /// whatever comes after them, with `TooLarge` if they begin with none within the limits, with
-    /// `NotUtf8` if the head isn't UTF-8, and with `Refused` if memory is refused; then nothing has
-    /// changed. `Malformed` comes only after the delimiter at the end of the part; before that, and
-    /// where too many bytes are before the first delimiter, the error is `TooLarge`.
+    /// and after the close delimiter; then no more bytes wait than the limits and a delimiter have.
+    /// Fails with `Malformed` if the held bytes begin with no part, whatever comes after them, with
+    /// `TooLarge` if they begin with none within the limits, with `NotUtf8` if the head isn't UTF-8,
+    /// and with `Refused` if memory is refused; then nothing has changed. `Malformed` comes only
+    /// after the delimiter at the end of the part; before that, and where too many bytes are before
+    /// the first delimiter, the error is `TooLarge`.
     pub fn next_part(&mut self, alloc: Global) -> Result<Option<Part>, PartError>
         ensures part { IfOk result (λ next. IfSome next (λ part. TakesPart self.old.delimiter
             self.old.limits self.old.held (bytes_of part) self.new.held)) }
@@ -191,6 +194,8 @@ impl PartReader {
         ensures waits { IfOk result (λ next. IfNone next
             (NoPart self.old.delimiter self.old.limits self.old.held)) }
         ensures idle { IfOk result (λ next. IfNone next (IsIdle self.old self.new)) }
+        ensures few { IfOk result (λ next. IfNone next
+            (FewWait self.new.delimiter self.new.limits self.new.held)) }
         ensures err { OnErr result (self.new ≡ self.old) }
         ensures malformed { IfErr result (λ e. e ≡ PartError.Malformed
             → (limits : Limits) (more : List ℕ)
@@ -207,10 +212,11 @@ impl PartReader {
             → reason ≡ Reason.OutOfMemory) }
     {
         self.sections.search(alloc)?;
+        if self.sections.is_over(most(self.limits)) {
+            return Err(PartError::TooLarge);
+        }
         match self.sections.stage {
-            Stage::Ended => Ok(None),
             Stage::Found => Ok(Some(take_part(&mut self.sections, alloc, self.limits)?)),
-            _ if self.sections.is_over(most(self.limits)) => Err(PartError::TooLarge),
             _ => Ok(None),
         }
     }
@@ -235,6 +241,7 @@ fn most(limits: Limits) -> usize
 fn take_part(sections: &mut Sections, alloc: Global, limits: Limits) -> Result<Part, PartError>
     requires divided { IsDivided sections.old }
     requires found { sections.old.stage ≡ Stage.Found }
+    requires few { length sections.old.preamble ≤ limits.head + limits.body }
     ensures divided { IsDivided sections.new }
     ensures part { IfOk result (λ part. TakesPart sections.old.frames.separator limits
         (held_by sections.old) (bytes_of part) (held_by sections.new)) }
@@ -257,9 +264,6 @@ fn take_part(sections: &mut Sections, alloc: Global, limits: Limits) -> Result<P
     ensures reason { IfErr result (λ e. (reason : _) → e ≡ PartError.Refused reason
         → reason ≡ Reason.OutOfMemory) }
 {
-    if sections.preamble.remaining() > most(limits) {
-        return Err(PartError::TooLarge);
-    }
     let (head, start) = read_head(&sections.found, alloc, limits)?;
     let disposition = disposition_of(head.as_str());
     let name = parameter(alloc, disposition, "; name=\"")?;

@@ -1,8 +1,9 @@
 //! What is between the delimiters of a stream.
-ghost use Rattle.std.specs.Prelude.{◌≡◌, ◌↔◌, ◌+◌, ◌^◌, ◌<◌, [], length, IsTrue, OnOk, OnErr, IfErr};
+ghost use Rattle.std.specs.Prelude.{◌≡◌, ◌≢◌, ◌↔◌, ◌⊎◌, ◌+◌, ◌^◌, ◌<◌, [], length, IsTrue, OnOk, OnErr, IfErr};
 ghost use Rattle.bytes_utils.specs.Occurrence.{Occurs};
 ghost use Rattle.bytes_utils_run.specs.Multipart.{AfterSearch, IsDivided, SameSections};
 
+use super::preamble::Preamble;
 use bytes::Bytes;
 use bytes_utils::frame::Frames;
 use bytes_utils::{Reason, SegmentedBuf};
@@ -22,13 +23,13 @@ pub(super) enum Stage {
     Ended,
 }
 
-/// The bytes of a stream, cut at its delimiters as these are found. What was found stays until a
-/// part is taken.
+/// The bytes of a stream, cut at its delimiters as these are found. What was found after the first
+/// one stays until a part is taken.
 #[derive(Debug, Drop)]
 pub(super) struct Sections {
     pub(super) frames: Frames,
     pub(super) stage: Stage,
-    pub(super) preamble: SegmentedBuf<Bytes>,
+    pub(super) preamble: Preamble,
     pub(super) found: SegmentedBuf<Bytes>,
 }
 
@@ -49,7 +50,7 @@ impl Sections {
         Ok(())
     }
 
-    /// Finds the delimiter before the next part, if it has come.
+    /// Finds the delimiter before the next part, if it has come, and lets go of what is before it.
     fn pass_preamble(&mut self, alloc: Global) -> Result<(), Reason>
         requires { IsDivided self.old }
         ensures divided { IsDivided self.new }
@@ -62,7 +63,7 @@ impl Sections {
         if self.stage == Stage::Preamble
             && let Some(preamble) = self.frames.next_frame_segments(alloc)?
         {
-            self.preamble = preamble;
+            self.preamble = Preamble::of(&preamble);
             self.stage = Stage::Waiting;
         }
         Ok(())
@@ -80,8 +81,7 @@ impl Sections {
         ensures reason { IfErr result (λ reason. reason ≡ Reason.OutOfMemory) }
     {
         if self.frames.starts_with(b"--") {
-            self.stage = Stage::Ended;
-            return Ok(());
+            return self.end(alloc);
         }
         if let Some(found) = self.frames.next_frame_segments(alloc)? {
             self.found = found;
@@ -90,16 +90,34 @@ impl Sections {
         Ok(())
     }
 
-    /// Whether more bytes than these wait for a delimiter, without the bytes of one.
+    /// Ends, and lets go of all that is held.
+    fn end(&mut self, alloc: Global) -> Result<(), Reason>
+        ensures ok { OnOk result (self.new.stage ≡ Stage.Ended) }
+        ensures preamble { OnOk result (self.new.preamble ≡ []) }
+        ensures waiting { OnOk result (self.new.frames.held ≡ []) }
+        ensures err { OnErr result (self.new ≡ self.old) }
+        ensures delimiter { self.new.frames.separator ≡ self.old.frames.separator }
+        ensures reason { IfErr result (λ reason. reason ≡ Reason.OutOfMemory) }
+    {
+        if self.frames.remaining() > 0 {
+            self.frames = Frames::new(alloc, self.frames.separator())?;
+        }
+        self.preamble = Preamble::none(alloc);
+        self.stage = Stage::Ended;
+        Ok(())
+    }
+
+    /// Whether more bytes than these are before the first delimiter, or wait for a delimiter, without
+    /// the bytes of one.
     pub(super) fn is_over(&self, most: usize) -> bool
-        ensures over { IsTrue result
-            ↔ (most + length self.now.frames.separator < length self.now.frames.held) }
+        ensures over { IsTrue result ↔ ((most < length self.now.preamble) ⊎ ((self.now.stage ≢ Stage.Found)
+            × (most + length self.now.frames.separator < length self.now.frames.held))) }
+        ensures short { length self.now.preamble < 2 ^ 64 }
         ensures fits { length self.now.frames.held < 2 ^ 64 }
     {
-        self.frames
-            .remaining()
-            .saturating_sub(self.frames.separator().len())
-            > most
+        let separator = self.frames.separator().len();
+        let waiting = self.frames.remaining().saturating_sub(separator);
+        self.preamble.len() > most || (self.stage != Stage::Found && waiting > most)
     }
 
     /// Removes what was found, up to the delimiter after it, and returns it.
@@ -107,10 +125,10 @@ impl Sections {
         ensures found { result ≡ self.old.found }
         ensures frames { self.new.frames ≡ self.old.frames }
         ensures stage { self.new.stage ≡ Stage.Waiting }
-        ensures preamble { self.new.preamble.segments ≡ [] }
+        ensures preamble { self.new.preamble ≡ [] }
     {
         self.stage = Stage::Waiting;
-        self.preamble = SegmentedBuf::new(alloc);
+        self.preamble = Preamble::none(alloc);
         replace(&mut self.found, SegmentedBuf::new(alloc))
     }
 }

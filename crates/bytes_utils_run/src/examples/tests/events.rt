@@ -120,24 +120,38 @@ fn bad_lines(rt: HostRuntime) -> Result<(), Fail> {
     Ok(())
 }
 
+/// The event of a piece of at least 600 bytes, which are data up to this end, and one more owner of
+/// the piece.
+fn event_of_long_data(alloc: Global, end: &[u8]) -> Result<(Event, Bytes), Fail> {
+    let mut piece = Vec::from_slice(alloc, b"data: ")?;
+    piece.extend_from_slice(&[b'a'; 592])?;
+    piece.extend_from_slice(end)?;
+    let piece = Bytes::from_vec(piece)?;
+    let limits = Limits {
+        line: 598,
+        data: 594,
+    };
+    let mut events = EventReader::new(alloc, limits);
+    events.push(piece.clone()?)?;
+    let event = events.next_event(alloc)?.ok_or("no event")?;
+    Ok((event, piece))
+}
+
 /// Data of one line, in a piece of more than 512 bytes, shares that piece.
 #[test]
 fn data_of_one_line_is_shared(rt: HostRuntime) -> Result<(), Fail> {
-    let mut piece = [b'a'; 600];
-    piece[..6].copy_from_slice(b"data: ");
-    piece[598..].copy_from_slice(b"\n\n");
-    let limits = Limits {
-        line: 598,
-        data: 592,
-    };
-    let mut events = EventReader::new(rt.alloc(), limits);
-    let piece = Bytes::copy_from_slice(rt.alloc(), &piece)?;
-    events.push(piece.clone()?)?;
-    let event = events.next_event(rt.alloc())?.ok_or("no event")?;
-    drop(events);
+    let (event, piece) = event_of_long_data(rt.alloc(), b"\n\n")?;
     assert!(rt; event.data.len() == 592 && !piece.is_unique());
     drop(event);
     assert!(rt; piece.is_unique());
+    Ok(())
+}
+
+/// Data of two lines is a copy, and their piece is let go.
+#[test]
+fn data_of_two_lines_shares_nothing(rt: HostRuntime) -> Result<(), Fail> {
+    let (event, piece) = event_of_long_data(rt.alloc(), b"\ndata: b\n\n")?;
+    assert!(rt; event.data.len() == 594 && piece.is_unique());
     Ok(())
 }
 

@@ -196,12 +196,37 @@ fn odd_bodies(rt: HostRuntime) -> Result<(), Fail> {
     Ok(())
 }
 
-/// With the line end before them, 195 bytes may wait for the first delimiter.
+/// What comes before as many dashes as may wait, how many these are, and what comes after them. The
+/// limits allow 190 bytes, and five more while a delimiter may begin among the last. In order:
+///
+/// - a preamble, after the line end that is held first, without and with the delimiter after it
+/// - a head, a body, and a body after a preamble
+const ENDLESS: &str = ">193>|>188>\r\n--b|--b\r\nA: >190>|--b\r\n\r\n>191>|a\r\n--b\r\n\r\n>191>";
+
+/// What comes first of these bytes with this number of dashes between them.
+fn first_around(
+    alloc: Global,
+    before: &str,
+    count: usize,
+    after: &str,
+) -> Result<&'static str, Fail> {
+    let mut body = Vec::from_slice(alloc, before.as_bytes())?;
+    for _ in 0..count {
+        body.push(b'-')?;
+    }
+    body.extend_from_slice(after.as_bytes())?;
+    first_of(alloc, Bytes::from_vec(body)?)
+}
+
 #[test]
-fn long_preamble(rt: HostRuntime) -> Result<(), Fail> {
-    for (len, wanted) in [(193, "waits"), (194, "too large")] {
-        let preamble = Bytes::from_vec(vec![in rt.alloc(); b'-'; len]?)?;
-        assert_eq!(rt; first_of(rt.alloc(), preamble)?, wanted);
+fn endless_bodies(rt: HostRuntime) -> Result<(), Fail> {
+    for row in ENDLESS.split('|') {
+        let (before, rest) = row.split_once('>').ok_or("no count")?;
+        let (count, after) = rest.split_once('>').ok_or("no end")?;
+        let most: usize = count.parse()?;
+        for (count, wanted) in [(most, "waits"), (most + 1, "too large"), (600, "too large")] {
+            assert_eq!(rt; first_around(rt.alloc(), before, count, after)?, wanted);
+        }
     }
     Ok(())
 }

@@ -145,3 +145,29 @@ fn a_part_in_two_pieces_is_shared(rt: HostRuntime) -> Result<(), Fail> {
     assert!(rt; other.is_unique());
     Ok(())
 }
+
+/// Asserts that nothing is held of a piece that comes between these bytes, of which no part is made.
+fn assert_holds_none(
+    rt: &impl Abort,
+    alloc: Global,
+    before: &'static [u8],
+    after: &'static [u8],
+) -> Result<(), Fail> {
+    let limits = Limits {
+        head: 9,
+        body: 2_000,
+    };
+    let mut parts = PartReader::new(alloc, b"b", limits)?;
+    let (bytes, other) = piece(alloc, &[b'a'; 600])?;
+    parts.push(Bytes::from_static(before))?;
+    parts.push(bytes)?;
+    parts.push(Bytes::from_static(after))?;
+    assert!(rt; parts.next_part(alloc)?.is_none() && other.is_unique());
+    Ok(())
+}
+
+#[test]
+fn what_is_before_and_after_all_parts_is_let_go(rt: HostRuntime) -> Result<(), Fail> {
+    assert_holds_none(&rt, rt.alloc(), b"", b"\r\n--b")?;
+    assert_holds_none(&rt, rt.alloc(), b"--b--", b"")
+}

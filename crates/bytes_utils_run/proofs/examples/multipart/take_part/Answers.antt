@@ -1,5 +1,4 @@
-use Rattle.std.proofs.Common.{arith, ◌≤◌, ◌+◌, ◌∙◌, sym, length}
-use Rattle.std.specs.List.{concat}
+use Rattle.std.proofs.Common.{◌∙◌, sym}
 use Rattle.std.proofs.lemmas.Result.{err_from_is_err_and}
 use Rattle.bytes_utils_run.proofs.MultipartLemmas.{due_in_found, none_in_found, part_in_found}
 use Rattle.bytes_utils_run.proofs.examples.multipart.take_part.Goals as goal
@@ -17,18 +16,16 @@ returns-in_err-head-clause-too_large c =
 pub returns-in_err-head-clause-due : goal.returns-in_err-head-clause-due
 returns-in_err-head-clause-due c =
     let s = c.args.sections.now in
-    let few : length (concat s.preamble.segments) ≤ c.args.limits.head + c.args.limits.body = omega (arith, c.if-remaining-most.false, c.remaining.ensures, c.most.ensures) in
     let out = err_from_is_err_and c.from_residual.result c.from_residual.ensures.1 in
-    rw out.1 (λ is. due_in_found s c.requires.found c.requires.divided c.args.limits few)
+    rw out.1 (λ is. due_in_found s c.requires.found c.requires.divided c.args.limits c.requires.few)
 
 pub returns-in_err-head-clause-not_utf8 : goal.returns-in_err-head-clause-not_utf8
 returns-in_err-head-clause-not_utf8 c =
     let s = c.args.sections.now in
-    let few : length (concat s.preamble.segments) ≤ c.args.limits.head + c.args.limits.body = omega (arith, c.if-remaining-most.false, c.remaining.ensures, c.most.ensures) in
     let out = err_from_is_err_and c.from_residual.result c.from_residual.ensures.1 in
     rw out.1 (λ is.
     let found = c.in_err-head.ensures.not_utf8 (sym out.2 ∙ is) in
-    let takes = part_in_found s c.requires.found c.requires.divided c.args.limits found.0 found.1 few in
+    let takes = part_in_found s c.requires.found c.requires.divided c.args.limits found.0 found.1 c.requires.few in
     (found.0, takes.0, takes.1, found.2))
 
 pub returns-clause-name : goal.returns-clause-name

@@ -4,7 +4,9 @@ use Rattle.bytes_utils_run.proofs.examples.multipart.PartReader.push.Goals as go
 
 pub invariant_of-self : goal.invariant_of-self
 invariant_of-self c =
-    still_divided c.self.inside.sections c.push.new.self c.args.piece c.push.ensures.separator c.push.result c.push.ensures.pushed.ok c.push.ensures.pushed.err c.self.invariant
+    let on = sym c.has_ended.ensures.value ∙ c.if-has_ended.false in
+    still_divided c.self.inside.sections c.push.new.self c.args.piece c.push.ensures.separator c.push.result c.push.ensures.pushed.ok c.push.ensures.pushed.err
+    (rw (← c.self.view_is) at on) c.self.invariant
 
 pub returns-clause-pushed : goal.returns-clause-pushed
 returns-clause-pushed c =

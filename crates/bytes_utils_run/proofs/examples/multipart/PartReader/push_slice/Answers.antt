@@ -5,7 +5,8 @@ use Rattle.bytes_utils_run.proofs.examples.multipart.PartReader.push_slice.Goals
 
 pub invariant_of-self : goal.invariant_of-self
 invariant_of-self c =
-    still_divided c.self.inside.sections c.push_slice.new.self c.args.piece.now c.push_slice.ensures.separator c.push_slice.result c.push_slice.ensures.ok c.push_slice.ensures.err c.self.invariant
+    still_divided c.self.inside.sections c.push_slice.new.self c.args.piece.now c.push_slice.ensures.separator c.push_slice.result c.push_slice.ensures.ok c.push_slice.ensures.err
+    (search rules) c.self.invariant
 
 pub returns-in_err-push_slice-clause-too_long : goal.returns-in_err-push_slice-clause-too_long
 returns-in_err-push_slice-clause-too_long c =
