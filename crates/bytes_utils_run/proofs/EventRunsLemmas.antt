@@ -1,5 +1,5 @@
 -- Runs of calls for events.
-use Rattle.std.proofs.Common.{◌≡◌, ℕ, ◌<◌, List, [], ◌∷◌, ◌++◌, inl, inr, Bool, true, false, length, get_or, Option, None, Some, ap, ◌∙◌, sym, refl, subst, arith, append_assoc, append-nil, length-append, if◌then◌else◌, IsUtf8, unwrap_or}
+use Rattle.std.proofs.Common.{◌≡◌, ℕ, ◌<◌, List, [], ◌∷◌, ◌++◌, inl, inr, Bool, true, false, length, get_or, Option, None, Some, ap, ◌∙◌, sym, refl, subst, arith, append_assoc, append-nil, length-append, if◌then◌else◌, unwrap_or}
 use Rattle.std.specs.Prelude.{MatchOption, ◌⊎◌}
 use Rattle.std.specs.List.{flat_map}
 use Rattle.std.specs.Option.{option_to_list}
@@ -12,7 +12,7 @@ use Rattle.bytes_utils.specs.UniversalLines.{EndsLine, IsFirstLine, IsInLine, La
 use Rattle.bytes_utils.proofs.StreamRunsLemmas.{AreFirst-next, run_keeps, same_first_law}
 use Rattle.bytes_utils.proofs.UniversalLinesLemmas.{line_shortens, same_universal_law, universal_run_law}
 use Rattle.bytes_utils_run.specs.EventRuns.{EventRunLaw, NoEventLaw, Returns, SameEventLaw, nothing_held}
-use Rattle.bytes_utils_run.specs.Events.{Awaits, DoesLine, EndsEvent, Eventing, Gives, IsIdle, LosesNothing, ReadsLine, TakesNext, pushed}
+use Rattle.bytes_utils_run.specs.Events.{Awaits, DoesLine, EndsEvent, Eventing, Gives, IsIdle, LosesNothing, ReadsLine, ReadsNone, TakesNext, pushed}
 use Rattle.bytes_utils_run.specs.declared.examples.events.Event.{Event}
 use Rattle.bytes_utils_run.specs.declared.examples.events.Limits.{Limits}
 use Rattle.bytes_utils_run.proofs.EventsLemmas.{end_first}
@@ -93,22 +93,22 @@ next_more : (old : Eventing) (line : List ℕ) (new : Eventing) (piece : List �
 next_more old line new piece closed takes =
     record { next = by old.waiting takes.next; others = ap (λ r. pushed r piece) takes.others }
   where
-    by : (waiting : Option (List ℕ)) → MatchOption waiting (TakesUniversalLine old.lines line new.lines × IsUtf8 line) (λ w. (line ≡ w) × (new.lines ≡ old.lines))
-        → MatchOption waiting (TakesUniversalLine (after_push old.lines piece) line (after_push new.lines piece) × IsUtf8 line)
+    by : (waiting : Option (List ℕ)) → MatchOption waiting (TakesUniversalLine old.lines line new.lines) (λ w. (line ≡ w) × (new.lines ≡ old.lines))
+        → MatchOption waiting (TakesUniversalLine (after_push old.lines piece) line (after_push new.lines piece))
         (λ w. (line ≡ w) × (after_push new.lines piece ≡ after_push old.lines piece))
-    by None next = (line_more old.lines line new.lines piece closed next.0, next.1)
+    by None next = line_more old.lines line new.lines piece closed next
     by (Some w) next = (next.0, ap (λ l. after_push l piece) next.1)
 
 next_closed : (old : Eventing) (line : List ℕ) (new : Eventing) → IsClosed old.lines → TakesNext old line new → IsClosed new.lines
 next_closed old line new closed takes = by old.waiting takes.next
   where
-    by : (waiting : Option (List ℕ)) → MatchOption waiting (TakesUniversalLine old.lines line new.lines × IsUtf8 line) (λ w. (line ≡ w) × (new.lines ≡ old.lines)) → IsClosed new.lines
-    by None next = closed_after old.lines line new.lines next.0
+    by : (waiting : Option (List ℕ)) → MatchOption waiting (TakesUniversalLine old.lines line new.lines) (λ w. (line ≡ w) × (new.lines ≡ old.lines)) → IsClosed new.lines
+    by None next = closed_after old.lines line new.lines next
     by (Some w) next = subst IsClosed (sym next.1) closed
 
 does_more : (old : Eventing) (line : List ℕ) (new : Eventing) (piece : List ℕ) → DoesLine old line new → DoesLine (pushed old piece) line (pushed new piece)
 does_more old line new piece does =
-    record { short = does.short; ends_none = does.ends_none; after = ap (λ r. pushed r piece) does.after; small = does.small }
+    record { utf8 = does.utf8; short = does.short; ends_none = does.ends_none; after = ap (λ r. pushed r piece) does.after; small = does.small }
 
 does_closed : (old : Eventing) (line : List ℕ) (new : Eventing) → IsClosed old.lines → DoesLine old line new → IsClosed new.lines
 does_closed old line new closed does = subst IsClosed (sym (ap (λ (r : Eventing). r.lines) does.after)) closed
@@ -170,6 +170,7 @@ loses_more old new piece closed loses = (
       line = awaits.line;
       taken = pushed awaits.taken piece;
       takes = next_more loses.0 awaits.line awaits.taken piece (lines_closed old loses.1.0 loses.0 closed loses.1.1) awaits.takes;
+      may = awaits.may;
       waits = ap (λ r. pushed r piece) awaits.waits;
     })
   ],
@@ -185,7 +186,7 @@ waiting_next old awaits_line taken line new takes next =
     rw (next.next.0, same) takes
 
 -- what is read after a call that lost nothing is read without that call
-resumed : (old new : Eventing) → (new ≡ old) ⊎ Awaits old new → (line : List ℕ) (taken : Eventing) → TakesNext new line taken → TakesNext old line taken
+resumed : (old new : Eventing) → ReadsNone old new → (line : List ℕ) (taken : Eventing) → TakesNext new line taken → TakesNext old line taken
 resumed old new (inl same) line taken takes = subst (λ r. TakesNext r line taken) same takes
 resumed old new (inr awaits) line taken takes =
     waiting_next old awaits.line awaits.taken line taken awaits.takes (subst (λ r. TakesNext r line taken) awaits.waits takes)
@@ -222,8 +223,8 @@ loses_gives old mid event new loses gives = by gives.reads.0 gives.reads.1
 loses_twice : (old mid new : Eventing) → LosesNothing old mid → LosesNothing mid new → LosesNothing old new
 loses_twice old mid new loses later = by later.1.0 later.1.1 later.2
   where
-    by : (lines : List (List ℕ)) → AreFirst ReadsLine mid lines later.0 → (new ≡ later.0) ⊎ Awaits later.0 new → LosesNothing old new
-    by [] are (inl same) = (loses.0, loses.1, subst (λ r. (r ≡ loses.0) ⊎ Awaits loses.0 r) (are ∙ sym same) loses.2)
+    by : (lines : List (List ℕ)) → AreFirst ReadsLine mid lines later.0 → ReadsNone later.0 new → LosesNothing old new
+    by [] are (inl same) = (loses.0, loses.1, subst (ReadsNone loses.0) (are ∙ sym same) loses.2)
     by [] are (inr awaits) = (
       loses.0,
       loses.1,
@@ -231,6 +232,7 @@ loses_twice old mid new loses later = by later.1.0 later.1.1 later.2
         line = awaits.line;
         taken = awaits.taken;
         takes = resumed loses.0 mid loses.2 awaits.line awaits.taken (subst (λ r. TakesNext r awaits.line awaits.taken) (sym are) awaits.takes);
+        may = awaits.may;
         waits = awaits.waits;
       }),
     )
@@ -309,9 +311,9 @@ next_same old line other a b p q =
     let same = by old.waiting p.next q.next in
     (same.0, p.others ∙ ap (λ l. record old { lines = l; waiting = None }) same.1 ∙ sym q.others)
   where
-    by : (waiting : Option (List ℕ)) → MatchOption waiting (TakesUniversalLine old.lines line a.lines × IsUtf8 line) (λ w. (line ≡ w) × (a.lines ≡ old.lines))
-        → MatchOption waiting (TakesUniversalLine old.lines other b.lines × IsUtf8 other) (λ w. (other ≡ w) × (b.lines ≡ old.lines)) → (line ≡ other) × (a.lines ≡ b.lines)
-    by None p q = line_same old.lines line other a.lines b.lines p.0 q.0
+    by : (waiting : Option (List ℕ)) → MatchOption waiting (TakesUniversalLine old.lines line a.lines) (λ w. (line ≡ w) × (a.lines ≡ old.lines))
+        → MatchOption waiting (TakesUniversalLine old.lines other b.lines) (λ w. (other ≡ w) × (b.lines ≡ old.lines)) → (line ≡ other) × (a.lines ≡ b.lines)
+    by None p q = line_same old.lines line other a.lines b.lines p q
     by (Some w) p q = (p.0 ∙ sym q.0, p.1 ∙ sym q.1)
 
 -- a line that ends an event does nothing else
@@ -375,10 +377,10 @@ lacks_end (b ∷ line) c t lacks = lacks_end line c t (All-tail IsInLine b (line
 -- no line is there
 idle_takes : (reading : Eventing) (line : List ℕ) (taken : Eventing) → IsIdle reading → TakesNext reading line taken → ⊥
 idle_takes reading line taken idle takes =
-    let next : TakesUniversalLine reading.lines line taken.lines × IsUtf8 line =
-    subst (λ w. MatchOption w (TakesUniversalLine reading.lines line taken.lines × IsUtf8 line) (λ waiting. (line ≡ waiting) × (taken.lines ≡ reading.lines))) idle.none takes.next in
-    let first = end_first next.0.end taken.lines.held next.0.ended.ends in
-    let whole : reading.lines.held ≡ line ++ (first.0 ∷ first.1 ++ taken.lines.held) = next.0.ended.whole ∙ ap (λ l. line ++ (l ++ taken.lines.held)) first.2 in
+    let next : TakesUniversalLine reading.lines line taken.lines =
+    subst (λ w. MatchOption w (TakesUniversalLine reading.lines line taken.lines) (λ waiting. (line ≡ waiting) × (taken.lines ≡ reading.lines))) idle.none takes.next in
+    let first = end_first next.end taken.lines.held next.ended.ends in
+    let whole : reading.lines.held ≡ line ++ (first.0 ∷ first.1 ++ taken.lines.held) = next.ended.whole ∙ ap (λ l. line ++ (l ++ taken.lines.held)) first.2 in
     first.3 (lacks_end line first.0 (first.1 ++ taken.lines.held) (subst LacksEnds whole idle.lacks))
 
 none_there : (old : Eventing) (xs ys : List (List ℕ)) (m n : Eventing) (event : Event) (end : Eventing) → AreFirst ReadsLine old xs m → IsIdle m → AreFirst ReadsLine old ys n → Stops n event end → ⊥

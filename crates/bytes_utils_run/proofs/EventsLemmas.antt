@@ -16,7 +16,7 @@ use Rattle.bytes_utils.specs.StreamRuns.{AreFirst}
 use Rattle.bytes_utils.specs.UniversalLines.{IsInLine, IsUniversalEnd, LacksEnds, LineReading, TakesUniversalLine, after_push}
 use Rattle.bytes_utils.proofs.StreamRunsLemmas.{AreFirst-next}
 use Rattle.bytes_utils.proofs.UniversalLinesLemmas.{line_shortens}
-use Rattle.bytes_utils_run.specs.Events.{DoesLine, Eventing, Gives, IsEndOf, PassesFault, left_to_read, waiting_count, IsOver, IsTooLarge, Reads, ReadsLine, TakesNext, Telling, after_field, after_line, byte_order_mark, content, field_name, field_value, is_colon, is_number, number_of, text_len, without_space}
+use Rattle.bytes_utils_run.specs.Events.{DoesLine, Eventing, Gives, IsEndOf, PassesFault, left_to_read, waiting_count, IsOver, IsTooLarge, LosesNothing, MayWait, Reads, ReadsLine, ReadsNone, TakesFault, TakesNext, Telling, after_field, after_line, byte_order_mark, content, field_name, field_value, is_colon, is_number, number_of, text_len, without_space}
 use Rattle.bytes_utils_run.specs.Requests.{WriteNumber}
 use Rattle.bytes_utils_run.specs.declared.examples.events.Event.{Event}
 use Rattle.bytes_utils_run.specs.declared.examples.events.Limits.{Limits}
@@ -33,9 +33,10 @@ if_none None is so = so is
 if_none (Some x) is so = is
 
 -- an empty line where there is no data
-pub does_empty : (old mid : Eventing) (line : List ℕ) → length line ≤ old.limits.line → content old.at_start line ≡ [] → old.told.text ≡ None
+pub does_empty : (old mid : Eventing) (line : List ℕ) → IsUtf8 line → length line ≤ old.limits.line → content old.at_start line ≡ [] → old.told.text ≡ None
     → mid ≡ record old { told = record old.told { name = None } } → DoesLine old line (record mid { at_start = false })
-does_empty old mid line short empty none is = record {
+does_empty old mid line utf8 short empty none is = record {
+  utf8 = utf8;
   short = short;
   ends_none = λ _. none;
   after = rw (is, empty) refl;
@@ -54,13 +55,14 @@ field_too_large old line text is some large =
     inr ((λ e. some (is ∙ e)), subst (λ t. old.limits.data < text_len (after_line old.told t).text) is told)
 
 -- a field
-pub does_field : (old mid : Eventing) (line : List ℕ) → length line ≤ old.limits.line → content old.at_start line ≢ []
+pub does_field : (old mid : Eventing) (line : List ℕ) → IsUtf8 line → length line ≤ old.limits.line → content old.at_start line ≢ []
     → mid ≡ record old { told = after_field old.told (field_name (content old.at_start line)) (field_value (content old.at_start line)) }
     → text_len mid.told.text ≤ mid.limits.data → DoesLine old line (record mid { at_start = false })
-does_field old mid line short some is small =
+does_field old mid line utf8 short some is small =
     let told = field_told old.told (content old.at_start line) some in
     let limits : mid.limits ≡ old.limits = ap (λ (r : Eventing). r.limits) is in
     record {
+      utf8 = utf8;
       short = short;
       ends_none = λ empty. absurd (some empty);
       after = ap (λ (r : Eventing). record r { at_start = false }) (is ∙ ap (λ t. record old { told = t }) (sym told));
@@ -77,9 +79,9 @@ taken_less old taken line takes =
     none : taken.waiting ≡ None
     none = ap (λ (r : Eventing). r.waiting) takes.others
 
-    by : (waiting : Option (List ℕ)) → MatchOption waiting (TakesUniversalLine old.lines line taken.lines × IsUtf8 line) (λ w. (line ≡ w) × (taken.lines ≡ old.lines))
+    by : (waiting : Option (List ℕ)) → MatchOption waiting (TakesUniversalLine old.lines line taken.lines) (λ w. (line ≡ w) × (taken.lines ≡ old.lines))
         → left_to_read taken < length old.lines.held + waiting_count waiting
-    by None next = rw none (omega (arith, line_shortens old.lines line taken.lines next.0))
+    by None next = rw none (omega (arith, line_shortens old.lines line taken.lines next))
     by (Some w) next = rw (none, next.1) (omega arith)
 
 same_left : (old new : Eventing) → new.lines ≡ old.lines → new.waiting ≡ old.waiting → left_to_read new ≡ left_to_read old
@@ -131,12 +133,12 @@ lacks_first (h ∷ held) rest (b ∷ line) c t lacks whole out =
 -- the held bytes are more than a line may have
 pub over_long : (reading : Eventing) → reading.waiting ≡ None → LacksEnds reading.lines.held → reading.limits.line < length reading.lines.held → IsOver reading
 over_long reading none lacks long more line taken takes =
-    let next : TakesUniversalLine (after_push reading.lines more) line taken.lines × IsUtf8 line =
-    subst (λ w. MatchOption w (TakesUniversalLine (after_push reading.lines more) line taken.lines × IsUtf8 line)
+    let next : TakesUniversalLine (after_push reading.lines more) line taken.lines =
+    subst (λ w. MatchOption w (TakesUniversalLine (after_push reading.lines more) line taken.lines)
     (λ waiting. (line ≡ waiting) × (taken.lines ≡ after_push reading.lines more))) none takes.next in
     let held = held_first reading.lines more in
-    let ended = next.0.ended in
-    let first = end_first next.0.end taken.lines.held ended.ends in
+    let ended = next.ended in
+    let first = end_first next.end taken.lines.held ended.ends in
     let whole : reading.lines.held ++ held.0 ≡ line ++ (first.0 ∷ first.1 ++ taken.lines.held) =
     sym held.1 ∙ ended.whole ∙ ap (λ l. line ++ (l ++ taken.lines.held)) first.2 in
     let less = lacks_first reading.lines.held held.0 line first.0 (first.1 ++ taken.lines.held) lacks whole first.3 in
@@ -151,6 +153,56 @@ over_waiting taken line large more next after takes =
     let start : after.at_start ≡ taken.at_start = ap (λ (r : Eventing). r.at_start) takes.others in
     let told : after.told ≡ taken.told = ap (λ (r : Eventing). r.told) takes.others in
     subst (λ l. IsTooLarge after l) (sym same) (rw (limits, start, told) large)
+
+-- a line that can't be read is kept
+pub over_kept : (old mid taken new : Eventing) (line kept : List ℕ) → Reads old mid → TakesNext mid line taken → IsUtf8 kept → kept ≡ line → new ≡ record taken { waiting = Some kept }
+    → IsTooLarge taken line → LosesNothing old new × IsOver new
+over_kept old mid taken new line kept reads takes utf8 same is large =
+    let waits : new ≡ record taken { waiting = Some line } = is ∙ ap (λ l. record taken { waiting = Some l }) same in (
+      (mid, reads, inr (record { line = line; taken = taken; takes = takes; may = inl (subst IsUtf8 same utf8); waits = waits })),
+      subst IsOver (sym waits) (over_waiting taken line large),
+    )
+
+-- a line that isn't UTF-8 passes the limit, and waits
+pub long_fault : (old taken new : Eventing) (line : List ℕ) → TakesNext old line taken → new ≡ record taken { waiting = Some line } → taken.limits.line < length line → ReadsNone old new × IsOver new
+long_fault old taken new line takes waits long =
+    let limits : new.limits ≡ taken.limits = ap (λ (r : Eventing). r.limits) waits in (
+      inr (record { line = line; taken = taken; takes = takes; may = inr (subst (λ (l : Limits). l.line < length line) (sym limits) long); waits = waits }),
+      subst IsOver (sym waits) (over_waiting taken line (inl long)),
+    )
+
+-- the line that was taken off the held bytes isn't UTF-8
+module _ (old mid new : Eventing) (fault line : List ℕ) (none : old.waiting ≡ None) (takes : TakesUniversalLine old.lines fault mid.lines) (is : mid ≡ record old { lines = mid.lines })
+    (same : line ≡ fault) where
+  -- it is within the limit, and passed over
+  pub fault_passed : (¬ IsUtf8 fault) → length line ≤ mid.limits.line → new ≡ record mid { at_start = false } → TakesFault old new
+  fault_passed not_utf8 within after =
+      let lines : new.lines ≡ mid.lines = ap (λ (r : Eventing). r.lines) after in
+      let limits : mid.limits.line ≡ old.limits.line = ap (λ (r : Eventing). r.limits.line) is in
+      record {
+        none = none;
+        line = fault;
+        takes = subst (TakesUniversalLine old.lines fault) (sym lines) takes;
+        short = omega (arith, within, limits, ap length same);
+        fault = not_utf8;
+        others = after ∙ ap (λ (r : Eventing). record r { at_start = false }) is ∙ ap (λ l. record old { lines = l; at_start = false }) (sym lines);
+      }
+
+  -- it passes the limit, and waits
+  pub fault_waits : mid.limits.line < length line → new ≡ record mid { waiting = Some line } → ReadsNone old new × IsOver new
+  fault_waits long after =
+      let next : TakesNext old line mid = record {
+        next =
+            subst (λ w. MatchOption w (TakesUniversalLine old.lines line mid.lines) (λ waiting. (line ≡ waiting) × (mid.lines ≡ old.lines))) (sym none)
+            (subst (λ l. TakesUniversalLine old.lines l mid.lines) (sym same) takes);
+        others = is ∙ ap (λ w. record old { lines = mid.lines; waiting = w }) none;
+      } in
+      long_fault old mid new line next after long
+
+-- a line that waits and isn't UTF-8 passes the limit
+pub waits_long : (limits : Limits) (line : List ℕ) → MayWait limits line → (¬ IsUtf8 line) → limits.line < length line
+waits_long limits line (inl utf8) fault = absurd (fault utf8)
+waits_long limits line (inr long) fault = long
 
 -- ---- the ends of a line
 

@@ -109,11 +109,12 @@ text_len (Some text) = length text
 
 -- this is the next line: the one that waits, or the first of the held bytes
 pub record TakesNext (old : Eventing) (line : List ℕ) (new : Eventing) : Type 0 where
-  pub next : MatchOption old.waiting (TakesUniversalLine old.lines line new.lines × IsUtf8 line) (λ waiting. (line ≡ waiting) × (new.lines ≡ old.lines))
+  pub next : MatchOption old.waiting (TakesUniversalLine old.lines line new.lines) (λ waiting. (line ≡ waiting) × (new.lines ≡ old.lines))
   pub others : new ≡ record old { lines = new.lines; waiting = None }
 
--- The line, which was taken, does what it says, within the limits. It ends no event: it is not empty, or there is no data.
+-- The line, which was taken and is a text, does what it says, within the limits. It ends no event: it is not empty, or there is no data.
 pub record DoesLine (old : Eventing) (line : List ℕ) (new : Eventing) : Type 0 where
+  pub utf8 : IsUtf8 line
   pub short : length line ≤ old.limits.line
   pub ends_none : content old.at_start line ≡ [] → old.told.text ≡ None
   pub after : new ≡ record old { at_start = false; told = after_line old.told (content old.at_start line) }
@@ -149,26 +150,36 @@ pub record Gives (old : Eventing) (event : Event) (new : Eventing) : Type 0 wher
 
 -- ---- calls that give no event
 
+-- the line is a text, or passes the limit
+abbrev pub MayWait : Limits → List ℕ → Type 0
+MayWait limits line = IsUtf8 line ⊎ (limits.line < length line)
+
 -- the next line is taken, and waits
 pub record Awaits (old new : Eventing) : Type 0 where
   pub line : List ℕ
   pub taken : Eventing
   pub takes : TakesNext old line taken
+  pub may : MayWait new.limits line
   pub waits : new ≡ record taken { waiting = Some line }
+
+-- no line is read; the next one may have been taken, and waits
+abbrev pub ReadsNone : Eventing → Eventing → Type 0
+ReadsNone old new = (new ≡ old) ⊎ Awaits old new
 
 -- Nothing is lost: some lines are read, none of which ends an event. The line after them may have been taken, and waits.
 abbrev pub LosesNothing : Eventing → Eventing → Type 0
-LosesNothing old new = (mid : Eventing) × Reads old mid × ((new ≡ mid) ⊎ Awaits mid new)
+LosesNothing old new = (mid : Eventing) × Reads old mid × ReadsNone mid new
 
--- the first of the held bytes are a line that isn't UTF-8, and it is passed over
+-- the first of the held bytes are a line within the limit that isn't UTF-8, and it is passed over
 pub record TakesFault (old new : Eventing) : Type 0 where
   pub none : old.waiting ≡ None
   pub line : List ℕ
   pub takes : TakesUniversalLine old.lines line new.lines
+  pub short : length line ≤ old.limits.line
   pub fault : ¬ IsUtf8 line
   pub others : new ≡ record old { lines = new.lines; at_start = false }
 
--- some lines are read, none of which ends an event, and then a line that isn't UTF-8 is passed over
+-- some lines are read, none of which ends an event, and then a line within the limit that isn't UTF-8 is passed over
 abbrev pub PassesFault : Eventing → Eventing → Type 0
 PassesFault old new = (mid : Eventing) × Reads old mid × TakesFault mid new
 
@@ -183,7 +194,7 @@ abbrev pub IsTooLarge : Eventing → List ℕ → Type 0
 IsTooLarge old line = (old.limits.line < length line)
     ⊎ ((content old.at_start line ≢ []) × (old.limits.data < text_len (after_line old.told (content old.at_start line)).text))
 
--- whatever comes next, the next line is one of those that can't be read
+-- whatever comes next, the next line is one of those that can't be read, whether it is UTF-8 or not
 abbrev pub IsOver : Eventing → Type 0
 IsOver reading = (more line : List ℕ) (taken : Eventing) → TakesNext (pushed reading more) line taken → IsTooLarge taken line
 

@@ -1,12 +1,12 @@
 //! Server-sent events, of a stream that comes in pieces.
-ghost use Rattle.std.specs.Prelude.{◌≡◌, ◌≢◌, ◌+◌, ◌^◌, ◌<◌, ◌≤◌, ◌↔◌, [], ◌++◌, ◌∷◌, true, length, string_bytes, IfOk, IfErr, IfSome, IfNone, IsOk, IsTrue, None, OnOk, OnErr, Some};
+ghost use Rattle.std.specs.Prelude.{◌≡◌, ◌≢◌, ◌+◌, ◌^◌, ◌<◌, ◌≤◌, ◌↔◌, [], ◌++◌, ◌∷◌, true, false, length, string_bytes, IfOk, IfErr, IfSome, IfNone, IsOk, IsTrue, None, OnOk, OnErr, Some};
 ghost use Rattle.std.specs.Option.{option_or};
 ghost use Rattle.bytes_utils.specs.Lines.{line_feed};
 ghost use Rattle.bytes_utils.specs.Pushing.{IsPush};
 ghost use Rattle.bytes_utils.specs.UniversalLines.{nothing_read};
 ghost use Rattle.bytes_utils_run.specs.EventData.{text_if_any, text_of};
 ghost use Rattle.bytes_utils_run.specs.EventRuns.{EventRunLaw, NoEventLaw, SameEventLaw};
-ghost use Rattle.bytes_utils_run.specs.Events.{DoesLine, EndsEvent, Gives, IsEndOf, IsIdle, IsOver, IsTooLarge, LosesNothing, PassesFault, Reads, TakesFault, TakesNext, after_field, content, text_len, field_name, field_value, left_to_read, nothing_told, number_of, pushed, some_name, with_line, without_space};
+ghost use Rattle.bytes_utils_run.specs.Events.{DoesLine, EndsEvent, Gives, IsEndOf, IsIdle, IsOver, IsTooLarge, LosesNothing, PassesFault, Reads, ReadsNone, TakesFault, TakesNext, after_field, content, text_len, field_name, field_value, left_to_read, nothing_told, number_of, pushed, some_name, with_line, without_space};
 
 use super::requests::number;
 use bytes::Bytes;
@@ -44,7 +44,7 @@ pub struct Limits {
 pub enum EventError {
     /// A call was refused for this reason, which is `OutOfMemory`.
     Refused(Reason),
-    /// A line isn't UTF-8.
+    /// A line within its limit isn't UTF-8.
     NotUtf8,
     /// The next line, or the data with it, passes its limit.
     TooLarge,
@@ -86,7 +86,7 @@ enum Data {
 #[derive(Drop)]
 pub struct EventReader {
     lines: UniversalLines,
-    waiting: Option<Str>,
+    waiting: Option<Bytes>,
     at_start: bool,
     name: Option<Str>,
     text: Option<Data>,
@@ -96,9 +96,9 @@ pub struct EventReader {
 }
 
 impl Model for EventReader {
-    ghost use Rattle.std.specs.Prelude.{◌≤◌};
+    ghost use Rattle.std.specs.Prelude.{◌≤◌, IfSome};
     ghost use Rattle.bytes_utils_run.specs.EventData.{text_if_any};
-    ghost use Rattle.bytes_utils_run.specs.Events.{Eventing, text_len};
+    ghost use Rattle.bytes_utils_run.specs.Events.{Eventing, MayWait, text_len};
 
     ghost Value = { Eventing };
 
@@ -110,7 +110,8 @@ impl Model for EventReader {
       limits = r.limits;
     } };
 
-    ghost invariant = { λ r. text_len (text_if_any r.text) ≤ r.limits.data };
+    ghost invariant = { λ r. (text_len (text_if_any r.text) ≤ r.limits.data)
+        × IfSome r.waiting (MayWait r.limits) };
 }
 
 impl EventReader {
@@ -160,10 +161,11 @@ impl EventReader {
 
     /// Returns the next event, or `None` if the empty line that ends it has not come yet. Fails with
     /// `Refused` if memory is refused; then nothing is lost, and the same call can be made again.
-    /// Fails with `NotUtf8` if a line is not UTF-8; then that line is passed over, and the next call
-    /// continues after it. (A browser puts U+FFFD for the bytes that are no character, and reads the
-    /// line.) Fails with `TooLarge` if the next line, or the data with it, passes its limit; then
-    /// nothing is lost, but that line can't be read, whatever comes next.
+    /// Fails with `NotUtf8` if a line within its limit is not UTF-8; then that line is passed over,
+    /// and the next call continues after it. (A browser puts U+FFFD for the bytes that are no
+    /// character, and reads the line.) Fails with `TooLarge` if the next line, or the data with it,
+    /// passes its limit, whether the line is UTF-8 or not; then nothing is lost, but that line can't
+    /// be read, whatever comes next.
     pub fn next_event(&mut self, alloc: Global) -> Result<Option<Event>, EventError>
         ensures event { IfOk result
             (λ next. IfSome next (λ event. Gives self.old event self.new)) }
@@ -185,7 +187,7 @@ impl EventReader {
                 Ok(None) => {}
                 Ok(Some(event)) => return Ok(Some(event)),
                 Err(error) => {
-                    self.waiting = Some(line);
+                    self.waiting = Some(line.into_inner());
                     return Err(error);
                 }
             }
@@ -223,21 +225,38 @@ impl EventReader {
         ensures not_utf8 { IfErr result (λ e. e ≡ EventError.NotUtf8
             → TakesFault self.old self.new) }
         ensures too_large { IfErr result (λ e. e ≡ EventError.TooLarge
-            → (self.new ≡ self.old) × IsOver self.new) }
+            → ReadsNone self.old self.new × IsOver self.new) }
     {
         if let Some(line) = self.waiting.take() {
-            return Ok(Some(line));
+            return match Str::from_inner(line) {
+                Ok(line) => Ok(Some(line)),
+                Err(fault) => Err(self.after_fault(fault.into_inner())),
+            };
         }
         match self.lines.next_line(alloc) {
             Ok(Some(line)) => Ok(Some(line)),
             Ok(None) if self.lines.remaining() > self.limits.line => Err(EventError::TooLarge),
             Ok(None) => Ok(None),
             Err(LineError::Refused(reason)) => Err(EventError::Refused(reason)),
-            Err(LineError::NotUtf8(_)) => {
-                self.at_start = false;
-                Err(EventError::NotUtf8)
-            }
+            Err(LineError::NotUtf8(fault)) => Err(self.after_fault(fault.into_inner())),
         }
+    }
+
+    /// The error for a line that was taken and isn't UTF-8. If it passes its limit, it waits; if not,
+    /// it is passed over.
+    fn after_fault(&mut self, line: Bytes) -> EventError
+        ensures over { result ≡ EventError.TooLarge → (self.old.limits.line < length line)
+            × (self.new ≡ record self.old { waiting = Some line }) }
+        ensures within { result ≡ EventError.NotUtf8 → (length line ≤ self.old.limits.line)
+            × (self.new ≡ record self.old { at_start = false }) }
+        ensures reason { (reason : _) → result ≢ EventError.Refused reason }
+    {
+        if line.len() <= self.limits.line {
+            self.at_start = false;
+            return EventError::NotUtf8;
+        }
+        self.waiting = Some(line);
+        EventError::TooLarge
     }
 
     /// Does what a line says. If it ends an event, that is returned.

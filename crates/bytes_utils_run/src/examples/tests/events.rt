@@ -102,17 +102,34 @@ fn is_too_large(alloc: Global, events: &mut EventReader) -> bool {
 }
 
 /// What passes a limit: a line with and without its end, a line of data, and lines of data together.
-const LARGE: &str = ":4567890123456789012345|: 3456789012345678901234\n|data: 123456789012345\n|\
+const LARGE: &str = ":45678901234567890123456|: 3456789012345678901234\n|data: 123456789012345\n|\
     data: 123456\ndata: 12345678\n";
+
+/// A line that passes the limit and isn't UTF-8.
+const LARGE_FAULT: &[u8] = b": 345678901234567890123\xff\n";
+
+/// Whether a stream passes a limit that comes in pieces of one byte, of twelve, and whole, and is
+/// asked for events after each.
+fn passes_limit(alloc: Global, stream: &[u8]) -> Result<bool, Fail> {
+    for len in [1, 12, 99] {
+        let mut events = EventReader::new(alloc, LIMITS);
+        for piece in stream.chunks(len) {
+            events.push_slice(piece)?;
+            let _ = events.next_event(alloc);
+        }
+        if !is_too_large(alloc, &mut events) {
+            return Ok(false);
+        }
+    }
+    Ok(true)
+}
 
 #[test]
 fn bad_lines(rt: HostRuntime) -> Result<(), Fail> {
     for stream in LARGE.split('|') {
-        let mut events = EventReader::new(rt.alloc(), LIMITS);
-        events.push(Bytes::from_static(stream.as_bytes()))?;
-        events.push(Bytes::from_static(b"4"))?;
-        assert!(rt; is_too_large(rt.alloc(), &mut events));
+        assert!(rt; passes_limit(rt.alloc(), stream.as_bytes())?);
     }
+    assert!(rt; passes_limit(rt.alloc(), LARGE_FAULT)?);
     let mut events = EventReader::new(rt.alloc(), LIMITS);
     events.push(Bytes::from_static(b"data: \xff\ndata: a\n\n"))?;
     assert!(rt; events.next_event(rt.alloc()).err() == Some(EventError::NotUtf8));

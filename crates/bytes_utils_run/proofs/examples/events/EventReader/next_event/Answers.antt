@@ -1,6 +1,7 @@
-use Rattle.std.proofs.Common.{◌∙◌, sym}
+use Rattle.std.proofs.Common.{Some, ap, inl, ◌∙◌, sym}
 use Rattle.std.proofs.lemmas.Result.{err_from_is_err_and}
-use Rattle.bytes_utils_run.proofs.EventsLemmas.{fault_less, gives_less, reads_more}
+use Rattle.bytes_utils_run.proofs.EventsLemmas.{fault_less, gives_less, over_kept, reads_more}
+use Rattle.bytes_utils_run.specs.Events.{Eventing}
 use Rattle.bytes_utils_run.proofs.examples.events.EventReader.next_event.Goals as goal
 
 pub loop-line-preserved-in-Ok-None : goal.loop-line-preserved-in-Ok-None
@@ -28,3 +29,8 @@ returns-in-Ok-Some-clause-less c = gives_less c.args.self.now c.in-Ok-Some.event
   takes = rw c.in-Some.is at c.in_ok-line.ensures.line;
   ends = rw c.in-Ok-Some.field-0-is at c.in-Ok-Some.ensures.some;
 })
+
+pub returns-in-Err-clause-too_large : goal.returns-in-Err-clause-too_large
+returns-in-Err-clause-too_large c is =
+    over_kept c.args.self.now c.loop-line.self c.next_line.new.self _ c.in-Some.line c.into_inner.result c.loop-line.invariant (rw c.in-Some.is at c.in_ok-line.ensures.line) c.into_inner.ensures.utf8
+    c.into_inner.ensures.value (ap (λ (r : Eventing). record r { waiting = Some c.into_inner.result }) (c.self.view_is ∙ c.in-Err.ensures.err)) (c.in-Err.ensures.too_large is)

@@ -1,4 +1,4 @@
-use Rattle.std.proofs.Common.{◌≡◌, ◌≢◌, ◌==◌, ◌≤◌, [], ap, arith, length, rules, subst, sym, tests, ◌∙◌}
+use Rattle.std.proofs.Common.{IsUtf8, ◌≡◌, ◌≢◌, ◌==◌, ◌≤◌, [], ap, arith, length, rules, subst, sym, tests, ◌∙◌}
 use Rattle.std.proofs.lemmas.Bool.{false≢true}
 use Rattle.std.proofs.lemmas.List.{nil_from_length}
 use Rattle.std.proofs.lemmas.Result.{err_from_is_err_and}
@@ -25,12 +25,12 @@ returns-clause-none c =
           let zero : length c.content-text.result.now ≡ 0 = search (rules, tests) in
           let empty : content old.at_start line ≡ [] = sym is_content ∙ nil_from_length _ zero in
           rw w.event-is (if_none w.in_ok-event.event w.in_ok-event.ensures.none
-          (λ is. does_empty old _ line short empty is.0 (c.self-2.view_is ∙ w.self-is ∙ is.1)))
+          (λ is. does_empty old _ line (subst IsUtf8 c.as_str.ensures.value c.as_str.ensures.utf8) short empty is.0 (c.self-2.view_is ∙ w.self-is ∙ is.1)))
       | else-is_empty+in_ok-read_field w ↦
           let some : content old.at_start line ≢ [] =
           λ empty. false≢true (sym w.if-is_empty.false ∙ c.is_empty.ensures ∙ ap (λ l. length l == 0) (is_content ∙ empty)) in
           let is = c.self-2.view_is ∙ w.self-is ∙ w.in_ok-read_field.ensures.ok in
-          rw w.event-is (does_field old _ line short some (rw is_content at is) c.self-2.invariant)
+          rw w.event-is (does_field old _ line (subst IsUtf8 c.as_str.ensures.value c.as_str.ensures.utf8) short some (rw is_content at is) c.self-2.invariant.0)
     ]
 
 pub returns-in_err-read_field-clause-too_large : goal.returns-in_err-read_field-clause-too_large
