@@ -107,5 +107,6 @@ def frames(judge, room, at, chat):
 
 HALF = b"a" * 8_000
 
-# the program's arguments, what is said to it then, what else is said to it, and the reply, and half of what is said
+# of each run: the program's arguments, the function that asks it, a request and the end of its reply, and half of a
+# request
 RUNS = [([], lines, b"one\n", b"3\n", HALF), ([";;"], frames, b"one;;", b"3\n", HALF)]

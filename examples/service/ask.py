@@ -244,5 +244,6 @@ def ask(judge, room, at, service):
 POST = b"POST /echo HTTP/1.1\r\nHost: h\r\nContent-Length: %d\r\n\r\n%s"
 ONE, HALF = POST % (3, b"one"), POST % (16_000, b"a" * 8_000)
 
-# the program's arguments, what is asked of it then, what else is said to it, and the reply, and half of what is said
+# of each run: the program's arguments, the function that asks it, a request and the end of its reply, and half of a
+# request
 RUNS = [([], ask, ONE, b"\r\n\r\none", HALF)]

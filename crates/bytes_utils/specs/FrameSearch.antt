@@ -24,7 +24,7 @@ pub record Searched (needle bytes : List ℕ) (base : ℕ) (held : List ℕ) : T
 abbrev pub bytes_before : ℕ → ℕ → List (List ℕ) → List ℕ
 bytes_before k n pieces = concat (take k pieces) ++ take n (get_or pieces k [])
 
--- there is room for a kept tail and as many bytes after it, each one byte shorter than the needle
+-- there is room for a kept tail and for the same number of bytes after it: each has one byte less than the needle
 abbrev pub HasRoom : List ℕ → Vec ℕ Global → Type 0
 HasRoom needle held = 2 * length needle ≤ vec_capacity held + 2
 

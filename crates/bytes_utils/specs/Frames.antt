@@ -35,7 +35,7 @@ pub record HasFrame (separator bytes : List ℕ) : Type 0 where
   pub takes : TakesFrame separator bytes frame rest
   pub some : 0 < length frame
 
--- and they are at most as many as the limit
+-- the first frame has come, has some bytes, and is within the limit
 abbrev pub HasFrameWithin : ℕ → List ℕ → List ℕ → Type 0
 HasFrameWithin limit separator bytes = (has : HasFrame separator bytes) × (length has.frame ≤ limit)
 

@@ -227,9 +227,10 @@ impl<'a, B: ContiguousBuf + Drop> Cursor<'a, B> {
     }
 
     /// As `take_until`, if at most `most` bytes are before the needle. Fails with `TooLong` if there
-    /// are more, as soon as as many as `most` and the needle together have come without it. Fails
-    /// with `OutOfMemory` if memory for bytes within the limit that have come is refused, never for
-    /// no bytes. The cursor then stays, as with `None`.
+    /// are more, as soon as the bytes that have come are enough for `most` and the needle, and the
+    /// needle isn't among them. Fails with `OutOfMemory` if memory is refused for bytes within the
+    /// limit that have come, never if none are before the needle. The cursor then stays, as with
+    /// `None`.
     ///
     /// If the memory that `find` asks for is refused, the search asks for none and looks at each
     /// place within the limit.

@@ -105,7 +105,7 @@ Closes delimiter bytes = (preamble : List ℕ) × (rest : List ℕ) × TakesFram
 abbrev pub LacksNext : List ℕ → List ℕ → Type 0
 LacksNext delimiter bytes = (preamble after : List ℕ) → TakesFrame delimiter bytes preamble after → ¬ Occurs delimiter after
 
--- Few bytes wait: those before the first delimiter are within the limits, and those that wait for a delimiter have at most as many more as one.
+-- Few bytes wait: those before the first delimiter are within the limits, and those that wait for a delimiter pass them by at most the length of one.
 pub record FewWait (delimiter : List ℕ) (limits : Limits) (bytes : List ℕ) : Type 0 where
   pub for_first : (¬ Occurs delimiter bytes) → length bytes ≤ limits.head + limits.body + length delimiter
   pub before : (preamble after : List ℕ) → TakesFrame delimiter bytes preamble after → length preamble ≤ limits.head + limits.body

@@ -1,5 +1,5 @@
 //! Frames that a separator ends.
-ghost use Rattle.std.specs.Prelude.{◌≡◌, ◌+◌, ◌-◌, ◌<◌, ◌≤◌, length, max, take, drop, IfOk, IfErr, IfSome, IfNone, IsOk};
+ghost use Rattle.std.specs.Prelude.{◌≡◌, ◌+◌, ◌-◌, ◌<◌, ◌≤◌, length, max, take, drop, IfOk, IfErr, IfSome, IfNone};
 ghost use Rattle.std.specs.List.{concat};
 ghost use Rattle.memchr.specs.Find.{FindsNeedle};
 ghost use Rattle.bytes_utils.specs.Decoding.{decoding};
@@ -68,8 +68,8 @@ impl Delimited {
     }
 
     /// Makes a decoder of frames of at most `max_length` bytes, which don't count the separator. It
-    /// copies `separator`, and asks for less than twice as many bytes, by which it is searched for
-    /// across segments. Requires that `separator` is not empty (test: `is_empty`). Fails with
+    /// copies `separator`, and makes a window of less than twice its length, in which it is searched
+    /// for across segments. Requires that `separator` is not empty (test: `is_empty`). Fails with
     /// `OutOfMemory` if memory is refused.
     pub fn with_limit(
         alloc: Global,

@@ -14,7 +14,8 @@ use std::alloc::{AllocError, Global};
 use std::marker::Model;
 use std::mem::replace;
 
-/// The same as `BLOCK` of a block that follows a longer piece.
+/// How many bytes a new block after a longer piece has, if it need not have more. Less room than
+/// this isn't kept.
 const SMALL_BLOCK: usize = 64;
 
 /// The most bytes of room that are kept while no byte is held.
@@ -287,11 +288,13 @@ impl PackedBuf {
         Ok(all)
     }
 
-    /// Keeps the room of a segment that was read, if that is a block and not large.
+    /// Keeps the room of a segment that was read, if that is a block and the room neither small nor
+    /// large.
     fn keep_room(&mut self, last: EitherBuf<Bytes, BytesMut>)
         ensures { self.new ≡ self.old }
     {
         if let EitherBuf::Right(block) = last
+            && block.capacity() >= SMALL_BLOCK
             && block.capacity() <= MOST_EMPTIED
         {
             self.emptied = block;

@@ -1,5 +1,5 @@
 //! Server-sent events, of a stream that comes in pieces.
-ghost use Rattle.std.specs.Prelude.{◌≡◌, ◌≢◌, ◌+◌, ◌^◌, ◌<◌, ◌≤◌, ◌↔◌, [], ◌++◌, ◌∷◌, true, false, length, string_bytes, IfOk, IfErr, IfSome, IfNone, IsOk, IsTrue, None, OnOk, OnErr, Some};
+ghost use Rattle.std.specs.Prelude.{◌≡◌, ◌≢◌, ◌+◌, ◌^◌, ◌<◌, ◌≤◌, ◌↔◌, [], ◌++◌, ◌∷◌, true, false, length, string_bytes, IfOk, IfErr, IfSome, IfNone, IsOk, IsTrue, IsUtf8, None, OnOk, OnErr, Some};
 ghost use Rattle.std.specs.Option.{option_or};
 ghost use Rattle.bytes_utils.specs.Lines.{line_feed};
 ghost use Rattle.bytes_utils.specs.Pushing.{IsPush};
@@ -174,6 +174,8 @@ impl EventReader {
         ensures waits { IfOk result (λ next. IfNone next (Reads self.old self.new × IsIdle self.new)) }
         ensures refused { IfErr result (λ e. (reason : _) → e ≡ EventError.Refused reason
             → LosesNothing self.old self.new) }
+        ensures text { IfErr result (λ e. (reason : _) → e ≡ EventError.Refused reason
+            → IfSome self.new.waiting IsUtf8) }
         ensures reason { IfErr result (λ e. (reason : _) → e ≡ EventError.Refused reason
             → reason ≡ Reason.OutOfMemory) }
         ensures not_utf8 { IfErr result (λ e. e ≡ EventError.NotUtf8 → PassesFault self.old self.new) }
@@ -220,6 +222,8 @@ impl EventReader {
         ensures waits { IfOk result (λ next. IfNone next ((self.new ≡ self.old) × IsIdle self.new)) }
         ensures refused { IfErr result
             (λ e. (reason : _) → e ≡ EventError.Refused reason → self.new ≡ self.old) }
+        ensures none { IfErr result
+            (λ e. (reason : _) → e ≡ EventError.Refused reason → self.new.waiting ≡ None) }
         ensures reason { IfErr result (λ e. (reason : _) → e ≡ EventError.Refused reason
             → reason ≡ Reason.OutOfMemory) }
         ensures not_utf8 { IfErr result (λ e. e ≡ EventError.NotUtf8

@@ -45,8 +45,8 @@ fn streams_that_are_cut_anywhere(rt: HostRuntime) -> Result<(), Fail> {
     Ok(())
 }
 
-/// Each line: a separator, and a stream that begins with a frame of more than two bytes. Of some its
-/// end has come.
+/// Each line: a separator, and a stream that begins with a frame of more than two bytes. Of some of
+/// these the end has come.
 const TOO_LONG: &str = "; abc\n; abc;\n-- abc-\n-- abc--d\n0123456789abcdef- abc0123456789abcdef\n";
 
 /// Whether a frame of two bytes comes, and then the stream's first frame is over the limit, and all

@@ -49,8 +49,8 @@ fn take_last(
     Ok(())
 }
 
-/// Streams, with a stroke between them, that begin with a line of more than two bytes. Of some its
-/// end has come.
+/// Streams, with a stroke between them, that begin with a line of more than two bytes. Of some of
+/// these the end has come.
 const TOO_LONG: &str = "abc|abc\n|ab\r\n|abc\nd\n";
 
 /// Whether a line of two bytes comes, and then the stream's first line is over the limit, and all of

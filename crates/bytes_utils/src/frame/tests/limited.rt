@@ -24,8 +24,8 @@ fn are_segments(next: Result<Option<SegmentedBuf<Bytes>>, Reason>, want: &str) -
     }
 }
 
-/// Rows of a limit; then a piece and what the call for a frame after it returns, for some pieces;
-/// then what is left. The separator is `<>`.
+/// Rows: a limit; then pieces, each with what the call for a frame after it returns; then what is
+/// left. The separator is `<>`.
 const ROWS: &str = "\
 2: ab< -, >abc<>d ab,  long,  -, > -, <> d>, ab -, c -, < long, > -, <> : |\
 2: abc -, < long,  -, <> -, >a -: >a|\

@@ -35,8 +35,8 @@ impl SegmentedBuf<EitherBuf<Bytes, BytesMut>> {
     }
 
     /// Makes room for `len` more bytes at the end of the last segment, if that is a block with less
-    /// room than a new one has, or the only segment and short. A block is given room for as many
-    /// bytes as it has, at least, so that the bytes moved are at most twice those pushed.
+    /// room than a new one has, or the only segment and short. A block is given room for at least
+    /// the number of bytes that it has, so that the bytes moved are at most twice those pushed.
     pub(crate) fn make_room(&mut self, alloc: Global, len: usize) -> Result<(), Reason>
         ensures same { self.new ≡ self.old }
         ensures reason { IfErr result (λ reason. reason ≡ Reason.OutOfMemory) }

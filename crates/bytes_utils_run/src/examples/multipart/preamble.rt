@@ -29,7 +29,7 @@ impl Model for Preamble {
 }
 
 impl Preamble {
-    /// The number of these bytes.
+    /// Keeps the number of these bytes.
     pub(super) fn of(bytes: &SegmentedBuf<Bytes>) -> Preamble
         ensures { result ≡ concat bytes.now.segments }
     {

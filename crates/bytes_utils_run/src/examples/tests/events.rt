@@ -108,8 +108,8 @@ const LARGE: &str = ":45678901234567890123456|: 3456789012345678901234\n|data: 1
 /// A line that passes the limit and isn't UTF-8.
 const LARGE_FAULT: &[u8] = b": 345678901234567890123\xff\n";
 
-/// Whether a stream passes a limit that comes in pieces of one byte, of twelve, and whole, and is
-/// asked for events after each.
+/// Whether a stream passes a limit in pieces of one byte, of twelve, and whole. The reader is asked
+/// for an event after each.
 fn passes_limit(alloc: Global, stream: &[u8]) -> Result<bool, Fail> {
     for len in [1, 12, 99] {
         let mut events = EventReader::new(alloc, LIMITS);

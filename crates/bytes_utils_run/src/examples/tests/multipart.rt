@@ -196,7 +196,7 @@ fn odd_bodies(rt: HostRuntime) -> Result<(), Fail> {
     Ok(())
 }
 
-/// What comes before as many dashes as may wait, how many these are, and what comes after them. The
+/// What comes before the most dashes that may wait, their number, and what comes after them. The
 /// limits allow 190 bytes, and five more while a delimiter may begin among the last. In order:
 ///
 /// - a preamble, after the line end that is held first, without and with the delimiter after it
