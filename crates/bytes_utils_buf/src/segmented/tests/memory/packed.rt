@@ -52,18 +52,31 @@ fn push_of_a_large_piece(rt: HostRuntime) -> Result<(), Fail> {
     Ok(())
 }
 
-// A block of 64 bytes after a longer piece is full, so that one byte more makes it grow.
+/// As many bytes as a block has that comes after a longer piece.
+const SINGLES: &str = "xxxxxxxxxxxxxxxxxxxxxxxxxxxxxxxxxxxxxxxxxxxxxxxxxxxxxxxxxxxxxxxx";
+
+/// Pushes them, and returns whether there was memory for all.
+fn puts_singles(alloc: Global, buf: &mut PackedBuf) -> bool {
+    for _ in SINGLES.as_bytes() {
+        if buf.push_slice(alloc, b"x").is_err() {
+            return false;
+        }
+    }
+    true
+}
+
+// One byte more than the block has room for moves the others to a new one.
 #[test]
 fn push_to_a_full_block(rt: HostRuntime) -> Result<(), Fail> {
-    let text = "0123456789abcdef0123456789abcdef0123456789abcdef0123456789abcdef";
     let mut buf = PackedBuf::new(rt.alloc(), 1);
-    pushes(&rt, rt.alloc(), "no call", &mut buf, ("", "Hello"))?;
-    if buf.push_slice(rt.alloc(), text.as_bytes()).is_err() || buf.remaining() < 5 {
+    let call = "PackedBuf::push of a large piece";
+    pushes(&rt, rt.alloc(), call, &mut buf, ("", "Hello"))?;
+    if !puts_singles(rt.alloc(), &mut buf) || buf.remaining() < 5 {
         return Ok(());
     }
     buf.advance(5);
     let call = "PackedBuf::push to a full block";
-    pushes(&rt, rt.alloc(), call, &mut buf, (text, "g"))?;
+    pushes(&rt, rt.alloc(), call, &mut buf, (SINGLES, "x"))?;
     assert!(rt; buf.segments() == 1 && buf.remaining() == 65);
     Ok(())
 }
