@@ -224,7 +224,11 @@ fn endless_bodies(rt: HostRuntime) -> Result<(), Fail> {
         let (before, rest) = row.split_once('>').ok_or("no count")?;
         let (count, after) = rest.split_once('>').ok_or("no end")?;
         let most: usize = count.parse()?;
-        for (count, wanted) in [(most, "waits"), (most + 1, "too large"), (600, "too large")] {
+        for (count, wanted) in [
+            (most, "waits"),
+            (most.saturating_add(1), "too large"),
+            (600, "too large"),
+        ] {
             assert_eq!(rt; first_around(rt.alloc(), before, count, after)?, wanted);
         }
     }
