@@ -43,15 +43,21 @@ def files_with(edits):
     return files
 
 
+def test_of(edit):
+    """The file that has the test for an edit, in the tests of its crate, and its text, or none if it isn't there."""
+    path = f"src/{'/'.join(edit.test.split('::')[:-1])}.rt"
+    it = Path(ROOT, f"{edit.program.folder}_tests", path)
+    return path, it.read_text("utf-8") if it.is_file() else ""
+
+
 def fault_of(edit):
     """What is wrong with an edit, as far as its text shows, or nothing."""
     files = files_with([edit])
     if not files or not edit.pairs or any(old == new for old, new in edit.pairs):
         return f"an old text isn't in {edit.file} once, or is the new one"
-    *module, _ = edit.test.split("::")
     # an edit of a macro changes functions of any file
     paths = files if "macro_rules!" in files[edit.file] else [edit.file]
-    text = "".join(files.get(it, "") for it in ([f"src/{'/'.join(module)}.rt"] if edit.test else paths))
+    text = test_of(edit)[1] if edit.test else "".join(files[it] for it in paths)
     names = [it.split("::")[-1] for it in (*edit.functions, edit.test) if it]
     lost = [it for it in names if not re.search(rf"\bfn {it}\b", text)]
     return f"there is no function {lost[0]}" if lost else "" if names else "it names no function and no test"

@@ -5,7 +5,7 @@ from contextlib import contextmanager
 ROOT = os.path.dirname(os.path.dirname(os.path.realpath(__file__)))
 SPEED = f"{ROOT}/docs/SPEED.md"
 sys.path.append(f"{ROOT}/.ci")
-from kit import build
+from kit import build, counted, tried_on
 
 MIB = 1 << 20
 DEBIAN = ["source.crates-io.replace-with='debian'", "source.debian.directory='/usr/share/cargo/registry'"]
@@ -77,18 +77,21 @@ def programs(folder, builds):
         yield room
 
 
-def ours(bench, *libraries, is_quick=False):
-    """How our program of a bench is built, over the crates of the repository and the kit's. With `is_quick` over what
-    `rt ci` or `rt lib` left, else `rt lib` builds the crates before, as far as they have changed."""
+def source(bench, room):
+    """The folder with the crate of our program of a bench."""
+    os.makedirs(f"{room}/ours_source/src", exist_ok=True)
+    for name in os.listdir(f"{ROOT}/bench/{bench}/ours"):
+        shutil.copy(f"{ROOT}/bench/{bench}/ours/{name}", f"{room}/ours_source/src/{name.removesuffix('.txt')}")
+    return f"{room}/ours_source"
+
+
+def ours(bench, *libraries):
+    """How our program of a bench is built, over the crates of the repository, which `rt lib` builds before as far as
+    they have changed, and the kit's."""
 
     def built(room):
-        if not is_quick:
-            called(["rt", "lib"], f"{ROOT}/crates/{libraries[0]}")
-        os.makedirs(f"{room}/ours_source/src", exist_ok=True)
-        for name in os.listdir(f"{ROOT}/bench/{bench}/ours"):
-            shutil.copy(f"{ROOT}/bench/{bench}/ours/{name}", f"{room}/ours_source/src/{name.removesuffix('.txt')}")
-        source, kept, made = (f"{room}/ours_{it}" for it in ("source", "kept", "made"))
-        said = build(f"{bench}_bench", ["std", *libraries], source, kept, made)
+        called(["rt", "lib"], f"{ROOT}/crates/{libraries[0]}")
+        said = build(f"{bench}_bench", ["std", *libraries], source(bench, room), f"{room}/kept", f"{room}/ours_made")
         if not os.path.isfile(f"{room}/ours_made"):
             sys.exit(f"our program of bench/{bench} isn't proved:\n{said[-3000:]}")
         return f"{room}/ours_made"
@@ -110,11 +113,16 @@ def rust(bench, original=""):
     return built
 
 
-def judge(cases):
-    """Counts the cases, each its name, what was reported and what is right. The last line is 'N passed, M failed'. Ends
-    with the status."""
-    wrong = [(name, reported, right) for name, reported, right in cases if reported != right]
-    for name, reported, right in wrong:
-        print(f"{name}: {reported}, where {right} is right")
-    print(f"{len(cases) - len(wrong)} passed, {len(wrong)} failed")
-    sys.exit(1 if wrong or not cases else 0)
+def judge(bench, libraries, cases):
+    """Builds our program of a bench unproved, runs it on each case, and ends with the status. A case is its name, the
+    program's arguments, its input, and what is right: all that it writes, or the numbers that this begins with."""
+    cases = [*cases]
+    given = [(map(str, words), it, right if isinstance(right, bytes) else None) for _, words, it, right in cases]
+    with tempfile.TemporaryDirectory(prefix="bench-") as room:
+        ended = [*tried_on(given, f"{bench}_bench", ["std", *libraries], source(bench, room))]
+    found = []
+    for (name, *_, right), (status, wrote) in zip(cases, ended):
+        seen = wrote if isinstance(right, bytes) else [*map(int, re.findall(rb"\d+", wrote))][: len(right)]
+        is_right = status == 0 and seen == right
+        found.append((name, "" if is_right else f"status {status}, {wrote[-300:]}, where {right[:50]} is right"))
+    sys.exit(counted(found))

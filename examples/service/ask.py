@@ -2,7 +2,7 @@
 import contextlib, csv, io, os, re, resource, socket, subprocess, time
 from concurrent.futures import ThreadPoolExecutor
 
-from kit import processor_time
+from asks import processor_time
 
 BODY = 50_000_000
 # what the service may have held after all these requests: its longest body, and this much more

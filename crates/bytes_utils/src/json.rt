@@ -6,8 +6,6 @@ ghost use Rattle.serde_json.specs.View.{view};
 ghost use Rattle.bytes_utils.specs.Json.{json_string, whole_number, Represents, IsRefusedFor, HoldsText, IsNotJson, HoldsNoBytes, HoldsOtherBytes};
 
 mod show;
-#[cfg(test)]
-mod tests;
 
 use crate::string::{Storage, StorageMut, StrInner};
 use bytes_utils_buf::Reason;

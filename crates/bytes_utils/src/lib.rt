@@ -4,18 +4,12 @@
 //!   `contiguous`, `parts` and `write` are about buffers too.
 //! - [`Str`] is text over shared bytes and [`StrMut`] is text that grows. `split` has the splitters
 //!   of `str`, with owned parts.
-//! - `frame` cuts a stream into frames or lines, and `decode` into what a decoder of yours takes.
-//!   `find` searches the bytes of many segments, and `cursor` reads parts off them.
 //! - `json` reads and writes texts as JSON. Texts also implement the traits of `serde`.
+//! - `needle` searches one piece of bytes, for `split` and for the streams of `bytes_utils_codec`.
 #![tactic(auto)]
 
-pub mod cursor;
-pub mod decode;
-pub mod find;
-#[cfg(test)]
-mod fixtures;
-pub mod frame;
 pub mod json;
+pub mod needle;
 pub mod split;
 pub mod string;
 

@@ -1,7 +1,7 @@
 //! Iterators that split a text into owned parts.
 
 mod boundary;
-pub(crate) mod character;
+pub mod character;
 mod closure;
 mod cut;
 mod direction;
@@ -15,8 +15,6 @@ mod separated;
 mod separator;
 mod slice_ref;
 mod strip;
-#[cfg(test)]
-mod tests;
 mod trim;
 mod words;
 

@@ -19,8 +19,6 @@ mod serialize;
 mod show;
 mod slice;
 mod storage;
-#[cfg(test)]
-mod tests;
 mod text;
 mod utf8_error;
 

@@ -8,5 +8,3 @@ mod deque;
 mod pair;
 mod queue;
 mod take;
-#[cfg(test)]
-mod tests;

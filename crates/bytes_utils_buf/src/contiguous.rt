@@ -2,9 +2,6 @@
 ghost use Rattle.std.specs.Prelude.{◌≡◌, ◌≤◌, length, take, drop, slice_range, IsOk, IfOk, IfErr, OnErr};
 ghost use Rattle.bytes_utils_buf.specs.Slices.{taken_by};
 
-#[cfg(test)]
-mod tests;
-
 use crate::Reason;
 use crate::parts::CopyRefused;
 use bytes::{Buf, Bytes};

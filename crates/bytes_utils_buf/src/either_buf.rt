@@ -4,9 +4,6 @@ ghost use Rattle.bytes.specs.Unread.{IsChunkOf};
 ghost use Rattle.bytes_utils_buf.specs.Either.{unread_of, kept_of};
 ghost use Rattle.bytes_utils_buf.specs.Slices.{taken_by, FillsTable};
 
-#[cfg(test)]
-mod tests;
-
 use crate::Reason;
 use crate::contiguous::ContiguousBuf;
 use crate::parts::{BufParts, CopyRefused};

@@ -13,8 +13,6 @@
 mod buffers;
 pub mod contiguous;
 mod either_buf;
-#[cfg(test)]
-mod fixtures;
 pub mod parts;
 mod refused;
 pub mod segmented;

@@ -2,9 +2,6 @@
 ghost use Rattle.std.specs.Prelude.{ℕ, ⊤, ◌≡◌, ◌<◌, ◌≤◌, length, take, drop, IfOk, IfErr, IsOk, OnErr, ◌⊎◌};
 ghost use Rattle.bytes_utils_buf.specs.Slices.{taken_by, joined, FillsTable};
 
-#[cfg(test)]
-mod tests;
-
 use bytes::{Buf, Bytes};
 use std::alloc::Global;
 

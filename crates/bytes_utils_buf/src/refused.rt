@@ -2,8 +2,6 @@
 
 mod convert;
 mod show;
-#[cfg(test)]
-mod tests;
 
 /// Why a call failed.
 #[derive(Clone, Copy, Debug, Eq, PartialEq)]

@@ -8,8 +8,6 @@ mod place;
 mod slice;
 mod sum;
 mod tally;
-#[cfg(test)]
-mod tests;
 mod walk;
 
 pub use buf::{Chunks, SegmentedBuf};

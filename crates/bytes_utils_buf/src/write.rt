@@ -4,9 +4,6 @@ ghost use Rattle.std.specs.Io.KnownBytes.{Appends};
 ghost use Rattle.bytes_utils_buf.specs.Slices.{joined};
 ghost use Rattle.bytes_utils_buf.specs.Write.{WritesCounted, WritesFront};
 
-#[cfg(test)]
-mod tests;
-
 use crate::parts::BufParts;
 use bytes::Buf;
 use std::io::{self, ErrorKind, Write};

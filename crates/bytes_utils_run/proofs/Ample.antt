@@ -13,11 +13,11 @@ use Rattle.bytes_utils_buf.proofs.Lists.{Skips-from_count, count_unread-Skips, l
 use Rattle.bytes_utils_run.proofs.Fitting.{Fits, fits-accepting, fits-call, fits-skip}
 use Rattle.bytes_utils_run.specs.Calls.{AreSlices, IsCall, IsRun}
 use Rattle.bytes_utils_run.specs.Request.{lacks_memory}
-use Rattle.bytes_utils_run.specs.declared.calls.Call.{Call}
-use Rattle.bytes_utils_run.specs.declared.calls.Call.TheVariants.{Push, Segments, Read}
-use Rattle.bytes_utils_run.specs.declared.calls.ReadCall.TheVariants.{Remaining, Chunk, Advance, CopyOut, Chunks}
-use Rattle.bytes_utils_run.specs.declared.calls.Reply.{Reply}
-use Rattle.bytes_utils_run.specs.declared.calls.Reply.TheVariants.{Done, PastEnd, TooLong, Number, Piece, Shown, Slices}
+use Rattle.bytes_utils_run.specs.declared.calls.call.Call.{Call}
+use Rattle.bytes_utils_run.specs.declared.calls.call.Call.TheVariants.{Push, Segments, Read}
+use Rattle.bytes_utils_run.specs.declared.calls.call.ReadCall.TheVariants.{Remaining, Chunk, Advance, CopyOut, Chunks}
+use Rattle.bytes_utils_run.specs.declared.calls.call.Reply.{Reply}
+use Rattle.bytes_utils_run.specs.declared.calls.call.Reply.TheVariants.{Done, PastEnd, TooLong, Number, Piece, Shown, Slices}
 
 -- a vector of these elements, with the pointer and allocator of another
 abbrev vec_of : {X Y : Type 0} (like : Vec Y) (xs : List X) → length xs < 2 ^ 63 → Vec X

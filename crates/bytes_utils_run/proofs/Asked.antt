@@ -18,8 +18,8 @@ use Rattle.bytes_utils_run.proofs.OutcomeLemmas.{Outcome-map}
 use Rattle.bytes_utils_buf.specs.declared.refused.Reason.{Reason}
 use Rattle.bytes_utils_run.specs.declared.program.answer.Answer.{Answer}
 use Rattle.bytes_utils_run.specs.declared.program.answer.Answer.TheVariants.{Splitter, Replies}
-use Rattle.bytes_utils_run.specs.declared.calls.Call.{Call}
-use Rattle.bytes_utils_run.specs.declared.calls.Reply.{Reply}
+use Rattle.bytes_utils_run.specs.declared.calls.call.Call.{Call}
+use Rattle.bytes_utils_run.specs.declared.calls.call.Reply.{Reply}
 
 -- a list that is still to come is right for this way to split
 pub Outcome-parts : {E : Type 0} (way : Cutting) (line text : List ℕ) → IsCommand way line

@@ -5,9 +5,9 @@ use Rattle.bytes_utils.specs.Lines.{AreLinesToCome, lines}
 use Rattle.bytes_utils.specs.Step.{GivesFirst, HasGiven}
 use Rattle.bytes_utils.proofs.StepLemmas.{HasGiven-none, HasGiven-more}
 use Rattle.bytes_utils_run.specs.CallLine.{AreCallLines, IsCallLine}
-use Rattle.bytes_utils_run.specs.declared.calls.Call.{Call}
-use Rattle.bytes_utils_run.specs.declared.calls.Call.TheVariants.{Push, Segments, Read}
-use Rattle.bytes_utils_run.specs.declared.calls.ReadCall.TheVariants.{Remaining, Chunk, Advance, CopyOut, Chunks}
+use Rattle.bytes_utils_run.specs.declared.calls.call.Call.{Call}
+use Rattle.bytes_utils_run.specs.declared.calls.call.Call.TheVariants.{Push, Segments, Read}
+use Rattle.bytes_utils_run.specs.declared.calls.call.ReadCall.TheVariants.{Remaining, Chunk, Advance, CopyOut, Chunks}
 
 -- one more line asks for one more call
 AreCallLines-push : (calls : List (Call (List ℕ))) (lines : List (List ℕ)) (call : Call (List ℕ)) (line : List ℕ)

@@ -4,7 +4,7 @@ use Rattle.std.specs.List.{concat}
 use Rattle.bytes_utils_buf.specs.Segments.{Skips}
 use Rattle.bytes_utils_buf.proofs.Lists.{concat-without_empty}
 use Rattle.bytes_utils_run.specs.Calls.{IsRun, lists_of}
-use Rattle.bytes_utils_run.specs.declared.calls.Reply.{Reply}
+use Rattle.bytes_utils_run.specs.declared.calls.call.Reply.{Reply}
 
 -- the lists of a buffer, joined, are its unread bytes
 pub concat_lists_of : (unread : List ℕ) → concat (lists_of unread) ≡ unread

@@ -19,7 +19,7 @@ use Rattle.std.specs.List.{list_all}
 use Rattle.bytes_utils_run.specs.CallLine.{IsNumbered}
 use Rattle.bytes_utils_run.specs.Command.{IsCommand, IsCounted, IsCountedAfter}
 use Rattle.bytes_utils_run.specs.Cutting.{Cutting, ByWords, ByAsciiWords, ByLines, FromFront, FromBack, Keeping, IsAllowed, cutting}
-use Rattle.bytes_utils_run.specs.declared.cut.How.{How}
+use Rattle.bytes_utils_run.specs.declared.how.How.{How}
 use Rattle.bytes_utils_run.specs.Number.{IsNumber}
 
 -- what follows the word in the bytes follows it in the characters

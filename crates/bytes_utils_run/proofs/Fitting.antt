@@ -4,10 +4,10 @@ use Rattle.std.specs.List.{concat}
 use Rattle.bytes_utils_buf.specs.Segments.{Held, Skips, after_accepting}
 use Rattle.bytes_utils_buf.proofs.Lists.{length-concat-accepted}
 use Rattle.bytes_utils_run.specs.Calls.{IsCall, SkipsOrKeeps, skipped_by_read}
-use Rattle.bytes_utils_run.specs.declared.calls.Call.{Call}
-use Rattle.bytes_utils_run.specs.declared.calls.Call.TheVariants.{Push, Segments, Read}
-use Rattle.bytes_utils_run.specs.declared.calls.Reply.{Reply}
-use Rattle.bytes_utils_run.specs.declared.calls.Reply.TheVariants.{Done, TooLong, NoMemory, Number}
+use Rattle.bytes_utils_run.specs.declared.calls.call.Call.{Call}
+use Rattle.bytes_utils_run.specs.declared.calls.call.Call.TheVariants.{Push, Segments, Read}
+use Rattle.bytes_utils_run.specs.declared.calls.call.Reply.{Reply}
+use Rattle.bytes_utils_run.specs.declared.calls.call.Reply.TheVariants.{Done, TooLong, NoMemory, Number}
 
 -- the number of bytes to read fits `usize`
 abbrev pub Fits : List (List ℕ) → Type 0

@@ -14,9 +14,9 @@ use Rattle.bytes_utils_run.specs.Calls.{IsCall, IsRun}
 use Rattle.bytes_utils_run.specs.Request.{AreFirstReplies, AreReplies, lacks_memory}
 use Rattle.bytes_utils_buf.specs.declared.refused.Reason.{Reason}
 use Rattle.bytes_utils_buf.specs.declared.refused.Reason.TheVariants.{OutOfMemory}
-use Rattle.bytes_utils_run.specs.declared.calls.Call.{Call}
-use Rattle.bytes_utils_run.specs.declared.calls.Reply.{Reply}
-use Rattle.bytes_utils_run.specs.declared.calls.Reply.TheVariants.{Done}
+use Rattle.bytes_utils_run.specs.declared.calls.call.Call.{Call}
+use Rattle.bytes_utils_run.specs.declared.calls.call.Reply.{Reply}
+use Rattle.bytes_utils_run.specs.declared.calls.call.Reply.TheVariants.{Done}
 
 whole-before : (replies : List Reply) (count : ℕ) → ((k : ℕ) → k < count → lacks_memory (get_or replies k Done) ≡ false) → All (λ reply. lacks_memory reply ≡ false) (take count replies)
 whole-before replies count none = All-from_get_or (λ reply. lacks_memory reply ≡ false) (take count replies) Done

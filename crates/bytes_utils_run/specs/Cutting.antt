@@ -5,8 +5,8 @@ use Rattle.std.specs.Str.{chars}
 use Rattle.bytes_utils.specs.Lines.{lines}
 use Rattle.bytes_utils.specs.Parts.{join, ArePartsFromFront, ArePartsFromBack, AreInclusiveParts}
 use Rattle.bytes_utils.specs.Words.{words}
-use Rattle.bytes_utils_run.specs.declared.cut.How.{How}
-use Rattle.bytes_utils_run.specs.declared.cut.How.TheVariants.{Words, AsciiWords, Lines, Split, SplitN, RSplit, RSplitN, Inclusive}
+use Rattle.bytes_utils_run.specs.declared.how.How.{How}
+use Rattle.bytes_utils_run.specs.declared.how.How.TheVariants.{Words, AsciiWords, Lines, Split, SplitN, RSplit, RSplitN, Inclusive}
 
 -- A way to split: into words, words between ASCII white space, or lines; by a separator, as characters, from the front
 -- or the back, with or without a limit; or into parts that keep the separator.

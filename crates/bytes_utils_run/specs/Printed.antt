@@ -2,8 +2,8 @@
 use Rattle.std.specs.Prelude.{ℕ, List, [], ◌++◌, length, map, codes, decimal}
 use Rattle.std.specs.List.{concat}
 use Rattle.std.specs.Str.{encode_utf8_all}
-use Rattle.bytes_utils_run.specs.declared.calls.Reply.{Reply}
-use Rattle.bytes_utils_run.specs.declared.calls.Reply.TheVariants.{Done, PastEnd, TooLong, NoMemory, CopyStopped, Number, Piece, Shown, Slices}
+use Rattle.bytes_utils_run.specs.declared.calls.call.Reply.{Reply}
+use Rattle.bytes_utils_run.specs.declared.calls.call.Reply.TheVariants.{Done, PastEnd, TooLong, NoMemory, CopyStopped, Number, Piece, Shown, Slices}
 
 -- bytes that were taken out or are shown: their length, a colon, the bytes, a line feed
 abbrev pub printed : List ℕ → List ℕ

@@ -10,9 +10,9 @@ use Rattle.bytes_utils_run.specs.Cutting.{Cutting, ArePartsBy}
 use Rattle.bytes_utils_run.specs.Printed.{printed_part, printed_reply}
 use Rattle.bytes_utils_buf.specs.declared.refused.Reason.{Reason}
 use Rattle.bytes_utils_buf.specs.declared.refused.Reason.TheVariants.{OutOfMemory}
-use Rattle.bytes_utils_run.specs.declared.calls.Call.{Call}
-use Rattle.bytes_utils_run.specs.declared.calls.Reply.{Reply}
-use Rattle.bytes_utils_run.specs.declared.calls.Reply.TheVariants.{NoMemory, CopyStopped}
+use Rattle.bytes_utils_run.specs.declared.calls.call.Call.{Call}
+use Rattle.bytes_utils_run.specs.declared.calls.call.Reply.{Reply}
+use Rattle.bytes_utils_run.specs.declared.calls.call.Reply.TheVariants.{NoMemory, CopyStopped}
 
 -- the parts of a text by one way to split, or the replies to calls on a new buffer
 pub data Request : Type 0 where

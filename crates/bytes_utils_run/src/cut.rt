@@ -6,34 +6,11 @@ ghost use Rattle.bytes_utils.specs.Outcome.{Outcome};
 ghost use Rattle.bytes_utils_run.specs.Coming.{AreToCome};
 ghost use Rattle.bytes_utils_run.specs.Cutting.{ArePartsBy, JoinTo, cutting, IsAllowed};
 
+use crate::how::How;
 use crate::splitter::AnySplitter;
 use bytes_utils::Reason;
 use bytes_utils::string::{Storage, StrInner};
 use std::alloc::Global;
-
-#[cfg(test)]
-pub(crate) mod tests;
-
-/// How a text is split.
-#[derive(Clone, Copy, Debug)]
-pub enum How<'s> {
-    /// Into words between white space, as `str::split_whitespace`.
-    Words,
-    /// Into words between ASCII white space, as `str::split_ascii_whitespace`.
-    AsciiWords,
-    /// Into lines, as `str::lines`.
-    Lines,
-    /// At each separator, as `str::split`.
-    Split(&'s str),
-    /// At separators, into at most the given number of parts, as `str::splitn`.
-    SplitN(usize, &'s str),
-    /// At each separator, from the back, as `str::rsplit`.
-    RSplit(&'s str),
-    /// At separators, from the back, into at most the given number of parts, as `str::rsplitn`.
-    RSplitN(usize, &'s str),
-    /// After each separator, as `str::split_inclusive`. The separator isn't empty.
-    Inclusive(&'s str),
-}
 
 /// The parts of a text, and the reason if not all were given.
 #[derive(Drop)]

@@ -22,8 +22,6 @@ ghost use Rattle.bytes_utils_run.specs.LineEnds.{LinesLaw};
 ghost use Rattle.bytes_utils_run.specs.WordRuns.{WordsLaw};
 
 pub mod borrowed;
-#[cfg(test)]
-mod tests;
 
 /// A text has exactly one list of parts from the front, with a limit of at least 1 or none. So all
 /// runs of `split` or `splitn` that aren't refused give the same parts, in any implementation, even

@@ -2,8 +2,6 @@
 mod asked;
 mod drip;
 mod refuse_after;
-#[cfg(test)]
-mod tests;
 mod zeros;
 
 pub use asked::Asked;

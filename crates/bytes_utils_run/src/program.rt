@@ -11,9 +11,7 @@ mod command;
 mod fault;
 mod input;
 mod output;
-mod print;
-#[cfg(test)]
-mod tests;
+pub mod print;
 mod word;
 
 use answer::{Answer, answer_to};

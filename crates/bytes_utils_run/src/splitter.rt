@@ -6,7 +6,7 @@ ghost use Rattle.bytes_utils.specs.Step.{IsStep};
 ghost use Rattle.bytes_utils_run.specs.Coming.{AreToCome, Cuts, most_to_come};
 ghost use Rattle.bytes_utils_run.specs.Cutting.{ArePartsBy, cutting, IsAllowed};
 
-use crate::How;
+use crate::how::How;
 use bytes_utils::Reason;
 use bytes_utils::split::{
     LinesBytes, RSplitBytes, SplitAsciiWhitespaceBytes, SplitBytes, SplitInclusiveBytes,
@@ -16,7 +16,7 @@ use bytes_utils::string::{Storage, StrInner};
 
 /// The splitter for one of the ways to split, which gives the parts one by one.
 #[derive(Drop)]
-pub(crate) enum AnySplitter<'s, S: Storage> {
+pub enum AnySplitter<'s, S: Storage> {
     /// For `How::Words`.
     Words(SplitWhitespaceBytes<S>),
     /// For `How::AsciiWords`.
@@ -32,8 +32,9 @@ pub(crate) enum AnySplitter<'s, S: Storage> {
 }
 
 impl<'s, S: Storage> AnySplitter<'s, S> {
-    /// Makes the splitter of a text for this way to split.
-    pub(crate) fn new(text: StrInner<S>, how: How<'s>) -> Self
+    /// Makes the splitter of a text for this way to split. Requires that the separator of
+    /// `Inclusive` isn't empty (test: `is_empty`).
+    pub fn new(text: StrInner<S>, how: How<'s>) -> Self
         requires { IsAllowed how }
         ensures some { (parts : List (List ℕ)) × AreToCome result parts }
         ensures right { (parts : List (List ℕ)) → AreToCome result parts

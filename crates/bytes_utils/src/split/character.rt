@@ -5,7 +5,7 @@ ghost use Rattle.bytes_utils.specs.Text.{byte_place};
 
 /// Returns the byte place at which the first character ends, or `None` if the text is empty.
 #[inline]
-pub(crate) fn first_end(text: &str) -> Option<usize>
+pub fn first_end(text: &str) -> Option<usize>
     ensures { MatchOption result (chars text.now ≡ []) (λ end. (0 < length (chars text.now))
         × (end ≡ byte_place (chars text.now) 1)) }
 {

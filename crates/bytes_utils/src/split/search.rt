@@ -6,7 +6,7 @@ ghost use Rattle.bytes_utils.specs.Occurrence.{FindsFirst, FindsLast};
 ghost use Rattle.bytes_utils.specs.Search.{end_of, needle_of};
 
 use super::direction::Direction;
-use crate::frame::search::{find_byte, find_in_piece};
+use crate::needle::{find_byte, find_in_piece};
 use memchr::arch::all::is_suffix;
 use memchr::memmem::{self, Finder, FinderRev};
 use memchr::memrchr;

@@ -2,8 +2,8 @@
 ghost use Rattle.std.specs.Prelude.{◌≡◌};
 ghost use Rattle.bytes_utils_run.specs.Calls.{IsRead, lists_of};
 
+use super::call::{ReadCall, Reply};
 use super::show::{chunk, slices};
-use super::{ReadCall, Reply};
 use bytes::Buf;
 use bytes_utils::parts::BufParts;
 use std::alloc::Global;

@@ -2,8 +2,8 @@
 ghost use Rattle.bytes_utils_buf.specs.Segments.{IsPaid};
 ghost use Rattle.bytes_utils_run.specs.Calls.{CountsRead, IsCall, IsRead};
 
+use super::call::{Call, ReadCall, Reply};
 use super::show::{chunk, slices};
-use super::{Call, ReadCall, Reply};
 use bytes::Buf;
 use bytes_utils::parts::BufParts;
 use bytes_utils::{Reason, SegmentedBuf};

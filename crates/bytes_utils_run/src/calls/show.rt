@@ -1,9 +1,9 @@
 //! Copies of the bytes that a buffer shows.
 ghost use Rattle.std.specs.Prelude.{◌≡◌, map, IfOk};
 ghost use Rattle.bytes_utils_run.specs.Calls.{AreSlices, IsReply};
-ghost use Rattle.bytes_utils_run.specs.declared.calls.ReadCall.{ReadCall as Reading};
+ghost use Rattle.bytes_utils_run.specs.declared.calls.call.ReadCall.{ReadCall as Reading};
 
-use super::Reply;
+use super::call::Reply;
 use bytes::Buf;
 use bytes_utils::parts::BufParts;
 use std::alloc::{AllocError, Global};

@@ -26,9 +26,6 @@ use std::str::{
     Lines, RSplit, RSplitN, Split, SplitAsciiWhitespace, SplitInclusive, SplitN, SplitWhitespace,
 };
 
-#[cfg(test)]
-mod tests;
-
 /// Splits `text` into words at white space (Unicode's property White_Space).
 pub fn split_whitespace(text: &str) -> SplitWhitespace<'_>
     ensures { GivesParts split_whitespace_steps result (ArePartsBy ByWords (chars text.now)) }

@@ -12,7 +12,7 @@ ghost use Rattle.bytes_utils_run.specs.Run.{AsksFor};
 
 use crate::program::Fault;
 use crate::program::call_line::calls_of;
-use crate::program::command::{Command, first_line, read_command};
+use crate::program::command::{Command, command_line_places, read_command};
 use crate::splitter::AnySplitter;
 use crate::{Call, Replies, Reply, drive};
 use bytes::Bytes;
@@ -68,7 +68,7 @@ pub(super) fn answer_to(alloc: Global, input: &Str) -> Result<Answer<'_>, Fault>
     ensures fault { IfErr result
         (λ fault. (fault ≡ Fault.UnknownCommand) ⊎ (fault ≡ Fault.OutOfMemory)) }
 {
-    let (end, next) = first_line(input.as_str());
+    let (end, next) = command_line_places(input.as_str());
     let Some(command) = read_command(&input.as_str()[..end]) else {
         return Err(Fault::UnknownCommand);
     };

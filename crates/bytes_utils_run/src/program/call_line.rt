@@ -3,10 +3,10 @@ ghost use Rattle.std.specs.Prelude.{◌≡◌, ◌⊎◌, ℕ, List, MatchOption
 ghost use Rattle.std.specs.Str.{chars};
 ghost use Rattle.bytes_utils.specs.Lines.{lines};
 ghost use Rattle.bytes_utils_run.specs.CallLine.{AreCallLines, IsCallLine, IsNumbered};
-ghost use Rattle.bytes_utils_run.specs.declared.calls.Call.{Call as Asked};
-ghost use Rattle.bytes_utils_run.specs.declared.calls.Call.TheVariants.{Push as Pushing, Segments as Counting, Read as Reading};
-ghost use Rattle.bytes_utils_run.specs.declared.calls.ReadCall.{ReadCall as AskedRead};
-ghost use Rattle.bytes_utils_run.specs.declared.calls.ReadCall.TheVariants.{Advance as Advancing, CopyOut as Copying, Chunks as Showing};
+ghost use Rattle.bytes_utils_run.specs.declared.calls.call.Call.{Call as Asked};
+ghost use Rattle.bytes_utils_run.specs.declared.calls.call.Call.TheVariants.{Push as Pushing, Segments as Counting, Read as Reading};
+ghost use Rattle.bytes_utils_run.specs.declared.calls.call.ReadCall.{ReadCall as AskedRead};
+ghost use Rattle.bytes_utils_run.specs.declared.calls.call.ReadCall.TheVariants.{Advance as Advancing, CopyOut as Copying, Chunks as Showing};
 
 use crate::program::Fault;
 use crate::program::word::{is_word, number, rest_after};

@@ -11,7 +11,7 @@ use crate::program::word::{is_word, number, rest_after};
 use bytes_utils::split::line_place;
 
 /// Finds where the first line ends, and where the text after it begins.
-pub(super) fn first_line(input: &str) -> (usize, usize)
+pub(super) fn command_line_places(input: &str) -> (usize, usize)
     ensures end { IsCharBoundary input.now result.0 }
     ensures next { IsCharBoundary input.now result.1 }
     ensures order { result.0 ≤ result.1 }

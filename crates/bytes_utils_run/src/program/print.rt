@@ -91,8 +91,9 @@ pub(super) fn print_all<E: Printable, W: Write>(writer: &mut W, entries: &[E]) -
 }
 
 /// Prints the parts that a splitter gives, each as soon as it is split off. Returns the reason if a
-/// split is refused.
-pub(super) fn print_parts<S: Storage, W: Write>(
+/// split is refused; then the parts before it are printed. Fails with `Io` if a write fails.
+/// Requires that some list of parts is to come, as of each splitter that `AnySplitter::new` makes.
+pub fn print_parts<S: Storage, W: Write>(
     writer: &mut W,
     splitter: &mut AnySplitter<'_, S>,
 ) -> Result<Option<Reason>, Fault>

@@ -1,5 +1,5 @@
 use Rattle.std.proofs.Common.{None}
-use Rattle.bytes_utils.proofs.FrameSearchLemmas.{none_before_byte, missed_by_byte}
+use Rattle.bytes_utils.proofs.NeedleLemmas.{none_before_byte, missed_by_byte}
 use Rattle.bytes_utils.proofs.SearchLemmas.{FindsFirst-from_needle}
 use Rattle.bytes_utils.proofs.split.search.find_long_by.Goals as goal
 

@@ -1,7 +1,0 @@
-use Rattle.bytes_utils.specs.Cursor.{unread}
-use Rattle.bytes_utils.proofs.CursorLemmas.{IsFirstWithin-kept}
-use Rattle.bytes_utils.proofs.cursor.Cursor.first_within.Goals as goal
-
-pub returns-in-Ok-Some : goal.returns-in-Ok-Some
-returns-in-Ok-Some g c =
-    IsFirstWithin-kept c.args.needle.now (unread c.args.self.now) c.args.most c.in-Ok-Some.place _ (rw c.in-Ok-Some.field-0-is at c.in-Ok-Some.ensures.found) c.then_some.ensures

@@ -1,8 +1,0 @@
-//! The chunks by a closure.
-use crate::split::tests::closure::Fields;
-use crate::split::tests::memory::assert_next;
-
-#[test]
-fn by_a_closure(rt: HostRuntime) {
-    assert_next::<Fields, HostRuntime>(&rt, rt.alloc(), "BytesIter::next", "a,b,c");
-}

@@ -1,0 +1,135 @@
+-- First bytes that begin no character: no character follows from them, whatever comes.
+use Rattle.std.proofs.Common.{◌≡◌, ◌⊎◌, ℕ, zero, suc, ◌+◌, ◌/◌, ◌%◌, ◌<◌, ◌≤◌, true, false, true≢false, List, [], ◌∷◌, ◌++◌, length, take, IsUtf8, encode_utf8_all, None, arith, inl, inr, ⊎_elim, ap, ◌∙◌, sym, refl, subst, append-nil, take_at, take_all, ◌&&◌}
+use Rattle.std.proofs.lemmas.Bool.{cases_lt, cond-true, cond-false, and_parts}
+use Rattle.std.proofs.lemmas.Bool.Decides.{nat_tests}
+use Rattle.std.proofs.lemmas.List.{take-append-le}
+use Rattle.std.proofs.lemmas.Str.{length-encode, len_utf8_bounds}
+use Rattle.std.specs.Char.{len_utf8, encode_utf8}
+use Rattle.std.specs.Option.{IsSome}
+use Rattle.std.specs.Str.Lossy.{utf8_valid_len, utf8_error_len}
+use lib.Dec.{ltb}
+use lib.Utf8.{scalar, scalars, scalar_cases}
+use Rattle.bytes_utils_codec.specs.StreamTexts.{IsFaulty}
+use Rattle.bytes_utils_codec.proofs.ValidLen.{no_front}
+
+-- the first bytes of a character, but not all, are no fault
+module _ (c : ℕ) where
+  of_two : 128 ≤ c → c < 2048 → utf8_error_len ((192 + c / 64) ∷ []) ≡ None
+  unfolding utf8_error_len
+  of_two low high = grind (arith, nat_tests)
+
+  one_of_three : 2048 ≤ c → c < 65536 → utf8_error_len ((224 + c / 4096) ∷ []) ≡ None
+  unfolding utf8_error_len
+  one_of_three low high = grind (arith, nat_tests)
+
+  two_of_three : 2048 ≤ c → c < 65536 → (c < 55296) ⊎ (57344 ≤ c) → utf8_error_len ((224 + c / 4096) ∷ (128 + (c / 64) % 64) ∷ []) ≡ None
+  unfolding utf8_error_len
+  two_of_three low high apart = grind (arith, nat_tests)
+
+  one_of_four : 65536 ≤ c → c < 1114112 → utf8_error_len ((240 + c / 262144) ∷ []) ≡ None
+  unfolding utf8_error_len
+  one_of_four low high = grind (arith, nat_tests)
+
+  two_of_four : 65536 ≤ c → c < 1114112 → utf8_error_len ((240 + c / 262144) ∷ (128 + (c / 4096) % 64) ∷ []) ≡ None
+  unfolding utf8_error_len
+  two_of_four low high = grind (arith, nat_tests)
+
+  three_of_four : 65536 ≤ c → c < 1114112 → utf8_error_len ((240 + c / 262144) ∷ (128 + (c / 4096) % 64) ∷ (128 + (c / 64) % 64) ∷ []) ≡ None
+  unfolding utf8_error_len
+  three_of_four low high = grind (arith, nat_tests)
+
+-- the fronts of a list of two, three or four, that are neither empty nor whole
+module _ (P : List ℕ → Type 0) (x y : ℕ) (one : P (x ∷ [])) where
+  front_of_two : (n : ℕ) → 0 < n → n < 2 → P (take n (x ∷ y ∷ []))
+  front_of_two zero some less = absurd (omega arith)
+  front_of_two (suc zero) some less = one
+  front_of_two (suc (suc n)) some less = absurd (omega arith)
+
+  module _ (z : ℕ) (two : P (x ∷ y ∷ [])) where
+    front_of_three : (n : ℕ) → 0 < n → n < 3 → P (take n (x ∷ y ∷ z ∷ []))
+    front_of_three zero some less = absurd (omega arith)
+    front_of_three (suc zero) some less = one
+    front_of_three (suc (suc zero)) some less = two
+    front_of_three (suc (suc (suc n))) some less = absurd (omega arith)
+
+    front_of_four : (w : ℕ) → P (x ∷ y ∷ z ∷ []) → (n : ℕ) → 0 < n → n < 4 → P (take n (x ∷ y ∷ z ∷ w ∷ []))
+    front_of_four w three zero some less = absurd (omega arith)
+    front_of_four w three (suc zero) some less = one
+    front_of_four w three (suc (suc zero)) some less = two
+    front_of_four w three (suc (suc (suc zero))) some less = three
+    front_of_four w three (suc (suc (suc (suc n)))) some less = absurd (omega arith)
+
+-- a term of the type given
+abbrev by : (A : Type 0) → A → A
+by A a = a
+
+abbrev Open : List ℕ → Type 0
+Open bs = utf8_error_len bs ≡ None
+
+begins_open : (c n : ℕ) → scalar c ≡ true → 0 < n → n < length (encode_utf8 c) → Open (take n (encode_utf8 c))
+unfolding encode_utf8
+begins_open c n is some less =
+    let range = scalar_cases c is in
+    ⊎_elim
+    (λ one.
+    let e : encode_utf8 c ≡ c ∷ [] = cond-true _ _ _ (by (ltb c 128 ≡ true) (grind (arith, nat_tests))) in
+    absurd (omega (arith, some, less, ap length e)))
+    (λ more.
+    let not_one : ltb c 128 ≡ false = grind (arith, nat_tests) in
+    ⊎_elim
+    (λ two.
+    let e : encode_utf8 c ≡ (192 + c / 64) ∷ (128 + c % 64) ∷ [] = cond-false _ _ _ not_one ∙ cond-true _ _ _ (by (ltb c 2048 ≡ true) (grind (arith, nat_tests))) in
+    subst (λ l. Open (take n l)) (sym e) (front_of_two Open _ _ (of_two c more two) n some (omega (arith, less, ap length e))))
+    (λ wide.
+    let not_two : ltb c 2048 ≡ false = grind (arith, nat_tests) in
+    ⊎_elim
+    (λ three.
+    let e : encode_utf8 c ≡ (224 + c / 4096) ∷ (128 + (c / 64) % 64) ∷ (128 + c % 64) ∷ [] =
+    cond-false _ _ _ not_one ∙ cond-false _ _ _ not_two ∙ cond-true _ _ _ (by (ltb c 65536 ≡ true) (grind (arith, nat_tests))) in
+    let apart : (c < 55296) ⊎ (57344 ≤ c) = ⊎_elim (λ low. inl low) (λ high. inr high.0) range in
+    subst (λ l. Open (take n l)) (sym e)
+    (front_of_three Open _ _ (one_of_three c wide three) _ (two_of_three c wide three apart) n some (omega (arith, less, ap length e))))
+    (λ four.
+    let not_three : ltb c 65536 ≡ false = grind (arith, nat_tests) in
+    let e : encode_utf8 c ≡ (240 + c / 262144) ∷ (128 + (c / 4096) % 64) ∷ (128 + (c / 64) % 64) ∷ (128 + c % 64) ∷ [] =
+    cond-false _ _ _ not_one ∙ cond-false _ _ _ not_two ∙ cond-false _ _ _ not_three in
+    let top : c < 1114112 = ⊎_elim (λ low. omega arith) (λ high. high.1) range in
+    subst (λ l. Open (take n l)) (sym e)
+    (front_of_four Open _ _ (one_of_four c four top) _ (two_of_four c four top) _ (three_of_four c four top) n some (omega (arith, less, ap length e))))
+    (cases_lt c 65536))
+    (cases_lt c 2048))
+    (cases_lt c 128)
+
+nothing : utf8_error_len [] ≡ None
+unfolding utf8_error_len
+nothing = refl
+
+no_fault : (bs cs following : List ℕ) → utf8_valid_len bs ≡ 0 → scalars cs ≡ true → encode_utf8_all cs ≡ bs ++ following → Open (take 4 bs)
+no_fault [] cs following none all e = nothing
+no_fault (b ∷ t) [] following none all e = absurd (omega (arith, ap length e))
+no_fault (b ∷ t) (c ∷ cs) following none all e =
+    let bs = b ∷ t in
+    let first = encode_utf8 c in
+    let others = encode_utf8_all cs in
+    let k = length first in
+    let len : k ≡ len_utf8 c = length-encode c in
+    let bounds = len_utf8_bounds c in
+    let scalar_is = (and_parts _ _ all).0 in
+    ⊎_elim
+    (λ (inside : length bs < k).
+    let few : length bs ≤ 4 = omega (arith, inside, len, bounds.1) in
+    let is : take (length bs) first ≡ bs
+    = sym (take-append-le (length bs) first others (omega (arith, inside))) ∙ ap (take (length bs)) e ∙ take_at bs following (length bs) refl in
+    subst Open (is ∙ sym (take_all 4 bs few)) (begins_open c (length bs) scalar_is (omega arith) inside))
+    (λ (within : k ≤ length bs).
+    let is : take k bs ≡ first
+    = sym (take-append-le k bs following within) ∙ ap (take k) (sym e) ∙ take_at first others k refl in
+    let utf8 : IsUtf8 first = (c ∷ [], (ap (λ x. x && true) scalar_is, append-nil first)) in
+    absurd (no_front bs none k (omega (arith, len, bounds.0)) within (subst IsUtf8 (sym is) utf8)))
+    (cases_lt (length bs) k)
+
+-- bytes that begin with a fault are none of a text
+pub faulty : (bs : List ℕ) → utf8_valid_len bs ≡ 0 → IsSome (utf8_error_len (take 4 bs)) → IsFaulty bs
+faulty bs none fault following u =
+    let open_end : Open (take 4 bs) = no_fault bs u.0 following none u.1.0 u.1.1 in
+    true≢false (sym (subst IsSome open_end fault))

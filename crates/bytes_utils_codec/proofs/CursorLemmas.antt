@@ -1,0 +1,204 @@
+-- Reading on in held bytes.
+use Rattle.std.proofs.Common.{◌≡◌, ◌≢◌, ◌⊎◌, ℕ, ◌+◌, ◌-◌, ◌<◌, ◌≤◌, List, [], ◌∷◌, ◌++◌, length, take, drop, slice_range, Option, None, Some, leb, ap, ◌∙◌, sym, refl, subst, arith, append_assoc, append-nil, length-drop, take-append-drop, take_all, drop-drop, ⊎_elim}
+use Rattle.std.proofs.lemmas.Bool.{cases_lt, le-leb, lt-leb}
+use Rattle.std.proofs.lemmas.List.{append_cancel_left, length-take-le, take-append-le}
+use Rattle.std.specs.Bool.{then_some}
+use Rattle.memchr.specs.Find.{FindsNeedle}
+use Rattle.memchr.proofs.lemmas.MatchLemmas.{OccursAt-part, OccursAt-from_part}
+use Rattle.bytes_utils.specs.Occurrence.{Occurs, OccursAt, OccursFirstAt}
+use Rattle.bytes_utils_codec.specs.Frames.{TakesFrame, HasFrame, HasFrameWithin}
+use Rattle.bytes_utils_codec.specs.Cursor.{Reading, unread, passed_on, Wanted, Tag, First, Until, UpTo, Line, Reads, AreRead, TakesFirst, TakesUpTo, IsBegun, IsFirstWithin, NeverBegins, NeverEndsWithin, SameReadLaw, StaysReadLaw, StaysWrongLaw, OneReplyLaw}
+use Rattle.bytes_utils.proofs.Boundaries.{OccursAt-fits}
+use Rattle.bytes_utils_codec.proofs.FramesLemmas.{HasFrame-taken, HasFrameWithin-taken, TakesFrame-more, TakesFrame-same, first_more}
+use Rattle.bytes_utils.proofs.Joins.{append_same}
+use Rattle.bytes_utils.proofs.OccurrenceLemmas.{OccursAt-front, cut_whole, first_places_same}
+use Rattle.bytes_utils_codec.proofs.StreamLinesLemmas.{TakesLine-more, same_lines_law}
+
+-- ---- a search from a place on
+
+-- what occurs after the place occurs in the whole
+in_whole : (p all : List ℕ) (start k : ℕ) → OccursAt p (drop start all) k → OccursAt p all (start + k)
+in_whole p all start k here = ap (take (length p)) (sym (drop-drop k start all)) ∙ here
+
+pub missed_after : (p all : List ℕ) (start : ℕ) → start ≤ length all → FindsNeedle all p start None → ¬ Occurs p (drop start all)
+missed_after [] all start within missed occurs =
+    missed start (omega arith) (omega (arith, within)) (OccursAt-from_part all [] start (omega (arith, within)) refl)
+missed_after (x ∷ p) all start within missed occurs =
+    let fits = OccursAt-fits (x ∷ p) (drop start all) occurs.0 (omega arith) occurs.1 in
+    let end : start + occurs.0 + length (x ∷ p) ≤ length all = omega (arith, fits, length-drop start all, within) in
+    missed (start + occurs.0) (omega arith) (omega (arith, end)) (OccursAt-from_part all (x ∷ p) (start + occurs.0) end (in_whole (x ∷ p) all start occurs.0 occurs.1))
+
+module _ (p all : List ℕ) (start place : ℕ) (found : FindsNeedle all p start (Some place)) where
+  pub found_after : OccursFirstAt p (drop start all) (place - start)
+  found_after =
+      let low : start ≤ place = found.0.low in
+      let same : drop (place - start) (drop start all) ≡ drop place all = drop-drop (place - start) start all ∙ ap (λ n. drop n all) (omega (arith, low)) in
+      record {
+        here = ap (take (length p)) same ∙ OccursAt-part all p place found.1;
+        none_before = λ j there. ⊎_elim
+            (λ below. absurd (found.0.before (start + j) (omega arith) (omega (arith, below, low))
+            (OccursAt-from_part all p (start + j) (omega (arith, below, low, found.1.fits)) (in_whole p all start j there))))
+            (λ from. from) (cases_lt j (place - start));
+      }
+
+  pub found_fits : (place - start) + length p ≤ length (drop start all)
+  found_fits = omega (arith, found.0.low, found.1.fits, length-drop start all)
+
+-- ---- a limit
+
+module _ (p old : List ℕ) where
+  TakesFrame-first : (n : ℕ) → n + length p ≤ length old → OccursFirstAt p old n → TakesFrame p old (take n old) (drop (n + length p) old)
+  TakesFrame-first n fits first = record {
+    bytes = sym (cut_whole p old n first.here);
+    first = subst (OccursFirstAt p old) (sym (length-take-le n old (omega (arith, fits)))) first;
+  }
+
+  -- a front with some bytes has come
+  pub HasFrame-first : (n : ℕ) → n + length p ≤ length old → OccursFirstAt p old n → 0 < n → HasFrame p old
+  HasFrame-first n fits first some = HasFrame-taken p old n fits (TakesFrame-first n fits first) some
+
+  pub HasFrameWithin-first : (most n : ℕ) → n + length p ≤ length old → OccursFirstAt p old n → 0 < n → n ≤ most → HasFrameWithin most p old
+  HasFrameWithin-first most n fits first some within = HasFrameWithin-taken most p old n fits (TakesFrame-first n fits first) some within
+
+  module _ (most : ℕ) (some : 0 < length p) (none : (n : ℕ) → OccursAt p old n → most < n) where
+    -- all places within the limit have come, and the needle begins at none of them
+    pub NeverEndsWithin-none : most + length p ≤ length old → NeverEndsWithin most p old
+    NeverEndsWithin-none all more front rest takes = ⊎_elim
+        (λ above. above)
+        (λ within. none (length front) (OccursAt-front p old more (length front) takes.first.here (omega (arith, within, all))))
+        (cases_lt most (length front))
+
+    -- not all of them have come
+    pub lacks_within : length old < most + length p → ¬ Occurs p old
+    lacks_within few occurs = omega (arith, few, none occurs.0 occurs.1, OccursAt-fits p old occurs.0 some occurs.1)
+
+-- the bytes at a place after the cursor are the needle
+module _ (p all : List ℕ) (at n : ℕ) where
+  pub here_from_held : slice_range all (at + n) ((at + n) + length p) ≡ p → OccursAt p (drop at all) n
+  here_from_held held =
+      let size : length p ≡ ((at + n) + length p) - (at + n) = omega arith in
+      ap (take (length p)) (drop-drop n at all) ∙ ap (λ k. take k (drop (at + n) all)) size ∙ held
+
+  pub held_from_here : 0 < length p → at ≤ length all → OccursAt p (drop at all) n
+      → ((at + n) + length p ≤ length all) × (slice_range all (at + n) ((at + n) + length p) ≡ p)
+  held_from_here some within here =
+      let size : ((at + n) + length p) - (at + n) ≡ length p = omega arith in (
+        omega (arith, OccursAt-fits p (drop at all) n some here, length-drop at all, within),
+        ap (λ k. take k (drop (at + n) all)) size ∙ ap (take (length p)) (sym (drop-drop n at all)) ∙ here,
+      )
+
+-- the first place of the needle, within the limit
+module _ (p old : List ℕ) (most place : ℕ) where
+  pub IsFirstWithin-here : OccursAt p old place → ((k : ℕ) → k < place → ¬ OccursAt p old k) → place ≤ most → IsFirstWithin most p old (Some place)
+  IsFirstWithin-here here none within = (
+    record { here = here; none_before = λ j there. ⊎_elim (λ below. absurd (none j below there)) (λ from. from) (cases_lt j place) },
+    within,
+  )
+
+  pub IsFirstWithin-none : ((k : ℕ) → k < place → ¬ OccursAt p old k) → (most < place) ⊎ (length old ≤ place) → 0 < length p → IsFirstWithin most p old None
+  IsFirstWithin-none none past some n there = ⊎_elim
+      (λ below. absurd (none n below there))
+      (λ from. ⊎_elim (λ after. omega (arith, from, after)) (λ all. absurd (omega (arith, from, all, some, OccursAt-fits p old n some there))) past)
+      (cases_lt n place)
+
+  pub IsFirstWithin-kept : (r : Option ℕ) → OccursFirstAt p old place → r ≡ then_some (leb place most) place → IsFirstWithin most p old r
+  IsFirstWithin-kept r first is = ⊎_elim
+      (λ past. subst (IsFirstWithin most p old) (sym (is ∙ ap (λ b. then_some b place) (lt-leb place most past))) (λ n there. omega (arith, past, first.none_before n there)))
+      (λ within. subst (IsFirstWithin most p old) (sym (is ∙ ap (λ b. then_some b place) (le-leb place most within))) (first, within))
+      (cases_lt most place)
+
+-- ---- a tag
+
+module _ (wanted bytes : List ℕ) (n : ℕ) where
+  pub never_begins : n ≤ length wanted → n ≤ length bytes → take n bytes ≢ take n wanted → NeverBegins wanted bytes
+  never_begins few some other more rest same =
+      other (sym (take-append-le n bytes more some) ∙ ap (take n) same ∙ take-append-le n wanted rest few)
+
+  pub begun : n ≡ length bytes → n < length wanted → take n bytes ≡ take n wanted → IsBegun wanted bytes
+  begun size less same = (
+    drop n wanted,
+    sym (take-append-drop n wanted) ∙ ap (λ l. l ++ drop n wanted) (sym same ∙ take_all n bytes (omega (arith, size))),
+    omega (arith, less, length-drop n wanted),
+  )
+
+-- ---- bytes that are passed
+
+module _ (r : Reading) (n : ℕ) where
+  around : unread r ≡ take n (unread r) ++ unread (passed_on n r)
+  around = sym (take-append-drop n (unread r)) ∙ ap (λ l. take n (unread r) ++ l) (drop-drop n r.at r.all)
+
+  pub TakesFirst-passed : n ≤ length (unread r) → TakesFirst n (unread r) (take n (unread r)) (unread (passed_on n r))
+  TakesFirst-passed some = record { bytes = around; size = length-take-le n (unread r) some }
+
+  pub TakesUpTo-passed : (p : List ℕ) → n ≤ length (unread r) → OccursFirstAt p (unread r) n → TakesUpTo p (unread r) (take n (unread r)) (unread (passed_on n r))
+  TakesUpTo-passed p some first = record { bytes = around; first = subst (OccursFirstAt p (unread r)) (sym (length-take-le n (unread r) some)) first }
+
+  pub TakesFrame-passed : (p : List ℕ) → n ≤ length (unread r) → OccursFirstAt p (unread r) n
+      → TakesFrame p (unread r) (take n (unread r)) (unread (passed_on (length p) (passed_on n r)))
+  TakesFrame-passed p some first =
+      let rest : drop (n + length p) (unread r) ≡ unread (passed_on (length p) (passed_on n r))
+      = drop-drop (n + length p) r.at r.all ∙ ap (λ k. drop k r.all) (omega arith) in
+      record {
+        bytes = sym (cut_whole p (unread r) n first.here) ∙ ap (λ l. take n (unread r) ++ (p ++ l)) rest;
+        first = subst (OccursFirstAt p (unread r)) (sym (length-take-le n (unread r) some)) first;
+      }
+
+  pub passed_tag : (wanted : List ℕ) → take n (unread r) ≡ wanted → unread r ≡ wanted ++ unread (passed_on n r)
+  passed_tag wanted same = around ∙ ap (λ l. l ++ unread (passed_on n r)) same
+
+-- ---- the laws
+
+TakesFirst-same : (len : ℕ) (old f g x y : List ℕ) → TakesFirst len old f x → TakesFirst len old g y → (f ≡ g) × (x ≡ y)
+TakesFirst-same len old f g x y s t =
+    let same = append_same f g x y (s.size ∙ sym t.size) (sym s.bytes ∙ t.bytes) in
+    same
+
+Reads-same : (wanted : Wanted) (old a b x y : List ℕ) → Reads wanted old a x → Reads wanted old b y → (a ≡ b) × (x ≡ y)
+Reads-same (Tag bytes) old a b x y s t = (s.0 ∙ sym t.0, append_cancel_left bytes x y (sym s.1 ∙ t.1))
+Reads-same (First len) old a b x y s t = TakesFirst-same len old a b x y s t
+Reads-same (Until needle) old a b x y s t = TakesFrame-same needle old a b x y s t
+Reads-same (UpTo needle) old a b x y s t = append_same a b x y (first_places_same needle old (length a) (length b) s.first t.first) (sym s.bytes ∙ t.bytes)
+Reads-same Line old a b x y s t =
+    let same = same_lines_law old (a ∷ []) (b ∷ []) x y (x, s, refl) (y, t, refl) refl in
+    (ap first_item same.0, same.1)
+  where
+    first_item : List (List ℕ) → List ℕ
+    first_item [] = []
+    first_item (item ∷ items) = item
+
+Reads-more : (wanted : Wanted) (old item rest more : List ℕ) → Reads wanted old item rest → Reads wanted (old ++ more) item (rest ++ more)
+Reads-more (Tag bytes) old item rest more s = (s.0, ap (λ l. l ++ more) s.1 ∙ append_assoc bytes rest more)
+Reads-more (First len) old item rest more s = record { bytes = ap (λ l. l ++ more) s.bytes ∙ append_assoc item rest more; size = s.size }
+Reads-more (Until needle) old item rest more s = TakesFrame-more needle old item rest more s
+Reads-more (UpTo needle) old item rest more s = record {
+  bytes = ap (λ l. l ++ more) s.bytes ∙ append_assoc item rest more;
+  first = first_more needle old more (length item) s.first;
+}
+Reads-more Line old item rest more s = TakesLine-more old item rest more s
+
+pub same_read_law : SameReadLaw
+same_read_law [] bytes [] [] x y a b = (refl, sym a ∙ b)
+same_read_law [] bytes (f ∷ xs) ys x y a b = absurd a
+same_read_law [] bytes [] (g ∷ ys) x y a b = absurd b
+same_read_law (w ∷ ws) bytes [] ys x y a b = absurd a
+same_read_law (w ∷ ws) bytes (f ∷ xs) [] x y a b = absurd b
+same_read_law (w ∷ ws) bytes (f ∷ xs) (g ∷ ys) x y a b =
+    let same = Reads-same w bytes f g a.0 b.0 a.1 b.1 in
+    let later = same_read_law ws b.0 xs ys x y (subst (λ l. AreRead ws l xs x) same.1 a.2) b.2 in
+    ((λ i. same.0 i ∷ later.0 i), later.1)
+
+pub stays_read_law : StaysReadLaw
+stays_read_law [] bytes [] rest more are = ap (λ l. l ++ more) are
+stays_read_law [] bytes (item ∷ items) rest more are = absurd are
+stays_read_law (w ∷ ws) bytes [] rest more are = absurd are
+stays_read_law (w ∷ ws) bytes (item ∷ items) rest more are =
+    (are.0 ++ more, Reads-more w bytes item are.0 more are.1, stays_read_law ws are.0 items rest more are.2)
+
+pub stays_wrong_law : StaysWrongLaw
+stays_wrong_law wanted bytes more never further rest same = never (more ++ further) rest (sym (append_assoc bytes more further) ∙ same)
+
+pub one_reply_law : OneReplyLaw
+one_reply_law wanted bytes never = (
+  λ begun. never begun.0 [] (sym begun.1 ∙ sym (append-nil wanted)),
+  λ item rest reads. never [] rest (append-nil bytes ∙ reads.1),
+)

@@ -1,0 +1,239 @@
+-- Frames from pieces.
+use Rattle.std.proofs.Common.{map, All, IsUtf8, drop-drop, Option, ◌≤◌, ◌≡◌, true, false, ℕ, zero, suc, ◌+◌, ◌<◌, List, [], ◌∷◌, ◌++◌, length, take, drop, None, Some, inl, inr, ap, ◌∙◌, sym, refl, subst, arith, length-append, append_assoc, append-nil, take-append-drop, ⊎_elim}
+use Rattle.std.proofs.lemmas.Bool.{cases_lt, false≢true}
+use Rattle.std.proofs.lemmas.List.{append_cancel_left, length-take-le, take_at, drop_at}
+use Rattle.std.proofs.lemmas.List.Elements.{All-nil, All-cons, All-head, All-tail}
+use Rattle.std.proofs.lemmas.Str.{IsUtf8-drop}
+use Rattle.std.specs.List.{concat}
+use Rattle.std.specs.Str.{chars}
+use Rattle.std.specs.Option.{IfNone, IfSome}
+use Rattle.memchr.specs.Find.{FindsNeedle}
+use Rattle.memchr.proofs.lemmas.MatchLemmas.{OccursAt-part, OccursAt-split}
+use Rattle.bytes_utils_buf.specs.declared.refused.Reason.{Reason}
+use Rattle.bytes_utils_buf.specs.declared.refused.Reason.TheVariants.{OutOfMemory, TooLong}
+use Rattle.bytes_utils_buf.specs.Packing.{Packs}
+use Rattle.bytes_utils_buf.specs.Segments.{Held, after_accepting}
+use Rattle.bytes_utils_buf.proofs.Lists.{Skips-more}
+use Rattle.bytes_utils.specs.Occurrence.{Occurs, OccursAt, OccursFirstAt}
+use Rattle.bytes_utils.specs.Parts.{IsCutAtFirst, AreForwardParts}
+use Rattle.bytes_utils_codec.specs.Frames.{DropsFirst, Framing, HasFrame, HasFrameWithin, PacksPiece, PushesPieces, TakesFrame, AreFrames, FrameOrBytes, Frame, First, TakesFrameOrBytes, framed, FramesLaw, FramesAndBytesLaw, FramePartsLaw, PutFramesLaw, SameFramesLaw, AllFramesLaw, TextFramesLaw}
+use Rattle.bytes_utils.proofs.Boundaries.{OccursAt-fits, HasNeedleAt-from_occurs}
+use Rattle.bytes_utils.proofs.OccurrenceLemmas.{OccursFirstAt-append, first_places_same}
+use Rattle.bytes_utils.proofs.Joins.{append_same}
+use Rattle.bytes_utils.proofs.Forward.{AreForwardParts-led, AreForwardParts-last, AreForwardParts-more}
+use Rattle.bytes_utils.proofs.FromEnds.{front-from}
+use Rattle.bytes_utils.proofs.PartLists.{first-from_cut, cut-from_first}
+use Rattle.bytes_utils.proofs.PartCut.{next_boundary, chars_before, chars_after}
+use Rattle.bytes_utils_codec.proofs.StreamRunsLemmas.{AreFirst-more, AreFirst-next, stream_law, same_first_law, all_first_law}
+use Rattle.bytes_utils.proofs.SearchLemmas.{chars-some, FindsFirst-from_needle}
+
+-- ---- a frame is taken
+
+module _ (p held : List ℕ) (some : 0 < length p) where
+  pub TakesFrame-found : (at : ℕ) → FindsNeedle held p 0 (Some at) → TakesFrame p held (take at held) (drop (at + length p) held)
+  TakesFrame-found at found =
+      let size : length (take at held) ≡ at = length-take-le at held (omega arith) in
+      record {
+        bytes = sym (take-append-drop at held) ∙ ap (λ l. take at held ++ l) (OccursAt-split held p at found.1);
+        first = subst (OccursFirstAt p held) (sym size) (record {
+          here = OccursAt-part held p at found.1;
+          none_before = λ j there.
+              ⊎_elim (λ below. absurd (found.0.before j (omega arith) below (HasNeedleAt-from_occurs p held j some there))) (λ from. from) (cases_lt j at);
+        });
+      }
+
+  lacks_missed : FindsNeedle held p 0 None → ¬ Occurs p held
+  lacks_missed missed occurs =
+      let fits = OccursAt-fits p held occurs.0 some occurs.1 in
+      missed occurs.0 (omega arith) (omega (arith, fits)) (HasNeedleAt-from_occurs p held occurs.0 some occurs.1)
+
+  pub found_frame : (r : Option ℕ) → FindsNeedle held p 0 r → IfSome r (λ len. TakesFrame p held (take len held) (drop (len + length p) held))
+  found_frame None missed = tt
+  found_frame (Some at) found = TakesFrame-found at found
+
+  pub found_within : (r : Option ℕ) → FindsNeedle held p 0 r → IfSome r (λ len. len + length p ≤ length held)
+  found_within None missed = tt
+  found_within (Some at) found = found.1.fits
+
+  pub found_none : (r : Option ℕ) → FindsNeedle held p 0 r → IfNone r (¬ Occurs p held)
+  found_none None missed = lacks_missed missed
+  found_none (Some at) found = tt
+
+-- what is never refused if it has no bytes has some
+pub some_from_refused : (n : ℕ) → (n ≡ 0 → false ≡ true) → 0 < n
+some_from_refused zero none = absurd (false≢true (none refl))
+some_from_refused (suc n) none = omega arith
+
+-- a frame with some bytes has come
+pub HasFrameWithin-taken : (limit : ℕ) (p held : List ℕ) (len : ℕ) → len + length p ≤ length held → TakesFrame p held (take len held) (drop (len + length p) held) → 0 < len
+    → len ≤ limit → HasFrameWithin limit p held
+HasFrameWithin-taken limit p held len fits takes some within =
+    let size = length-take-le len held (omega (arith, fits)) in
+    (record { frame = take len held; rest = drop (len + length p) held; takes = takes; some = omega (arith, some, size) }, omega (arith, within, size))
+
+pub HasFrame-taken : (p held : List ℕ) (len : ℕ) → len + length p ≤ length held → TakesFrame p held (take len held) (drop (len + length p) held) → 0 < len → HasFrame p held
+HasFrame-taken p held len fits takes some = (HasFrameWithin-taken len p held len fits takes some (omega arith)).0
+
+-- ---- pieces
+
+pub packs_piece : (piece : List ℕ) (old new : Held) → Packs piece old new → PacksPiece piece old.segments new.segments
+packs_piece piece old new (inl accepted) = inl (ap (λ (held : Held). held.segments) accepted)
+packs_piece piece old new (inr grown) = inr (grown.0, ap (λ (held : Held). held.segments) grown.1)
+
+pub large_piece : (piece : List ℕ) (old new : Held) → new ≡ after_accepting old (piece ∷ []) → 0 < length piece → new.segments ≡ old.segments ++ piece ∷ []
+large_piece [] old new accepted some = absurd (omega (arith, some))
+large_piece (b ∷ piece) old new accepted some = ap (λ (held : Held). held.segments) accepted
+
+pub none_to_push : (pieces held : List (List ℕ)) → pieces ≡ [] → PushesPieces pieces held held
+none_to_push pieces held none = rw none refl
+
+-- without bytes nothing is pushed
+pub nothing_pushed : (pieces : List (List ℕ)) → length (concat pieces) ≡ 0 → PushesPieces pieces [] []
+nothing_pushed [] none = refl
+nothing_pushed ([] ∷ pieces) none = ([], inl refl, λ large. absurd (omega (arith, large)), nothing_pushed pieces none)
+nothing_pushed ((b ∷ piece) ∷ pieces) none = absurd (omega (arith, none, length-append (b ∷ piece) (concat pieces)))
+
+pushed_after : (pieces old new : List (List ℕ)) → PushesPieces pieces old new → All (λ s. 512 < length s) pieces → new ≡ old ++ pieces
+pushed_after [] old new pushed large = pushed ∙ sym (append-nil old)
+pushed_after (piece ∷ pieces) old new pushed large =
+    pushed_after pieces pushed.0 new pushed.3 (All-tail (λ (s : List ℕ). 512 < length s) piece pieces large)
+    ∙ ap (λ l. l ++ pieces) (pushed.2 (All-head (λ (s : List ℕ). 512 < length s) piece pieces large)) ∙ append_assoc old (piece ∷ []) pieces
+
+pub large_pieces : (pieces new : List (List ℕ)) → PushesPieces pieces [] new → All (λ s. 512 < length s) pieces → new ≡ pieces
+large_pieces pieces new pushed large = pushed_after pieces [] new pushed large
+
+pub not_too_long : (reason : Reason) → ¬ (reason ≡ TooLong) → reason ≡ OutOfMemory
+not_too_long OutOfMemory other = refl
+not_too_long TooLong other = absurd (other refl)
+
+-- a frame, and then the separator after it
+pub frame_dropped : (n : ℕ) (old mid new : Framing) → DropsFirst n old mid → DropsFirst (0 + length mid.separator) mid new → DropsFirst (n + length old.separator) old new
+frame_dropped n old mid new frame rest =
+    let same : 0 + length mid.separator ≡ length old.separator = omega (arith, ap length frame.separator) in
+    let rest_is = rw same at rest in
+    record {
+      held = rest_is.held ∙ ap (drop (length old.separator)) frame.held ∙ drop-drop (length old.separator) n old.held;
+      skips = Skips-more n (length old.separator) old.pieces mid.pieces new.pieces frame.skips rest_is.skips;
+      separator = rest_is.separator ∙ frame.separator;
+    }
+
+-- ---- runs
+
+pub first_more : (p xs ys : List ℕ) (i : ℕ) → OccursFirstAt p xs i → OccursFirstAt p (xs ++ ys) i
+first_more [] xs ys i first = record { here = refl; none_before = λ j there. omega (arith, first.none_before 0 refl) }
+first_more (x ∷ p) xs ys i first = OccursFirstAt-append (x ∷ p) xs ys i (omega arith) first
+
+pub TakesFrame-more : (p old frame rest piece : List ℕ) → TakesFrame p old frame rest → TakesFrame p (old ++ piece) frame (rest ++ piece)
+TakesFrame-more p old frame rest piece takes = record {
+  bytes = ap (λ l. l ++ piece) takes.bytes ∙ append_assoc frame (p ++ rest) piece ∙ ap (λ l. frame ++ l) (append_assoc p rest piece);
+  first = first_more p old piece (length frame) takes.first;
+}
+
+pub AreFrames-more : (p bytes : List ℕ) (frames : List (List ℕ)) (rest piece : List ℕ) → AreFrames p bytes frames rest → AreFrames p (bytes ++ piece) frames (rest ++ piece)
+AreFrames-more p bytes frames rest piece are = AreFirst-more (λ l piece. l ++ piece) (TakesFrame p) (TakesFrame-more p) bytes frames rest piece are
+
+pub AreFrames-next : (p bytes : List ℕ) (frames : List (List ℕ)) (held frame rest : List ℕ) → AreFrames p bytes frames held → TakesFrame p held frame rest
+    → AreFrames p bytes (frames ++ frame ∷ []) rest
+AreFrames-next p bytes frames held frame rest are takes = AreFirst-next (TakesFrame p) bytes frames held frame rest are takes
+
+pub frames_law : FramesLaw
+frames_law p = stream_law (TakesFrame p) (TakesFrame-more p)
+
+either_more : (p old : List ℕ) (item : FrameOrBytes) (rest piece : List ℕ) → TakesFrameOrBytes p old item rest → TakesFrameOrBytes p (old ++ piece) item (rest ++ piece)
+either_more p old (Frame frame) rest piece takes = TakesFrame-more p old frame rest piece takes
+either_more p old (First bytes) rest piece takes = ap (λ l. l ++ piece) takes ∙ append_assoc bytes rest piece
+
+pub frames_and_bytes_law : FramesAndBytesLaw
+frames_and_bytes_law p = stream_law (TakesFrameOrBytes p) (either_more p)
+
+-- ---- the list of parts
+
+frame_parts : (p bytes : List ℕ) (frames : List (List ℕ)) (rest : List ℕ) → 0 < length p → AreFrames p bytes frames rest → (¬ Occurs p rest)
+    → AreForwardParts bytes p None (frames ++ rest ∷ [])
+frame_parts p bytes [] rest some are lacks = subst (λ l. AreForwardParts l p None (rest ∷ [])) (sym are) (AreForwardParts-last p rest None tt lacks)
+frame_parts p bytes (frame ∷ frames) rest some are lacks =
+    let takes = are.1 in
+    let first = cut-from_first p frame are.0 some (subst (λ l. OccursFirstAt p l (length frame)) takes.bytes takes.first) in
+    subst (λ l. AreForwardParts l p None (frame ∷ (frames ++ rest ∷ []))) (sym takes.bytes)
+    (AreForwardParts-led p frame are.0 None first (frames ++ rest ∷ []) (frame_parts p are.0 frames rest some are.2 lacks))
+
+pub frame_parts_law : FramePartsLaw
+frame_parts_law [] bytes frames rest are lacks = absurd (lacks (0, refl))
+frame_parts_law (x ∷ p) bytes frames rest are lacks = frame_parts (x ∷ p) bytes frames rest (omega arith) are lacks
+
+-- ---- frames of a text
+
+-- a frame ends at the first separator, as a search finds it
+TakesFrame-finds : (p old frame rest : List ℕ) → 0 < length p → TakesFrame p old frame rest → FindsNeedle old p 0 (Some (length frame))
+TakesFrame-finds p old frame rest some takes =
+    let fits = OccursAt-fits p old (length frame) some takes.first.here in (
+      record { low = omega arith; high = omega (arith, fits); before = λ j low high here. omega (arith, high, takes.first.none_before j (OccursAt-part old p j here)) },
+      HasNeedleAt-from_occurs p old (length frame) some takes.first.here,
+    )
+
+text_parts : (p text : List ℕ) (frames : List (List ℕ)) (rest : List ℕ) → 0 < length p → IsUtf8 p → IsUtf8 text → AreFrames p text frames rest → (¬ Occurs p rest)
+    → AreForwardParts (chars text) (chars p) None (map chars (frames ++ rest ∷ []))
+text_parts p text [] rest some p_is text_is are lacks =
+    let none = FindsFirst-from_needle text p text_is p_is some None (λ k low high here. lacks (k, subst (λ l. OccursAt p l k) are (OccursAt-part text p k here))) in
+    subst (λ l. AreForwardParts (chars text) (chars p) None (chars l ∷ [])) are (AreForwardParts-last (chars p) (chars text) None tt none)
+text_parts p text (frame ∷ frames) rest some p_is text_is are lacks =
+    let takes = are.1 in
+    let at = length frame in
+    let place = FindsFirst-from_needle text p text_is p_is some (Some at) (TakesFrame-finds p text frame are.0 some takes) in
+    let here = place.2.here in
+    let before : frame ≡ take at text = sym (take_at frame (p ++ are.0) at refl) ∙ ap (take at) (sym takes.bytes) in
+    let following : are.0 ≡ drop (at + length p) text =
+    sym (drop_at p are.0 (length p) refl) ∙ ap (drop (length p)) (sym (drop_at frame (p ++ are.0) at refl)) ∙ drop-drop (length p) at (frame ++ (p ++ are.0))
+    ∙ ap (drop (at + length p)) (sym takes.bytes) in
+    let boundary = next_boundary text p text_is p_is at place.0 place.1 here in
+    let after_is = subst IsUtf8 (sym following) (IsUtf8-drop text (at + length p) text_is boundary) in
+    let later = text_parts p are.0 frames rest some p_is after_is are.2 lacks in
+    let parts = map chars (frames ++ rest ∷ []) in
+    subst (λ part. AreForwardParts (chars text) (chars p) None (part ∷ parts)) (sym (chars_before text p text_is p_is at place.0 place.1 here frame before))
+    (AreForwardParts-more (chars p) (chars text) place.0 (chars-some p p_is some) place.2 None tt parts
+    (subst (λ l. AreForwardParts l (chars p) None parts) (chars_after text p text_is p_is at place.0 place.1 here are.0 following) later))
+
+pub text_frames_law : TextFramesLaw
+text_frames_law [] text frames rest p_is text_is are lacks = absurd (lacks (0, refl))
+text_frames_law (x ∷ p) text frames rest p_is text_is are lacks =
+    front-from (chars text) (chars (x ∷ p)) None (map chars (frames ++ rest ∷ [])) (chars-some (x ∷ p) p_is (omega arith)) tt
+    (text_parts (x ∷ p) text frames rest (omega arith) p_is text_is are lacks)
+
+-- ---- one list of frames
+
+pub TakesFrame-same : (p bytes f g x y : List ℕ) → TakesFrame p bytes f x → TakesFrame p bytes g y → (f ≡ g) × (x ≡ y)
+TakesFrame-same p bytes f g x y s t =
+    let same = append_same f g (p ++ x) (p ++ y) (first_places_same p bytes (length f) (length g) s.first t.first) (sym s.bytes ∙ t.bytes) in
+    (same.0, append_cancel_left p x y same.1)
+
+pub same_frames_law : SameFramesLaw
+same_frames_law p = same_first_law (TakesFrame p) (TakesFrame-same p)
+
+pub all_frames_law : AllFramesLaw
+all_frames_law p bytes xs ys x y a b none_x none_y = all_first_law (TakesFrame p) (TakesFrame-same p) bytes xs ys x y a b
+    (λ frame rest takes. none_x (length frame, takes.first.here)) (λ frame rest takes. none_y (length frame, takes.first.here))
+
+-- ---- frames that are put together
+
+module _ (p : List ℕ) (some : 0 < length p) where
+  each_cut : (frames : List (List ℕ)) (rest : List ℕ) → AreFrames p (framed p frames rest) frames rest → All (IsCutAtFirst p) frames
+  each_cut [] rest are = All-nil (IsCutAtFirst p)
+  each_cut (frame ∷ frames) rest are =
+      let whole = framed p frames rest in
+      let following : whole ≡ are.0 = append_cancel_left p whole are.0 (append_cancel_left frame (p ++ whole) (p ++ are.0) are.1.bytes) in
+      All-cons (IsCutAtFirst p) frame frames (cut-from_first p frame whole some are.1.first)
+      (each_cut frames rest (subst (λ l. AreFrames p l frames rest) (sym following) are.2))
+
+  cut_each : (frames : List (List ℕ)) (rest : List ℕ) → All (IsCutAtFirst p) frames → AreFrames p (framed p frames rest) frames rest
+  cut_each [] rest cut = refl
+  cut_each (frame ∷ frames) rest cut =
+      let whole = framed p frames rest in (
+        whole,
+        record { bytes = refl; first = first-from_cut p frame whole some (All-head (IsCutAtFirst p) frame frames cut) },
+        cut_each frames rest (All-tail (IsCutAtFirst p) frame frames cut),
+      )
+
+pub put_frames_law : PutFramesLaw
+put_frames_law p frames rest some = (each_cut p some frames rest, cut_each p some frames rest)
+
+pub ruleset frame_laws = (frames_law, frames_and_bytes_law, frame_parts_law, text_frames_law, same_frames_law, all_frames_law, put_frames_law)

@@ -1,0 +1,171 @@
+-- Bytes from a reader, and the items taken from them.
+use Rattle.std.proofs.Common.{◌≡◌, refl, sym, subst, ◌∙◌, ℕ, List, [], ◌∷◌, ◌++◌, Option, None, Some, Result, Ok, Err, inr}
+use Rattle.std.proofs.KnownBytes.{Consumes-nil, Consumes-trans, Consumes-whole}
+use Rattle.std.specs.Prelude.{◌⊎◌, IfOk, IfErr, IfSome, IfNone}
+use Rattle.std.specs.Io.KnownBytes.{Consumes, IsAtEnd}
+use Rattle.bytes_utils_codec.specs.Decoding.{Decoding, Next, Item, Last, Gives, fed, HasSameNext, LacksItem, IsStable, IsSingle, AreItems}
+use Rattle.bytes_utils_codec.specs.ReadError.{IsDue}
+use Rattle.bytes_utils_codec.specs.ReadItem.{ReadsNext, ReadsMore, TakesHeld, TakesLast, IsItemDue, IsOfDecoder, item_back_bytes, IsReadDue, items_of, ReadItemsLaw, ReadWholeLaw, ReadSameLaw}
+use Rattle.bytes_utils_codec.specs.declared.frame.read.error.ReadError.{ReadError}
+use Rattle.bytes_utils_codec.specs.declared.frame.read.error.ReadError.TheVariants.{Io, TooManyReads, Refused, Unshared, Unpushed}
+use Rattle.bytes_utils_codec.specs.declared.decode.read.error.ReadItemError.{ReadItemError}
+use Rattle.bytes_utils_codec.specs.declared.decode.read.error.ReadItemError.TheVariants.{Decoder, Read}
+use Rattle.bytes_utils_codec.proofs.DecodingLemmas.{fed-none, fed-joined, SameNext-refl, SameNext-trans, SameNext-fed, SameNext-now, items_fed, decoder_whole}
+
+pub read_due : (separator held : List ℕ) (e : ReadError) → IsDue separator held e → IsReadDue held e
+read_due separator held (Io error) due = due
+read_due separator held TooManyReads due = tt
+read_due separator held (Refused reason) due = due
+read_due separator held (Unshared block) due = due
+read_due separator held (Unpushed refused) due = due
+
+module _ {D A : Type 0} (gives : Gives D A) where
+  -- nothing was read yet
+  pub ReadsMore-none : (known : Option (List ℕ)) (old new : Decoding D) → HasSameNext gives old new → ReadsMore gives known known old new
+  ReadsMore-none known old new same = record {
+    got = [];
+    consumed = Consumes-nil known;
+    same = subst (λ s. HasSameNext gives s new) (sym (fed-none old)) same;
+  }
+
+  module _ {a b : Option (List ℕ)} {old mid : Decoding D} (reads : ReadsMore gives a b old mid) where
+    -- more bytes were read and pushed
+    pub ReadsMore-pushed : (c : Option (List ℕ)) (piece : List ℕ) → Consumes b c piece → ReadsMore gives a c old (fed mid piece)
+    ReadsMore-pushed c piece consumed = record {
+      got = reads.got ++ piece;
+      consumed = Consumes-trans a b c reads.got piece reads.consumed consumed;
+      same = subst (λ s. HasSameNext gives s (fed mid piece)) (fed-joined old reads.got piece) (SameNext-fed gives (fed old reads.got) mid piece reads.same);
+    }
+
+    -- the same, for a state that is known otherwise
+    pub read_pushed : (c : Option (List ℕ)) (piece : List ℕ) → Consumes b c piece → (new : Decoding D) → new ≡ fed mid piece → ReadsMore gives a c old new
+    read_pushed c piece consumed new is = subst (λ s. ReadsMore gives a c old s) (sym is) (ReadsMore-pushed c piece consumed)
+
+    -- they were read and are in an error
+    pub read_unpushed : (c : Option (List ℕ)) (piece : List ℕ) → Consumes b c piece → (new : Decoding D) → new ≡ mid → (back : List ℕ) → back ≡ piece
+        → ReadsMore gives a c old (fed new back)
+    read_unpushed c piece consumed new is back same = read_pushed c piece consumed (fed new back) (λ i. fed (is i) (same i))
+
+    -- the same comes next as before
+    pub ReadsMore-same : (new : Decoding D) → HasSameNext gives mid new → ReadsMore gives a b old new
+    ReadsMore-same new same = record {
+      got = reads.got;
+      consumed = reads.consumed;
+      same = SameNext-trans gives (fed old reads.got) mid new reads.same same;
+    }
+
+    -- what comes next was taken
+    pub ReadsNext-taken : (next : Next A) (new : Decoding D) → gives mid next new → ReadsNext gives a b old next new
+    ReadsNext-taken next new given = record {
+      got = reads.got;
+      consumed = reads.consumed;
+      given = (SameNext-now gives (fed old reads.got) mid reads.same next new).1 given;
+    }
+
+  pub LacksItem-same : (s t : Decoding D) → HasSameNext gives s t → LacksItem gives s → LacksItem gives t
+  LacksItem-same s t same lacks item after given = lacks item after ((SameNext-now gives s t same (Item item) after).1 given)
+
+  -- ---- calls on what is held
+
+  module _ {E : Type 0} (fails : Decoding D → E → Type 0) (s t : Decoding D) where
+    pub held_lost : (known : Option (List ℕ)) (e : ReadItemError E) → TakesHeld gives fails s (Err e) t → ReadsMore gives known known s (fed t (item_back_bytes e))
+    held_lost known (Decoder e) took = ReadsMore-none known s (fed t []) (subst (HasSameNext gives s) (sym (fed-none t)) took.1)
+    held_lost known (Read e) took = absurd took
+
+    pub held_due : (e : ReadItemError E) → TakesHeld gives fails s (Err e) t → IsItemDue gives fails t e
+    held_due (Decoder e) took = (s, took.0, took.1)
+    held_due (Read e) took = absurd took
+
+    pub held_once : (e : ReadItemError E) → TakesHeld gives fails s (Err e) t → IsOfDecoder e
+    held_once (Decoder e) took = tt
+    held_once (Read e) took = absurd took
+
+    module _ {a b : Option (List ℕ)} {old : Decoding D} (reads : ReadsMore gives a b old s) where
+      pub read_lost : (e : ReadItemError E) → TakesHeld gives fails s (Err e) t → ReadsMore gives a b old (fed t (item_back_bytes e))
+      read_lost (Decoder e) took = ReadsMore-same reads (fed t []) (subst (HasSameNext gives s) (sym (fed-none t)) took.1)
+      read_lost (Read e) took = absurd took
+
+      module _ (c : Option (List ℕ)) (none : Consumes b c []) where
+        reads_none : ReadsMore gives a c old s
+        reads_none = subst (λ l. ReadsMore gives a c old l) (fed-none s) (ReadsMore-pushed reads c [] none)
+
+        pub last_some : IsAtEnd c → (r : Result (Option A) (ReadItemError E)) → TakesLast gives fails s r t
+            → IfOk r (λ next. IfSome next (λ item. ReadsNext gives a c old (Item item) t ⊎ (IsAtEnd c × ReadsNext gives a c old (Last (Some item)) t)))
+        last_some ends (Ok (Some item)) took = inr (ends, ReadsNext-taken reads_none (Last (Some item)) t took)
+        last_some ends (Ok None) took = tt
+        last_some ends (Err e) took = tt
+
+        pub last_none : IsAtEnd c → (r : Result (Option A) (ReadItemError E)) → TakesLast gives fails s r t
+            → IfOk r (λ next. IfNone next (IsAtEnd c × ReadsNext gives a c old (Last None) t))
+        last_none ends (Ok (Some item)) took = tt
+        last_none ends (Ok None) took = (ends, ReadsNext-taken reads_none (Last None) t took)
+        last_none ends (Err e) took = tt
+
+        pub last_lost : (r : Result (Option A) (ReadItemError E)) → TakesLast gives fails s r t → IfErr r (λ e. ReadsMore gives a c old (fed t (item_back_bytes e)))
+        last_lost (Ok last) took = tt
+        last_lost (Err (Decoder e)) took = ReadsMore-same reads_none (fed t []) (subst (HasSameNext gives s) (sym (fed-none t)) took.1)
+        last_lost (Err (Read e)) took = absurd took
+
+    pub last_due : (r : Result (Option A) (ReadItemError E)) → TakesLast gives fails s r t → IfErr r (IsItemDue gives fails t)
+    last_due (Ok last) took = tt
+    last_due (Err (Decoder e)) took = (s, took.0, took.1)
+    last_due (Err (Read e)) took = absurd took
+
+  -- ---- runs
+
+  items_same : (s t : Decoding D) (items : List A) (end : Decoding D) → HasSameNext gives s t → AreItems gives t items end → AreItems gives s items end
+  items_same s t [] end same are = record {
+    rest = s;
+    are = refl;
+    same = SameNext-trans gives s t end same (subst (λ l. HasSameNext gives l end) (sym are.are) are.same);
+  }
+  items_same s t (item ∷ items) end same are = record {
+    rest = are.rest;
+    are = (are.are.0, (SameNext-now gives s t same (Item item) are.are.0).1 are.are.1, are.are.2);
+    same = are.same;
+  }
+
+  module _ (stable : IsStable gives) where
+    pub read_items_law : ReadItemsLaw gives
+    read_items_law before after s end [] run = (
+      [],
+      subst (λ known. Consumes before known []) (sym run.0) (Consumes-nil before),
+      record { rest = fed s []; are = refl; same = subst (λ t. HasSameNext gives (fed s []) t) (fed-none s ∙ sym run.1) (SameNext-refl gives (fed s [])) },
+    )
+    read_items_law before after s end (None ∷ calls) run =
+        let reads = run.2 in
+        let later = read_items_law run.0 after run.1 end calls run.3 in
+        let got = reads.got ++ later.0 in
+        let same : HasSameNext gives (fed s got) (fed run.1 later.0) = subst (λ t. HasSameNext gives t (fed run.1 later.0)) (fed-joined s reads.got later.0)
+        (SameNext-fed gives (fed s reads.got) run.1 later.0 reads.same) in (
+          got,
+          Consumes-trans before run.0 after reads.got later.0 reads.consumed later.1,
+          items_same (fed s got) (fed run.1 later.0) (items_of calls) end same later.2,
+        )
+    read_items_law before after s end (Some item ∷ calls) run =
+        let reads = run.2 in
+        let later = read_items_law run.0 after run.1 end calls run.3 in
+        let got = reads.got ++ later.0 in
+        let given : gives (fed s got) (Item item) (fed run.1 later.0) = subst (λ t. gives t (Item item) (fed run.1 later.0)) (fed-joined s reads.got later.0)
+        (stable (fed s reads.got) item run.1 later.0 reads.given) in (
+          got,
+          Consumes-trans before run.0 after reads.got later.0 reads.consumed later.1,
+          record { rest = later.2.rest; are = (fed run.1 later.0, given, later.2.are); same = later.2.same },
+        )
+
+    pub read_whole_law : ReadWholeLaw gives
+    read_whole_law input s calls last end whole =
+        let run = read_items_law (Some input) whole.left s whole.mid calls whole.run in
+        let end_is = whole.last_is in
+        let items = items_fed gives s stable run.0 (items_of calls) whole.mid end_is.got run.2 in
+        let all = Consumes-trans (Some input) whole.left whole.after run.0 end_is.got run.1 end_is.consumed in (
+          fed whole.mid end_is.got,
+          Consumes-whole (Some input) whole.after (run.0 ++ end_is.got) (λ bytes. AreItems gives (fed s bytes) (items_of calls) (fed whole.mid end_is.got)) all whole.ends items,
+          end_is.given,
+        )
+
+    pub read_same_law : IsSingle gives → ReadSameLaw gives
+    read_same_law single input s xs ys x y p q one two =
+        let a = read_whole_law input s xs x p one in
+        let b = read_whole_law input s ys y q two in
+        decoder_whole gives single (fed s input) (items_of xs) (items_of ys) a.0 b.0 x y p q a.1 b.1 a.2 b.2

@@ -1,0 +1,78 @@
+-- Runs over pieces are runs over the joined bytes.
+use Rattle.std.proofs.Common.{◌≡◌, ℕ, List, [], ◌∷◌, ◌++◌, ap, ◌∙◌, sym, refl, subst, arith, append_assoc, append-nil}
+use Rattle.bytes_utils_codec.specs.StreamRuns.{StreamEvent, Pushed, Taken, IsRunOver, pushed_by, given_by, AreFirst, RunLaw, StreamLaw, SameFirstLaw, AllFirstLaw}
+
+module _ {S A : Type 0} (Takes : S → A → S → Type 0) where
+  -- one more item
+  pub AreFirst-next : (s : S) (items : List A) (held : S) (item : A) (rest : S) → AreFirst Takes s items held → Takes held item rest → AreFirst Takes s (items ++ item ∷ []) rest
+  AreFirst-next s [] held item rest are takes = (rest, subst (λ l. Takes l item rest) (sym are) takes, refl)
+  AreFirst-next s (x ∷ items) held item rest are takes = (are.0, are.1, AreFirst-next are.0 items held item rest are.2 takes)
+
+  -- what is taken first is one item, with the same state after it
+  module _ (one : (old : S) (item other : A) (x y : S) → Takes old item x → Takes old other y → (item ≡ other) × (x ≡ y)) where
+    pub same_first_law : SameFirstLaw Takes
+    same_first_law s [] [] x y a b size = (refl, sym a ∙ b)
+    same_first_law s [] (g ∷ ys) x y a b size = absurd (omega (arith, size))
+    same_first_law s (f ∷ xs) [] x y a b size = absurd (omega (arith, size))
+    same_first_law s (f ∷ xs) (g ∷ ys) x y a b size =
+        let same = one s f g a.0 b.0 a.1 b.1 in
+        let later = same_first_law b.0 xs ys x y (subst (λ l. AreFirst Takes l xs x) same.1 a.2) b.2 (omega (arith, size)) in
+        ((λ i. same.0 i ∷ later.0 i), later.1)
+
+    pub all_first_law : AllFirstLaw Takes
+    all_first_law s [] [] x y a b none_x none_y = (refl, sym a ∙ b)
+    all_first_law s [] (g ∷ ys) x y a b none_x none_y = absurd (none_x g b.0 (subst (λ l. Takes l g b.0) a b.1))
+    all_first_law s (f ∷ xs) [] x y a b none_x none_y = absurd (none_y f a.0 (subst (λ l. Takes l f a.0) b a.1))
+    all_first_law s (f ∷ xs) (g ∷ ys) x y a b none_x none_y =
+        let same = one s f g a.0 b.0 a.1 b.1 in
+        let later = all_first_law b.0 xs ys x y (subst (λ l. AreFirst Takes l xs x) same.1 a.2) b.2 none_x none_y in
+        ((λ i. same.0 i ∷ later.0 i), later.1)
+
+-- events, and others after them
+pub pushed_by-append : {A : Type 0} (xs ys : List (StreamEvent A)) → pushed_by (xs ++ ys) ≡ pushed_by xs ++ pushed_by ys
+pushed_by-append [] ys = refl
+pushed_by-append (Pushed piece ∷ xs) ys = ap (λ l. piece ++ l) (pushed_by-append xs ys) ∙ sym (append_assoc piece (pushed_by xs) (pushed_by ys))
+pushed_by-append (Taken item ∷ xs) ys = pushed_by-append xs ys
+
+pub given_by-append : {A : Type 0} (xs ys : List (StreamEvent A)) → given_by (xs ++ ys) ≡ given_by xs ++ given_by ys
+given_by-append [] ys = refl
+given_by-append (Pushed piece ∷ xs) ys = given_by-append xs ys
+given_by-append (Taken item ∷ xs) ys = ap (λ l. item ∷ l) (given_by-append xs ys)
+
+module _ {S A : Type 0} (push : S → List ℕ → S) (Takes : S → A → S → Type 0) where
+  pub IsRunOver-append : (s : S) (xs : List (StreamEvent A)) (mid : S) (ys : List (StreamEvent A)) (end : S) → IsRunOver push Takes s xs mid
+      → IsRunOver push Takes mid ys end → IsRunOver push Takes s (xs ++ ys) end
+  IsRunOver-append s [] mid ys end first later = subst (λ l. IsRunOver push Takes l ys end) first later
+  IsRunOver-append s (Pushed piece ∷ xs) mid ys end first later = IsRunOver-append (push s piece) xs mid ys end first later
+  IsRunOver-append s (Taken item ∷ xs) mid ys end first later = (first.0, first.1, IsRunOver-append first.0 xs mid ys end first.2 later)
+
+  -- what each piece and each item keep, a run keeps
+  module _ (Holds : List ℕ → List A → S → Type 0)
+      (pushed : (bytes : List ℕ) (items : List A) (s : S) (piece : List ℕ) → Holds bytes items s → Holds (bytes ++ piece) items (push s piece))
+      (taken : (bytes : List ℕ) (items : List A) (s : S) (item : A) (next : S) → Holds bytes items s → Takes s item next → Holds bytes (items ++ item ∷ []) next) where
+    pub run_keeps : (bytes : List ℕ) (items : List A) (s : S) (events : List (StreamEvent A)) (end : S) → Holds bytes items s → IsRunOver push Takes s events end
+        → Holds (bytes ++ pushed_by events) (items ++ given_by events) end
+    run_keeps bytes items s [] end holds run = rw (append-nil bytes, append-nil items) (subst (Holds bytes items) (sym run) holds)
+    run_keeps bytes items s (Pushed piece ∷ events) end holds run =
+        rw (← append_assoc bytes piece (pushed_by events)) (run_keeps (bytes ++ piece) items (push s piece) events end (pushed bytes items s piece holds) run)
+    run_keeps bytes items s (Taken item ∷ events) end holds run =
+        let later = run_keeps bytes (items ++ item ∷ []) run.0 events end (taken bytes items s item run.0 holds run.1) run.2 in
+        rw (append_assoc items (item ∷ []) (given_by events)) at later
+
+  -- each item is taken from more bytes, too
+  module _ (more : (old : S) (item : A) (rest : S) (piece : List ℕ) → Takes old item rest → Takes (push old piece) item (push rest piece)) where
+    pub AreFirst-more : (s : S) (items : List A) (rest : S) (piece : List ℕ) → AreFirst Takes s items rest → AreFirst Takes (push s piece) items (push rest piece)
+    AreFirst-more s [] rest piece are = ap (λ l. push l piece) are
+    AreFirst-more s (item ∷ items) rest piece are = (push are.0 piece, more s item are.0 piece are.1, AreFirst-more are.0 items rest piece are.2)
+
+    -- two pieces are pushed as one, and no bytes change nothing
+    module _ (joined : (s : S) (one two : List ℕ) → push (push s one) two ≡ push s (one ++ two)) (none : (s : S) → push s [] ≡ s) where
+      pub run_law : RunLaw push Takes
+      run_law s events end run = run_keeps (λ bytes items t. AreFirst Takes (push s bytes) items t)
+          (λ bytes items t piece are. subst (λ l. AreFirst Takes l items (push t piece)) (joined s bytes piece) (AreFirst-more (push s bytes) items t piece are))
+          (λ bytes items t item next are takes. AreFirst-next Takes (push s bytes) items t item next are takes) [] [] s events end (none s) run
+
+-- the same if the state is the held bytes
+module _ {A : Type 0} (Takes : List ℕ → A → List ℕ → Type 0) where
+  pub stream_law : ((old : List ℕ) (item : A) (rest piece : List ℕ) → Takes old item rest → Takes (old ++ piece) item (rest ++ piece)) → StreamLaw Takes
+  stream_law more events end run = run_law (λ bytes piece. bytes ++ piece) Takes more append_assoc append-nil [] events end run

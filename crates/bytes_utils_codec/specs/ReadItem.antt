@@ -1,0 +1,105 @@
+-- Items of a decoder read from a reader, piece by piece.
+use Rattle.std.specs.Prelude.{◌≡◌, ◌≢◌, ◌↔◌, ⊤, ℕ, ◌+◌, ◌^◌, ◌<◌, ◌≤◌, List, [], ◌∷◌, length, Option, None, Some, Result, Ok, Err}
+use Rattle.std.specs.List.{filter_map}
+use Rattle.std.specs.Io.KnownBytes.{Consumes, IsAtEnd}
+use Rattle.std.specs.IoError.{error_kind}
+use Rattle.std.specs.declared.io.ErrorKind.TheVariants.{Interrupted}
+use Rattle.bytes_utils_buf.specs.declared.refused.Reason.TheVariants.{OutOfMemory, TooLong}
+use Rattle.bytes_utils_codec.specs.Decoding.{Decoding, Gives, Next, Item, Last, AreItems, HasSameNext, LacksItem, fed}
+use Rattle.bytes_utils_codec.specs.ReadError.{back_bytes, error_text}
+use Rattle.bytes_utils_codec.specs.declared.frame.read.error.ReadError.{ReadError}
+use Rattle.bytes_utils_codec.specs.declared.frame.read.error.ReadError.TheVariants.{Io, TooManyReads, Refused, Unshared, Unpushed}
+use Rattle.bytes_utils_codec.specs.declared.decode.read.error.ReadItemError.{ReadItemError}
+use Rattle.bytes_utils_codec.specs.declared.decode.read.error.ReadItemError.TheVariants.{Decoder, Read}
+
+-- the reader gave some bytes, and this was what came next of the bytes that were held and these
+pub record ReadsNext {D A : Type 0} (gives : Gives D A) (before after : Option (List ℕ)) (old : Decoding D) (next : Next A) (new : Decoding D) : Type 0 where
+  pub got : List ℕ
+  pub consumed : Consumes before after got
+  pub given : gives (fed old got) next new
+
+-- the reader gave some bytes, and nothing was taken: what comes next is what comes next of the bytes that were held and these
+pub record ReadsMore {D A : Type 0} (gives : Gives D A) (before after : Option (List ℕ)) (old new : Decoding D) : Type 0 where
+  pub got : List ℕ
+  pub consumed : Consumes before after got
+  pub same : HasSameNext gives (fed old got) new
+
+-- the bytes that were read and are in the error
+abbrev pub item_back_bytes : {E : Type 0} → ReadItemError E → List ℕ
+item_back_bytes (Decoder error) = []
+item_back_bytes (Read error) = back_bytes error
+
+-- what the error prints: what the decoder's error does, or that of the read
+abbrev pub item_error_text : {E : Type 0} → (E → Option (List ℕ)) → ReadItemError E → Option (List ℕ)
+item_error_text text (Decoder error) = text error
+item_error_text text (Read error) = error_text error
+
+-- what a call for the next item of the held bytes did, by what it returned
+abbrev pub TakesHeld : {D A E : Type 0} → Gives D A → (Decoding D → E → Type 0) → Decoding D → Result (Option A) (ReadItemError E) → Decoding D → Type 0
+TakesHeld gives fails old (Ok (Some item)) new = gives old (Item item) new
+TakesHeld gives fails old (Ok None) new = LacksItem gives old × HasSameNext gives old new
+TakesHeld gives fails old (Err (Decoder error)) new = fails old error × HasSameNext gives old new
+TakesHeld gives fails old (Err (Read error)) new = ⊥
+
+-- the same of a call at the end of the stream, while no item is held
+abbrev pub TakesLast : {D A E : Type 0} → Gives D A → (Decoding D → E → Type 0) → Decoding D → Result (Option A) (ReadItemError E) → Decoding D → Type 0
+TakesLast gives fails old (Ok last) new = gives old (Last last) new
+TakesLast gives fails old (Err (Decoder error)) new = fails old error × HasSameNext gives old new
+TakesLast gives fails old (Err (Read error)) new = ⊥
+
+-- The cause of each error of a read. `Io`: it is not an interruption. `Refused`: memory is refused. `Unshared`: the block holds bytes that were read.
+-- `Unpushed`: the reason is `TooLong` exactly if the held bytes and those that come back together pass `usize`.
+abbrev pub IsReadDue : List ℕ → ReadError → Type 0
+IsReadDue held (Io error) = error_kind error ≢ Interrupted
+IsReadDue held TooManyReads = ⊤
+IsReadDue held (Refused reason) = reason ≡ OutOfMemory
+IsReadDue held (Unshared block) = 0 < length block.items
+IsReadDue held (Unpushed refused) = (refused.reason ≡ TooLong) ↔ (2 ^ 64 ≤ length held + length refused.back)
+
+-- The cause of each error: the decoder failed, and what comes next is what came next then; or no item is held, and there is a cause for the error of
+-- the read.
+abbrev pub IsItemDue : {D A E : Type 0} → Gives D A → (Decoding D → E → Type 0) → Decoding D → ReadItemError E → Type 0
+IsItemDue {D} gives fails new (Decoder error) = (s : Decoding D) × fails s error × HasSameNext gives s new
+IsItemDue gives fails new (Read error) = LacksItem gives new × IsReadDue new.held error
+
+-- the error is the decoder's
+abbrev pub IsOfDecoder : {E : Type 0} → ReadItemError E → Type 0
+IsOfDecoder (Decoder error) = ⊤
+IsOfDecoder (Read error) = ⊥
+
+-- A run of calls leads from what the reader has left and a state to both at the end. Each call is given as the item that it returned, or `None` if it
+-- returned none. The bytes in an error were put back.
+abbrev pub IsItemRun : {D A : Type 0} → Gives D A → Option (List ℕ) → Decoding D → List (Option A) → Option (List ℕ) → Decoding D → Type 0
+IsItemRun gives before s [] after end = (after ≡ before) × (end ≡ s)
+IsItemRun {D} gives before s (None ∷ calls) after end = (between : Option (List ℕ)) × (t : Decoding D) × ReadsMore gives before between s t
+    × IsItemRun gives between t calls after end
+IsItemRun {D} gives before s (Some item ∷ calls) after end = (between : Option (List ℕ)) × (t : Decoding D) × ReadsNext gives before between s (Item item) t
+    × IsItemRun gives between t calls after end
+
+-- the items that the calls returned
+abbrev pub items_of : {A : Type 0} → List (Option A) → List A
+items_of calls = filter_map (λ given. given) calls
+
+-- A run reads all of the input. After these calls one returned the last item, or that there is none, at the end.
+pub record IsWholeRead {D A : Type 0} (gives : Gives D A) (input : List ℕ) (s : Decoding D) (calls : List (Option A)) (last : Option A) (end : Decoding D) : Type 0 where
+  pub left : Option (List ℕ)
+  pub mid : Decoding D
+  pub run : IsItemRun gives (Some input) s calls left mid
+  pub after : Option (List ℕ)
+  pub ends : IsAtEnd after
+  pub last_is : ReadsNext gives left after mid (Last last) end
+
+-- However the bytes are divided into reads, a run gives the first items of the bytes that were held and those that the reader gave.
+abbrev pub ReadItemsLaw : {D A : Type 0} → Gives D A → Type 0
+ReadItemsLaw {D} {A} gives = (before after : Option (List ℕ)) (s end : Decoding D) (calls : List (Option A)) → IsItemRun gives before s calls after end
+    → (got : List ℕ) × Consumes before after got × AreItems gives (fed s got) (items_of calls) end
+
+-- A run that reads all of the input gives all items of the input, and the last one.
+abbrev pub ReadWholeLaw : {D A : Type 0} → Gives D A → Type 0
+ReadWholeLaw {D} {A} gives = (input : List ℕ) (s : Decoding D) (calls : List (Option A)) (last : Option A) (end : Decoding D)
+    → IsWholeRead gives input s calls last end → (x : Decoding D) × AreItems gives (fed s input) (items_of calls) x × gives x (Last last) end
+
+-- Two runs that read all of the same input give the same items, the same last one, and leave the same.
+abbrev pub ReadSameLaw : {D A : Type 0} → Gives D A → Type 0
+ReadSameLaw {D} {A} gives = (input : List ℕ) (s : Decoding D) (xs ys : List (Option A)) (x y : Option A) (p q : Decoding D)
+    → IsWholeRead gives input s xs x p → IsWholeRead gives input s ys y q → (items_of xs ≡ items_of ys) × (x ≡ y) × (p ≡ q)

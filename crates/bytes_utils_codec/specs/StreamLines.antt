@@ -1,0 +1,69 @@
+-- Lines of a stream of bytes that comes in pieces, each ended by a line feed.
+use Rattle.std.specs.Prelude.{◌≡◌, ℕ, List, [], ◌∷◌, ◌++◌, map, All, IsUtf8, Option, None, Some, Result, Ok, Err}
+use Rattle.std.specs.Str.{chars, valid_up_to, error_len}
+use Rattle.bytes_utils.specs.Occurrence.{Occurs}
+use Rattle.bytes_utils.specs.Lines.{lines, line_feed, IsFeedEnd}
+use Rattle.bytes_utils_buf.specs.declared.refused.Reason.TheVariants.{OutOfMemory}
+use Rattle.bytes_utils_buf.specs.Refusals.{reason_text}
+use Rattle.bytes_utils.specs.Errors.{IsFaultOf, fault_of, refused_storage, utf8_error_text}
+use Rattle.bytes_utils_codec.specs.StreamRuns.{StreamEvent, IsStreamRun, AreFirst, StreamLaw, SameFirstLaw}
+use Rattle.bytes_utils_codec.specs.declared.frame.lines.LineError.{LineError}
+use Rattle.bytes_utils_codec.specs.declared.frame.lines.LineError.TheVariants.{Refused, NotUtf8}
+
+-- the old bytes are the line, its end and the rest, and the line has no line feed
+pub record TakesLine (old line rest : List ℕ) : Type 0 where
+  pub end : List ℕ
+  pub bytes : old ≡ line ++ (end ++ rest)
+  pub ends : IsFeedEnd line end
+  pub lacks : ¬ Occurs (line_feed ∷ []) line
+
+-- these events lead from the held bytes to the bytes held at the end
+abbrev pub IsLineRun : List ℕ → List (StreamEvent (List ℕ)) → List ℕ → Type 0
+IsLineRun held events end = IsStreamRun TakesLine held events end
+
+-- these are the first lines of the bytes, in order, and the bytes after them
+abbrev pub AreFirstLines : List ℕ → List (List ℕ) → List ℕ → Type 0
+AreFirstLines bytes lines rest = AreFirst TakesLine bytes lines rest
+
+-- Whatever the pieces are and whenever lines are asked for, a run from an empty reader gives the first lines of the joined pieces, and holds the
+-- bytes after them.
+abbrev pub LineRunLaw : Type 0
+LineRunLaw = StreamLaw TakesLine
+
+-- together with the lines of the bytes after them they are the lines of all bytes, of which there is one list
+abbrev pub FirstLinesLaw : Type 0
+FirstLinesLaw = (bytes : List ℕ) (given : List (List ℕ)) (rest : List ℕ) → AreFirstLines bytes given rest → lines bytes ≡ given ++ lines rest
+
+-- the bytes after all lines that a line feed ends are a line, if they are not empty
+abbrev pub last_line : List ℕ → List (List ℕ)
+last_line [] = []
+last_line (c ∷ t) = (c ∷ t) ∷ []
+
+-- If the bytes are those of a text, then so are each line and the bytes after the lines. By characters, the lines and those of the bytes after them
+-- are the lines of the text. If no line feed is left, the bytes after the lines are the last line.
+pub record AreTextLines (text : List ℕ) (given : List (List ℕ)) (rest : List ℕ) : Type 0 where
+  pub given_utf8 : All IsUtf8 given
+  pub rest_utf8 : IsUtf8 rest
+  pub lines_are : lines (chars text) ≡ map chars given ++ lines (chars rest)
+  pub all : (¬ Occurs (line_feed ∷ []) rest) → lines (chars text) ≡ map chars (given ++ last_line rest)
+
+abbrev pub TextLinesLaw : Type 0
+TextLinesLaw = (text : List ℕ) (given : List (List ℕ)) (rest : List ℕ) → IsUtf8 text → AreFirstLines text given rest → AreTextLines text given rest
+
+-- two lists of first lines of the same bytes that have the same length are the same, with the same bytes after them
+abbrev pub SameLinesLaw : Type 0
+SameLinesLaw = SameFirstLaw TakesLine
+
+-- What a call for the last line did, by what it returned, the bytes held before and those held after. All held bytes, if there are any, are the
+-- line: without a line feed no end is cut off, as `str::lines` keeps a carriage return at the very end of a text.
+abbrev pub IsLastLine : List ℕ → Result (Option (List ℕ)) LineError → List ℕ → Type 0
+IsLastLine old (Ok (Some line)) new = (last_line old ≡ line ∷ []) × (new ≡ []) × IsUtf8 line
+IsLastLine old (Ok None) new = (last_line old ≡ []) × (new ≡ old)
+IsLastLine old (Err (Refused reason)) new = (reason ≡ OutOfMemory) × (new ≡ old)
+IsLastLine old (Err (NotUtf8 fault)) new =
+    (last_line old ≡ refused_storage fault ∷ []) × (new ≡ []) × (¬ IsUtf8 old) × IsFaultOf (fault_of fault) old
+
+-- the text of a `LineError`
+abbrev pub line_error_text : LineError → List ℕ
+line_error_text (Refused reason) = reason_text reason
+line_error_text (NotUtf8 fault) = utf8_error_text (valid_up_to (fault_of fault)) (error_len (fault_of fault))

@@ -1,0 +1,94 @@
+-- Lines of a stream of bytes that comes in pieces. Each is ended by a line feed, by a carriage return, or by a carriage return and a line feed.
+use Rattle.std.specs.Prelude.{◌≡◌, ◌≢◌, ◌↔◌, ◌⊎◌, ℕ, Bool, true, false, List, [], ◌∷◌, ◌++◌, ◌==◌, if◌then◌else◌, nat_eq, All, IsUtf8}
+use Rattle.std.specs.List.{starts_with}
+use Rattle.bytes_utils.specs.Lines.{line_feed, carriage_return, first_led_by}
+use Rattle.bytes_utils_codec.specs.StreamLines.{last_line}
+use Rattle.bytes_utils_codec.specs.StreamRuns.{StreamEvent, IsRunOver, pushed_by, given_by, AreFirst, SameFirstLaw}
+
+-- The lines of the bytes, with the last one, if it has no end and isn't empty. A carriage return before a line feed is a part of the end that this makes.
+abbrev pub universal_lines : List ℕ → List (List ℕ)
+universal_lines [] = []
+universal_lines (c ∷ t) =
+    if c == line_feed then [] ∷ universal_lines t
+    else if c == carriage_return then (if starts_with nat_eq t (line_feed ∷ []) then universal_lines t else [] ∷ universal_lines t)
+    else first_led_by c (universal_lines t)
+
+-- the byte is neither a line feed nor a carriage return
+abbrev pub IsInLine : ℕ → Type 0
+IsInLine c = (c ≢ line_feed) × (c ≢ carriage_return)
+
+-- no line ends in these bytes
+abbrev pub LacksEnds : List ℕ → Type 0
+LacksEnds bytes = All IsInLine bytes
+
+-- The end of a line, by the bytes after it: a line feed, a carriage return and a line feed, or a carriage return that no line feed follows.
+abbrev pub IsUniversalEnd : List ℕ → List ℕ → Type 0
+IsUniversalEnd end rest = (end ≡ line_feed ∷ [])
+    ⊎ ((end ≡ carriage_return ∷ line_feed ∷ []) ⊎ ((end ≡ carriage_return ∷ []) × ((t : List ℕ) → rest ≢ line_feed ∷ t)))
+
+-- the bytes are the line, its end and the rest, and no line ends in the line
+pub record EndsLine (bytes line end rest : List ℕ) : Type 0 where
+  pub whole : bytes ≡ line ++ (end ++ rest)
+  pub ends : IsUniversalEnd end rest
+  pub lacks : LacksEnds line
+
+-- this is the first line of the bytes, and what is after its end
+abbrev pub IsFirstLine : List ℕ → List ℕ → List ℕ → Type 0
+IsFirstLine bytes line rest = (end : List ℕ) × EndsLine bytes line end rest
+
+-- What clauses see of a `UniversalLines`: the held bytes, and whether the last line was ended by a carriage return after which no byte has come. Then
+-- a line feed that comes next belongs to that end.
+pub record LineReading : Type 0 where
+  pub held : List ℕ
+  pub after_return : Bool
+
+-- before any byte
+abbrev pub nothing_read : LineReading
+nothing_read = record { held = []; after_return = false }
+
+-- the bytes without one line feed at their start, if they have one there
+abbrev pub without_feed : List ℕ → List ℕ
+without_feed [] = []
+without_feed (c ∷ t) = if c == line_feed then t else c ∷ t
+
+-- The bytes of a piece are held after the others. A line feed at its start isn't, if it belongs to the end of the last line.
+abbrev pub after_push : LineReading → List ℕ → LineReading
+after_push reading [] = reading
+after_push reading (c ∷ t) =
+    record { held = reading.held ++ (if reading.after_return then without_feed (c ∷ t) else c ∷ t); after_return = false }
+
+-- the first of the held bytes are the line and its end
+pub record TakesUniversalLine (old : LineReading) (line : List ℕ) (new : LineReading) : Type 0 where
+  pub end : List ℕ
+  pub ended : EndsLine old.held line end new.held
+  pub after_return : (new.after_return ≡ true) ↔ ((end ≡ carriage_return ∷ []) × (new.held ≡ []))
+
+-- these events lead from one state to the one at the end
+abbrev pub IsUniversalRun : LineReading → List (StreamEvent (List ℕ)) → LineReading → Type 0
+IsUniversalRun reading events end = IsRunOver after_push TakesUniversalLine reading events end
+
+-- these are the first lines of the bytes, in order, and the bytes after them
+abbrev pub AreFirstUniversal : List ℕ → List (List ℕ) → List ℕ → Type 0
+AreFirstUniversal bytes lines rest = AreFirst IsFirstLine bytes lines rest
+
+-- Whatever the pieces are, also if a carriage return is in one and its line feed in the next, and whenever lines are asked for, a run gives the first
+-- lines of the joined pieces, and holds the bytes after them.
+abbrev pub UniversalRunLaw : Type 0
+UniversalRunLaw = (events : List (StreamEvent (List ℕ))) (end : LineReading) → IsUniversalRun nothing_read events end
+    → AreFirstUniversal (pushed_by events) (given_by events) end.held
+
+-- Together with the lines of the bytes after them they are the lines of all bytes. If no line ends in the bytes after them, these are the last line.
+pub record AreAllLines (bytes : List ℕ) (given : List (List ℕ)) (rest : List ℕ) : Type 0 where
+  pub lines_are : universal_lines bytes ≡ given ++ universal_lines rest
+  pub all : LacksEnds rest → universal_lines bytes ≡ given ++ last_line rest
+
+abbrev pub AllUniversalLaw : Type 0
+AllUniversalLaw = (bytes : List ℕ) (given : List (List ℕ)) (rest : List ℕ) → AreFirstUniversal bytes given rest → AreAllLines bytes given rest
+
+-- if the bytes are those of a text, then so are each line and the bytes after the lines
+abbrev pub TextUniversalLaw : Type 0
+TextUniversalLaw = (text : List ℕ) (given : List (List ℕ)) (rest : List ℕ) → IsUtf8 text → AreFirstUniversal text given rest → All IsUtf8 given × IsUtf8 rest
+
+-- two lists of first lines of the same bytes that have the same length are the same, with the same bytes after them
+abbrev pub SameUniversalLaw : Type 0
+SameUniversalLaw = SameFirstLaw IsFirstLine

@@ -1,0 +1,464 @@
+//! Reading on in a buffer that is only borrowed.
+ghost use Rattle.std.specs.Prelude.{◌≡◌, ◌≢◌, ◌+◌, ◌<◌, ◌≤◌, ◌↔◌, ◌++◌, [], ◌∷◌, length, take, drop, IsUtf8, IsTrue, IsOk, IfOk, IfErr, IfSome, IfNone, OnErr};
+ghost use Rattle.std.specs.List.{concat, slice_get};
+ghost use Rattle.bytes_utils_codec.specs.Cursor.{IsBegun, IsFirstWithin, NeverBegins, NeverEndsWithin, OneReplyLaw, SameReadLaw, StaysReadLaw, StaysWrongLaw, TakesFirst, TakesUpTo, passed_on, unread};
+ghost use Rattle.bytes_utils.specs.Errors.{IsFaultOf, fault_of, refused_storage};
+ghost use Rattle.bytes_utils_codec.specs.Frames.{HasFrame, HasFrameWithin, TakesFrame};
+ghost use Rattle.bytes_utils.specs.Lines.{line_feed};
+ghost use Rattle.bytes_utils.specs.Occurrence.{Occurs, OccursAt, OccursFirstAt};
+ghost use Rattle.bytes_utils_codec.specs.StreamLines.{TakesLine};
+
+pub mod read;
+
+use crate::find::find_from;
+use crate::frame::LineError;
+use crate::frame::lines::drop_return;
+use bytes::{Buf, Bytes};
+use bytes_utils::string::Str;
+use bytes_utils_buf::Reason;
+use bytes_utils_buf::contiguous::ContiguousBuf;
+use bytes_utils_buf::segmented::SegmentedBuf;
+use std::alloc::Global;
+use std::error::Error;
+use std::fmt;
+use std::marker::Model;
+
+/// The unread bytes don't begin with the expected ones, whatever comes after them.
+#[derive(Clone, Copy, Debug, Eq, PartialEq)]
+pub struct Mismatch;
+
+/// Writes `not the expected bytes`.
+impl fmt::Display for Mismatch {
+    ghost use Rattle.std.specs.Prelude.{Some, codes};
+
+    ghost output = { λ _. Some (codes "not the expected bytes") };
+
+    fn fmt<W: fmt::Write>(&self, f: &mut fmt::Formatter<W>) -> fmt::Result {
+        write!(f, "not the expected bytes")
+    }
+}
+
+impl Error for Mismatch {}
+
+/// A place in a borrowed buffer, from which bytes are read. The buffer stays as it is.
+///
+/// It is for a reader of a protocol whose messages have parts: it reads part after part, and takes
+/// nothing off the buffer until the whole message is there.
+///
+/// ```text
+/// let mut cursor = Cursor::new(&came);                 // of `PUT 5\r\nHel` and `lo`
+/// cursor.tag(b"PUT ")?                                 // `Some(())`; `Err` for another byte
+/// cursor.take_until(alloc, b"\r\n")?                   // `5`
+/// cursor.take(alloc, 5)?                               // `Hello`; `None` if less of it has come
+/// let passed = cursor.at();
+/// came.advance(passed);
+/// ```
+///
+/// Where what is wanted has not come yet, a call returns `None`. Then, and with each error for
+/// memory, the cursor stays where it is.
+///
+/// The buffer is a [`SegmentedBuf`], or what a `PackedBuf` holds (`as_segmented`), as that of
+/// [`Frames::pieces`](crate::frame::Frames::pieces). Each call steps over the segments from the
+/// front to the cursor. A `PackedBuf` bounds their number.
+#[derive(Drop)]
+pub struct Cursor<'a, B: ContiguousBuf + Drop> {
+    buf: &'a SegmentedBuf<B>,
+    len: usize,
+    at: usize,
+}
+
+impl<'a, B: ContiguousBuf + Drop> Model for Cursor<'a, B> {
+    ghost use Rattle.std.specs.Prelude.{◌≡◌, ◌≤◌, length};
+    ghost use Rattle.std.specs.List.{concat};
+    ghost use Rattle.bytes_utils_codec.specs.Cursor.{Reading};
+
+    ghost Value = { Reading };
+
+    ghost view = { λ c. record { all = concat c.buf.now.segments; at = c.at } };
+
+    ghost invariant = { λ c. (c.len ≡ length (concat c.buf.now.segments)) × (c.at ≤ c.len) };
+}
+
+impl<'a, B: ContiguousBuf + Drop> Cursor<'a, B> {
+    /// Makes a cursor at the first byte of `buf`.
+    pub fn new(buf: &'a SegmentedBuf<B>) -> Cursor<'a, B>
+        ensures { result ≡ record { all = concat buf.now.segments; at = 0 } }
+    {
+        Cursor {
+            buf,
+            len: buf.remaining(),
+            at: 0,
+        }
+    }
+
+    /// Returns the number of bytes before the cursor: of those that `advance` of the buffer is to
+    /// remove.
+    pub fn at(&self) -> usize
+        ensures value { result ≡ self.now.at }
+        ensures within { result ≤ length self.now.all }
+    {
+        self.at
+    }
+
+    /// Returns the number of unread bytes.
+    pub fn remaining(&self) -> usize
+        ensures { result ≡ length (unread self.now) }
+    {
+        self.len - self.at
+    }
+
+    /// Returns the next byte, or `None` if there is none.
+    pub fn peek(&self) -> Option<u8>
+        ensures { result ≡ slice_get (unread self.now) 0 }
+    {
+        self.buf.byte_at(self.at)
+    }
+
+    /// Returns whether the unread bytes start with `bytes`.
+    pub fn starts_with(&self, bytes: &[u8]) -> bool
+        ensures { IsTrue result ↔ (take (length bytes.now) (unread self.now) ≡ bytes.now) }
+    {
+        self.buf.holds_at(self.at, bytes)
+    }
+
+    /// Passes `n` bytes. Requires that `n` is at most the number of unread bytes (test:
+    /// `remaining`).
+    pub fn advance(&mut self, n: usize)
+        requires { n ≤ length (unread self.old) }
+        ensures { self.new ≡ passed_on n self.old }
+    {
+        self.at += n;
+    }
+
+    /// Returns all unread bytes in segments, shared as `SegmentedBuf::slice` shares them. The
+    /// cursor stays. Fails with `OutOfMemory` if memory is refused, never if no byte is left.
+    pub fn rest(&self, alloc: Global) -> Result<SegmentedBuf<Bytes>, Reason>
+        ensures bytes { IfOk result (λ rest. concat rest.segments ≡ unread self.now) }
+        ensures reason { IfErr result (λ reason. reason ≡ Reason.OutOfMemory) }
+        ensures none { unread self.now ≡ [] → IsOk result }
+    {
+        self.buf.slice(alloc, self.at..self.len)
+    }
+
+    /// Returns how many bytes after the cursor `needle` occurs first, or `None` if it doesn't. The
+    /// cursor stays. Fails with `OutOfMemory` if memory is refused, never for a needle of at most
+    /// 16 bytes.
+    pub fn find(&self, alloc: Global, needle: &[u8]) -> Result<Option<usize>, Reason>
+        ensures found { IfOk result (λ place. IfSome place (λ n.
+            OccursFirstAt needle.now (unread self.now) n)) }
+        ensures within { IfOk result (λ place. IfSome place (λ n.
+            n + length needle.now ≤ length (unread self.now))) }
+        ensures missed { IfOk result (λ place. IfNone place
+            (¬ Occurs needle.now (unread self.now))) }
+        ensures reason { IfErr result (λ reason. reason ≡ Reason.OutOfMemory) }
+        ensures short { length needle.now ≤ 16 → IsOk result }
+    {
+        let Some(place) = find_from(self.buf, alloc, self.at, needle)? else {
+            return Ok(None);
+        };
+        Ok(Some(place - self.at))
+    }
+
+    /// Passes `len` bytes and returns them, or returns `None` if fewer are there. They are shared
+    /// if one segment has them all and shares its own, and else copied into one block. Fails with
+    /// `OutOfMemory` if memory is refused, never for no bytes. The cursor then stays, as with
+    /// `None`.
+    pub fn take(&mut self, alloc: Global, len: usize) -> Result<Option<Bytes>, Reason>
+        ensures bytes { IfOk result (λ next. IfSome next (λ bytes.
+            TakesFirst len (unread self.old) bytes (unread self.new))) }
+        ensures waits { IfOk result (λ next. IfNone next
+            ((self.new ≡ self.old) × (length (unread self.old) < len))) }
+        ensures all { self.new.all ≡ self.old.all }
+        ensures err { OnErr result (self.new ≡ self.old) }
+        ensures reason { IfErr result (λ reason. reason ≡ Reason.OutOfMemory) }
+        ensures none { len ≡ 0 → IsOk result }
+    {
+        if self.remaining() < len {
+            return Ok(None);
+        }
+        Ok(Some(self.take_bytes(alloc, len)?))
+    }
+
+    /// As `take`, but in segments, each shared if its own segment shares its bytes: for a body that
+    /// is to stay uncopied.
+    pub fn take_segments(
+        &mut self,
+        alloc: Global,
+        len: usize,
+    ) -> Result<Option<SegmentedBuf<Bytes>>, Reason>
+        ensures bytes { IfOk result (λ next. IfSome next (λ part.
+            TakesFirst len (unread self.old) (concat part.segments) (unread self.new))) }
+        ensures waits { IfOk result (λ next. IfNone next
+            ((self.new ≡ self.old) × (length (unread self.old) < len))) }
+        ensures all { self.new.all ≡ self.old.all }
+        ensures err { OnErr result (self.new ≡ self.old) }
+        ensures reason { IfErr result (λ reason. reason ≡ Reason.OutOfMemory) }
+        ensures none { len ≡ 0 → IsOk result }
+    {
+        if self.remaining() < len {
+            return Ok(None);
+        }
+        let part = self.buf.slice(alloc, self.at..self.at + len)?;
+        self.at += len;
+        Ok(Some(part))
+    }
+
+    /// Returns the bytes before the next `needle`, as `take` does, and passes them and the needle.
+    /// Returns `None` if it has not come yet. Requires that `needle` is not empty (test:
+    /// `is_empty`). Fails with `OutOfMemory` if memory is refused: for a needle of at most 16 bytes
+    /// only that for the bytes before it. The cursor then stays, as with `None`.
+    pub fn take_until(&mut self, alloc: Global, needle: &[u8]) -> Result<Option<Bytes>, Reason>
+        requires { 0 < length needle.now }
+        ensures bytes { IfOk result (λ next. IfSome next (λ front.
+            TakesFrame needle.now (unread self.old) front (unread self.new))) }
+        ensures waits { IfOk result (λ next. IfNone next
+            ((self.new ≡ self.old) × (¬ Occurs needle.now (unread self.old)))) }
+        ensures all { self.new.all ≡ self.old.all }
+        ensures err { OnErr result (self.new ≡ self.old) }
+        ensures reason { IfErr result (λ reason. reason ≡ Reason.OutOfMemory) }
+        ensures due { length needle.now ≤ 16 → OnErr result (HasFrame needle.now (unread self.old)) }
+    {
+        let Some(len) = self.find(alloc, needle)? else {
+            return Ok(None);
+        };
+        Ok(Some(self.take_found(alloc, len, needle)?))
+    }
+
+    /// As `take_until`, if at most `most` bytes are before the needle. Fails with `TooLong` if there
+    /// are more, as soon as the bytes that have come are enough for `most` and the needle, and the
+    /// needle isn't among them. Fails with `OutOfMemory` if memory is refused for bytes within the
+    /// limit that have come, never if none are before the needle. The cursor then stays, as with
+    /// `None`.
+    ///
+    /// If the memory that `find` asks for is refused, the search asks for none and looks at each
+    /// place within the limit.
+    pub fn take_until_within(
+        &mut self,
+        alloc: Global,
+        needle: &[u8],
+        most: usize,
+    ) -> Result<Option<Bytes>, Reason>
+        requires { 0 < length needle.now }
+        ensures bytes { IfOk result (λ next. IfSome next (λ front.
+            TakesFrame needle.now (unread self.old) front (unread self.new))) }
+        ensures within { IfOk result (λ next. IfSome next (λ front. length front ≤ most)) }
+        ensures waits { IfOk result (λ next. IfNone next
+            ((self.new ≡ self.old) × (¬ Occurs needle.now (unread self.old)))) }
+        ensures few { IfOk result (λ next. IfNone next
+            (length (unread self.old) < most + length needle.now)) }
+        ensures all { self.new.all ≡ self.old.all }
+        ensures err { OnErr result (self.new ≡ self.old) }
+        ensures too_long { IfErr result (λ reason. reason ≡ Reason.TooLong
+            → NeverEndsWithin most needle.now (unread self.old)) }
+        ensures due { IfErr result (λ reason. reason ≡ Reason.OutOfMemory
+            → HasFrameWithin most needle.now (unread self.old)) }
+    {
+        let Some(len) = self.find_within(alloc, needle, most)? else {
+            return Ok(None);
+        };
+        Ok(Some(self.take_found(alloc, len, needle)?))
+    }
+
+    /// As `find`, if at most `most` bytes are before the needle. Fails with `TooLong` if not.
+    fn find_within(
+        &self,
+        alloc: Global,
+        needle: &[u8],
+        most: usize,
+    ) -> Result<Option<usize>, Reason>
+        requires { 0 < length needle.now }
+        ensures found { IfOk result (λ place. IfSome place (λ n.
+            OccursFirstAt needle.now (unread self.now) n)) }
+        ensures within { IfOk result (λ place. IfSome place (λ n.
+            (n ≤ most) × (n + length needle.now ≤ length (unread self.now)))) }
+        ensures missed { IfOk result (λ place. IfNone place
+            (¬ Occurs needle.now (unread self.now))) }
+        ensures few { IfOk result (λ place. IfNone place
+            (length (unread self.now) < most + length needle.now)) }
+        ensures too_long { IfErr result (λ reason. (reason ≡ Reason.TooLong)
+            × NeverEndsWithin most needle.now (unread self.now)) }
+    {
+        if let Some(len) = self.first_within(alloc, needle, most) {
+            return Ok(Some(len));
+        }
+        if self.has_all_within(needle, most) {
+            return Err(Reason::TooLong);
+        }
+        Ok(None)
+    }
+
+    /// Whether all bytes have come of a needle that begins within the limit, wherever it does.
+    fn has_all_within(&self, needle: &[u8], most: usize) -> bool
+        ensures { IsTrue result ↔ (most + length needle.now ≤ length (unread self.now)) }
+    {
+        needle.len() <= self.remaining() && most <= self.remaining() - needle.len()
+    }
+
+    /// Returns how many bytes after the cursor `needle` occurs first, if these are at most `most`.
+    fn first_within(&self, alloc: Global, needle: &[u8], most: usize) -> Option<usize>
+        requires { 0 < length needle.now }
+        ensures { IsFirstWithin most needle.now (unread self.now) result }
+    {
+        match self.find(alloc, needle) {
+            Ok(Some(place)) => (place <= most).then_some(place),
+            Ok(None) => None,
+            Err(_) => self.look_within(needle, most),
+        }
+    }
+
+    /// As `first_within`, without memory: it looks at each place.
+    fn look_within(&self, needle: &[u8], most: usize) -> Option<usize>
+        requires { 0 < length needle.now }
+        ensures { IsFirstWithin most needle.now (unread self.now) result }
+    {
+        for place in 0..self.remaining() {
+            if place > most {
+                return None;
+            }
+            if self.begins_at(needle, place) {
+                return Some(place);
+            }
+        }
+        None
+    }
+
+    /// Whether `needle` begins `place` bytes after the cursor.
+    fn begins_at(&self, needle: &[u8], place: usize) -> bool
+        requires some { 0 < length needle.now }
+        requires within { place ≤ length (unread self.now) }
+        ensures { IsTrue result ↔ OccursAt needle.now (unread self.now) place }
+    {
+        prove!(place <= self.len - self.at);
+        self.buf.holds_at(self.at + place, needle)
+    }
+
+    /// As `take_until`, but the needle isn't passed: the cursor is at its first byte then.
+    pub fn take_to(&mut self, alloc: Global, needle: &[u8]) -> Result<Option<Bytes>, Reason>
+        requires { 0 < length needle.now }
+        ensures bytes { IfOk result (λ next. IfSome next (λ front.
+            TakesUpTo needle.now (unread self.old) front (unread self.new))) }
+        ensures waits { IfOk result (λ next. IfNone next
+            ((self.new ≡ self.old) × (¬ Occurs needle.now (unread self.old)))) }
+        ensures all { self.new.all ≡ self.old.all }
+        ensures err { OnErr result (self.new ≡ self.old) }
+        ensures reason { IfErr result (λ reason. reason ≡ Reason.OutOfMemory) }
+        ensures due { length needle.now ≤ 16 → OnErr result (HasFrame needle.now (unread self.old)) }
+    {
+        let Some(place) = self.find(alloc, needle)? else {
+            return Ok(None);
+        };
+        Ok(Some(self.take_bytes(alloc, place)?))
+    }
+
+    /// Passes `bytes` if they are next. Returns `None` if only a beginning of them has come, or
+    /// nothing yet. Fails with `Mismatch` at a wrong byte, as early as it has come. The cursor then
+    /// stays, as with `None`.
+    pub fn tag(&mut self, bytes: &[u8]) -> Result<Option<()>, Mismatch>
+        ensures passed { IfOk result (λ next. IfSome next (λ _.
+            unread self.old ≡ bytes.now ++ unread self.new)) }
+        ensures waits { IfOk result (λ next. IfNone next
+            ((self.new ≡ self.old) × IsBegun bytes.now (unread self.old))) }
+        ensures wrong { IfErr result (λ _. NeverBegins bytes.now (unread self.old)) }
+        ensures all { self.new.all ≡ self.old.all }
+        ensures err { OnErr result (self.new ≡ self.old) }
+    {
+        let most = bytes.len().min(self.remaining());
+        if !self.starts_with(&bytes[..most]) {
+            return Err(Mismatch);
+        }
+        if most < bytes.len() {
+            return Ok(None);
+        }
+        self.advance(most);
+        Ok(Some(()))
+    }
+
+    /// Passes the next line with its end and returns it, as [`Lines`](crate::frame::Lines) does, or
+    /// returns `None` if its line feed has not come yet. Fails with `NotUtf8` if the line is not
+    /// UTF-8; its bytes are in the error, and the cursor is after the line. Fails with `Refused` if
+    /// memory for a line that has come is refused. The cursor then stays, as with `None`.
+    pub fn line(&mut self, alloc: Global) -> Result<Option<Str>, LineError>
+        ensures line { IfOk result (λ next. IfSome next (λ line.
+            TakesLine (unread self.old) line (unread self.new))) }
+        ensures utf8 { IfOk result (λ next. IfSome next IsUtf8) }
+        ensures waits { IfOk result (λ next. IfNone next
+            ((self.new ≡ self.old) × (¬ Occurs (line_feed ∷ []) (unread self.old)))) }
+        ensures all { self.new.all ≡ self.old.all }
+        ensures refused { IfErr result
+            (λ e. (reason : _) → e ≡ LineError.Refused reason → self.new ≡ self.old) }
+        ensures reason { IfErr result
+            (λ e. (reason : _) → e ≡ LineError.Refused reason → reason ≡ Reason.OutOfMemory) }
+        ensures due { IfErr result (λ e. (reason : _) → e ≡ LineError.Refused reason
+            → HasFrame (line_feed ∷ []) (unread self.old)) }
+        ensures bytes { IfErr result (λ e. (fault : _) → e ≡ LineError.NotUtf8 fault
+            → TakesLine (unread self.old) (refused_storage fault) (unread self.new)) }
+        ensures not_utf8 { IfErr result (λ e. (fault : _) → e ≡ LineError.NotUtf8 fault
+            → ¬ IsUtf8 (refused_storage fault)) }
+        ensures fault { IfErr result (λ e. (fault : _) → e ≡ LineError.NotUtf8 fault
+            → IsFaultOf (fault_of fault) (refused_storage fault)) }
+    {
+        let Some(line) = self.line_bytes(alloc)? else {
+            return Ok(None);
+        };
+        Ok(Some(Str::from_inner(line)?))
+    }
+
+    /// The bytes of the next line, which is passed.
+    fn line_bytes(&mut self, alloc: Global) -> Result<Option<Bytes>, Reason>
+        ensures line { IfOk result (λ next. IfSome next (λ line.
+            TakesLine (unread self.old) line (unread self.new))) }
+        ensures waits { IfOk result (λ next. IfNone next
+            ((self.new ≡ self.old) × (¬ Occurs (line_feed ∷ []) (unread self.old)))) }
+        ensures all { self.new.all ≡ self.old.all }
+        ensures err { OnErr result (self.new ≡ self.old) }
+        ensures reason { IfErr result (λ reason. reason ≡ Reason.OutOfMemory) }
+        ensures due { OnErr result (HasFrame (line_feed ∷ []) (unread self.old)) }
+    {
+        let Some(mut line) = self.take_until(alloc, b"\n")? else {
+            return Ok(None);
+        };
+        drop_return(&mut line);
+        Ok(Some(line))
+    }
+
+    /// Passes the next `len` bytes, which it returns, and the needle that was found after them.
+    fn take_found(&mut self, alloc: Global, len: usize, needle: &[u8]) -> Result<Bytes, Reason>
+        requires within { len + length needle.now ≤ length (unread self.old) }
+        requires found { OccursFirstAt needle.now (unread self.old) len }
+        ensures bytes { IfOk result (λ front.
+            TakesFrame needle.now (unread self.old) front (unread self.new)) }
+        ensures front { IfOk result (λ front. front ≡ take len (unread self.old)) }
+        ensures all { self.new.all ≡ self.old.all }
+        ensures err { OnErr result (self.new ≡ self.old) }
+        ensures reason { IfErr result (λ reason. reason ≡ Reason.OutOfMemory) }
+        ensures some { OnErr result (0 < len) }
+    {
+        let front = self.take_bytes(alloc, len)?;
+        self.advance(needle.len());
+        Ok(front)
+    }
+
+    /// Passes the next `len` bytes and returns them.
+    fn take_bytes(&mut self, alloc: Global, len: usize) -> Result<Bytes, Reason>
+        requires { len ≤ length (unread self.old) }
+        ensures bytes { IfOk result (λ bytes. bytes ≡ take len (unread self.old)) }
+        ensures passed { IfOk result (λ _. self.new ≡ passed_on len self.old) }
+        ensures err { OnErr result (self.new ≡ self.old) }
+        ensures reason { IfErr result (λ reason. reason ≡ Reason.OutOfMemory) }
+        ensures none { len ≡ 0 → IsOk result }
+    {
+        let bytes = self.buf.copy_range(alloc, self.at..self.at + len)?;
+        self.at += len;
+        Ok(bytes)
+    }
+}
+
+/// The laws of what a cursor reads. It depends on the joined bytes alone, not on where the segments
+/// are cut. What was read is read again when more bytes have come, and what was a wrong byte stays
+/// one.
+pub fn cursor_laws()
+    ensures same { SameReadLaw }
+    ensures stays { StaysReadLaw }
+    ensures wrong { StaysWrongLaw }
+    ensures one { OneReplyLaw }
+{}

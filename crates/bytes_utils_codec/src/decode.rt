@@ -1,0 +1,85 @@
+//! Items that a decoder takes off a stream that comes in pieces.
+ghost use Rattle.std.specs.Prelude.{◌≡◌};
+ghost use Rattle.bytes_utils_codec.specs.Decoding.{Decodes, DecodesAtEnd, DecoderAllLaw, DecoderRunLaw, DecoderWholeLaw, Decoding, IsSingle, IsStable, Next, WaitsForItem, decoding};
+
+mod decoded;
+mod delimited;
+mod lines;
+mod prefixed;
+mod read;
+
+use bytes_utils_buf::Reason;
+use bytes_utils_buf::segmented::PackedBuf;
+pub use decoded::Decoded;
+pub use delimited::{Delimited, delimited_laws};
+pub use lines::{TextLines, text_line_laws};
+pub use prefixed::LengthPrefixed;
+pub use read::{ReadItemError, read_item, read_item_laws};
+use std::alloc::Global;
+
+/// A way to take items off the front of the bytes of a stream, such as frames of a protocol. Write
+/// `decode` over the bytes that have come. [`Decoded`] holds these, and makes a reader of it, whose
+/// items don't depend on where the pieces were cut (`decoder_laws`).
+///
+/// The bytes are in a [`PackedBuf`], so that a peer that sends single bytes doesn't fill the memory
+/// with segments. What of them waits for more bytes can be looked at, by `as_segmented` and the
+/// calls of `SegmentedBuf`, before it is taken.
+///
+/// The members that are ghosts say what a decoder does; the clauses and the last three are its laws.
+pub trait Decoder: Sized + Drop {
+    /// What is taken: a frame, or for a stream that goes on after a fault also the fault.
+    type Item: Drop;
+
+    /// Why no item is taken, if not for want of bytes.
+    type Error: From<Reason> + Drop;
+
+    // What comes next: of the decoder and the bytes before, and those after.
+    ghost gives: { Decoding Self → Next Self.Item → Decoding Self → Type 0 };
+
+    // What is true when more bytes have to come.
+    ghost waits: { Decoding Self → Type 0 };
+
+    // Why an error comes.
+    ghost fails: { Decoding Self → Self.Error → Type 0 };
+
+    /// Takes the next item, or returns `None` if more bytes have to come. With `None` and with an
+    /// error it may drop only what changes nothing that comes next. Requests for memory are made
+    /// from `alloc`.
+    fn decode(
+        &mut self,
+        alloc: Global,
+        held: &mut PackedBuf,
+    ) -> Result<Option<Self::Item>, Self::Error>
+        ensures step { Decodes gives waits fails (decoding self.old held.old) result
+            (decoding self.new held.new) }
+        ensures threshold { held.new.threshold ≡ held.old.threshold };
+
+    /// Takes the next item at the end of the stream: also one that is ended by that alone. Returns
+    /// `None` if there is none.
+    fn decode_eof(
+        &mut self,
+        alloc: Global,
+        held: &mut PackedBuf,
+    ) -> Result<Option<Self::Item>, Self::Error>
+        ensures step { DecodesAtEnd gives fails (decoding self.old held.old) result
+            (decoding self.new held.new) }
+        ensures threshold { held.new.threshold ≡ held.old.threshold };
+
+    // Bytes that follow change no item that is there.
+    ghost stable: { IsStable gives };
+
+    // At most one thing comes next.
+    ghost single: { IsSingle gives };
+
+    // While it waits no item is there.
+    ghost awaits: { WaitsForItem gives waits };
+}
+
+/// The laws of a run of calls, of every decoder. Its items are the first of the joined pieces,
+/// wherever these are cut and whenever items are asked for. Two runs over the same bytes after
+/// which no item is left gave the same items, and at the end of the stream the same last one.
+pub fn decoder_laws<D: Decoder>()
+    ensures run { DecoderRunLaw D.Error D.gives D.waits D.fails }
+    ensures all { DecoderAllLaw D.gives }
+    ensures whole { DecoderWholeLaw D.gives }
+{}

@@ -1,0 +1,16 @@
+//! Tests of the frames, decoders, searches and cursors of `bytes_utils_codec`, and the examples of
+//! the README.
+#![tactic(auto)]
+
+#[cfg(test)]
+mod cursor;
+#[cfg(test)]
+mod decode;
+#[cfg(test)]
+mod find;
+#[cfg(test)]
+mod fixtures;
+#[cfg(test)]
+mod frame;
+#[cfg(test)]
+mod readme;

@@ -1,0 +1,39 @@
+//! The examples of the README, as they are there.
+mod tests;
+
+use bytes::{Buf, Bytes};
+use bytes_utils::{Reason, SegmentedBuf, Str};
+use bytes_utils_codec::frame::{LineError, Lines};
+use std::alloc::Global;
+use std::io::{self, Write};
+
+/// Appends a piece of a stream, and returns the next line, or `None` until it has ended. If a piece
+/// ends more lines, `stream.next_line` alone returns them.
+fn next_line(alloc: Global, stream: &mut Lines, piece: Bytes) -> Result<Option<Str>, LineError> {
+    stream.push(piece)?;
+    stream.next_line(alloc)
+}
+
+/// Splits a line such as `Host: example.org` into name and value.
+fn header(line: Str) -> Result<Option<(Str, Str)>, Reason> {
+    let (name, value) = line.split_once_bytes(": ")?;
+    Ok(value.map(|value| (name, value))) // owned: they outlive the line
+}
+
+/// Takes a body of `len` bytes out of `came`, or returns `None` until all of it has arrived.
+fn body(
+    alloc: Global,
+    came: &mut SegmentedBuf<Bytes>,
+    len: usize,
+) -> Result<Option<Bytes>, Reason> {
+    if came.remaining() < len {
+        return Ok(None);
+    }
+    Ok(Some(came.copy_to_bytes(alloc, len)?)) // shared if in one piece; an error may lose it
+}
+
+/// Writes all of `came`, small pieces together. After an error, `came` holds what wasn't written.
+fn send<W: Write>(out: &mut W, came: &mut SegmentedBuf<Bytes>) -> io::Result<()> {
+    bytes_utils::write::write_all_of(out, came)?;
+    out.flush()
+}

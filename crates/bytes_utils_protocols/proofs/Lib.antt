@@ -1,0 +1,14 @@
+pub mod HeaderReports
+pub mod HeadReports
+pub mod HeadLines
+pub mod RedisLemmas
+pub mod ReplyLines
+pub mod ReplyBeginnings
+pub mod LineSteps
+pub mod ReplyEnds
+pub mod PendingReplies
+pub mod MultipartLemmas
+pub mod NetstringsLemmas
+pub mod MultipartLaws
+pub mod EventsLemmas
+pub mod EventRunsLemmas

@@ -1,0 +1,477 @@
+-- Parts between boundaries.
+use Rattle.std.proofs.Common.{◌≡◌, ◌≢◌, ℕ, ◌+◌, ◌<◌, ◌≤◌, List, [], ◌∷◌, ◌++◌, length, take, drop, get_or, ap, ◌∙◌, sym, refl, subst, arith, length-append, length-drop, ◌-◌, append_assoc, take-append-drop, ⊎_elim, inl, inr, true, false, ◌⊎◌, All, Bor, Option, None, Some, MatchOption, Result, Ok, Err, OnOk, OnErr}
+use Rattle.std.proofs.lemmas.Bool.{cases_lt}
+use Rattle.std.proofs.lemmas.List.{append_cancel_left, length-take-le}
+use Rattle.std.proofs.lemmas.Str.Pattern.{split_text_parts}
+use Rattle.std.specs.Bool.{MatchBool}
+use Rattle.std.specs.List.{concat}
+use Rattle.std.specs.Str.Pattern.{FindsText, SplitsAroundMatch}
+use Rattle.bytes_utils_codec.specs.Frames.{Framing, TakesFrame}
+use Rattle.bytes_utils.specs.Occurrence.{Occurs, OccursAt}
+use Rattle.bytes_utils_codec.specs.Pushing.{IsPush}
+use Rattle.bytes_utils_buf.specs.declared.refused.Refused.{Refused}
+use Rattle.bytes_utils_codec.proofs.FramesLemmas.{TakesFrame-more, TakesFrame-same}
+use Rattle.bytes_utils.proofs.OccurrenceLemmas.{OccursAt-between, OccursAt-front, cut_whole}
+use Rattle.bytes_utils_protocols.specs.Multipart.{FewWait, IsIdle, Parting, appended, closed, line_end, dashes, head_end, PartBytes, part_bytes, IsHeadIn, IsPart, TakesPart, IsPartDue, NoPart, Closes, LacksNext, held_at, AreApart, has_ended, quote, IsQuoted, IsDisposition, NoDisposition, IsFirstDisposition, held_by, IsDivided, SameSections, AfterSearch}
+use Rattle.bytes_utils_protocols.specs.declared.multipart.limits.Limits.{Limits}
+use Rattle.bytes_utils_protocols.specs.declared.multipart.sections.Sections.{Sections}
+use Rattle.bytes_utils_protocols.specs.declared.multipart.sections.Stage.{Stage}
+use Rattle.bytes_utils_protocols.specs.declared.multipart.sections.Stage.TheVariants.{Preamble, Waiting, Found, Ended}
+
+-- ---- delimiters
+
+-- a delimiter comes at once
+pub at_once : (d w : List ℕ) → TakesFrame d (d ++ w) [] w
+at_once d w = record { bytes = refl; first = record { here = OccursAt-between [] d w; none_before = λ j there. omega arith } }
+
+-- the parts of bytes that are put together again
+pub apart : (d old p w : List ℕ) → TakesFrame d old p w → TakesFrame d (p ++ (d ++ w)) p w
+apart d old p w takes = subst (λ l. TakesFrame d l p w) takes.bytes takes
+
+module _ (d p w : List ℕ) (begins : TakesFrame d (p ++ (d ++ w)) p w) where
+  -- two dashes follow
+  pub closes : take 2 w ≡ dashes → Closes d (p ++ (d ++ w))
+  closes two = (p, drop 2 w, subst (TakesFrame d (p ++ (d ++ w)) p) (sym (take-append-drop 2 w) ∙ ap (λ l. l ++ drop 2 w) two) begins)
+
+  pub not_closed : take 2 w ≢ dashes → ¬ Closes d (p ++ (d ++ w))
+  not_closed other closing = other (ap (take 2) (TakesFrame-same d (p ++ (d ++ w)) p closing.0 w (dashes ++ closing.1) begins closing.2).1)
+
+  -- the next delimiter is found
+  pub both_apart : (f v : List ℕ) → TakesFrame d w f v → TakesFrame d (p ++ (d ++ (f ++ (d ++ v)))) p (f ++ (d ++ v)) × TakesFrame d (f ++ (d ++ v)) f v
+  both_apart f v ends = (
+    subst (λ l. TakesFrame d (p ++ (d ++ l)) p l) ends.bytes begins,
+    apart d w f v ends,
+  )
+
+  -- the next delimiter has not come
+  pub lacks_next : (¬ Occurs d w) → LacksNext d (p ++ (d ++ w))
+  lacks_next none preamble after takes occurs = none (subst (Occurs d) (sym (TakesFrame-same d (p ++ (d ++ w)) p preamble w after begins takes).1) occurs)
+
+-- without a delimiter nothing is closed
+pub open_without : (d bytes : List ℕ) → (¬ Occurs d bytes) → ¬ Closes d bytes
+open_without d bytes none closing = none (length closing.0, closing.2.first.here)
+
+-- what is before the next delimiter has almost as many bytes as have come, or more
+pub long_frame : (d bytes more frame rest : List ℕ) → (¬ Occurs d bytes) → TakesFrame d (bytes ++ more) frame rest → length bytes < length frame + length d
+long_frame d bytes more frame rest none takes =
+    ⊎_elim (λ below. below) (λ within. absurd (none (length frame, OccursAt-front d bytes more (length frame) takes.first.here within))) (cases_lt (length bytes) (length frame + length d))
+
+-- ---- one part
+
+one_head : (front a b : List ℕ) → IsHeadIn front a → IsHeadIn front b → a ≡ b
+one_head front a b (inl p) (inl q) = p.1 ∙ sym q.1
+one_head front a b (inl p) (inr q) = absurd (omega (arith, ap length (sym p.0 ∙ q), length-append line_end b))
+one_head front a b (inr p) (inl q) = absurd (omega (arith, ap length (sym q.0 ∙ p), length-append line_end a))
+one_head front a b (inr p) (inr q) = append_cancel_left line_end a b (sym p ∙ q)
+
+-- what is between two delimiters is one part, whatever the limits are
+pub IsPart-same : (limits other : Limits) (raw : List ℕ) (x y : PartBytes) → IsPart limits raw x → IsPart other raw y → x ≡ y
+IsPart-same limits other raw x y p q =
+    let same = TakesFrame-same head_end raw p.front q.front x.body y.body p.cut q.cut in
+    let head = one_head p.front x.head y.head p.head (subst (λ l. IsHeadIn l y.head) (sym same.0) q.head) in
+    λ i. part_bytes (head i) (same.1 i)
+
+part_size : (limits : Limits) (raw : List ℕ) (part : PartBytes) → IsPart limits raw part → length raw ≤ limits.head + limits.body
+part_size limits raw part is =
+    omega (arith, ap length is.cut.bytes, length-append is.front (head_end ++ part.body), length-append head_end part.body, is.small, is.short)
+
+module _ (d : List ℕ) (limits : Limits) where
+  -- the delimiter after a part has not come
+  pub no_part_yet : (bytes : List ℕ) → LacksNext d bytes → NoPart d limits bytes
+  no_part_yet bytes lacks part rest takes = lacks takes.preamble takes.after takes.begins (length takes.raw, takes.ends.first.here)
+
+  pub long_preamble : (bytes : List ℕ) → (¬ Occurs d bytes) → limits.head + limits.body + length d < length bytes → (more : List ℕ) → NoPart d limits (bytes ++ more)
+  long_preamble bytes none long more part rest takes = omega (arith, long, takes.few, long_frame d bytes more takes.preamble takes.after none takes.begins)
+
+  module _ (p w : List ℕ) (begins : TakesFrame d (p ++ (d ++ w)) p w) where
+    -- what is before the first delimiter, and what is after it
+    around : (more : List ℕ) (part : PartBytes) (rest : List ℕ) (takes : TakesPart d limits ((p ++ (d ++ w)) ++ more) part rest) → (p ≡ takes.preamble) × (w ++ more ≡ takes.after)
+    around more part rest takes =
+        TakesFrame-same d ((p ++ (d ++ w)) ++ more) p takes.preamble (w ++ more) takes.after (TakesFrame-more d (p ++ (d ++ w)) p w more begins) takes.begins
+
+    -- the preamble is too long
+    pub many_before : limits.head + limits.body < length p → (more : List ℕ) → NoPart d limits ((p ++ (d ++ w)) ++ more)
+    many_before long more part rest takes = omega (arith, long, takes.few, ap length (around more part rest takes).0)
+
+    -- what is before the next delimiter is too long
+    pub long_part : (¬ Occurs d w) → limits.head + limits.body + length d < length w → (more : List ℕ) → NoPart d limits ((p ++ (d ++ w)) ++ more)
+    long_part none long more part rest takes =
+        let same = around more part rest takes in
+        let ends = subst (λ l. TakesFrame d l takes.raw takes.next) (sym same.1) takes.ends in
+        omega (arith, long, long_frame d w more takes.raw takes.next none ends, part_size limits takes.raw part takes.is)
+
+  module _ (p f v : List ℕ) (begins : TakesFrame d (p ++ (d ++ (f ++ (d ++ v)))) p (f ++ (d ++ v))) (ends : TakesFrame d (f ++ (d ++ v)) f v) where
+    -- what was found is a part
+    pub found_part : (part : PartBytes) → IsPart limits f part → length p ≤ limits.head + limits.body → TakesPart d limits (p ++ (d ++ (f ++ (d ++ v)))) part (d ++ v)
+    found_part part is few = record {
+      preamble = p;
+      after = f ++ (d ++ v);
+      begins = begins;
+      raw = f;
+      next = v;
+      ends = ends;
+      is = is;
+      few = few;
+      left = refl;
+    }
+
+    -- what was found is no part
+    pub no_found : ((part : PartBytes) → ¬ IsPart limits f part) → (more : List ℕ) → NoPart d limits ((p ++ (d ++ (f ++ (d ++ v)))) ++ more)
+    no_found none more part rest takes =
+        let same = around p (f ++ (d ++ v)) begins more part rest takes in
+        let next = subst (λ l. TakesFrame d l takes.raw takes.next) (sym same.1) takes.ends in
+        let raw = TakesFrame-same d ((f ++ (d ++ v)) ++ more) f takes.raw (v ++ more) takes.next (TakesFrame-more d (f ++ (d ++ v)) f v more ends) next in
+        none part (subst (λ l. IsPart limits l part) (sym raw.0) takes.is)
+
+-- ---- what is found
+
+module _ (s : Sections) (waiting : s.stage ≡ Waiting) (divided : IsDivided s) where
+  -- neither the next delimiter nor the end
+  pub none_found : (frames : Framing) → frames ≡ s.frames → (¬ Occurs s.frames.separator s.frames.held) → take 2 s.frames.held ≢ dashes
+      → AfterSearch s.stage s (record s { frames = frames })
+  none_found frames same none other =
+      let d = s.frames.separator in
+      let p = s.preamble in
+      let f = concat s.found.segments in
+      let w = s.frames.held in
+      let begins : TakesFrame d (p ++ (d ++ w)) p w = subst (λ stage. AreApart stage d p f w) waiting divided in
+      let not_closed = subst (λ stage. ¬ Closes d (held_at stage d p f w)) (sym waiting) (not_closed d p w begins other) in
+      let lacks = subst (λ stage. LacksNext d (held_at stage d p f w)) (sym waiting) (lacks_next d p w begins none) in
+      subst (λ other. AfterSearch s.stage s (record s { frames = other })) (sym same)
+      (subst (λ stage. AfterSearch stage s s) (sym waiting) (record { delimiter = refl; ended = refl; held = refl }, none, not_closed, lacks))
+
+module _ (s : Sections) (is_found : s.stage ≡ Found) (divided : IsDivided s) where
+  module _ (limits : Limits) where
+    -- what was found is a part, and it is taken
+    pub takes_found : (part : PartBytes) (new : Sections) → IsPart limits (concat s.found.segments) part → length s.preamble ≤ limits.head + limits.body
+        → new.stage ≡ Waiting → new.frames ≡ s.frames → new.preamble ≡ [] → TakesPart s.frames.separator limits (held_by s) part (held_by new)
+    takes_found part new is few stage frames preamble =
+        let d = s.frames.separator in
+        let p = s.preamble in
+        let f = concat s.found.segments in
+        let v = s.frames.held in
+        let both : AreApart Found d p f v = subst (λ stage. AreApart stage d p f v) is_found divided in
+        let left : held_by new ≡ d ++ v = rw (stage, frames, preamble) refl in
+        rw left (subst (λ stage. TakesPart d limits (held_at stage d p f v) part (d ++ v)) (sym is_found) (found_part d limits p f v both.0 both.1 part is few))
+
+    pub part_in_found : (part : PartBytes) → IsPart limits (concat s.found.segments) part → length s.preamble ≤ limits.head + limits.body
+        → (rest : List ℕ) × TakesPart s.frames.separator limits (held_by s) part rest
+    part_in_found part is few =
+        let d = s.frames.separator in
+        let p = s.preamble in
+        let f = concat s.found.segments in
+        let v = s.frames.held in
+        let both : AreApart Found d p f v = subst (λ stage. AreApart stage d p f v) is_found divided in
+        (d ++ v, subst (λ stage. TakesPart d limits (held_at stage d p f v) part (d ++ v)) (sym is_found) (found_part d limits p f v both.0 both.1 part is few))
+
+    -- the delimiters before and after it have come
+    pub due_in_found : length s.preamble ≤ limits.head + limits.body → IsPartDue s.frames.separator limits (held_by s)
+    due_in_found few =
+        let d = s.frames.separator in
+        let p = s.preamble in
+        let f = concat s.found.segments in
+        let v = s.frames.held in
+        let both : AreApart Found d p f v = subst (λ stage. AreApart stage d p f v) is_found divided in
+        subst (λ stage. IsPartDue d limits (held_at stage d p f v)) (sym is_found)
+        (record { preamble = p; after = f ++ (d ++ v); begins = both.0; raw = f; next = v; ends = both.1; few = few })
+
+    -- what was found is no part
+    pub none_in_found : ((part : PartBytes) → ¬ IsPart limits (concat s.found.segments) part) → (more : List ℕ) → NoPart s.frames.separator limits (held_by s ++ more)
+    none_in_found none more =
+        let d = s.frames.separator in
+        let p = s.preamble in
+        let f = concat s.found.segments in
+        let v = s.frames.held in
+        let both : AreApart Found d p f v = subst (λ stage. AreApart stage d p f v) is_found divided in
+        subst (λ stage. NoPart d limits (held_at stage d p f v ++ more)) (sym is_found) (no_found d limits p f v both.0 both.1 none more)
+
+-- a delimiter is held, and what follows it
+pub divided_at_once : (s : Sections) → s.stage ≡ Waiting → s.preamble ≡ [] → IsDivided s
+divided_at_once s stage preamble =
+    let d = s.frames.separator in
+    let w = s.frames.held in
+    subst (λ stage. AreApart stage d s.preamble (concat s.found.segments) w) (sym stage)
+    (subst (λ l. TakesFrame d (l ++ (d ++ w)) l w) (sym preamble) (at_once d w))
+
+-- ---- a piece is pushed
+
+apart_more : (stage : Stage) (d p f w piece : List ℕ) → has_ended stage ≡ false → AreApart stage d p f w → AreApart stage d p f (w ++ piece)
+apart_more Preamble d p f w piece on parts = parts
+apart_more Waiting d p f w piece on parts = apart d ((p ++ (d ++ w)) ++ piece) p (w ++ piece) (TakesFrame-more d (p ++ (d ++ w)) p w piece parts)
+apart_more Found d p f w piece on parts =
+    let joined : (f ++ (d ++ w)) ++ piece ≡ f ++ (d ++ (w ++ piece)) = append_assoc f (d ++ w) piece ∙ ap (λ l. f ++ l) (append_assoc d w piece) in
+    let begins = TakesFrame-more d (p ++ (d ++ (f ++ (d ++ w)))) p (f ++ (d ++ w)) piece parts.0 in (
+      apart d ((p ++ (d ++ (f ++ (d ++ w)))) ++ piece) p (f ++ (d ++ (w ++ piece))) (subst (TakesFrame d ((p ++ (d ++ (f ++ (d ++ w)))) ++ piece) p) joined begins),
+      apart d ((f ++ (d ++ w)) ++ piece) f (w ++ piece) (TakesFrame-more d (f ++ (d ++ w)) f w piece parts.1),
+    )
+apart_more Ended d p f w piece on parts = cc
+
+-- what is held before the bytes that wait
+pub held_before : Stage → List ℕ → List ℕ → List ℕ → List ℕ
+held_before Preamble d p f = []
+held_before Waiting d p f = p ++ d
+held_before Found d p f = (p ++ d) ++ (f ++ d)
+held_before Ended d p f = []
+
+pub held_apart : (stage : Stage) (d p f w : List ℕ) → has_ended stage ≡ false → held_at stage d p f w ≡ held_before stage d p f ++ w
+unfolding held_before
+held_apart Preamble d p f w on = refl
+held_apart Waiting d p f w on = sym (append_assoc p d w)
+held_apart Found d p f w on = sym (append_assoc p d (f ++ (d ++ w))) ∙ ap (λ l. (p ++ d) ++ l) (sym (append_assoc f d w)) ∙ sym (append_assoc (p ++ d) (f ++ d) w)
+held_apart Ended d p f w on = cc
+
+module _ (s : Sections) (frames : Framing) (piece : List ℕ) (same : frames.separator ≡ s.frames.separator) (held : frames.held ≡ s.frames.held ++ piece) where
+  pub divided_more : has_ended s.stage ≡ false → IsDivided s → IsDivided (record s { frames = frames })
+  divided_more on parts = rw (same, held) (apart_more s.stage s.frames.separator s.preamble (concat s.found.segments) s.frames.held piece on parts)
+
+  pub held_more : has_ended s.stage ≡ false → held_by (record s { frames = frames }) ≡ held_by s ++ piece
+  held_more on =
+      let d = s.frames.separator in
+      let p = s.preamble in
+      let f = concat s.found.segments in
+      let w = s.frames.held in
+      let before = held_before s.stage d p f in
+      let joined = held_apart s.stage d p f (w ++ piece) on ∙ sym (append_assoc before w piece) ∙ ap (λ l. l ++ piece) (sym (held_apart s.stage d p f w on)) in
+      rw (same, held) joined
+
+-- what a push says of a part of the state, and of all of it
+pub push_of_all : {U : Type 0} (held piece : List ℕ) (result : Result U (Refused (List ℕ))) {A B C D : Type 0} → IsPush held piece result A B → (A → C) → (B → D) → IsPush held piece result C D
+push_of_all held piece (Ok u) push all same = record { ok = all push.ok; err = tt; back = tt; too_long = tt; empty = push.empty }
+push_of_all held piece (Err e) push all same = record { ok = tt; err = same push.err; back = push.back; too_long = push.too_long; empty = push.empty }
+
+-- what clauses see
+abbrev seen : Limits → Sections → Parting
+seen limits s = record { delimiter = s.frames.separator; limits = limits; ended = has_ended s.stage; held = held_by s }
+
+module _ (s : Sections) (frames : Framing) (piece : List ℕ) (same : frames.separator ≡ s.frames.separator) where
+  pub still_divided : {E : Type 0} (result : Result (Unit {0}) E) → OnOk result (frames.held ≡ s.frames.held ++ piece) → OnErr result (frames ≡ s.frames) → has_ended s.stage ≡ false
+      → IsDivided s → IsDivided (record s { frames = frames })
+  still_divided (Ok u) held unchanged on parts = divided_more s frames piece same held on parts
+  still_divided (Err e) held unchanged on parts = subst (λ l. IsDivided (record s { frames = l })) (sym unchanged) parts
+
+-- the bytes that wait are the last ones that are held
+pub waiting_last : (s : Sections) → has_ended s.stage ≡ false → (front : List ℕ) × (held_by s ≡ front ++ s.frames.held)
+waiting_last s on = (
+  held_before s.stage s.frames.separator s.preamble (concat s.found.segments),
+  held_apart s.stage s.frames.separator s.preamble (concat s.found.segments) s.frames.held on,
+)
+
+module _ (s : Sections) (limits : Limits) (frames : Framing) (piece : List ℕ) (result : Result (Unit {0}) (Refused (List ℕ))) (same : frames.separator ≡ s.frames.separator)
+    (push : IsPush s.frames.held piece result (frames.held ≡ s.frames.held ++ piece) (frames ≡ s.frames)) where
+  pub is_pushed : has_ended s.stage ≡ false → (front : List ℕ) × (waiting : List ℕ) × (held_by s ≡ front ++ waiting)
+      × IsPush waiting piece result (seen limits (record s { frames = frames }) ≡ appended (seen limits s) piece) (seen limits (record s { frames = frames }) ≡ seen limits s)
+  is_pushed on = let last = waiting_last s on in (
+    last.0,
+    s.frames.held,
+    last.1,
+    push_of_all s.frames.held piece result push
+        (λ held. let more = held_more s frames piece same held on in rw on (λ i. record { delimiter = same i; limits = limits; ended = false; held = more i }))
+        (λ unchanged. ap (λ l. seen limits (record s { frames = l })) unchanged),
+  )
+
+-- ---- without a part
+
+-- no part begins as a close delimiter goes on
+no_dashes : (limits : Limits) (raw : List ℕ) (part : PartBytes) (after : List ℕ) → IsPart limits raw part → raw ++ after ≢ dashes ++ drop 2 (raw ++ after)
+no_dashes limits raw part after is same = not_first is.front is.head (sym (ap (λ l. l ++ after) is.cut.bytes) ∙ same)
+  where
+    follows : List ℕ
+    follows = drop 2 (raw ++ after)
+
+    not_first : (front : List ℕ) → IsHeadIn front part.head → (front ++ (head_end ++ part.body)) ++ after ≡ dashes ++ follows → ⊥
+    not_first [] head same = omega (arith, ap (λ l. get_or l 0 0) same)
+    not_first (c ∷ front) head same = let first : c ≡ 45 = ap (λ l. get_or l 0 0) same in dash front (subst (λ b. IsHeadIn (b ∷ front) part.head) first head)
+      where
+        dash : (front : List ℕ) → IsHeadIn (45 ∷ front) part.head → ⊥
+        dash front (inl p) = omega (arith, ap length p.0)
+        dash front (inr p) = omega (arith, ap (λ l. get_or l 0 0) p)
+
+module _ (d : List ℕ) (limits : Limits) where
+  pub none_in_nothing : NoPart d limits []
+  none_in_nothing part rest takes =
+      omega (
+        arith,
+        ap length takes.begins.bytes,
+        length-append takes.preamble (d ++ takes.after),
+        length-append d takes.after,
+        ap length takes.ends.bytes,
+        length-append takes.raw (d ++ takes.next),
+        ap length takes.is.cut.bytes,
+        length-append takes.is.front (head_end ++ part.body),
+        length-append head_end part.body,
+      )
+
+  pub none_closed : (bytes : List ℕ) → Closes d bytes → NoPart d limits bytes
+  none_closed bytes closing part rest takes =
+      let same = TakesFrame-same d bytes closing.0 takes.preamble (dashes ++ closing.1) takes.after closing.2 takes.begins in
+      let whole : takes.raw ++ (d ++ takes.next) ≡ dashes ++ closing.1 = sym takes.ends.bytes ∙ sym same.1 in
+      no_dashes limits takes.raw part (d ++ takes.next) takes.is (whole ∙ ap (λ l. dashes ++ l) (sym (ap (drop 2) whole)))
+
+-- the bytes that are held now are those from before
+pub none_of_same : (old new : Sections) → SameSections old new → (limits : Limits) (more : List ℕ) → NoPart new.frames.separator limits (held_by new ++ more)
+    → NoPart old.frames.separator limits (held_by old ++ more)
+none_of_same old new same limits more none =
+    subst (λ l. NoPart l limits (held_by old ++ more)) same.delimiter (subst (λ l. NoPart new.frames.separator limits (l ++ more)) same.held none)
+
+pub due_of_same : (old new : Sections) → SameSections old new → (limits : Limits) → IsPartDue new.frames.separator limits (held_by new)
+    → IsPartDue old.frames.separator limits (held_by old)
+due_of_same old new same limits due =
+    subst (λ l. IsPartDue l limits (held_by old)) same.delimiter (subst (λ l. IsPartDue new.frames.separator limits l) same.held due)
+
+-- ---- few bytes wait
+
+module _ (limits : Limits) (d : List ℕ) where
+  few_in_nothing : FewWait d limits []
+  few_in_nothing = record {
+    for_first = λ _. omega arith;
+    before = λ preamble after takes. omega (arith, ap length takes.bytes, length-append preamble (d ++ after));
+    for_next = λ preamble after takes. omega (arith, ap length takes.bytes, length-append preamble (d ++ after), length-append d after);
+  }
+
+  few_before : (w : List ℕ) → (¬ Occurs d w) → length w ≤ limits.head + limits.body + length d → FewWait d limits w
+  few_before w none few = record {
+    for_first = λ _. few;
+    before = λ preamble after takes. absurd (none (length preamble, takes.first.here));
+    for_next = λ preamble after takes. absurd (none (length preamble, takes.first.here));
+  }
+
+  few_after : (p w : List ℕ) → TakesFrame d (p ++ (d ++ w)) p w → length p ≤ limits.head + limits.body → length w ≤ limits.head + limits.body + length d
+      → FewWait d limits (p ++ (d ++ w))
+  few_after p w begins short few = record {
+    for_first = λ none. absurd (none (length p, begins.first.here));
+    before = λ preamble after takes. omega (arith, short, ap length (TakesFrame-same d (p ++ (d ++ w)) p preamble w after begins takes).0);
+    for_next = λ preamble after takes. omega (arith, few, ap length (TakesFrame-same d (p ++ (d ++ w)) p preamble w after begins takes).1);
+  }
+
+-- ---- after a search
+
+module _ (limits : Limits) (old s : Sections) where
+  -- if it found no part, there is none
+  pub none_after : (stage : Stage) → AfterSearch stage old s → stage ≢ Found → NoPart old.frames.separator limits (held_by old)
+  none_after Preamble after not_found = no_part_yet old.frames.separator limits (held_by old) after.3
+  none_after Waiting after not_found = no_part_yet old.frames.separator limits (held_by old) after.3
+  none_after Found after not_found = absurd (not_found refl)
+  none_after Ended (inl before) not_found =
+      subst (λ stage. NoPart old.frames.separator limits (held_at stage old.frames.separator old.preamble (concat old.found.segments) old.frames.held)) (sym before)
+      (none_in_nothing old.frames.separator limits)
+  none_after Ended (inr closing) not_found = none_closed old.frames.separator limits (held_by old) closing
+
+  abbrev Kept : Type 0
+  Kept = (seen limits s ≡ seen limits old) × (¬ Closes old.frames.separator (held_by old)) × LacksNext old.frames.separator (held_by old)
+
+  abbrev End : Type 0
+  End = (seen limits s ≡ closed (seen limits old)) × ((has_ended old.stage ≡ true) ⊎ Closes old.frames.separator (held_by old))
+
+  idle_kept : has_ended s.stage ≡ false → SameSections old s → (¬ Closes old.frames.separator (held_by old)) → LacksNext old.frames.separator (held_by old)
+      → IsIdle (seen limits old) (seen limits s)
+  idle_kept on same still_open lacks =
+      let unchanged : seen limits s ≡ seen limits old =
+      λ i. record { delimiter = same.delimiter i; limits = limits; ended = same.ended i; held = same.held i } in
+      subst (λ b. MatchBool b End Kept) (sym on) (unchanged, still_open, lacks)
+
+  -- then it changed nothing, or the close delimiter was read
+  pub idle_after : (stage : Stage) → s.stage ≡ stage → s.frames.separator ≡ old.frames.separator → AfterSearch stage old s → stage ≢ Found → IsIdle (seen limits old) (seen limits s)
+  idle_after Preamble is delimiter after not_found = idle_kept (ap has_ended is) after.0 after.2 after.3
+  idle_after Waiting is delimiter after not_found = idle_kept (ap has_ended is) after.0 after.2 after.3
+  idle_after Found is delimiter after not_found = absurd (not_found refl)
+  idle_after Ended is delimiter after not_found =
+      let nothing : held_by s ≡ [] = ap (λ stage. held_at stage s.frames.separator s.preamble (concat s.found.segments) s.frames.held) is in
+      let ended : seen limits s ≡ closed (seen limits old) =
+      λ i. record { delimiter = delimiter i; limits = limits; ended = ap has_ended is i; held = nothing i } in
+      let why : (has_ended old.stage ≡ true) ⊎ Closes old.frames.separator (held_by old) = elim after [ inl before ↦ inl (ap has_ended before) | inr closing ↦ inr closing ] in
+      subst (λ b. MatchBool b End Kept) (sym (ap has_ended is)) (ended, why)
+
+  -- few bytes wait then, if they are within the limits
+  module _ (short : length s.preamble ≤ limits.head + limits.body) (few : length s.frames.held ≤ limits.head + limits.body + length s.frames.separator) where
+    pub few_wait : (stage : Stage) → AfterSearch stage old s → stage ≢ Found → AreApart stage s.frames.separator s.preamble (concat s.found.segments) s.frames.held
+        → FewWait s.frames.separator limits (held_at stage s.frames.separator s.preamble (concat s.found.segments) s.frames.held)
+    few_wait Preamble after not_found parts =
+        few_before limits s.frames.separator s.frames.held (subst (λ d. ¬ Occurs d s.frames.held) (sym after.0.delimiter) after.1) few
+    few_wait Waiting after not_found parts = few_after limits s.frames.separator s.preamble s.frames.held parts short few
+    few_wait Found after not_found parts = absurd (not_found refl)
+    few_wait Ended after not_found parts = few_in_nothing limits s.frames.separator
+
+  -- if they are not, no part comes
+  module _ (more : List ℕ) where
+    same_none : (stage : Stage) → s.stage ≡ stage → SameSections old s
+        → NoPart s.frames.separator limits (held_at stage s.frames.separator s.preamble (concat s.found.segments) s.frames.held ++ more) → NoPart old.frames.separator limits (held_by old ++ more)
+    same_none stage is same none =
+        none_of_same old s same limits more
+        (subst (λ stage. NoPart s.frames.separator limits (held_at stage s.frames.separator s.preamble (concat s.found.segments) s.frames.held ++ more)) (sym is) none)
+
+    pub over_limits : (stage : Stage) → s.stage ≡ stage → AfterSearch stage old s → AreApart stage s.frames.separator s.preamble (concat s.found.segments) s.frames.held
+        → ((limits.head + limits.body < length s.preamble) ⊎ ((s.stage ≢ Found) × (limits.head + limits.body + length s.frames.separator < length s.frames.held)))
+        → NoPart old.frames.separator limits (held_by old ++ more)
+    over_limits Preamble is after parts (inl much) = absurd (omega (arith, much, ap length parts))
+    over_limits Preamble is after parts (inr waits) =
+        same_none Preamble is after.0
+        (long_preamble s.frames.separator limits s.frames.held (subst (λ d. ¬ Occurs d s.frames.held) (sym after.0.delimiter) after.1) waits.1 more)
+    over_limits Waiting is after parts (inl much) = same_none Waiting is after.0 (many_before s.frames.separator limits s.preamble s.frames.held parts much more)
+    over_limits Waiting is after parts (inr waits) =
+        same_none Waiting is after.0
+        (long_part s.frames.separator limits s.preamble s.frames.held parts (subst (λ d. ¬ Occurs d s.frames.held) (sym after.0.delimiter) after.1) waits.1 more)
+    over_limits Found is after parts (inl much) =
+        same_none Found is after
+        (many_before s.frames.separator limits s.preamble (concat s.found.segments ++ (s.frames.separator ++ s.frames.held)) parts.0 much more)
+    over_limits Found is after parts (inr waits) = absurd (waits.0 is)
+    over_limits Ended is after parts (inl much) = absurd (omega (arith, much, ap length parts.0))
+    over_limits Ended is after parts (inr waits) = absurd (omega (arith, waits.1, ap length parts.1))
+
+-- ---- the name
+
+-- what `split_once` gives at a text, or that the text occurs nowhere
+pub split_at_text : (p text : List ℕ) (r : Option (Bor (List ℕ) × Bor (List ℕ))) → MatchOption r (FindsText p text None) (λ x. SplitsAroundMatch (FindsText p) text x.0.now x.1.now)
+    → MatchOption r (¬ Occurs p text) (λ x. TakesFrame p text x.0.now x.1.now)
+split_at_text p text None lacks = λ occurs.
+    split_text_parts p text None lacks (take occurs.0 text) (drop (occurs.0 + length p) text) (sym (cut_whole p text occurs.0 occurs.1))
+split_at_text p text (Some x) splits =
+    let whole = split_text_parts p text (Some x) splits in
+    record {
+      bytes = whole;
+      first = record {
+        here = subst (λ l. OccursAt p l (length x.0.now)) (sym whole) (OccursAt-between x.0.now p x.1.now);
+        none_before = λ j there.
+            let rest = drop (length p) (drop j text) in
+            let not_before : j < length x.0.now → ⊥ = λ below.
+            splits.2.0 j (omega (arith, below, splits.6)) rest (sym (take-append-drop (length p) (drop j text)) ∙ ap (λ l. l ++ rest) there) in
+            omega (arith, not_before);
+      };
+    }
+
+module _ (key text before after : List ℕ) (begins : TakesFrame key text before after) where
+  pub quoted_to : (value rest : List ℕ) → TakesFrame quote after value rest → IsQuoted key text value
+  quoted_to value rest ends = record { before = before; after = after; begins = begins; rest = rest; ends = ends }
+
+  pub no_quote : (¬ Occurs quote after) → (other : List ℕ) → ¬ IsQuoted key text other
+  no_quote none other is =
+      let same = TakesFrame-same key text before is.before after is.after begins is.begins in
+      none (length other, subst (λ l. OccursAt quote l (length other)) (sym same.1) is.ends.first.here)
+
+-- the lines before these are no such header, and this one is
+pub first_of : (all before : List (List ℕ)) (line : List ℕ) (others : List (List ℕ)) (value : List ℕ) → all ≡ before ++ line ∷ others → All NoDisposition before → IsDisposition line value
+    → IsFirstDisposition all value
+first_of all before line others value parts none is = record { before = before; line = line; others = others; parts = parts; none = none; is = is }
+
+-- ---- what is in a raw part
+
+-- no head ends
+pub no_head_end : (limits : Limits) (raw : List ℕ) (part : PartBytes) → (¬ Occurs head_end raw) → ¬ IsPart limits raw part
+no_head_end limits raw part none is = none (length is.front, is.cut.first.here)
+
+-- what is before the end of the head is no head
+pub no_head : (limits : Limits) (raw front body : List ℕ) (part : PartBytes) → TakesFrame head_end raw front body → ((head : List ℕ) → ¬ IsHeadIn front head) → ¬ IsPart limits raw part
+no_head limits raw front body part cut none is =
+    let same = TakesFrame-same head_end raw front is.front body part.body cut is.cut in
+    none part.head (subst (λ l. IsHeadIn l part.head) (sym same.0) is.head)
+
+-- a head that ends within the limits, and a body within them
+pub is_part : (limits : Limits) (raw : List ℕ) (len : ℕ) (head : List ℕ) → TakesFrame head_end raw (take len raw) (drop (len + length head_end) raw) → IsHeadIn (take len raw) head
+    → len + length head_end ≤ length raw → len + length head_end ≤ limits.head → length raw - (len + length head_end) ≤ limits.body
+    → IsPart limits raw (part_bytes head (drop (len + length head_end) raw))
+is_part limits raw len head cut is within small short = record {
+  front = take len raw;
+  cut = cut;
+  head = is;
+  small = omega (arith, small, length-take-le len raw (omega (arith, within)));
+  short = omega (arith, short, length-drop (len + length head_end) raw);
+}

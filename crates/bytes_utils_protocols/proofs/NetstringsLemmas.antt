@@ -1,0 +1,70 @@
+-- Netstrings, read part by part.
+use Rattle.std.proofs.Common.{◌≡◌, ℕ, ◌+◌, ◌<◌, List, [], ◌∷◌, ◌++◌, length, Option, None, Some, Result, Ok, Err, inl, ap, ◌∙◌, sym, refl, subst, arith, append_assoc, append-nil, length-append}
+use Rattle.std.specs.Prelude.{IfOk, IfErr, IfSome, IfNone, OnErr}
+use Rattle.std.specs.List.{concat}
+use Rattle.std.specs.Str.Parse.{digits_value}
+use Rattle.bytes_utils_buf.specs.Packing.{Packing}
+use Rattle.bytes_utils_codec.specs.Cursor.{IsBegun, NeverBegins, TakesFirst}
+use Rattle.bytes_utils_codec.specs.Decoding.{Decodes, DecodesAtEnd, HasSameNext, decoding}
+use Rattle.bytes_utils_codec.specs.Frames.{TakesFrame}
+use Rattle.bytes_utils_codec.proofs.DecodingLemmas.{SameNext-refl}
+use Rattle.bytes_utils_codec.proofs.FramesLemmas.{TakesFrame-more, TakesFrame-same}
+use Rattle.bytes_utils.proofs.Joins.{append_same}
+use Rattle.bytes_utils_protocols.specs.Netstrings.{NoNetstring, TakesNetstring, awaits_netstring, comma, fails_netstring, gives_netstring}
+use Rattle.bytes_utils_protocols.specs.Digits.{WriteNumber, colon}
+use Rattle.bytes_utils_protocols.specs.declared.netstrings.NetstringError.{NetstringError}
+
+-- the bytes up to the first colon, and those after it
+module _ (bytes digits after : List ℕ) (front : TakesFrame (colon ∷ []) bytes digits after) where
+  -- they stay the same, whatever comes after the bytes
+  parts : (more text rest : List ℕ) → (takes : TakesNetstring (bytes ++ more) text rest) → (digits ≡ takes.digits) × (after ++ more ≡ takes.after)
+  parts more text rest takes =
+      TakesFrame-same (colon ∷ []) (bytes ++ more) digits takes.digits (after ++ more) takes.after (TakesFrame-more (colon ∷ []) bytes digits after more front) takes.front
+
+  pub no_number : ((n : ℕ) → ¬ WriteNumber digits n) → (more : List ℕ) → NoNetstring (bytes ++ more)
+  no_number none more text rest takes =
+      none (length text) (subst (λ d. WriteNumber d (length text)) (sym (parts more text rest takes).0) takes.len)
+
+  module _ (len : ℕ) (number : WriteNumber digits len) where
+    size : (more text rest : List ℕ) → TakesNetstring (bytes ++ more) text rest → len ≡ length text
+    size more text rest takes = sym number.1 ∙ ap (digits_value 10) (parts more text rest takes).0 ∙ takes.len.1
+
+    whole : (more text rest : List ℕ) → TakesNetstring (bytes ++ more) text rest → after ++ more ≡ text ++ (comma ∷ rest)
+    whole more text rest takes = (parts more text rest takes).1 ∙ takes.bytes
+
+    -- the text and the comma are after the colon
+    pub too_few : length after < len + 1 → NoNetstring bytes
+    too_few few = subst NoNetstring (append-nil bytes) (λ text rest takes.
+        let all = ap length (whole [] text rest takes) in
+        omega (arith, few, size [] text rest takes, all, length-append after [], length-append text (comma ∷ rest)))
+
+    module _ (text left : List ℕ) (first : TakesFirst len after text left) where
+      pub no_comma : IsBegun (comma ∷ []) left → NoNetstring bytes
+      no_comma begun = too_few
+          (omega (arith, ap length begun.1, begun.2, length-append left begun.0, ap length first.bytes, first.size, length-append text left))
+
+      pub wrong_comma : NeverBegins (comma ∷ []) left → (more : List ℕ) → NoNetstring (bytes ++ more)
+      wrong_comma never more other rest takes =
+          let joined : text ++ (left ++ more) ≡ other ++ (comma ∷ rest) =
+          sym (append_assoc text left more) ∙ ap (λ l. l ++ more) (sym first.bytes) ∙ whole more other rest takes in
+          never more rest (append_same text other (left ++ more) (comma ∷ rest) (first.size ∙ size more other rest takes) joined).1
+
+-- ---- what a call did
+
+module _ {D : Type 0} (d : D) (old new : Packing) where
+  same_next : new ≡ old → HasSameNext gives_netstring (decoding d old) (decoding d new)
+  same_next is = subst (λ p. HasSameNext gives_netstring (decoding d old) (decoding d p)) (sym is) (SameNext-refl gives_netstring (decoding d old))
+
+  pub decodes_netstring : (r : Result (Option (List ℕ)) NetstringError) → IfOk r (λ next. IfSome next (λ text. TakesNetstring (concat old.held.segments) text (concat new.held.segments)))
+      → IfOk r (λ next. IfNone next (NoNetstring (concat old.held.segments))) → IfOk r (λ next. IfNone next (new ≡ old)) → OnErr r (new ≡ old)
+      → IfErr r (fails_netstring (decoding d old)) → Decodes gives_netstring awaits_netstring fails_netstring (decoding d old) r (decoding d new)
+  decodes_netstring (Ok (Some text)) takes none waits err fails = (refl, takes)
+  decodes_netstring (Ok None) takes none waits err fails = (none, same_next waits)
+  decodes_netstring (Err error) takes none waits err fails = (fails, same_next err)
+
+  pub ends_netstring : (r : Result (Option (List ℕ)) NetstringError) → IfOk r (λ next. IfSome next (λ text. TakesNetstring (concat old.held.segments) text (concat new.held.segments)))
+      → IfOk r (λ next. IfNone next (NoNetstring (concat old.held.segments))) → IfOk r (λ next. IfNone next (new ≡ old)) → OnErr r (new ≡ old)
+      → IfErr r (fails_netstring (decoding d old)) → DecodesAtEnd gives_netstring fails_netstring (decoding d old) r (decoding d new)
+  ends_netstring (Ok (Some text)) takes none waits err fails = inl (refl, takes)
+  ends_netstring (Ok None) takes none waits err fails = (none, ap (decoding d) waits)
+  ends_netstring (Err error) takes none waits err fails = (fails, same_next err)

@@ -1,0 +1,150 @@
+-- What was read of a reply, as bytes and items come.
+use Rattle.std.proofs.Common.{◌≡◌, ◌≢◌, ℕ, ◌+◌, ◌-◌, ◌^◌, ◌<◌, ◌≤◌, ⊎_elim, List, [], ◌∷◌, ◌++◌, length, take, drop, Result, Ok, Err, Some, ap, ◌∙◌, sym, refl, subst, arith, append_assoc, append-nil, length-append, OnOk, OnErr}
+use Rattle.std.specs.Global.{Vec}
+use Rattle.std.specs.List.{concat, slice_get, slice_range}
+use Rattle.std.proofs.lemmas.List.{drop-append-le, length-take, take-append-le, take-append-drop}
+use Rattle.std.proofs.lemmas.Option.{same_Some}
+use Rattle.bytes.proofs.Ranges.{drop-take_less}
+use Rattle.bytes_utils_buf.specs.Packing.{Packing}
+use Rattle.bytes_utils_buf.specs.declared.refused.Reason.{Reason}
+use Rattle.bytes_utils_buf.specs.declared.refused.Reason.TheVariants.{OutOfMemory}
+use Rattle.bytes_utils_codec.specs.Cursor.{Reading, passed_on, unread}
+use Rattle.bytes_utils_codec.specs.Frames.{TakesFrame}
+use Rattle.bytes_utils_codec.specs.StreamRuns.{AreFirst}
+use Rattle.bytes_utils_codec.proofs.FramesLemmas.{TakesFrame-more}
+use Rattle.bytes_utils_codec.proofs.StreamRunsLemmas.{AreFirst-more}
+use Rattle.bytes_utils_protocols.specs.Redis.{line_end, BeginsBody, HasNoBody, IsLineOf, IsTextLine, TakesItem, TakesReply, ArePending, NoItem, items_in}
+use Rattle.bytes_utils_protocols.specs.PendingReply.{AwaitsBody, AwaitsItem, HasItem, IsNext, IsNoItem, IsPending, IsReadAs, held_by, unread_by}
+use Rattle.bytes_utils_protocols.specs.declared.redis.item.Item.{Item}
+use Rattle.bytes_utils_protocols.specs.declared.redis.item.Item.TheVariants.{Simple, Error}
+use Rattle.bytes_utils_protocols.specs.declared.redis.limits.Limits.{Limits}
+use Rattle.bytes_utils_protocols.specs.declared.redis.limits.ReplyError.{ReplyError}
+use Rattle.bytes_utils_protocols.specs.declared.redis.limits.ReplyError.TheVariants.{Refused, Malformed, TooLarge}
+use Rattle.bytes_utils_protocols.specs.declared.redis.pending.Next.{Next}
+use Rattle.bytes_utils_protocols.specs.declared.redis.pending.Next.TheVariants.{InLine, InBody}
+use Rattle.bytes_utils_protocols.specs.declared.redis.pending.Pending.{Pending}
+use Rattle.bytes_utils_protocols.proofs.RedisLemmas.{TakesItem-more, no_body, read_one, whole_reply}
+use Rattle.bytes_utils_protocols.proofs.ReplyBeginnings.{begins_bulk}
+
+-- ---- more bytes come
+
+still_next : (limits : Limits) (u piece : List ℕ) (next : Next) → IsNext limits u next → IsNext limits (u ++ piece) next
+still_next limits u piece (InLine begun) is =
+    (omega (arith, is.0, length-append u piece), subst (IsReadAs begun.line) (sym (take-append-le begun.len u piece is.0)) is.1)
+still_next limits u piece (InBody start len) is = record {
+  line = is.line;
+  framed = subst (TakesFrame line_end (u ++ piece) is.line) (sym (drop-append-le start u piece is.within)) (TakesFrame-more line_end u is.line (drop start u) piece is.framed);
+  is = is.is;
+  short = is.short;
+  small = is.small;
+  within = omega (arith, is.within, length-append u piece);
+}
+
+module _ (limits : Limits) (p : Pending) (pieces : Packing) (piece : List ℕ) where
+  pushed : concat pieces.held.segments ≡ unread_by p ++ piece → length (held_by p) + length piece < 2 ^ 64 → IsPending limits p → IsPending limits (record p { pieces = pieces })
+  pushed more fits is =
+      let all : p.passed ++ concat pieces.held.segments ≡ held_by p ++ piece = ap (λ l. p.passed ++ l) more ∙ sym (append_assoc p.passed (unread_by p) piece) in
+      record {
+        are = subst (λ l. AreFirst (TakesItem limits) l p.items.items (concat pieces.held.segments)) (sym all)
+            (subst (λ l. AreFirst (TakesItem limits) (held_by p ++ piece) p.items.items l) (sym more)
+            (AreFirst-more (λ l x. l ++ x) (TakesItem limits) (TakesItem-more limits) (held_by p) p.items.items (unread_by p) piece is.are));
+        due = is.due;
+        within = is.within;
+        next = subst (λ l. IsNext limits l p.next) (sym more) (still_next limits (unread_by p) piece p.next is.next);
+        fits = omega (arith, fits, ap length all, length-append (held_by p) piece);
+      }
+
+  -- after a push, or a refused one
+  pub still_pending : {U E : Type 0} → (result : Result U E) → OnOk result (concat pieces.held.segments ≡ unread_by p ++ piece) → OnErr result (pieces ≡ p.pieces)
+      → length (held_by p) + length piece < 2 ^ 64 → IsPending limits p → IsPending limits (record p { pieces = pieces })
+  still_pending (Ok u) more same fits is = pushed more fits is
+  still_pending (Err e) more same fits is = subst (λ held. IsPending limits (record p { pieces = held })) (sym same) is
+
+-- the same items, in whatever room
+pub same_items : (limits : Limits) (p : Pending) (items : Vec Item) → items.items ≡ p.items.items → IsPending limits p → IsPending limits (record p { items = items })
+same_items limits p items same is = record {
+  are = subst (λ l. AreFirst (TakesItem limits) (held_by p) l (unread_by p)) (sym same) is.are;
+  due = subst (λ l. ArePending 1 l p.due) (sym same) is.due;
+  within = λ some. omega (arith, is.within some, ap length same);
+  next = is.next;
+  fits = is.fits;
+}
+
+-- ---- nothing was read
+
+pub nothing_read : (limits : Limits) (p : Pending) → p.passed ≡ [] → p.items.items ≡ [] → p.due ≡ 1 → IsNext limits (unread_by p) p.next → length (unread_by p) < 2 ^ 64 → IsPending limits p
+nothing_read limits p passed items due next fits =
+    let all : held_by p ≡ unread_by p = ap (λ l. l ++ unread_by p) passed in
+    record {
+      are = subst (λ l. AreFirst (TakesItem limits) (held_by p) l (unread_by p)) (sym items) all;
+      due = subst (λ l. ArePending 1 l p.due) (sym items) (sym due);
+      within = λ some. omega (arith, some, due, ap length items);
+      next = next;
+      fits = omega (arith, fits, ap length all);
+    }
+
+-- ---- a text
+
+module _ (u : List ℕ) (len : ℕ) (line : IsTextLine (take len u)) where
+  begins_with : slice_get u 0 ≡ Some line.kind
+  begins_with = ap (λ l. slice_get l 0) (sym (take-append-drop len u) ∙ ap (λ l. l ++ drop len u) line.parts)
+
+  its_text : slice_range u 1 len ≡ line.text
+  its_text = sym (drop-take_less u 1 len some) ∙ ap (drop 1) line.parts
+    where
+      some : 1 ≤ len
+      some = omega (arith, ap length line.parts, length-take len u)
+
+  pub simple_text : (text : List ℕ) → text ≡ slice_range u 1 len → slice_get u 0 ≡ Some 43 → IsLineOf (Simple text) (take len u)
+  simple_text text is first =
+      let kind : line.kind ≡ 43 = same_Some line.kind 43 (sym begins_with ∙ first) in
+      (line.text, line.parts ∙ ap (λ b. b ∷ line.text) kind, (is ∙ its_text, line.plain))
+
+  pub error_text : (text : List ℕ) → text ≡ slice_range u 1 len → slice_get u 0 ≢ Some 43 → IsLineOf (Error text) (take len u)
+  error_text text is first =
+      let kind : line.kind ≡ 45 = ⊎_elim (λ simple. absurd (first (begins_with ∙ ap Some simple))) (λ error. error) line.is in
+      (line.text, line.parts ∙ ap (λ b. b ∷ line.text) kind, (is ∙ its_text, line.plain))
+
+-- ---- a bulk item
+
+pub cursor_at : (u : List ℕ) (start : ℕ) (first next : Reading) → first ≡ record { all = u; at = 0 } → next ≡ passed_on start first → unread next ≡ drop start u
+cursor_at u start first next is passed =
+    let same : 0 + start ≡ start = omega arith in
+    ap unread passed ∙ ap (λ r. unread (passed_on start r)) is ∙ ap (λ n. drop n u) same
+
+module _ (limits : Limits) (room : ℕ) (u : List ℕ) (start len : ℕ) (awaits : AwaitsBody limits u start len) where
+  pub no_bulk_item : (e : ReplyError) → (e ≡ Malformed → (more : List ℕ) → HasNoBody len (drop start u ++ more)) → e ≢ TooLarge → ((reason : Reason) → e ≡ Refused reason → reason ≡ OutOfMemory)
+      → IsNoItem limits room u e
+  no_bulk_item e malformed too_large reason = record {
+    malformed = λ is any more. no_body any u more awaits.line (drop start u) awaits.framed len awaits.is (malformed is more);
+    too_large = λ is. absurd (too_large is);
+    memory = reason;
+  }
+
+  pub awaits_bulk : HasNoBody len (drop start u) → BeginsBody len (drop start u) → AwaitsItem limits room u
+  awaits_bulk none begins = record {
+    none = subst (NoItem limits) (append-nil u) (no_body limits u [] awaits.line (drop start u) awaits.framed len awaits.is (subst (HasNoBody len) (sym (append-nil (drop start u))) none));
+    begins = begins_bulk limits room u awaits.line (drop start u) len awaits.framed awaits.is awaits.short awaits.small begins;
+  }
+
+-- ---- an item is kept
+
+pub one_kept : (limits : Limits) (room : ℕ) (p next : Pending) (item : Item) (len : ℕ) → IsPending limits p → 0 < p.due → length p.items.items + p.due + room ≤ limits.items
+    → HasItem limits room (unread_by p) item len → next.items.items ≡ p.items.items ++ item ∷ [] → next.due ≡ (p.due - 1) + items_in item → unread_by next ≡ drop len (unread_by p)
+    → held_by next ≡ held_by p → IsNext limits (unread_by next) next.next → IsPending limits next
+one_kept limits room p next item len is some full has items due rest held at =
+    let read = read_one limits limits [] (held_by p) p.items.items (unread_by p) p.due is.are is.due item (drop len (unread_by p)) (items_in item) some has.takes refl in
+    record {
+      are = subst (λ l. AreFirst (TakesItem limits) (held_by next) l (unread_by next)) (sym items)
+          (subst (λ l. AreFirst (TakesItem limits) (held_by next) (p.items.items ++ item ∷ []) l) (sym rest)
+          (subst (λ l. AreFirst (TakesItem limits) l (p.items.items ++ item ∷ []) (drop len (unread_by p))) (sym held) read.0));
+      due = subst (λ l. ArePending 1 l next.due) (sym items) (subst (ArePending 1 (p.items.items ++ item ∷ [])) (sym due) read.1);
+      within = λ _. omega (arith, full, has.few, due, some, ap length items, length-append p.items.items (item ∷ []));
+      next = at;
+      fits = omega (arith, is.fits, ap length held);
+    }
+
+-- all items of a reply are kept
+pub reply_read : (limits : Limits) (p : Pending) → IsPending limits p → 0 < limits.items → p.due ≡ 0 → TakesReply limits (held_by p) p.items.items (unread_by p)
+reply_read limits p is some none =
+    whole_reply limits (held_by p) p.items.items (unread_by p) is.are (subst (ArePending 1 p.items.items) none is.due) (omega (arith, is.within some))

@@ -1,0 +1,193 @@
+-- Beginnings of replies of the Redis protocol: what can become an item, and what can become a reply.
+use Rattle.std.proofs.Common.{◌≡◌, ℕ, zero, suc, ◌+◌, ◌-◌, ◌<◌, ◌≤◌, ⊎_elim, List, [], ◌∷◌, ◌++◌, length, drop, get_or, Some, ap, ◌∙◌, sym, refl, subst, arith, append_assoc, append-nil, length-append}
+use Rattle.std.specs.Prelude.{replicate}
+use Rattle.std.proofs.lemmas.Bool.{cases_lt}
+use Rattle.std.proofs.lemmas.List.{append_cancel_left, length-replicate}
+use Rattle.bytes_utils_codec.specs.Cursor.{IsBegun, TakesFirst}
+use Rattle.bytes_utils_codec.specs.Frames.{TakesFrame}
+use Rattle.bytes_utils.specs.Lines.{carriage_return, line_feed}
+use Rattle.bytes_utils_codec.specs.StreamRuns.{AreFirst}
+use Rattle.bytes_utils_codec.proofs.FramesLemmas.{TakesFrame-more}
+use Rattle.bytes_utils_codec.proofs.StreamRunsLemmas.{AreFirst-more}
+use Rattle.bytes_utils_protocols.specs.Digits.{WriteNumber}
+use Rattle.bytes_utils_protocols.specs.Redis.{line_end, BeginsBody, BeginsItem, BeginsReply, IsLineOf, IsLineWithin, NoItem, NoItemWithin, TakesItem, AreWhole, ArePending, after_line, items_in}
+use Rattle.bytes_utils_protocols.specs.PendingReply.{IsHeadOf, NoReturn, NoneEnds}
+use Rattle.bytes_utils_protocols.specs.declared.redis.line.Head.TheVariants.{Body}
+use Rattle.bytes_utils_protocols.specs.declared.redis.item.Item.{Item}
+use Rattle.bytes_utils_protocols.specs.declared.redis.item.Item.TheVariants.{Simple, Bulk}
+use Rattle.bytes_utils_protocols.specs.declared.redis.limits.Limits.{Limits}
+use Rattle.bytes_utils_protocols.proofs.RedisLemmas.{TakesItem-more}
+use Rattle.bytes_utils_protocols.proofs.ReplyLines.{line_no_return, no_return_within, framed_line}
+
+-- ---- a line can become an item
+
+whole_item : (limits : Limits) (room : ℕ) (item : Item) (line : List ℕ) → IsLineWithin limits room item line → TakesItem limits (line ++ (line_end ++ after_line item)) item []
+whole_item limits room item line within = record {
+  line = line;
+  is = within.is;
+  bytes = subst (TakesFrame line_end (line ++ (line_end ++ after_line item)) line) (sym (append-nil (after_line item)))
+      (framed_line line (after_line item) (line_no_return item line within.is));
+  short = within.short;
+  small = within.small;
+}
+
+module _ (limits : Limits) (room : ℕ) (item : Item) where
+  -- the rest of the line, its end, and what follows it are to come
+  pub begun_item : (begun more : List ℕ) → IsLineWithin limits room item (begun ++ more) → BeginsItem limits room begun
+  begun_item begun more within = (
+    more ++ (line_end ++ after_line item),
+    item,
+    subst (λ l. TakesItem limits l item []) (append_assoc begun more (line_end ++ after_line item)) (whole_item limits room item (begun ++ more) within),
+    within.few,
+  )
+
+  -- the line feed, and what follows it, are to come
+  pub ended_item : (line : List ℕ) → IsLineWithin limits room item line → BeginsItem limits room (line ++ carriage_return ∷ [])
+  ended_item line within = (
+    line_feed ∷ after_line item,
+    item,
+    subst (λ l. TakesItem limits l item []) (sym (append_assoc line (carriage_return ∷ []) (line_feed ∷ after_line item))) (whole_item limits room item line within),
+    within.few,
+  )
+
+-- ---- the bytes before any end of a line
+
+-- bytes that begin the same, of which the shorter ones come first
+front_of : (short rest long more : List ℕ) → short ++ rest ≡ long ++ more → length short ≤ length long → (x : List ℕ) × (long ≡ short ++ x)
+front_of [] rest long more same le = (long, refl)
+front_of (b ∷ short) rest [] more same le = absurd (omega (arith, le))
+front_of (b ∷ short) rest (c ∷ long) more same le =
+    let later = front_of short rest long more (ap (drop 1) same) (omega (arith, le)) in
+    (later.0, λ i. ap (λ l. get_or l 0 0) (sym same) i ∷ later.1 i)
+
+module _ (limits : Limits) (front rest more : List ℕ) (none : NoneEnds (length front) ((front ++ rest) ++ more)) where
+  -- the line of an item begins with the bytes before any end of a line
+  its_line : (item : Item) (left : List ℕ) (takes : TakesItem limits ((front ++ rest) ++ more) item left) → (x : List ℕ) × (takes.line ≡ front ++ x)
+  its_line item left takes = ⊎_elim
+      (λ ends. absurd (none (length takes.line) ends takes.bytes.first.here))
+      (λ le. front_of front (rest ++ more) takes.line (line_end ++ (after_line item ++ left)) (sym (append_assoc front rest more) ∙ takes.bytes.bytes) le)
+      (cases_lt (length takes.line) (length front))
+
+  pub no_begun : ((item : Item) (x : List ℕ) → ¬ IsLineOf item (front ++ x)) → NoItem limits ((front ++ rest) ++ more)
+  no_begun never item left takes = let x = its_line item left takes in never item x.0 (subst (IsLineOf item) x.1 takes.is)
+
+  pub large_begun : (room : ℕ) → ((item : Item) (x : List ℕ) → ¬ IsLineWithin limits room item (front ++ x)) → NoItemWithin limits room ((front ++ rest) ++ more)
+  large_begun room never item left takes = ⊎_elim (λ large. large) (λ few. absurd (within few)) (cases_lt room (items_in item))
+    where
+      within : items_in item ≤ room → ⊥
+      within few =
+          let x = its_line item left takes in
+          never item x.0 (subst (IsLineWithin limits room item) x.1 (record { is = takes.is; short = takes.short; small = takes.small; few = few }))
+
+  -- a carriage return comes after them: they are the line
+  pub no_ended : (after : List ℕ) → rest ≡ carriage_return ∷ after → ((item : Item) → ¬ IsLineOf item front) → NoItem limits ((front ++ rest) ++ more)
+  no_ended after ended never item left takes =
+      let x = its_line item left takes in
+      never item (subst (IsLineOf item) (x.1 ∙ ap (λ l. front ++ l) (nothing x.0 x.1) ∙ append-nil front) takes.is)
+    where
+      nothing : (x : List ℕ) → takes.line ≡ front ++ x → x ≡ []
+      nothing [] same = refl
+      nothing (c ∷ x) same =
+          let tail : rest ++ more ≡ (c ∷ x) ++ (line_end ++ (after_line item ++ left)) =
+          append_cancel_left front (rest ++ more) ((c ∷ x) ++ (line_end ++ (after_line item ++ left)))
+          (sym (append_assoc front rest more) ∙ takes.bytes.bytes ∙ ap (λ l. l ++ (line_end ++ (after_line item ++ left))) same ∙ append_assoc front (c ∷ x) (line_end ++ (after_line item ++ left))) in
+          let return : carriage_return ≡ c = ap (λ l. get_or l 0 0) (ap (λ l. l ++ more) (sym ended) ∙ tail) in
+          absurd (no_return_within front x
+          (subst NoReturn (same ∙ ap (λ b. front ++ b ∷ x) (sym return) ∙ sym (append_assoc front (carriage_return ∷ []) x)) (line_no_return item takes.line takes.is)))
+
+-- ---- the bytes of a bulk item
+
+-- some of the bytes are to come
+pub begins_body : (len : ℕ) (bytes : List ℕ) → length bytes < len → BeginsBody len bytes
+begins_body len bytes less = (
+  replicate (len - length bytes) 0 ++ line_end,
+  bytes ++ replicate (len - length bytes) 0,
+  omega (arith, less, length-append bytes (replicate (len - length bytes) 0), length-replicate {A = ℕ} (len - length bytes) 0),
+  sym (append_assoc bytes (replicate (len - length bytes) 0) line_end),
+)
+
+-- some of their end is to come
+pub begins_end : (len : ℕ) (old bytes mid : List ℕ) → TakesFirst len old bytes mid → IsBegun line_end mid → BeginsBody len old
+begins_end len old bytes mid first begun =
+    (begun.0, bytes, first.size, ap (λ l. l ++ begun.0) first.bytes ∙ append_assoc bytes mid begun.0 ∙ ap (λ l. bytes ++ l) (sym begun.1))
+
+-- after a whole line
+pub begins_bulk : (limits : Limits) (room : ℕ) (old line mid : List ℕ) (len : ℕ) → TakesFrame line_end old line mid → IsHeadOf (Body len) line → length line ≤ limits.line
+    → len ≤ limits.bulk → BeginsBody len mid → BeginsItem limits room old
+begins_bulk limits room old line mid len framed head short small (more, front, size, same) = (
+  more,
+  Bulk (Some front),
+  record {
+    line = line;
+    is = (head.0, head.1, subst (WriteNumber head.0) (sym size) head.2);
+    bytes = subst (TakesFrame line_end (old ++ more) line) (same ∙ sym (append-nil (front ++ line_end))) (TakesFrame-more line_end old line mid more framed);
+    short = short;
+    small = omega (arith, size, small);
+  },
+  omega arith,
+)
+
+-- ---- items after one another
+
+-- texts of no bytes, and what they are read from
+abbrev texts : ℕ → List Item
+texts zero = []
+texts (suc n) = Simple [] ∷ texts n
+
+abbrev text_bytes : ℕ → List ℕ
+text_bytes zero = []
+text_bytes (suc n) = 43 ∷ carriage_return ∷ line_feed ∷ text_bytes n
+
+length-texts : (n : ℕ) → length (texts n) ≡ n
+length-texts zero = refl
+length-texts (suc n) = ap suc (length-texts n)
+
+texts_first : (limits : Limits) (n : ℕ) → 1 ≤ limits.line → AreFirst (TakesItem limits) (text_bytes n) (texts n) []
+texts_first limits zero some = refl
+texts_first limits (suc n) some = (
+  text_bytes n,
+  record {
+    line = 43 ∷ [];
+    is = ([], refl, (refl, λ k low high. absurd (omega (arith, low, high))));
+    bytes = framed_line (43 ∷ []) (text_bytes n) (λ is. omega (arith, is), tt);
+    short = some;
+    small = omega arith;
+  },
+  texts_first limits n some,
+)
+
+texts_whole : (n : ℕ) → AreWhole n (texts n)
+texts_whole zero = refl
+texts_whole (suc n) = let same : n ≡ (suc n - 1) + 0 = omega arith in (omega arith, subst (λ k. AreWhole k (texts n)) same (texts_whole n))
+
+module _ {A : Type 0} (Takes : List ℕ → A → List ℕ → Type 0) where
+  -- items, and others after them
+  first_after : (bytes : List ℕ) (xs : List A) (mid : List ℕ) (ys : List A) (rest : List ℕ) → AreFirst Takes bytes xs mid → AreFirst Takes mid ys rest → AreFirst Takes bytes (xs ++ ys) rest
+  first_after bytes [] mid ys rest one other = subst (λ l. AreFirst Takes l ys rest) (sym one) other
+  first_after bytes (x ∷ xs) mid ys rest one other = (one.0, one.1, first_after one.0 xs mid ys rest one.2 other)
+
+-- all that were to come follow
+whole_after : (n : ℕ) (xs : List Item) (due : ℕ) (ys : List Item) → ArePending n xs due → AreWhole due ys → AreWhole n (xs ++ ys)
+whole_after n [] due ys pending whole = subst (λ k. AreWhole k ys) (sym pending) whole
+whole_after n (x ∷ xs) due ys pending whole = (pending.0, whole_after ((n - 1) + items_in x) xs due ys pending.1 whole)
+
+some_line : (limits : Limits) (old : List ℕ) (item : Item) (rest : List ℕ) → TakesItem limits old item rest → 1 ≤ limits.line
+some_line limits old item rest takes = omega (arith, takes.short, ap length takes.is.1)
+
+module _ (limits : Limits) (bytes : List ℕ) (xs : List Item) (left : List ℕ) (due : ℕ) (are : AreFirst (TakesItem limits) bytes xs left) (pending : ArePending 1 xs due) where
+  -- an item is to come and begins: then come those that are due after it, as texts
+  pub begins_reply : (room : ℕ) → 0 < due → length xs + due + room ≤ limits.items → BeginsItem limits room left → BeginsReply limits bytes
+  begins_reply room some full (more, item, takes, few) =
+      let n = (due - 1) + items_in item in
+      let later = more ++ text_bytes n in
+      let front = AreFirst-more (λ l piece. l ++ piece) (TakesItem limits) (TakesItem-more limits) bytes xs left later are in
+      let one = subst (λ l. TakesItem limits l item (text_bytes n)) (append_assoc left more (text_bytes n)) (TakesItem-more limits (left ++ more) item [] (text_bytes n) takes) in
+      let others = texts_first limits n (some_line limits (left ++ more) item [] takes) in (
+        later,
+        xs ++ (item ∷ texts n),
+        record {
+          are = first_after (TakesItem limits) (bytes ++ later) xs (left ++ later) (item ∷ texts n) [] front (text_bytes n, one, others);
+          whole = whole_after 1 xs due (item ∷ texts n) pending (some, texts_whole n);
+          few = omega (arith, some, full, few, length-append xs (item ∷ texts n), length-texts n);
+        },
+      )

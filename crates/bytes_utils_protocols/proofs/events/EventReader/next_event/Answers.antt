@@ -1,0 +1,36 @@
+use Rattle.std.proofs.Common.{Some, ap, ◌∙◌, sym}
+use Rattle.std.proofs.lemmas.Result.{err_from_is_err_and}
+use Rattle.bytes_utils_protocols.proofs.EventsLemmas.{fault_less, gives_less, over_kept, reads_more}
+use Rattle.bytes_utils_protocols.specs.Events.{Eventing}
+use Rattle.bytes_utils_protocols.proofs.events.EventReader.next_event.Goals as goal
+
+pub loop-line-preserved-in-Ok-None : goal.loop-line-preserved-in-Ok-None
+loop-line-preserved-in-Ok-None c =
+    reads_more c.args.self.now c.loop-line.self c.next_line.new.self c.read.new.self c.in-Some.line c.loop-line.invariant
+    (rw c.in-Some.is at c.in_ok-line.ensures.line) (rw c.in-Ok-None.field-0-is at c.in-Ok-None.ensures.none)
+
+pub loop-line-preserved : goal.loop-line-preserved
+loop-line-preserved c =
+    reads_more c.args.self.now c.loop-line.self c.next_line.new.self c.read.new.self c.in-Some.line c.loop-line.invariant
+    (rw c.in-Some.is at c.in_ok-line.ensures.line) (rw c.in-Ok-None.field-0-is at c.in-Ok-None.ensures.none)
+
+pub returns-in_err-line-clause-less_by_fault : goal.returns-in_err-line-clause-less_by_fault
+returns-in_err-line-clause-less_by_fault c =
+    let out = err_from_is_err_and c.from_residual.result c.from_residual.ensures.1 in
+    rw out.1 (λ is. fault_less c.args.self.now c.next_line.new.self
+    (c.loop-line.self, c.loop-line.invariant, c.in_err-line.ensures.not_utf8 (sym out.2 ∙ is)))
+
+pub returns-in-Ok-Some-clause-less : goal.returns-in-Ok-Some-clause-less
+returns-in-Ok-Some-clause-less c = gives_less c.args.self.now c.in-Ok-Some.event c.read.new.self (record {
+  before = c.loop-line.self;
+  reads = c.loop-line.invariant;
+  line = c.in-Some.line;
+  taken = c.next_line.new.self;
+  takes = rw c.in-Some.is at c.in_ok-line.ensures.line;
+  ends = rw c.in-Ok-Some.field-0-is at c.in-Ok-Some.ensures.some;
+})
+
+pub returns-in-Err-clause-too_large : goal.returns-in-Err-clause-too_large
+returns-in-Err-clause-too_large c is =
+    over_kept c.args.self.now c.loop-line.self c.next_line.new.self _ c.in-Some.line c.into_inner.result c.loop-line.invariant (rw c.in-Some.is at c.in_ok-line.ensures.line) c.into_inner.ensures.utf8
+    c.into_inner.ensures.value (ap (λ (r : Eventing). record r { waiting = Some c.into_inner.result }) (c.self.view_is ∙ c.in-Err.ensures.err)) (c.in-Err.ensures.too_large is)

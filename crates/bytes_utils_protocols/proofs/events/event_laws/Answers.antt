@@ -1,0 +1,5 @@
+use Rattle.bytes_utils_protocols.proofs.EventRunsLemmas.{no_event_law}
+use Rattle.bytes_utils_protocols.proofs.events.event_laws.Goals as goal
+
+pub returns-clause-none : goal.returns-clause-none
+returns-clause-none c = no_event_law

@@ -1,0 +1,205 @@
+-- Event streams, as the HTML standard defines them (sections 9.2.5 and 9.2.6, https://html.spec.whatwg.org/multipage/server-sent-events.html).
+use Rattle.std.specs.Prelude.{◌≡◌, ◌≢◌, ℕ, ◌+◌, Bool, false, ◌<◌, ◌≤◌, ◌⊎◌, ◌==◌, ◌&&◌, not, if◌then◌else◌, nat_eq, nat_lt, ◌^◌, List, [], ◌∷◌, ◌++◌, length, drop, codes, Option, None, Some, MatchOption, IsUtf8}
+use Rattle.std.specs.Cmp.Lexicographic.{pointwise}
+use Rattle.std.specs.Char.{digit_value}
+use Rattle.std.specs.List.{after_first, before_first, list_all, list_any, starts_with}
+use Rattle.std.specs.Option.{option_or}
+use Rattle.std.specs.Str.Parse.{digits_value}
+use Rattle.bytes_utils.specs.Lines.{line_feed}
+use Rattle.bytes_utils_codec.specs.StreamRuns.{AreFirst}
+use Rattle.bytes_utils_codec.specs.UniversalLines.{LacksEnds, LineReading, TakesUniversalLine, after_push}
+use Rattle.bytes_utils_protocols.specs.declared.events.Event.{Event}
+use Rattle.bytes_utils_protocols.specs.declared.events.Limits.{Limits}
+
+-- What the lines since the last event said of the next one: its name, and its text, which is the lines of data, joined. The identifier and the time
+-- to wait before connecting again, in milliseconds, are the last ones of the stream.
+pub record Telling : Type 0 where
+  pub name : Option (List ℕ)
+  pub text : Option (List ℕ)
+  pub id : Option (List ℕ)
+  pub retry : Option ℕ
+
+-- What clauses see of an `EventReader`: the bytes that no line was taken off, a line that was taken and not read, if there is one, whether no line
+-- was read, and what the lines that were read said.
+pub record Eventing : Type 0 where
+  pub lines : LineReading
+  pub waiting : Option (List ℕ)
+  pub at_start : Bool
+  pub told : Telling
+  pub limits : Limits
+
+abbrev pub nothing_told : Telling
+nothing_told = record { name = None; text = None; id = None; retry = None }
+
+-- a piece came
+abbrev pub pushed : Eventing → List ℕ → Eventing
+pushed old piece = record old { lines = after_push old.lines piece }
+
+-- how much is to be read: the held bytes, and one more for a line that waits
+abbrev pub waiting_count : Option (List ℕ) → ℕ
+waiting_count None = 0
+waiting_count (Some line) = 1
+
+abbrev pub left_to_read : Eventing → ℕ
+left_to_read reading = length reading.lines.held + waiting_count reading.waiting
+
+-- ---- what one line says
+
+-- U+FEFF
+abbrev pub byte_order_mark : List ℕ
+byte_order_mark = 0xEF ∷ 0xBB ∷ 0xBF ∷ []
+
+-- a mark at the very start of the stream is no part of its first line
+abbrev pub content : Bool → List ℕ → List ℕ
+content at_start line = if at_start && starts_with nat_eq line byte_order_mark then drop 3 line else line
+
+abbrev pub is_colon : ℕ → Bool
+is_colon c = c == 58
+
+-- the bytes without one space at their start, if they have one there
+abbrev pub without_space : List ℕ → List ℕ
+without_space [] = []
+without_space (c ∷ t) = if c == 32 then t else c ∷ t
+
+-- A line is a field. Its name is what is before the first colon, or all of the line if there is none. A comment is a field without a name.
+abbrev pub field_name : List ℕ → List ℕ
+field_name line = before_first is_colon line
+
+abbrev pub field_value : List ℕ → List ℕ
+field_value line = without_space (after_first is_colon line)
+
+-- an empty name is none
+abbrev pub some_name : List ℕ → Option (List ℕ)
+some_name [] = None
+some_name (c ∷ t) = Some (c ∷ t)
+
+-- the data so far, and one more line of it
+abbrev pub with_line : Option (List ℕ) → List ℕ → List ℕ
+with_line None line = line
+with_line (Some before) line = before ++ line_feed ∷ line
+
+-- the bytes are one ASCII digit or more and nothing else, and the number that they write is below 2 ^ 64
+abbrev pub is_number : List ℕ → Bool
+is_number digits = nat_lt 0 (length digits) && (list_all (λ c. nat_lt (digit_value c) 10) digits && nat_lt (digits_value 10 digits) (2 ^ 64))
+
+abbrev pub number_of : List ℕ → Option ℕ
+number_of digits = if is_number digits then Some (digits_value 10 digits) else None
+
+-- What a field of this name and value makes of what was said. An identifier with a zero, and a time that is no number, change nothing, and neither does
+-- a field of any other name.
+abbrev pub after_field : Telling → List ℕ → List ℕ → Telling
+after_field told name value =
+    if pointwise nat_eq name (codes "data") then record told { text = Some (with_line told.text value) }
+    else if pointwise nat_eq name (codes "event") then record told { name = some_name value }
+    else if pointwise nat_eq name (codes "id") && not (list_any (λ c. nat_eq c 0) value) then record told { id = Some value }
+    else if pointwise nat_eq name (codes "retry") then record told { retry = option_or (number_of value) told.retry }
+    else told
+
+-- an empty line that ends no event takes the name back
+abbrev pub after_line : Telling → List ℕ → Telling
+after_line told [] = record told { name = None }
+after_line told (c ∷ t) = after_field told (field_name (c ∷ t)) (field_value (c ∷ t))
+
+-- the number of bytes of the lines of data
+abbrev pub text_len : Option (List ℕ) → ℕ
+text_len None = 0
+text_len (Some text) = length text
+
+-- ---- lines that are read
+
+-- this is the next line: the one that waits, or the first of the held bytes
+pub record TakesNext (old : Eventing) (line : List ℕ) (new : Eventing) : Type 0 where
+  pub next : MatchOption old.waiting (TakesUniversalLine old.lines line new.lines) (λ waiting. (line ≡ waiting) × (new.lines ≡ old.lines))
+  pub others : new ≡ record old { lines = new.lines; waiting = None }
+
+-- The line, which was taken and is a text, does what it says, within the limits. It ends no event: it is not empty, or there is no data.
+pub record DoesLine (old : Eventing) (line : List ℕ) (new : Eventing) : Type 0 where
+  pub utf8 : IsUtf8 line
+  pub short : length line ≤ old.limits.line
+  pub ends_none : content old.at_start line ≡ [] → old.told.text ≡ None
+  pub after : new ≡ record old { at_start = false; told = after_line old.told (content old.at_start line) }
+  pub small : text_len new.told.text ≤ old.limits.data
+
+-- the line, which was taken, is empty and ends this event
+pub record EndsEvent (old : Eventing) (line : List ℕ) (event : Event) (new : Eventing) : Type 0 where
+  pub short : length line ≤ old.limits.line
+  pub empty : content old.at_start line ≡ []
+  pub text : old.told.text ≡ Some event.data
+  pub name : event.name ≡ old.told.name
+  pub id : event.id ≡ old.told.id
+  pub after : new ≡ record old { at_start = false; told = record old.told { name = None; text = None } }
+
+-- the next line is read
+pub record ReadsLine (old : Eventing) (line : List ℕ) (new : Eventing) : Type 0 where
+  pub taken : Eventing
+  pub takes : TakesNext old line taken
+  pub does : DoesLine taken line new
+
+-- some lines are read, none of which ends an event
+abbrev pub Reads : Eventing → Eventing → Type 0
+Reads old new = (lines : List (List ℕ)) × AreFirst ReadsLine old lines new
+
+-- some lines are read, and then the empty line that ends this event
+pub record Gives (old : Eventing) (event : Event) (new : Eventing) : Type 0 where
+  pub before : Eventing
+  pub reads : Reads old before
+  pub line : List ℕ
+  pub taken : Eventing
+  pub takes : TakesNext before line taken
+  pub ends : EndsEvent taken line event new
+
+-- ---- calls that give no event
+
+-- the line is a text, or passes the limit
+abbrev pub MayWait : Limits → List ℕ → Type 0
+MayWait limits line = IsUtf8 line ⊎ (limits.line < length line)
+
+-- the next line is taken, and waits
+pub record Awaits (old new : Eventing) : Type 0 where
+  pub line : List ℕ
+  pub taken : Eventing
+  pub takes : TakesNext old line taken
+  pub may : MayWait new.limits line
+  pub waits : new ≡ record taken { waiting = Some line }
+
+-- no line is read; the next one may have been taken, and waits
+abbrev pub ReadsNone : Eventing → Eventing → Type 0
+ReadsNone old new = (new ≡ old) ⊎ Awaits old new
+
+-- Nothing is lost: some lines are read, none of which ends an event. The line after them may have been taken, and waits.
+abbrev pub LosesNothing : Eventing → Eventing → Type 0
+LosesNothing old new = (mid : Eventing) × Reads old mid × ReadsNone mid new
+
+-- the first of the held bytes are a line within the limit that isn't UTF-8, and it is passed over
+pub record TakesFault (old new : Eventing) : Type 0 where
+  pub none : old.waiting ≡ None
+  pub line : List ℕ
+  pub takes : TakesUniversalLine old.lines line new.lines
+  pub short : length line ≤ old.limits.line
+  pub fault : ¬ IsUtf8 line
+  pub others : new ≡ record old { lines = new.lines; at_start = false }
+
+-- some lines are read, none of which ends an event, and then a line within the limit that isn't UTF-8 is passed over
+abbrev pub PassesFault : Eventing → Eventing → Type 0
+PassesFault old new = (mid : Eventing) × Reads old mid × TakesFault mid new
+
+-- no line waits, none ends in the held bytes, and they are within the limit
+pub record IsIdle (reading : Eventing) : Type 0 where
+  pub none : reading.waiting ≡ None
+  pub lacks : LacksEnds reading.lines.held
+  pub short : length reading.lines.held ≤ reading.limits.line
+
+-- the line, or the data with it, passes its limit
+abbrev pub IsTooLarge : Eventing → List ℕ → Type 0
+IsTooLarge old line = (old.limits.line < length line)
+    ⊎ ((content old.at_start line ≢ []) × (old.limits.data < text_len (after_line old.told (content old.at_start line)).text))
+
+-- whatever comes next, the next line is one of those that can't be read, whether it is UTF-8 or not
+abbrev pub IsOver : Eventing → Type 0
+IsOver reading = (more line : List ℕ) (taken : Eventing) → TakesNext (pushed reading more) line taken → IsTooLarge taken line
+
+-- ---- what the code takes of a line
+
+-- the line ends with this text
+abbrev pub IsEndOf : List ℕ → List ℕ → Type 0
+IsEndOf line text = (front : List ℕ) × (line ≡ front ++ text)

@@ -1,0 +1,254 @@
+-- Parts between boundaries: multipart/form-data (RFC 2046, 5.1.1; RFC 7578).
+use Rattle.std.specs.Prelude.{◌≡◌, ◌⊎◌, ℕ, ◌+◌, ◌<◌, ◌≤◌, ◌==◌, ◌||◌, Bool, true, false, List, [], ◌∷◌, ◌++◌, length, drop, codes, Option, None, Some, MatchOption, All, if◌then◌else◌}
+use Rattle.std.specs.Bool.{MatchBool}
+use Rattle.std.specs.List.{concat, prefix_len, position_or_len, before_first, after_first, flat_map}
+use Rattle.std.specs.Option.{option_to_list}
+use Rattle.std.specs.Str.{str_to_ascii_lowercase}
+use Rattle.std.specs.Str.Lines.{lines}
+use Rattle.bytes_utils_codec.specs.Frames.{TakesFrame}
+use Rattle.bytes_utils.specs.Occurrence.{Occurs}
+use Rattle.bytes_utils.specs.Lines.{carriage_return, line_feed}
+use Rattle.bytes_utils_codec.specs.StreamRuns.{StreamEvent, IsRunOver, AreFirst, SameFirstLaw, pushed_by, given_by}
+use Rattle.bytes_utils_protocols.specs.Digits.{colon}
+use Rattle.bytes_utils_protocols.specs.declared.multipart.limits.Limits.{Limits}
+use Rattle.bytes_utils_protocols.specs.declared.multipart.Part.{Part}
+use Rattle.bytes_utils_protocols.specs.declared.multipart.sections.Sections.{Sections}
+use Rattle.bytes_utils_protocols.specs.declared.multipart.sections.Stage.{Stage}
+use Rattle.bytes_utils_protocols.specs.declared.multipart.sections.Stage.TheVariants.{Preamble, Waiting, Found, Ended}
+
+-- What clauses see of a `PartReader`: the delimiter before and after each part, the limits, whether the close delimiter was read, and the held bytes.
+-- The next part comes after the first delimiter in these. Of the bytes before that delimiter the reader keeps the number alone.
+pub record Parting : Type 0 where
+  pub delimiter : List ℕ
+  pub limits : Limits
+  pub ended : Bool
+  pub held : List ℕ
+
+abbrev pub line_end : List ℕ
+line_end = carriage_return ∷ line_feed ∷ []
+
+abbrev pub dashes : List ℕ
+dashes = 45 ∷ 45 ∷ []
+
+-- a line end, two dashes and the boundary
+abbrev pub delimiter_of : List ℕ → List ℕ
+delimiter_of boundary = line_end ++ (dashes ++ boundary)
+
+-- the end of the last line of a head, and the empty line after it
+abbrev pub head_end : List ℕ
+head_end = line_end ++ line_end
+
+-- ---- one part
+
+-- the head and the body of a part, as bytes
+pub record PartBytes : Type 0 where
+  pub head : List ℕ
+  pub body : List ℕ
+
+abbrev pub part_bytes : List ℕ → List ℕ → PartBytes
+part_bytes head body = record { head = head; body = body }
+
+abbrev pub bytes_of : Part → PartBytes
+bytes_of part = part_bytes part.head (concat part.body.segments)
+
+-- a space or a tab
+abbrev pub is_padding : ℕ → Bool
+is_padding b = b == 32 || b == 9
+
+-- what follows the spaces and tabs after a delimiter
+abbrev pub without_padding : List ℕ → List ℕ
+without_padding front = drop (prefix_len is_padding front) front
+
+-- between a delimiter and the end of the head: padding, a line end and the head, or padding alone, if there is no header
+abbrev pub IsHeadIn : List ℕ → List ℕ → Type 0
+IsHeadIn front head = ((without_padding front ≡ []) × (head ≡ [])) ⊎ (without_padding front ≡ line_end ++ head)
+
+-- what is between two delimiters: up to the first empty line the head, and after it the body
+pub record IsPart (limits : Limits) (raw : List ℕ) (part : PartBytes) : Type 0 where
+  pub front : List ℕ
+  pub cut : TakesFrame head_end raw front part.body
+  pub head : IsHeadIn front part.head
+  pub small : length front + length head_end ≤ limits.head
+  pub short : length part.body ≤ limits.body
+
+-- The old bytes are a preamble, a delimiter, what is between this one and the next, and that next one with the bytes after it, which are left.
+pub record TakesPart (delimiter : List ℕ) (limits : Limits) (old : List ℕ) (part : PartBytes) (rest : List ℕ) : Type 0 where
+  pub preamble : List ℕ
+  pub after : List ℕ
+  pub begins : TakesFrame delimiter old preamble after
+  pub raw : List ℕ
+  pub next : List ℕ
+  pub ends : TakesFrame delimiter after raw next
+  pub is : IsPart limits raw part
+  pub few : length preamble ≤ limits.head + limits.body
+  pub left : rest ≡ delimiter ++ next
+
+-- the delimiters before and after the next part have come, and the bytes before the first of them are within the limits
+pub record IsPartDue (delimiter : List ℕ) (limits : Limits) (bytes : List ℕ) : Type 0 where
+  pub preamble : List ℕ
+  pub after : List ℕ
+  pub begins : TakesFrame delimiter bytes preamble after
+  pub raw : List ℕ
+  pub next : List ℕ
+  pub ends : TakesFrame delimiter after raw next
+  pub few : length preamble ≤ limits.head + limits.body
+
+-- no part is in the bytes
+abbrev pub NoPart : List ℕ → Limits → List ℕ → Type 0
+NoPart delimiter limits bytes = (part : PartBytes) (rest : List ℕ) → ¬ TakesPart delimiter limits bytes part rest
+
+-- the first delimiter is a close delimiter: two dashes follow it
+abbrev pub Closes : List ℕ → List ℕ → Type 0
+Closes delimiter bytes = (preamble : List ℕ) × (rest : List ℕ) × TakesFrame delimiter bytes preamble (dashes ++ rest)
+
+-- the delimiter after the first one has not come
+abbrev pub LacksNext : List ℕ → List ℕ → Type 0
+LacksNext delimiter bytes = (preamble after : List ℕ) → TakesFrame delimiter bytes preamble after → ¬ Occurs delimiter after
+
+-- Few bytes wait: those before the first delimiter are within the limits, and those that wait for a delimiter pass them by at most the length of one.
+pub record FewWait (delimiter : List ℕ) (limits : Limits) (bytes : List ℕ) : Type 0 where
+  pub for_first : (¬ Occurs delimiter bytes) → length bytes ≤ limits.head + limits.body + length delimiter
+  pub before : (preamble after : List ℕ) → TakesFrame delimiter bytes preamble after → length preamble ≤ limits.head + limits.body
+  pub for_next : (preamble after : List ℕ) → TakesFrame delimiter bytes preamble after → length after ≤ limits.head + limits.body + length delimiter
+
+-- ---- the name
+
+abbrev pub content_disposition : List ℕ
+content_disposition = codes "content-disposition"
+
+-- the line is this header, whatever the case of its name (RFC 9110, 5.1), with this value
+pub record IsDisposition (line value : List ℕ) : Type 0 where
+  pub colon_is : position_or_len (λ b. b == colon) line < length line
+  pub name : str_to_ascii_lowercase (before_first (λ b. b == colon) line) ≡ content_disposition
+  pub value_is : value ≡ after_first (λ b. b == colon) line
+
+abbrev pub NoDisposition : List ℕ → Type 0
+NoDisposition line = (value : List ℕ) → ¬ IsDisposition line value
+
+-- the first of the lines that is this header has this value
+pub record IsFirstDisposition (all : List (List ℕ)) (value : List ℕ) : Type 0 where
+  pub before : List (List ℕ)
+  pub line : List ℕ
+  pub others : List (List ℕ)
+  pub parts : all ≡ before ++ line ∷ others
+  pub none : All NoDisposition before
+  pub is : IsDisposition line value
+
+-- the value of that header, or `None` if no line is this header
+abbrev pub HasDisposition : List (List ℕ) → Option (List ℕ) → Type 0
+HasDisposition all r = MatchOption r (All NoDisposition all) (λ value. IsFirstDisposition all value)
+
+abbrev pub quote : List ℕ
+quote = 34 ∷ []
+
+-- the value is what is between the first key and the next quote after it
+pub record IsQuoted (key text value : List ℕ) : Type 0 where
+  pub before : List ℕ
+  pub after : List ℕ
+  pub begins : TakesFrame key text before after
+  pub rest : List ℕ
+  pub ends : TakesFrame quote after value rest
+
+-- that value, or `None` if there is none
+abbrev pub Quotes : List ℕ → Option (List ℕ) → Option (List ℕ) → Type 0
+Quotes key None r = r ≡ None
+Quotes key (Some text) r = MatchOption r ((value : List ℕ) → ¬ IsQuoted key text value) (λ value. IsQuoted key text value)
+
+-- what follows the key in the disposition of a head
+abbrev pub HasParameter : List ℕ → List ℕ → Option (List ℕ) → Type 0
+HasParameter key head r = (disposition : Option (List ℕ)) × HasDisposition (lines head) disposition × Quotes key disposition r
+
+abbrev pub name_key : List ℕ
+name_key = codes "; name=\""
+
+abbrev pub file_name_key : List ℕ
+file_name_key = codes "; filename=\""
+
+-- ---- what the reader holds
+
+-- The bytes that are held: those that wait, or the preamble and a delimiter before them, or what was found after that, too, with the delimiter after
+-- it.
+abbrev pub held_at : Stage → List ℕ → List ℕ → List ℕ → List ℕ → List ℕ
+held_at Preamble delimiter preamble found waiting = waiting
+held_at Waiting delimiter preamble found waiting = preamble ++ (delimiter ++ waiting)
+held_at Found delimiter preamble found waiting = preamble ++ (delimiter ++ (found ++ (delimiter ++ waiting)))
+held_at Ended delimiter preamble found waiting = []
+
+-- Each delimiter is the first one there. Before the first one, and after the close delimiter, nothing else is kept.
+abbrev pub AreApart : Stage → List ℕ → List ℕ → List ℕ → List ℕ → Type 0
+AreApart Preamble delimiter preamble found waiting = preamble ≡ []
+AreApart Waiting delimiter preamble found waiting = TakesFrame delimiter (preamble ++ (delimiter ++ waiting)) preamble waiting
+AreApart Found delimiter preamble found waiting =
+    TakesFrame delimiter (preamble ++ (delimiter ++ (found ++ (delimiter ++ waiting)))) preamble (found ++ (delimiter ++ waiting))
+    × TakesFrame delimiter (found ++ (delimiter ++ waiting)) found waiting
+AreApart Ended delimiter preamble found waiting = (preamble ≡ []) × (waiting ≡ [])
+
+abbrev pub has_ended : Stage → Bool
+has_ended Preamble = false
+has_ended Waiting = false
+has_ended Found = false
+has_ended Ended = true
+
+abbrev pub held_by : Sections → List ℕ
+held_by s = held_at s.stage s.frames.separator s.preamble (concat s.found.segments) s.frames.held
+
+abbrev pub IsDivided : Sections → Type 0
+IsDivided s = AreApart s.stage s.frames.separator s.preamble (concat s.found.segments) s.frames.held
+
+-- the same delimiter, end and bytes
+pub record SameSections (old new : Sections) : Type 0 where
+  pub delimiter : new.frames.separator ≡ old.frames.separator
+  pub ended : has_ended new.stage ≡ has_ended old.stage
+  pub held : held_by new ≡ held_by old
+
+-- after a search, by what was found
+abbrev pub AfterSearch : Stage → Sections → Sections → Type 0
+AfterSearch Preamble old new =
+    SameSections old new × (¬ Occurs old.frames.separator new.frames.held) × (¬ Closes old.frames.separator (held_by old)) × LacksNext old.frames.separator (held_by old)
+AfterSearch Waiting old new =
+    SameSections old new × (¬ Occurs old.frames.separator new.frames.held) × (¬ Closes old.frames.separator (held_by old)) × LacksNext old.frames.separator (held_by old)
+AfterSearch Found old new = SameSections old new
+AfterSearch Ended old new = (old.stage ≡ Ended) ⊎ Closes old.frames.separator (held_by old)
+
+-- ---- a run of calls
+
+-- a piece is held too, unless the close delimiter was read
+abbrev pub appended : Parting → List ℕ → Parting
+appended s piece = if s.ended then s else record s { held = s.held ++ piece }
+
+-- the close delimiter was read, and nothing is held
+abbrev pub closed : Parting → Parting
+closed s = record s { ended = true; held = [] }
+
+-- Without a part the close delimiter is read, or nothing changes: then the first delimiter is no close delimiter, and the next one has not come.
+abbrev pub IsIdle : Parting → Parting → Type 0
+IsIdle old new = MatchBool new.ended ((new ≡ closed old) × ((old.ended ≡ true) ⊎ Closes old.delimiter old.held))
+    ((new ≡ old) × (¬ Closes old.delimiter old.held) × LacksNext old.delimiter old.held)
+
+-- what a call did that returned a part, or none
+abbrev pub IsPartCall : Parting → Option PartBytes → Parting → Type 0
+IsPartCall old None new = IsIdle old new
+IsPartCall old (Some part) new = TakesPart old.delimiter old.limits old.held part new.held × (old.ended ≡ false) × (new ≡ record old { held = new.held })
+
+-- pushed pieces and calls for the next part lead from a state to the last one
+abbrev pub IsPartRun : Parting → List (StreamEvent (Option PartBytes)) → Parting → Type 0
+IsPartRun s events end = IsRunOver appended IsPartCall s events end
+
+-- the state of a new reader
+abbrev pub started : List ℕ → Limits → Parting
+started delimiter limits = record { delimiter = delimiter; limits = limits; ended = false; held = line_end }
+
+-- These are the first parts of the bytes. The bytes after them are held, or the close delimiter was read there.
+pub record AreParts (delimiter : List ℕ) (limits : Limits) (bytes : List ℕ) (parts : List PartBytes) (ended : Bool) (held : List ℕ) : Type 0 where
+  pub rest : List ℕ
+  pub are : AreFirst (TakesPart delimiter limits) bytes parts rest
+  pub left : MatchBool ended (Closes delimiter rest) (rest ≡ held)
+
+-- Whatever the pieces are and whenever parts are asked for, a run gives the first parts of the joined pieces.
+abbrev pub PartsLaw : Type 0
+PartsLaw = (delimiter : List ℕ) (limits : Limits) (events : List (StreamEvent (Option PartBytes))) (end : Parting) → IsPartRun (started delimiter limits) events end
+    → AreParts delimiter limits (line_end ++ pushed_by events) (flat_map option_to_list (given_by events)) end.ended end.held
+
+-- two lists of first parts of the same bytes that have the same length are the same, with the same bytes after them
+abbrev pub SamePartsLaw : Type 0
+SamePartsLaw = (delimiter : List ℕ) (limits : Limits) → SameFirstLaw (TakesPart delimiter limits)

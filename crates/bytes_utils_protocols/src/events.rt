@@ -1,0 +1,533 @@
+//! Server-sent events, of a stream that comes in pieces.
+ghost use Rattle.std.specs.Prelude.{◌≡◌, ◌≢◌, ◌+◌, ◌^◌, ◌<◌, ◌≤◌, ◌↔◌, [], ◌++◌, ◌∷◌, true, false, length, string_bytes, IfOk, IfErr, IfSome, IfNone, IsOk, IsTrue, IsUtf8, None, OnOk, OnErr, Some};
+ghost use Rattle.std.specs.Option.{option_or};
+ghost use Rattle.bytes_utils.specs.Lines.{line_feed};
+ghost use Rattle.bytes_utils_codec.specs.Pushing.{IsPush};
+ghost use Rattle.bytes_utils_codec.specs.UniversalLines.{nothing_read};
+ghost use Rattle.bytes_utils_protocols.specs.EventData.{text_if_any, text_of};
+ghost use Rattle.bytes_utils_protocols.specs.EventRuns.{EventRunLaw, NoEventLaw, SameEventLaw};
+ghost use Rattle.bytes_utils_protocols.specs.Events.{DoesLine, EndsEvent, Gives, IsEndOf, IsIdle, IsOver, IsTooLarge, LosesNothing, PassesFault, Reads, ReadsNone, TakesFault, TakesNext, after_field, content, text_len, field_name, field_value, left_to_read, nothing_told, number_of, pushed, some_name, with_line, without_space};
+
+use crate::number::number;
+use bytes::Bytes;
+use bytes_utils::{Reason, Refused, Str};
+use bytes_utils_codec::frame::{LineError, UniversalLines};
+use std::alloc::Global;
+use std::marker::Model;
+
+/// What may be at the start of a stream, and is no part of its first line.
+const BYTE_ORDER_MARK: &str = "\u{feff}";
+
+/// An event.
+#[derive(Debug, Drop)]
+pub struct Event {
+    /// The name, or `None` if the stream gave none, or an empty one. Browsers call such an event
+    /// `message`.
+    pub name: Option<Str>,
+    /// The lines of data, joined with line feeds.
+    pub data: Str,
+    /// The last identifier that the stream gave, with this event or before it.
+    pub id: Option<Str>,
+}
+
+/// What a peer may send.
+#[derive(Clone, Copy, Debug)]
+pub struct Limits {
+    /// The most bytes of a line, without its end.
+    pub line: usize,
+    /// The most bytes of the data of an event.
+    pub data: usize,
+}
+
+/// Why there is no event.
+#[derive(Clone, Copy, Debug, Eq, PartialEq)]
+pub enum EventError {
+    /// A call was refused for this reason, which is `OutOfMemory`.
+    Refused(Reason),
+    /// A line within its limit isn't UTF-8.
+    NotUtf8,
+    /// The next line, or the data with it, passes its limit.
+    TooLarge,
+}
+
+impl From<Reason> for EventError {
+    ghost use Rattle.bytes_utils_protocols.specs.declared.events.EventError.TheVariants.{Refused};
+
+    ghost from_gives = { λ reason error. error ≡ Refused reason };
+
+    fn from(reason: Reason) -> EventError {
+        EventError::Refused(reason)
+    }
+}
+
+/// Lines of data, joined. One line shares its bytes.
+#[derive(Drop)]
+enum Data {
+    One(Str),
+    More(String),
+}
+
+/// A stream that comes in pieces, and the events in it.
+///
+/// ```text
+/// let limits = Limits { data: 1 << 20, line: 64 << 10 };
+/// let mut events = EventReader::new(alloc, limits);
+/// events.push(first)?;             // a `Bytes` of `event: add\ndata: 73\r\nda`
+/// events.next_event(alloc)?        // `None`
+/// events.push(second)?;            // one of `ta: 9\n\n`
+/// events.next_event(alloc)?        // the event `add` with the data `73\n9`
+/// ```
+///
+/// The format is that of the HTML standard, sections 9.2.5 and 9.2.6. Comments, and fields that the
+/// standard doesn't name, are passed over. An event that no empty line ends is never given.
+///
+/// A line is read when its end has come, and its bytes are let go then. Names, identifiers and data
+/// of one line share the bytes of their lines, and several lines of data are copied into one text.
+#[derive(Drop)]
+pub struct EventReader {
+    lines: UniversalLines,
+    waiting: Option<Bytes>,
+    at_start: bool,
+    name: Option<Str>,
+    text: Option<Data>,
+    id: Option<Str>,
+    retry: Option<u64>,
+    limits: Limits,
+}
+
+impl Model for EventReader {
+    ghost use Rattle.std.specs.Prelude.{◌≤◌, IfSome};
+    ghost use Rattle.bytes_utils_protocols.specs.EventData.{text_if_any};
+    ghost use Rattle.bytes_utils_protocols.specs.Events.{Eventing, MayWait, text_len};
+
+    ghost Value = { Eventing };
+
+    ghost view = { λ r. record {
+      lines = r.lines;
+      waiting = r.waiting;
+      at_start = r.at_start;
+      told = record { name = r.name; text = text_if_any r.text; id = r.id; retry = r.retry };
+      limits = r.limits;
+    } };
+
+    ghost invariant = { λ r. (text_len (text_if_any r.text) ≤ r.limits.data)
+        × IfSome r.waiting (MayWait r.limits) };
+}
+
+impl EventReader {
+    /// Makes a reader that holds no bytes.
+    pub fn new(alloc: Global, limits: Limits) -> EventReader
+        ensures { result ≡ record {
+          lines = nothing_read;
+          waiting = None;
+          at_start = true;
+          told = nothing_told;
+          limits = limits;
+        } }
+    {
+        EventReader {
+            lines: UniversalLines::new(alloc),
+            waiting: None,
+            at_start: true,
+            name: None,
+            text: None,
+            id: None,
+            retry: None,
+            limits,
+        }
+    }
+
+    /// Appends a piece. If it has at most 512 bytes, it is copied; if not, it is shared. Fails with
+    /// `TooLong` if the number of held bytes would pass `usize::MAX`, and with `OutOfMemory` if
+    /// memory is refused; then nothing has changed and `piece` comes back.
+    pub fn push(&mut self, piece: Bytes) -> Result<(), Refused<Bytes>>
+        ensures pushed { IsPush self.old.lines.held piece result
+            (self.new ≡ pushed self.old piece) (self.new ≡ self.old) }
+    {
+        self.lines.push(piece)
+    }
+
+    /// Appends a copy of `piece`, in a block that it shares with other small pieces: for a caller
+    /// that reads into a buffer of its own. Fails as `push` does; then nothing has changed.
+    pub fn push_slice(&mut self, piece: &[u8]) -> Result<(), Reason>
+        ensures ok { OnOk result (self.new ≡ pushed self.old piece.now) }
+        ensures err { OnErr result (self.new ≡ self.old) }
+        ensures too_long { IfErr result (λ reason. (reason ≡ Reason.TooLong)
+            ↔ (2 ^ 64 ≤ length self.old.lines.held + length piece.now)) }
+        ensures empty { piece.now ≡ [] → IsOk result }
+    {
+        self.lines.push_slice(piece)
+    }
+
+    /// Returns the next event, or `None` if the empty line that ends it has not come yet. Fails with
+    /// `Refused` if memory is refused; then nothing is lost, and the same call can be made again.
+    /// Fails with `NotUtf8` if a line within its limit is not UTF-8; then that line is passed over,
+    /// and the next call continues after it. (A browser puts U+FFFD for the bytes that are no
+    /// character, and reads the line.) Fails with `TooLarge` if the next line, or the data with it,
+    /// passes its limit, whether the line is UTF-8 or not; then nothing is lost, but that line can't
+    /// be read, whatever comes next.
+    pub fn next_event(&mut self, alloc: Global) -> Result<Option<Event>, EventError>
+        ensures event { IfOk result
+            (λ next. IfSome next (λ event. Gives self.old event self.new)) }
+        ensures less { IfOk result
+            (λ next. IfSome next (λ _. left_to_read self.new < left_to_read self.old)) }
+        ensures waits { IfOk result (λ next. IfNone next (Reads self.old self.new × IsIdle self.new)) }
+        ensures refused { IfErr result (λ e. (reason : _) → e ≡ EventError.Refused reason
+            → LosesNothing self.old self.new) }
+        ensures text { IfErr result (λ e. (reason : _) → e ≡ EventError.Refused reason
+            → IfSome self.new.waiting IsUtf8) }
+        ensures reason { IfErr result (λ e. (reason : _) → e ≡ EventError.Refused reason
+            → reason ≡ Reason.OutOfMemory) }
+        ensures not_utf8 { IfErr result (λ e. e ≡ EventError.NotUtf8 → PassesFault self.old self.new) }
+        ensures less_by_fault { IfErr result (λ e. e ≡ EventError.NotUtf8
+            → left_to_read self.new < left_to_read self.old) }
+        ensures too_large { IfErr result (λ e. e ≡ EventError.TooLarge
+            → LosesNothing self.old self.new × IsOver self.new) }
+    {
+        while let Some(line) = self.next_line(alloc)? {
+            match self.read(alloc, &line) {
+                Ok(None) => {}
+                Ok(Some(event)) => return Ok(Some(event)),
+                Err(error) => {
+                    self.waiting = Some(line.into_inner());
+                    return Err(error);
+                }
+            }
+        }
+        Ok(None)
+    }
+
+    /// Returns how many milliseconds a client is to wait before it connects again, if the lines that
+    /// were read gave such a number below 2^64.
+    pub fn retry(&self) -> Option<u64>
+        ensures { result ≡ self.now.told.retry }
+    {
+        self.retry
+    }
+
+    /// Returns the number of held bytes: those of lines that were not taken.
+    pub fn remaining(&self) -> usize
+        ensures value { result ≡ length self.now.lines.held }
+
+        // True of every value, after any calls.
+        ensures small { text_len self.now.told.text ≤ self.now.limits.data }
+    {
+        self.lines.remaining()
+    }
+
+    /// Takes the next line: the one that waits, or the next of the stream.
+    fn next_line(&mut self, alloc: Global) -> Result<Option<Str>, EventError>
+        ensures line { IfOk result
+            (λ next. IfSome next (λ line. TakesNext self.old line self.new)) }
+        ensures waits { IfOk result (λ next. IfNone next ((self.new ≡ self.old) × IsIdle self.new)) }
+        ensures refused { IfErr result
+            (λ e. (reason : _) → e ≡ EventError.Refused reason → self.new ≡ self.old) }
+        ensures none { IfErr result
+            (λ e. (reason : _) → e ≡ EventError.Refused reason → self.new.waiting ≡ None) }
+        ensures reason { IfErr result (λ e. (reason : _) → e ≡ EventError.Refused reason
+            → reason ≡ Reason.OutOfMemory) }
+        ensures not_utf8 { IfErr result (λ e. e ≡ EventError.NotUtf8
+            → TakesFault self.old self.new) }
+        ensures too_large { IfErr result (λ e. e ≡ EventError.TooLarge
+            → ReadsNone self.old self.new × IsOver self.new) }
+    {
+        if let Some(line) = self.waiting.take() {
+            return match Str::from_inner(line) {
+                Ok(line) => Ok(Some(line)),
+                Err(fault) => Err(self.after_fault(fault.into_inner())),
+            };
+        }
+        match self.lines.next_line(alloc) {
+            Ok(Some(line)) => Ok(Some(line)),
+            Ok(None) if self.lines.remaining() > self.limits.line => Err(EventError::TooLarge),
+            Ok(None) => Ok(None),
+            Err(LineError::Refused(reason)) => Err(EventError::Refused(reason)),
+            Err(LineError::NotUtf8(fault)) => Err(self.after_fault(fault.into_inner())),
+        }
+    }
+
+    /// The error for a line that was taken and isn't UTF-8. If it passes its limit, it waits; if not,
+    /// it is passed over.
+    fn after_fault(&mut self, line: Bytes) -> EventError
+        ensures over { result ≡ EventError.TooLarge → (self.old.limits.line < length line)
+            × (self.new ≡ record self.old { waiting = Some line }) }
+        ensures within { result ≡ EventError.NotUtf8 → (length line ≤ self.old.limits.line)
+            × (self.new ≡ record self.old { at_start = false }) }
+        ensures reason { (reason : _) → result ≢ EventError.Refused reason }
+    {
+        if line.len() <= self.limits.line {
+            self.at_start = false;
+            return EventError::NotUtf8;
+        }
+        self.waiting = Some(line);
+        EventError::TooLarge
+    }
+
+    /// Does what a line says. If it ends an event, that is returned.
+    fn read(&mut self, alloc: Global, line: &Str) -> Result<Option<Event>, EventError>
+        ensures none { IfOk result (λ event. IfNone event (DoesLine self.old line.now self.new)) }
+        ensures some { IfOk result
+            (λ event. IfSome event (λ event. EndsEvent self.old line.now event self.new)) }
+        ensures err { OnErr result (self.new ≡ self.old) }
+        ensures too_large { IfErr result (λ e. e ≡ EventError.TooLarge
+            → IsTooLarge self.old line.now) }
+        ensures utf8 { IfErr result (λ e. e ≢ EventError.NotUtf8) }
+        ensures reason { IfErr result (λ e. (reason : _) → e ≡ EventError.Refused reason
+            → reason ≡ Reason.OutOfMemory) }
+    {
+        if line.len() > self.limits.line {
+            return Err(EventError::TooLarge);
+        }
+        let text = content(self.at_start, line.as_str());
+        let event = if text.is_empty() {
+            self.end_event(alloc)?
+        } else {
+            self.read_field(alloc, line, text)?;
+            None
+        };
+        self.at_start = false;
+        Ok(event)
+    }
+
+    /// Ends the event, if there is data. If there is none, there is no event, and no name.
+    fn end_event(&mut self, alloc: Global) -> Result<Option<Event>, Reason>
+        ensures none { IfOk result (λ event. IfNone event ((self.old.told.text ≡ None)
+            × (self.new ≡ record self.old { told = record self.old.told { name = None } }))) }
+        ensures text { IfOk result (λ event. IfSome event (λ event.
+            self.old.told.text ≡ Some event.data)) }
+        ensures name { IfOk result (λ event. IfSome event (λ event.
+            event.name ≡ self.old.told.name)) }
+        ensures id { IfOk result (λ event. IfSome event (λ event. event.id ≡ self.old.told.id)) }
+        ensures after { IfOk result (λ event. IfSome event (λ event.
+            self.new ≡ record self.old { told = record self.old.told { name = None; text = None } })) }
+        ensures err { OnErr result (self.new ≡ self.old) }
+        ensures reason { IfErr result (λ reason. reason ≡ Reason.OutOfMemory) }
+    {
+        let Some(data) = self.text.take() else {
+            self.name = None;
+            return Ok(None);
+        };
+        match data_and_id(alloc, data, &self.id) {
+            Ok((data, id)) => {
+                let name = self.name.take();
+                Ok(Some(Event { name, data, id }))
+            }
+            Err(Refused { reason, back }) => {
+                self.text = Some(back);
+                Err(reason)
+            }
+        }
+    }
+
+    /// Does what the field says that is at the end of the line.
+    fn read_field(&mut self, alloc: Global, line: &Str, text: &str) -> Result<(), EventError>
+        requires { IsEndOf line.now text.now }
+        ensures ok { OnOk result (self.new ≡ record self.old {
+          told = after_field self.old.told
+              (field_name text.now) (field_value text.now);
+        }) }
+        ensures err { OnErr result (self.new ≡ self.old) }
+        ensures too_large { IfErr result (λ e. e ≡ EventError.TooLarge → self.old.limits.data
+            < text_len (after_field self.old.told (field_name text.now) (field_value text.now)).text) }
+        ensures utf8 { IfErr result (λ e. e ≢ EventError.NotUtf8) }
+        ensures reason { IfErr result (λ e. (reason : _) → e ≡ EventError.Refused reason
+            → reason ≡ Reason.OutOfMemory) }
+    {
+        let (name, value) = field_of(text);
+        if name == "data" {
+            self.add_line(alloc, line, value)?;
+        } else if name == "event" {
+            self.name = some_name(line, value)?;
+        } else if name == "id" && !value.as_bytes().contains(&0) {
+            self.id = Some(end_of(line, value)?);
+        } else if name == "retry" {
+            set_number(&mut self.retry, value);
+        }
+        Ok(())
+    }
+
+    /// Adds `value` to the data, as one more line: it is the end of `line`. Fails with `TooLarge` if the
+    /// data would pass its limit.
+    fn add_line(&mut self, alloc: Global, line: &Str, value: &str) -> Result<(), EventError>
+        requires { IsEndOf line.now value.now }
+        ensures ok { OnOk result (self.new ≡ record self.old {
+          told = record self.old.told {
+            text = Some (with_line self.old.told.text value.now);
+          };
+        }) }
+        ensures err { OnErr result (self.new ≡ self.old) }
+        ensures too_large { IfErr result (λ e. e ≡ EventError.TooLarge
+            → self.old.limits.data < length (with_line self.old.told.text value.now)) }
+        ensures utf8 { IfErr result (λ e. e ≢ EventError.NotUtf8) }
+        ensures reason { IfErr result (λ e. (reason : _) → e ≡ EventError.Refused reason
+            → reason ≡ Reason.OutOfMemory) }
+    {
+        if !has_room(&self.text, value, self.limits.data) {
+            return Err(EventError::TooLarge);
+        }
+        add_line(alloc, &mut self.text, line, value)?;
+        Ok(())
+    }
+}
+
+/// The laws of a run of calls. It gives the first events of the joined pieces, wherever these are cut,
+/// whenever events are asked for, and whichever calls are refused memory. These are the same for
+/// every run over the same bytes. If a call gave none, and was not refused, no event was there.
+#[tactic(auto, using(crate::proofs::EventRunsLemmas::event_laws))]
+pub fn event_laws()
+    ensures run { EventRunLaw }
+    ensures same { SameEventLaw }
+    ensures none { NoEventLaw }
+{}
+
+/// Whether the data may have one more line.
+fn has_room(so_far: &Option<Data>, line: &str, limit: usize) -> bool
+    ensures { IsTrue result ↔ (length (with_line (text_if_any so_far.now) line.now) ≤ limit) }
+{
+    let len = match so_far {
+        Some(Data::One(text)) => text.len(),
+        Some(Data::More(text)) => text.len(),
+        None => return line.len() <= limit,
+    };
+    len < limit && line.len() < limit - len
+}
+
+/// Adds `value` to the data, as one more line: it is the end of `line`.
+fn add_line(alloc: Global, so_far: &mut Option<Data>, line: &Str, value: &str) -> Result<(), Reason>
+    requires { IsEndOf line.now value.now }
+    ensures ok { OnOk result
+        (text_if_any so_far.new ≡ Some (with_line (text_if_any so_far.old) value.now)) }
+    ensures err { OnErr result (text_if_any so_far.new ≡ text_if_any so_far.old) }
+    ensures reason { IfErr result (λ reason. reason ≡ Reason.OutOfMemory) }
+{
+    let more = match so_far {
+        Some(Data::More(text)) => return push_line(text, value),
+        Some(Data::One(first)) => Data::More(joined(alloc, first.as_str(), value)?),
+        None => Data::One(end_of(line, value)?),
+    };
+    *so_far = Some(more);
+    Ok(())
+}
+
+/// The data as one text, and the identifier once more. If either is refused, the data comes back.
+fn data_and_id(
+    alloc: Global,
+    so_far: Data,
+    id: &Option<Str>,
+) -> Result<(Str, Option<Str>), Refused<Data>>
+    ensures text { IfOk result (λ both. both.0 ≡ text_of so_far) }
+    ensures id { IfOk result (λ both. both.1 ≡ id.now) }
+    ensures back { IfErr result (λ e. text_of e.back ≡ text_of so_far) }
+    ensures reason { IfErr result (λ e. e.reason ≡ Reason.OutOfMemory) }
+{
+    let id = match same(id) {
+        Ok(id) => id,
+        Err(reason) => return Err(Refused {
+            reason,
+            back: so_far,
+        }),
+    };
+    match so_far {
+        Data::One(text) => Ok((text, id)),
+        Data::More(text) => match Str::from_string(alloc, text) {
+            Ok(text) => Ok((text, id)),
+            Err(Refused { reason, back }) => Err(Refused {
+                reason,
+                back: Data::More(back),
+            }),
+        },
+    }
+}
+
+/// The same text once more, if there is one.
+fn same(text: &Option<Str>) -> Result<Option<Str>, Reason>
+    ensures ok { IfOk result (λ copy. copy ≡ text.now) }
+    ensures reason { IfErr result (λ reason. reason ≡ Reason.OutOfMemory) }
+{
+    match text {
+        Some(text) => Ok(Some(text.try_clone()?)),
+        None => Ok(None),
+    }
+}
+
+/// A line without a byte order mark at its start, if it is the first one.
+fn content(at_start: bool, line: &str) -> &str
+    ensures { result.now ≡ content at_start line.now }
+{
+    if !at_start {
+        return line;
+    }
+    line.strip_prefix(BYTE_ORDER_MARK).unwrap_or(line)
+}
+
+/// The name and the value of a field.
+fn field_of(text: &str) -> (&str, &str)
+    ensures name { result.0.now ≡ field_name text.now }
+    ensures value { result.1.now ≡ field_value text.now }
+{
+    let (name, value) = text.split_once(':').unwrap_or((text, ""));
+    (name, without_space(value))
+}
+
+/// A text without one space at its start.
+fn without_space(text: &str) -> &str
+    ensures { result.now ≡ without_space text.now }
+{
+    text.strip_prefix(' ').unwrap_or(text)
+}
+
+/// The end of a line as a name, which is none if it is empty.
+fn some_name(line: &Str, end: &str) -> Result<Option<Str>, Reason>
+    requires { IsEndOf line.now end.now }
+    ensures ok { IfOk result (λ name. name ≡ some_name end.now) }
+    ensures reason { IfErr result (λ reason. reason ≡ Reason.OutOfMemory) }
+{
+    if end.is_empty() {
+        return Ok(None);
+    }
+    Ok(Some(end_of(line, end)?))
+}
+
+/// The end of a line as a text that shares its bytes.
+fn end_of(line: &Str, end: &str) -> Result<Str, Reason>
+    requires { IsEndOf line.now end.now }
+    ensures ok { IfOk result (λ text. text ≡ end.now) }
+    ensures reason { IfErr result (λ reason. reason ≡ Reason.OutOfMemory) }
+{
+    line.slice_from(line.len() - end.len())
+}
+
+/// Sets the number to the one that the text writes, if it writes one.
+fn set_number(number_so_far: &mut Option<u64>, text: &str)
+    ensures { number_so_far.new ≡ option_or (number_of text.now) number_so_far.old }
+{
+    if let Some(n) = number(text.as_bytes()) {
+        *number_so_far = Some(n as u64);
+    }
+}
+
+/// Two lines as one text.
+fn joined(alloc: Global, first: &str, second: &str) -> Result<String, Reason>
+    ensures ok { IfOk result
+        (λ text. string_bytes text ≡ first.now ++ line_feed ∷ second.now) }
+    ensures reason { IfErr result (λ reason. reason ≡ Reason.OutOfMemory) }
+{
+    let mut text = String::from_str(alloc, first)?;
+    push_line(&mut text, second)?;
+    Ok(text)
+}
+
+/// Appends a line feed and a line. Fails with `OutOfMemory`; then nothing has changed.
+fn push_line(text: &mut String, line: &str) -> Result<(), Reason>
+    ensures ok { OnOk result
+        (string_bytes text.new ≡ string_bytes text.old ++ line_feed ∷ line.now) }
+    ensures err { OnErr result (string_bytes text.new ≡ string_bytes text.old) }
+    ensures reason { IfErr result (λ reason. reason ≡ Reason.OutOfMemory) }
+{
+    text.push('\n')?;
+    if let Err(refused) = text.push_str(line) {
+        text.pop();
+        return Err(refused.into());
+    }
+    Ok(())
+}

@@ -1,0 +1,11 @@
+//! Messages of protocols, read off streams that come in pieces. Each public module is one protocol,
+//! and needs no other one; some share `number`.
+#![tactic(auto)]
+
+pub mod events;
+pub mod multipart;
+pub mod netstrings;
+mod number;
+pub mod records;
+pub mod redis;
+pub mod requests;

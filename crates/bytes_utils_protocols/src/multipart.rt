@@ -1,0 +1,248 @@
+//! The parts of a body of `multipart/form-data`, or of another multipart type, that comes in pieces
+//! (RFC 2046, section 5.1.1; RFC 7578).
+ghost use Rattle.std.specs.Prelude.{◌≡◌, ◌+◌, ◌-◌, ◌^◌, ◌<◌, ◌≤◌, ◌↔◌, ℕ, List, [], ◌++◌, length, min, false, true, IsUtf8, IsOk, IsTrue, IfOk, IfErr, IfSome, IfNone, OnOk, OnErr};
+ghost use Rattle.bytes_utils_codec.specs.Pushing.{IsPush};
+ghost use Rattle.bytes_utils_protocols.specs.Multipart.{FewWait, HasParameter, IsDivided, IsIdle, IsPartDue, NoPart, PartBytes, PartsLaw, SamePartsLaw, TakesPart, appended, bytes_of, delimiter_of, file_name_key, held_by, line_end, name_key};
+
+mod head;
+mod limits;
+mod preamble;
+mod sections;
+
+use bytes::{Buf, Bytes};
+use bytes_utils::{Reason, Refused, SegmentedBuf, Str};
+use bytes_utils_codec::frame::Frames;
+use head::{disposition_of, parameter, read_head};
+pub use limits::{Limits, PartError};
+use preamble::Preamble;
+use sections::{Sections, Stage};
+use std::alloc::Global;
+use std::marker::Model;
+
+/// A part.
+#[derive(Debug, Drop)]
+pub struct Part {
+    /// The header lines, without the line end after the last one.
+    pub head: Str,
+    /// What follows `; name="` in the value of the first `Content-Disposition` header, up to the
+    /// next quote. It is as the peer wrote it: browsers write a quote in a name as `%22`. A quote
+    /// after a backslash ends it, too.
+    pub name: Option<Str>,
+    /// What follows `; filename="` there, in the same way.
+    pub file_name: Option<Str>,
+    pub body: SegmentedBuf<Bytes>,
+}
+
+/// A stream that comes in pieces, and the parts in it.
+///
+/// ```text
+/// let mut parts = PartReader::new(alloc, b"AaB", limits)?;
+/// parts.push(first)?;          // a `Bytes` of `--AaB\r\nContent-Disposition: form-data; na`
+/// parts.next_part(alloc)?      // `None`
+/// parts.push(second)?;         // one of `me="a"\r\n\r\nHello\r\n--AaB--`
+/// parts.next_part(alloc)?      // a part with the name `a` and the body `Hello`
+/// parts.next_part(alloc)?      // `None`: `has_ended` is true now
+/// ```
+///
+/// A delimiter is a line end, two dashes and the boundary. The first one needs no line end before
+/// it. After it come spaces and tabs, if any, and a line end; the header lines, if any; an empty
+/// line; and the body up to the next delimiter. What is before the first delimiter is dropped, and
+/// so is all that comes after the close delimiter, which two dashes follow.
+///
+/// The pieces of a body that came with more than 512 bytes are shared. Pieces that wait for a
+/// delimiter are not searched again.
+#[derive(Debug, Drop)]
+pub struct PartReader {
+    sections: Sections,
+    limits: Limits,
+}
+
+impl Model for PartReader {
+    ghost use Rattle.bytes_utils_protocols.specs.Multipart.{IsDivided, Parting, has_ended, held_by};
+
+    ghost Value = { Parting };
+
+    ghost view = { λ r. record {
+      delimiter = r.sections.frames.separator;
+      limits = r.limits;
+      ended = has_ended r.sections.stage;
+      held = held_by r.sections;
+    } };
+
+    ghost invariant = { λ r. IsDivided r.sections };
+}
+
+impl PartReader {
+    /// Makes a reader that has read nothing. `boundary` is the parameter of the content type,
+    /// without quotes. Fails with `OutOfMemory` if memory is refused.
+    pub fn new(alloc: Global, boundary: &[u8], limits: Limits) -> Result<PartReader, Reason>
+        ensures ok { IfOk result (λ r. r ≡ record {
+          delimiter = delimiter_of boundary.now;
+          limits = limits;
+          ended = false;
+          held = line_end;
+        }) }
+        ensures reason { IfErr result (λ reason. reason ≡ Reason.OutOfMemory) }
+    {
+        let mut delimiter = Vec::from_slice(alloc, b"\r\n--")?;
+        delimiter.extend_from_slice(boundary)?;
+        let mut frames = Frames::new(alloc, &delimiter)?;
+        frames.push_slice(b"\r\n")?;
+        let sections = Sections {
+            frames,
+            stage: Stage::Preamble,
+            preamble: Preamble::none(alloc),
+            found: SegmentedBuf::new(alloc),
+        };
+        Ok(PartReader { sections, limits })
+    }
+
+    /// Appends a piece, or drops it if the close delimiter was read. A piece of at most 512 bytes
+    /// is copied; a longer one is shared. Fails with `TooLong` if the number of bytes that wait for
+    /// a delimiter would pass `usize::MAX`, and with `OutOfMemory` if memory is refused; then
+    /// nothing has changed and `piece` comes back.
+    pub fn push(&mut self, piece: Bytes) -> Result<(), Refused<Bytes>>
+        ensures pushed { (front : List ℕ) × (waiting : List ℕ)
+            × (self.old.held ≡ front ++ waiting)
+            × IsPush waiting piece result
+            (self.new ≡ appended self.old piece) (self.new ≡ self.old) }
+        ensures drops { self.old.ended ≡ true → IsOk result }
+    {
+        if self.has_ended() {
+            return Ok(());
+        }
+        self.sections.frames.push(piece)
+    }
+
+    /// Appends a copy of `piece`, in a block that it shares with other small pieces, or drops it if
+    /// the close delimiter was read: for a caller that reads into a buffer of its own. Fails as
+    /// `push` does; then nothing has changed.
+    pub fn push_slice(&mut self, piece: &[u8]) -> Result<(), Reason>
+        ensures ok { OnOk result (self.new ≡ appended self.old piece.now) }
+        ensures err { OnErr result (self.new ≡ self.old) }
+        ensures too_long { (front : List ℕ) × (waiting : List ℕ)
+            × (self.old.held ≡ front ++ waiting)
+            × IfErr result (λ reason. (reason ≡ Reason.TooLong)
+            ↔ (2 ^ 64 ≤ length waiting + length piece.now)) }
+        ensures empty { piece.now ≡ [] → IsOk result }
+        ensures drops { self.old.ended ≡ true → IsOk result }
+    {
+        if !self.has_ended() {
+            self.sections.frames.push_slice(piece)?;
+        }
+        Ok(())
+    }
+
+    /// Returns whether the close delimiter was read: then no part comes any more.
+    pub fn has_ended(&self) -> bool
+        ensures value { result ≡ self.now.ended }
+        ensures none { IsTrue result → self.now.held ≡ [] }
+    {
+        self.sections.stage == Stage::Ended
+    }
+
+    /// Returns the next part, or `None` while some of it or of the delimiter after it is to come,
+    /// and after the close delimiter; then no more bytes wait than the limits and a delimiter have.
+    /// Fails with `Malformed` if the held bytes begin with no part, whatever comes after them, with
+    /// `TooLarge` if they begin with none within the limits, with `NotUtf8` if the head isn't UTF-8,
+    /// and with `Refused` if memory is refused; then nothing has changed. `Malformed` comes only
+    /// after the delimiter at the end of the part; before that, and where too many bytes are before
+    /// the first delimiter, the error is `TooLarge`.
+    pub fn next_part(&mut self, alloc: Global) -> Result<Option<Part>, PartError>
+        ensures part { IfOk result (λ next. IfSome next (λ part. TakesPart self.old.delimiter
+            self.old.limits self.old.held (bytes_of part) self.new.held)) }
+        ensures fewer { IfOk result (λ next. IfSome next
+            (λ _. length self.new.held < length self.old.held)) }
+        ensures name { IfOk result (λ next. IfSome next
+            (λ part. HasParameter name_key part.head part.name)) }
+        ensures file_name { IfOk result (λ next. IfSome next
+            (λ part. HasParameter file_name_key part.head part.file_name)) }
+        ensures goes_on { IfOk result (λ next. IfSome next
+            (λ _. (self.old.ended ≡ false)
+            × (self.new ≡ record self.old { held = self.new.held }))) }
+        ensures waits { IfOk result (λ next. IfNone next
+            (NoPart self.old.delimiter self.old.limits self.old.held)) }
+        ensures idle { IfOk result (λ next. IfNone next (IsIdle self.old self.new)) }
+        ensures few { IfOk result (λ next. IfNone next
+            (FewWait self.new.delimiter self.new.limits self.new.held)) }
+        ensures err { OnErr result (self.new ≡ self.old) }
+        ensures malformed { IfErr result (λ e. e ≡ PartError.Malformed
+            → (limits : Limits) (more : List ℕ)
+            → NoPart self.old.delimiter limits (self.old.held ++ more)) }
+        ensures due { IfErr result (λ e. e ≡ PartError.Malformed
+            → IsPartDue self.old.delimiter self.old.limits self.old.held) }
+        ensures too_large { IfErr result (λ e. e ≡ PartError.TooLarge → (more : List ℕ)
+            → NoPart self.old.delimiter self.old.limits (self.old.held ++ more)) }
+        ensures not_utf8 { IfErr result (λ e. e ≡ PartError.NotUtf8
+            → (part : PartBytes) × (rest : List ℕ)
+            × TakesPart self.old.delimiter self.old.limits self.old.held part rest
+            × (¬ IsUtf8 part.head)) }
+        ensures reason { IfErr result (λ e. (reason : _) → e ≡ PartError.Refused reason
+            → reason ≡ Reason.OutOfMemory) }
+    {
+        self.sections.search(alloc)?;
+        if self.sections.is_over(most(self.limits)) {
+            return Err(PartError::TooLarge);
+        }
+        match self.sections.stage {
+            Stage::Found => Ok(Some(take_part(&mut self.sections, alloc, self.limits)?)),
+            _ => Ok(None),
+        }
+    }
+}
+
+/// The laws of a run of calls. The parts, and what is left, depend on the joined pieces alone, not
+/// on where these are cut or when parts are asked for.
+#[tactic(auto, using(crate::proofs::MultipartLaws::part_laws))]
+pub fn part_laws()
+    ensures run { PartsLaw }
+    ensures same { SamePartsLaw }
+{}
+
+/// The most bytes between two delimiters.
+fn most(limits: Limits) -> usize
+    ensures { result ≡ min (limits.head + limits.body) (2 ^ 64 - 1) }
+{
+    limits.head.saturating_add(limits.body)
+}
+
+/// Takes the part that was found.
+fn take_part(sections: &mut Sections, alloc: Global, limits: Limits) -> Result<Part, PartError>
+    requires divided { IsDivided sections.old }
+    requires found { sections.old.stage ≡ Stage.Found }
+    requires few { length sections.old.preamble ≤ limits.head + limits.body }
+    ensures divided { IsDivided sections.new }
+    ensures part { IfOk result (λ part. TakesPart sections.old.frames.separator limits
+        (held_by sections.old) (bytes_of part) (held_by sections.new)) }
+    ensures name { IfOk result (λ part. HasParameter name_key part.head part.name) }
+    ensures file_name { IfOk result (λ part. HasParameter file_name_key part.head part.file_name) }
+    ensures goes_on { OnOk result (sections.new.stage ≡ Stage.Waiting) }
+    ensures delimiter { sections.new.frames.separator ≡ sections.old.frames.separator }
+    ensures err { OnErr result (sections.new ≡ sections.old) }
+    ensures malformed { IfErr result (λ e. e ≡ PartError.Malformed
+        → (any : Limits) (more : List ℕ)
+        → NoPart sections.old.frames.separator any (held_by sections.old ++ more)) }
+    ensures due { IfErr result (λ e. e ≡ PartError.Malformed
+        → IsPartDue sections.old.frames.separator limits (held_by sections.old)) }
+    ensures too_large { IfErr result (λ e. e ≡ PartError.TooLarge → (more : List ℕ)
+        → NoPart sections.old.frames.separator limits (held_by sections.old ++ more)) }
+    ensures not_utf8 { IfErr result (λ e. e ≡ PartError.NotUtf8
+        → (part : PartBytes) × (rest : List ℕ)
+        × TakesPart sections.old.frames.separator limits (held_by sections.old) part rest
+        × (¬ IsUtf8 part.head)) }
+    ensures reason { IfErr result (λ e. (reason : _) → e ≡ PartError.Refused reason
+        → reason ≡ Reason.OutOfMemory) }
+{
+    let (head, start) = read_head(&sections.found, alloc, limits)?;
+    let disposition = disposition_of(head.as_str());
+    let name = parameter(alloc, disposition, "; name=\"")?;
+    let file_name = parameter(alloc, disposition, "; filename=\"")?;
+    let mut body = sections.take(alloc);
+    body.advance(start);
+    Ok(Part {
+        head,
+        name,
+        file_name,
+        body,
+    })
+}

@@ -1,0 +1,37 @@
+//! What a peer may send of a part, and why there is none.
+ghost use Rattle.std.specs.Prelude.{◌≡◌};
+
+use bytes_utils::Reason;
+
+/// What a peer may send.
+#[derive(Clone, Copy, Debug)]
+pub struct Limits {
+    /// The most bytes before a body, from the delimiter on: spaces, the head, and its line ends.
+    pub head: usize,
+    /// The most bytes of a body. Before the first delimiter there may be as many bytes as both
+    /// limits allow together, less two.
+    pub body: usize,
+}
+
+/// Why there is no part.
+#[derive(Clone, Copy, Debug, Eq, PartialEq)]
+pub enum PartError {
+    /// A call was refused for this reason, which is `OutOfMemory`.
+    Refused(Reason),
+    /// What came is no part, whatever comes after it.
+    Malformed,
+    /// The head of the next part isn't UTF-8.
+    NotUtf8,
+    /// What came is no part within the limits, whatever comes after it.
+    TooLarge,
+}
+
+impl From<Reason> for PartError {
+    ghost use Rattle.bytes_utils_protocols.specs.declared.multipart.limits.PartError.TheVariants.{Refused};
+
+    ghost from_gives = { λ reason error. error ≡ Refused reason };
+
+    fn from(reason: Reason) -> PartError {
+        PartError::Refused(reason)
+    }
+}

@@ -1,0 +1,119 @@
+//! Replies of the Redis protocol, version 2, with nested arrays, of a stream that comes in pieces.
+ghost use Rattle.std.specs.Prelude.{◌≡◌, ℕ, ◌+◌, ◌^◌, ◌<◌, ◌≤◌, ◌↔◌, List, [], ◌++◌, length, IfOk, IfErr, IfSome, IfNone, IsOk, OnOk, OnErr};
+ghost use Rattle.bytes_utils_codec.specs.Pushing.{IsPush};
+ghost use Rattle.bytes_utils_protocols.specs.Redis.{BeginsReply, NoReply, TakesReply};
+
+mod item;
+mod limits;
+mod line;
+mod passed;
+mod pending;
+
+use bytes::Bytes;
+use bytes_utils::{Reason, Refused};
+pub use item::Item;
+pub use limits::{Limits, ReplyError};
+use pending::Pending;
+use std::alloc::Global;
+use std::marker::Model;
+
+/// A stream that comes in pieces, and the replies in it.
+///
+/// ```text
+/// let limits = Limits { line: 64 << 10, bulk: 512 << 20, items: 1 << 20 };
+/// let mut replies = ReplyReader::new(alloc, limits);
+/// replies.push(first)?;            // a `Bytes` of `*2\r\n:1\r\n$5\r\nhe`
+/// replies.next_reply(alloc)?       // `None`
+/// replies.push(second)?;           // one of `llo\r\n`
+/// replies.next_reply(alloc)?       // `Array(Some(2))`, `Integer(1)`, `Bulk(Some(hello))`
+/// ```
+///
+/// Each call goes on where the last one stopped: no byte of an item is read again. What can't become
+/// a reply within the limits is an error as soon as that is certain, so a peer can't send without
+/// end.
+#[derive(Drop)]
+pub struct ReplyReader {
+    alloc: Global,
+    pending: Pending,
+    limits: Limits,
+}
+
+impl Model for ReplyReader {
+    ghost use Rattle.bytes_utils_protocols.specs.Redis.{Replying};
+    ghost use Rattle.bytes_utils_protocols.specs.PendingReply.{IsPending, held_by};
+
+    ghost Value = { Replying };
+
+    ghost view = { λ r. record { held = held_by r.pending; limits = r.limits } };
+
+    ghost invariant = { λ r. IsPending r.limits r.pending };
+}
+
+impl ReplyReader {
+    /// Makes a reader that holds no bytes.
+    pub fn new(alloc: Global, limits: Limits) -> ReplyReader
+        ensures { result ≡ record { held = []; limits = limits } }
+    {
+        ReplyReader {
+            alloc,
+            pending: Pending::new(alloc),
+            limits,
+        }
+    }
+
+    /// Appends a piece. If it has at most 512 bytes, it is copied; if not, it is shared. Fails with
+    /// `TooLong` if the number of held bytes would pass `usize::MAX`, and with `OutOfMemory` if
+    /// memory is refused; then nothing has changed and `piece` comes back.
+    pub fn push(&mut self, piece: Bytes) -> Result<(), Refused<Bytes>>
+        ensures pushed { IsPush self.old.held piece result
+            (self.new.held ≡ self.old.held ++ piece) (self.new ≡ self.old) }
+        ensures limits { self.new.limits ≡ self.old.limits }
+    {
+        self.pending.push(self.alloc, piece)
+    }
+
+    /// Appends a copy of `piece`, in a block that it shares with other small pieces: for a caller
+    /// that reads into a buffer of its own. Fails as `push` does; then nothing has changed.
+    pub fn push_slice(&mut self, piece: &[u8]) -> Result<(), Reason>
+        ensures ok { OnOk result (self.new.held ≡ self.old.held ++ piece.now) }
+        ensures err { OnErr result (self.new ≡ self.old) }
+        ensures too_long { IfErr result (λ reason. (reason ≡ Reason.TooLong)
+            ↔ (2 ^ 64 ≤ length self.old.held + length piece.now)) }
+        ensures empty { piece.now ≡ [] → IsOk result }
+        ensures limits { self.new.limits ≡ self.old.limits }
+    {
+        self.pending.push_slice(self.alloc, piece)
+    }
+
+    /// Returns the next reply, as its items in order, or `None` while the held bytes are only a
+    /// beginning of one within the limits. A bulk item in one piece of more than 512 bytes is
+    /// shared. Fails with `Malformed` if they begin with no reply, whatever comes after them, with
+    /// `TooLarge` if they begin with none within the limits, and with `Refused` if memory is
+    /// refused; then nothing has changed.
+    pub fn next_reply(&mut self, alloc: Global) -> Result<Option<Vec<Item>>, ReplyError>
+        ensures reply { IfOk result (λ next. IfSome next (λ items.
+            TakesReply self.old.limits self.old.held items.items self.new.held)) }
+        ensures fewer { IfOk result (λ next. IfSome next (λ _.
+            length self.new.held < length self.old.held)) }
+        ensures waits { IfOk result (λ next. IfNone next
+            ((self.new ≡ self.old) × NoReply self.old.limits self.old.held)) }
+        ensures begins { IfOk result (λ next. IfNone next
+            (BeginsReply self.old.limits self.old.held)) }
+        ensures err { OnErr result (self.new ≡ self.old) }
+        ensures malformed { IfErr result (λ e. e ≡ ReplyError.Malformed
+            → (limits : Limits) (more : List ℕ) → NoReply limits (self.old.held ++ more)) }
+        ensures too_large { IfErr result (λ e. e ≡ ReplyError.TooLarge
+            → (more : List ℕ) → NoReply self.old.limits (self.old.held ++ more)) }
+        ensures reason { IfErr result (λ e. (reason : _) → e ≡ ReplyError.Refused reason
+            → reason ≡ Reason.OutOfMemory) }
+        ensures limits { self.new.limits ≡ self.old.limits }
+    {
+        if self.limits.items == 0 {
+            return Err(ReplyError::TooLarge);
+        }
+        if !self.pending.read(alloc, self.limits)? {
+            return Ok(None);
+        }
+        Ok(Some(self.pending.take(alloc)))
+    }
+}

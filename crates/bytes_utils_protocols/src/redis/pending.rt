@@ -1,0 +1,351 @@
+//! What was read of a reply whose end is to come.
+ghost use Rattle.std.specs.Prelude.{◌≡◌, ◌≢◌, ℕ, ◌+◌, ◌-◌, ◌^◌, ◌<◌, ◌≤◌, List, [], ◌∷◌, ◌++◌, length, take, drop, IfOk, IfErr, IfSome, IfNone, IsOk, IsTrue, OnOk, OnErr, ◌↔◌};
+ghost use Rattle.std.specs.List.{concat};
+ghost use Rattle.std.specs.Bool.{OnFalse, OnTrue};
+ghost use Rattle.bytes_utils_codec.specs.Cursor.{unread};
+ghost use Rattle.bytes_utils_codec.specs.Pushing.{IsPush};
+ghost use Rattle.bytes_utils_protocols.specs.Redis.{BeginsBody, BeginsReply, HasNoBody, IsLineOf, IsTextLine, NoReply, after_line, body, items_in, line_end};
+ghost use Rattle.bytes_utils_protocols.specs.PendingReply.{AwaitsBody, EndsAt, FindsHead, FindsItem, IsNext, IsPending, IsReadTo, NoReturn, NoneEnds, held_by, unread_by};
+
+use super::item::{Item, items_in};
+use super::limits::{Limits, ReplyError};
+use super::line::{Begun, Head, Line};
+use super::passed::Passed;
+use bytes::{Buf, Bytes};
+use bytes_utils::contiguous::ContiguousBuf;
+use bytes_utils::segmented::PackedBuf;
+use bytes_utils::{Reason, Refused};
+use bytes_utils_codec::cursor::{Cursor, Mismatch};
+use bytes_utils_codec::find::find_short;
+use std::alloc::Global;
+use std::mem::replace;
+
+/// What ends each line.
+const LINE_END: &[u8] = b"\r\n";
+
+/// Pieces of at most this many bytes are copied together.
+const SMALL: usize = 512;
+
+/// What was read of the next item. Its bytes are held until all have come.
+#[derive(Clone, Copy, Debug)]
+pub(super) enum Next {
+    /// A beginning of its line.
+    InLine(Begun),
+    /// The line of a bulk item: where its bytes begin, and how many they are.
+    InBody(usize, usize),
+}
+
+/// What has come of the end of a line.
+#[derive(Clone, Copy, Debug)]
+enum LineEnd {
+    Missing,
+    /// A carriage return.
+    Half,
+    Here,
+}
+
+/// What was read of a reply: its first items. Their bytes were let go.
+#[derive(Drop)]
+pub(super) struct Pending {
+    pub(super) pieces: PackedBuf,
+    pub(super) passed: Passed,
+    pub(super) items: Vec<Item>,
+    pub(super) due: usize,
+    pub(super) next: Next,
+}
+
+impl Pending {
+    /// Nothing was read, and no bytes are held.
+    pub(super) fn new(alloc: Global) -> Pending
+        ensures pending { (limits : Limits) → IsPending limits result }
+        ensures held { held_by result ≡ [] }
+    {
+        Pending {
+            pieces: PackedBuf::new(alloc, SMALL),
+            passed: Passed::none(),
+            items: Vec::new(alloc),
+            due: 1,
+            next: at_line(),
+        }
+    }
+
+    /// Appends a piece, as `PackedBuf` does.
+    pub(super) fn push(&mut self, alloc: Global, piece: Bytes) -> Result<(), Refused<Bytes>>
+        requires { length (held_by self.old) < 2 ^ 64 }
+        ensures pending { (limits : Limits) → IsPending limits self.old → IsPending limits self.new }
+        ensures pushed { IsPush (held_by self.old) piece result
+            (held_by self.new ≡ held_by self.old ++ piece) (self.new ≡ self.old) }
+    {
+        if !self.fits(piece.len()) {
+            return Err(Refused {
+                reason: Reason::TooLong,
+                back: piece,
+            });
+        }
+        self.pieces.push(alloc, piece)
+    }
+
+    /// Appends a copy of `piece`, as `PackedBuf` does.
+    pub(super) fn push_slice(&mut self, alloc: Global, piece: &[u8]) -> Result<(), Reason>
+        requires { length (held_by self.old) < 2 ^ 64 }
+        ensures pending { (limits : Limits) → IsPending limits self.old → IsPending limits self.new }
+        ensures ok { OnOk result (held_by self.new ≡ held_by self.old ++ piece.now) }
+        ensures err { OnErr result (self.new ≡ self.old) }
+        ensures too_long { IfErr result (λ reason. (reason ≡ Reason.TooLong)
+            ↔ (2 ^ 64 ≤ length (held_by self.old) + length piece.now)) }
+        ensures empty { piece.now ≡ [] → IsOk result }
+    {
+        if !self.fits(piece.len()) {
+            return Err(Reason::TooLong);
+        }
+        self.pieces.push_slice(alloc, piece)
+    }
+
+    /// Whether the number of held bytes and `len` is a `usize`.
+    fn fits(&self, len: usize) -> bool
+        requires { length (held_by self.now) < 2 ^ 64 }
+        ensures { IsTrue result ↔ (length (held_by self.now) + len < 2 ^ 64) }
+    {
+        len <= usize::MAX - self.passed.len() - self.pieces.remaining()
+    }
+
+    /// Reads the items that have come, and returns whether the reply is whole.
+    pub(super) fn read(&mut self, alloc: Global, limits: Limits) -> Result<bool, ReplyError>
+        requires pending { IsPending limits self.old }
+        requires some { 0 < limits.items }
+        ensures pending { IsPending limits self.new }
+        ensures held { held_by self.new ≡ held_by self.old }
+        ensures whole { IfOk result (λ whole. OnTrue whole (self.new.due ≡ 0)) }
+        ensures waits { IfOk result (λ whole. OnFalse whole (NoReply limits (held_by self.old))) }
+        ensures begins { IfOk result (λ whole. OnFalse whole (BeginsReply limits (held_by self.old))) }
+        ensures malformed { IfErr result (λ e. e ≡ ReplyError.Malformed
+            → (any : Limits) (more : List ℕ) → NoReply any (held_by self.old ++ more)) }
+        ensures too_large { IfErr result (λ e. e ≡ ReplyError.TooLarge
+            → (more : List ℕ) → NoReply limits (held_by self.old ++ more)) }
+        ensures reason { IfErr result (λ e. (reason : _) → e ≡ ReplyError.Refused reason
+            → reason ≡ Reason.OutOfMemory) }
+    {
+        while self.due > 0 {
+            let room = limits.items - self.items.len() - self.due; // for the items of the next one
+            let Some((item, len)) = next_item(&self.pieces, &mut self.next, alloc, limits, room)?
+            else {
+                return Ok(false);
+            };
+            self.keep(item, len)?;
+        }
+        Ok(true)
+    }
+
+    /// Keeps the next item, and lets go of its `len` bytes.
+    fn keep(&mut self, item: Item, len: usize) -> Result<(), Reason>
+        requires within { len ≤ length (unread_by self.old) }
+        requires fits { length (held_by self.old) < 2 ^ 64 }
+        requires due { 0 < self.old.due }
+        requires few { (self.old.due - 1) + items_in item < 2 ^ 64 }
+        ensures items { OnOk result (self.new.items.items ≡ self.old.items.items ++ item ∷ []) }
+        ensures due { OnOk result (self.new.due ≡ (self.old.due - 1) + items_in item) }
+        ensures unread { OnOk result (unread_by self.new ≡ drop len (unread_by self.old)) }
+        ensures held { held_by self.new ≡ held_by self.old }
+        ensures next { OnOk result ((limits : Limits) → IsNext limits (unread_by self.new) self.new.next) }
+        ensures err { OnErr result
+            ((limits : Limits) → IsPending limits self.old → IsPending limits self.new) }
+        ensures reason { IfErr result (λ reason. reason ≡ Reason.OutOfMemory) }
+    {
+        let of_its_own = items_in(&item);
+        self.items.push(item)?;
+        self.due = self.due - 1 + of_its_own;
+        self.passed.add(len, &self.pieces);
+        self.pieces.advance(len);
+        self.next = at_line();
+        Ok(())
+    }
+
+    /// Takes the items of a whole reply.
+    pub(super) fn take(&mut self, alloc: Global) -> Vec<Item>
+        requires { length (unread_by self.old) < 2 ^ 64 }
+        ensures items { result.items ≡ self.old.items.items }
+        ensures pending { (limits : Limits) → IsPending limits self.new }
+        ensures held { held_by self.new ≡ unread_by self.old }
+    {
+        self.passed = Passed::none();
+        self.due = 1;
+        self.next = at_line();
+        replace(&mut self.items, Vec::new(alloc))
+    }
+}
+
+/// No byte of the next item was read.
+fn at_line() -> Next
+    ensures { (limits : Limits) (bytes : List ℕ) → IsNext limits bytes result }
+{
+    Next::InLine(Begun {
+        len: 0,
+        line: Line::Empty,
+    })
+}
+
+/// The next item, of an array its line alone, and its number of bytes. It may have at most `room`
+/// items of its own.
+fn next_item(
+    pieces: &PackedBuf,
+    next: &mut Next,
+    alloc: Global,
+    limits: Limits,
+    room: usize,
+) -> Result<Option<(Item, usize)>, ReplyError>
+    requires next { IsNext limits (concat pieces.now.held.segments) next.old }
+    requires fits { length (concat pieces.now.held.segments) < 2 ^ 64 }
+    ensures next { IsNext limits (concat pieces.now.held.segments) next.new }
+    ensures found { FindsItem limits room (concat pieces.now.held.segments) result }
+{
+    let mut begun = match *next {
+        Next::InLine(begun) => begun,
+        Next::InBody(start, len) => return bulk(pieces, alloc, start, len),
+    };
+    let head = read_line(pieces, &mut begun, alloc, limits, room)?;
+    *next = Next::InLine(begun);
+    let Some(head) = head else {
+        return Ok(None);
+    };
+    let start = begun.len + LINE_END.len();
+    match head {
+        Head::Whole(item) => Ok(Some((item, start))),
+        Head::Plain => Ok(Some((text(pieces, alloc, begun.len)?, start))),
+        Head::Body(len) => {
+            *next = Next::InBody(start, len);
+            bulk(pieces, alloc, start, len)
+        }
+    }
+}
+
+/// What the line reports, if it is whole. Reads the bytes of it that weren't read yet.
+fn read_line(
+    pieces: &PackedBuf,
+    begun: &mut Begun,
+    alloc: Global,
+    limits: Limits,
+    room: usize,
+) -> Result<Option<Head>, ReplyError>
+    requires { IsReadTo (concat pieces.now.held.segments) begun.old }
+    ensures read { IsReadTo (concat pieces.now.held.segments) begun.new }
+    ensures head { FindsHead limits room (concat pieces.now.held.segments) result begun.new.len }
+{
+    let (len, end) = end_of_line(pieces, begun.len);
+    if len > limits.line {
+        return Err(ReplyError::TooLarge);
+    }
+    *begun = read_to(pieces, *begun, alloc, len)?;
+    match end {
+        LineEnd::Missing => {
+            begun.check(false, limits, room)?;
+            Ok(None)
+        }
+        LineEnd::Half => {
+            begun.check(true, limits, room)?;
+            Ok(None)
+        }
+        LineEnd::Here => begun.check(true, limits, room),
+    }
+}
+
+/// Reads the line on, up to its first `len` bytes.
+fn read_to(pieces: &PackedBuf, begun: Begun, alloc: Global, len: usize) -> Result<Begun, ReplyError>
+    requires begun { IsReadTo (concat pieces.now.held.segments) begun }
+    requires further { begun.len ≤ len }
+    requires within { len ≤ length (concat pieces.now.held.segments) }
+    ensures read { IfOk result
+        (λ next. (next.len ≡ len) × IsReadTo (concat pieces.now.held.segments) next) }
+    ensures malformed { IfErr result (λ e. e ≡ ReplyError.Malformed → (item : Item) (more : List ℕ)
+        → ¬ IsLineOf item (take len (concat pieces.now.held.segments) ++ more)) }
+    ensures too_large { IfErr result (λ e. e ≢ ReplyError.TooLarge) }
+    ensures reason { IfErr result (λ e. (reason : _) → e ≡ ReplyError.Refused reason
+        → reason ≡ Reason.OutOfMemory) }
+{
+    let bytes = pieces.as_segmented().read_range(alloc, begun.len..len)?;
+    match begun.line.read(&bytes) {
+        Some(line) => Ok(Begun { len, line }),
+        None => Err(ReplyError::Malformed),
+    }
+}
+
+/// How many bytes of the line have come, of which `read` are no end of a line, and what of its end.
+fn end_of_line(pieces: &PackedBuf, read: usize) -> (usize, LineEnd)
+    requires within { read ≤ length (concat pieces.now.held.segments) }
+    requires none { NoReturn (take read (concat pieces.now.held.segments)) }
+    ensures within { (read ≤ result.0) × (result.0 ≤ length (concat pieces.now.held.segments)) }
+    ensures none { (more : List ℕ) → NoneEnds result.0 (concat pieces.now.held.segments ++ more) }
+    ensures end { EndsAt result.1 result.0 (concat pieces.now.held.segments) }
+{
+    if let Some(len) = find_short(pieces.as_segmented(), read, LINE_END) {
+        return (len, LineEnd::Here);
+    }
+    let all = pieces.remaining();
+    if all > read && pieces.as_segmented().byte_at(all - 1) == Some(b'\r') {
+        return (all - 1, LineEnd::Half);
+    }
+    (all, LineEnd::Missing)
+}
+
+/// The text or the error whose line has `len` bytes.
+fn text(pieces: &PackedBuf, alloc: Global, len: usize) -> Result<Item, Reason>
+    requires line { IsTextLine (take len (concat pieces.now.held.segments)) }
+    requires within { len ≤ length (concat pieces.now.held.segments) }
+    ensures item { IfOk result (λ item.
+        IsLineOf item (take len (concat pieces.now.held.segments))
+        × (after_line item ≡ []) × (body item ≡ []) × (items_in item ≡ 0)) }
+    ensures reason { IfErr result (λ reason. reason ≡ Reason.OutOfMemory) }
+{
+    let bytes = pieces.as_segmented().copy_range(alloc, 1..len)?;
+    if pieces.as_segmented().byte_at(0) == Some(b'+') {
+        return Ok(Item::Simple(bytes));
+    }
+    Ok(Item::Error(bytes))
+}
+
+/// The bulk item of `len` bytes, which begin at `start`.
+fn bulk(
+    pieces: &PackedBuf,
+    alloc: Global,
+    start: usize,
+    len: usize,
+) -> Result<Option<(Item, usize)>, ReplyError>
+    requires { start ≤ length (concat pieces.now.held.segments) }
+    ensures found { (limits : Limits) (room : ℕ)
+        → AwaitsBody limits (concat pieces.now.held.segments) start len
+        → FindsItem limits room (concat pieces.now.held.segments) result }
+{
+    let mut cursor = Cursor::new(pieces.as_segmented());
+    cursor.advance(start);
+    let Some(bytes) = next_body(&mut cursor, alloc, len)? else {
+        return Ok(None);
+    };
+    Ok(Some((Item::Bulk(Some(bytes)), cursor.at())))
+}
+
+/// Passes the `len` bytes of a bulk item and the end of a line.
+fn next_body<B: ContiguousBuf + Drop>(
+    cursor: &mut Cursor<'_, B>,
+    alloc: Global,
+    len: usize,
+) -> Result<Option<Bytes>, ReplyError>
+    ensures body { IfOk result (λ next. IfSome next (λ bytes.
+        unread cursor.old ≡ bytes ++ (line_end ++ unread cursor.new))) }
+    ensures len { IfOk result (λ next. IfSome next (λ bytes. length bytes ≡ len)) }
+    ensures all { cursor.new.all ≡ cursor.old.all }
+    ensures waits { IfOk result (λ next. IfNone next (HasNoBody len (unread cursor.old))) }
+    ensures begins { IfOk result (λ next. IfNone next (BeginsBody len (unread cursor.old))) }
+    ensures malformed { IfErr result (λ e. e ≡ ReplyError.Malformed
+        → (more : List ℕ) → HasNoBody len (unread cursor.old ++ more)) }
+    ensures too_large { IfErr result (λ e. e ≢ ReplyError.TooLarge) }
+    ensures reason { IfErr result (λ e. (reason : _) → e ≡ ReplyError.Refused reason
+        → reason ≡ Reason.OutOfMemory) }
+{
+    let Some(bytes) = cursor.take(alloc, len)? else {
+        return Ok(None);
+    };
+    match cursor.tag(LINE_END) {
+        Ok(Some(())) => Ok(Some(bytes)),
+        Ok(None) => Ok(None),
+        Err(Mismatch) => Err(ReplyError::Malformed),
+    }
+}

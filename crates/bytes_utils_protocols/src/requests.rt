@@ -1,0 +1,217 @@
+//! Requests of a stream: lines before an empty one, and a body as long as these lines report.
+//!
+//! This finds where heads and bodies end, and is no HTTP parser: a server takes `hyper`.
+ghost use Rattle.std.specs.Prelude.{◌≡◌, ◌≢◌, ℕ, ◌<◌, ◌≤◌, ◌↔◌, List, [], ◌++◌, length, IfOk, IfErr, IfSome, IfNone, OnErr, IsSomeAnd, MatchOption};
+ghost use Rattle.std.specs.List.{concat, prefix_len, suffix_len};
+ghost use Rattle.std.specs.Option.{option_or};
+ghost use Rattle.bytes_utils_codec.specs.Pushing.{IsPush};
+ghost use Rattle.bytes_utils_codec.specs.Frames.{TakesFrame};
+ghost use Rattle.bytes_utils.specs.Occurrence.{Occurs};
+ghost use Rattle.bytes_utils_protocols.specs.Digits.{WriteNumber};
+ghost use Rattle.bytes_utils_protocols.specs.Requests.{IsHeader, ReportError, ReportLength, Reports, head_end, header_lines, is_blank, is_name_byte, trimmed};
+
+use crate::number::number;
+use bytes::Bytes;
+use bytes_utils::{Reason, Refused, SegmentedBuf};
+use bytes_utils_codec::frame::Frames;
+use std::alloc::Global;
+use std::marker::Model;
+
+/// Why the length of a body isn't known.
+#[derive(Clone, Copy, Debug, Eq, PartialEq)]
+pub enum LengthError {
+    /// A line isn't a header: it has no colon, or its name is empty or has a byte that isn't
+    /// visible ASCII, such as a space or a tab. A folded line is one of these.
+    NotAHeader,
+    /// A `Content-Length` isn't a number, or the number isn't a `usize`.
+    NotANumber,
+    /// Two `Content-Length` differ.
+    Unequal,
+    /// A `Transfer-Encoding` frames the body, in a way that isn't known here.
+    UnknownFraming,
+}
+
+/// A stream that comes in pieces, and the requests in it: a head, an empty line, and a body.
+///
+/// ```text
+/// let Some(head) = requests.next_head(alloc)? else { .. };  // `PUT / ..`, `Content-Length: 5`
+/// let len = body_len(&head)?;                // 5
+/// requests.next_body(alloc, len)?            // `None`, until five bytes more have come
+/// ```
+#[derive(Drop)]
+pub struct Requests {
+    frames: Frames,
+}
+
+impl Model for Requests {
+    ghost use Rattle.std.specs.Prelude.{◌≡◌, ℕ, List};
+    ghost use Rattle.bytes_utils_protocols.specs.Requests.{head_end};
+
+    ghost Value = { List ℕ };
+
+    ghost view = { λ r. r.frames.held };
+
+    ghost invariant = { λ r. r.frames.separator ≡ head_end };
+}
+
+impl Requests {
+    /// Makes a reader that holds no bytes. Fails with `OutOfMemory` if memory is refused.
+    pub fn new(alloc: Global) -> Result<Requests, Reason>
+        ensures ok { IfOk result (λ requests. requests ≡ []) }
+        ensures reason { IfErr result (λ reason. reason ≡ Reason.OutOfMemory) }
+    {
+        Ok(Requests {
+            frames: Frames::new(alloc, b"\r\n\r\n")?,
+        })
+    }
+
+    /// Appends a piece, as `Frames` does. Fails as `Frames` does; then nothing has changed and
+    /// `piece` comes back.
+    pub fn push(&mut self, piece: Bytes) -> Result<(), Refused<Bytes>>
+        ensures pushed { IsPush self.old piece result
+            (self.new ≡ self.old ++ piece) (self.new ≡ self.old) }
+    {
+        self.frames.push(piece)
+    }
+
+    /// Returns the head before the next empty line, or `None` while that line is to come. Fails
+    /// with `OutOfMemory` if memory is refused; then nothing has changed.
+    pub fn next_head(&mut self, alloc: Global) -> Result<Option<Bytes>, Reason>
+        ensures head { IfOk result
+            (λ next. IfSome next (λ head. TakesFrame head_end self.old head self.new)) }
+        ensures waits { IfOk result
+            (λ next. IfNone next ((self.new ≡ self.old) × (¬ Occurs head_end self.old))) }
+        ensures err { OnErr result (self.new ≡ self.old) }
+        ensures reason { IfErr result (λ reason. reason ≡ Reason.OutOfMemory) }
+    {
+        self.frames.next_frame(alloc)
+    }
+
+    /// Returns a body of `len` bytes, in pieces as `Frames` returns them, or `None` while some of
+    /// it is to come. Fails with `OutOfMemory` if memory is refused; then nothing has changed.
+    pub fn next_body(
+        &mut self,
+        alloc: Global,
+        len: usize,
+    ) -> Result<Option<SegmentedBuf<Bytes>>, Reason>
+        ensures body { IfOk result (λ next. IfSome next
+            (λ body. self.old ≡ concat body.segments ++ self.new)) }
+        ensures len { IfOk result (λ next. IfSome next
+            (λ body. length (concat body.segments) ≡ len)) }
+        ensures waits { IfOk result
+            (λ next. IfNone next ((self.new ≡ self.old) × (length self.old < len))) }
+        ensures err { OnErr result (self.new ≡ self.old) }
+        ensures reason { IfErr result (λ reason. reason ≡ Reason.OutOfMemory) }
+    {
+        if self.frames.remaining() < len {
+            return Ok(None);
+        }
+        Ok(Some(self.frames.split_to(alloc, len)?))
+    }
+}
+
+/// The number of bytes of the body after a head: the number that each `Content-Length` reports, or
+/// 0 if there is none. The error is that of the first line at fault.
+pub fn body_len(head: &[u8]) -> Result<usize, LengthError>
+    ensures ok { (len : ℕ)
+        → (result ≡ Ok len) ↔ ReportLength (header_lines head.now) len }
+    ensures err { (error : LengthError)
+        → (result ≡ Err error) ↔ ReportError (header_lines head.now) error }
+{
+    let mut known = None;
+    for line in head.split(|byte| *byte == b'\n').skip(1) {
+        known = agreed(known, reported_len(line)?)?;
+    }
+    Ok(known.unwrap_or(0))
+}
+
+/// The length that is known or reported, if any, or an error if the two differ.
+fn agreed(known: Option<usize>, reported: Option<usize>) -> Result<Option<usize>, LengthError>
+    ensures ok { IfOk result (λ agreed. (agreed ≡ option_or known reported)
+        × IfSome known (λ one. IfSome reported (λ other. one ≡ other))) }
+    ensures err { IfErr result (λ error. (error ≡ LengthError.Unequal)
+        × IsSomeAnd known (λ one. IsSomeAnd reported (λ other. one ≢ other))) }
+{
+    match (known, reported) {
+        (Some(one), Some(other)) if one != other => Err(LengthError::Unequal),
+        _ => Ok(known.or(reported)),
+    }
+}
+
+/// The length that a line reports, if any.
+fn reported_len(line: &[u8]) -> Result<Option<usize>, LengthError>
+    ensures { Reports line.now result }
+{
+    let (name, value) = header_of(line).ok_or(LengthError::NotAHeader)?;
+    if name.eq_ignore_ascii_case(b"Transfer-Encoding") {
+        return Err(LengthError::UnknownFraming);
+    }
+    if !name.eq_ignore_ascii_case(b"Content-Length") {
+        return Ok(None);
+    }
+    let len = number(trimmed(value)).ok_or(LengthError::NotANumber)?;
+    Ok(Some(len))
+}
+
+/// The name and the value of a header, or `None` if the line isn't a header.
+fn header_of(line: &[u8]) -> Option<(&[u8], &[u8])>
+    ensures some { IfSome result (λ parts. IsHeader line.now parts.0.now parts.1.now) }
+    ensures none { IfNone result ((name value : List ℕ) → ¬ IsHeader line.now name value) }
+{
+    let (name, rest) = line.split_at(name_len(line));
+    let (colon, value) = rest.split_first()?;
+    if name.is_empty() || *colon != b':' {
+        return None;
+    }
+    Some((name, value))
+}
+
+/// The number of bytes at the beginning that a name may have.
+fn name_len(line: &[u8]) -> usize
+    ensures bound { result ≤ length line.now }
+    ensures count { result ≡ prefix_len is_name_byte line.now }
+{
+    line.iter().take_while(|byte| is_name_byte(**byte)).count()
+}
+
+/// Whether a name may have the byte.
+fn is_name_byte(byte: u8) -> bool
+    ensures { result ≡ is_name_byte byte }
+{
+    byte.is_ascii_graphic() && byte != b':'
+}
+
+/// Whether the byte is a space, a tab or a carriage return.
+fn is_blank(byte: u8) -> bool
+    ensures { result ≡ is_blank byte }
+{
+    matches!(byte, b' ' | b'\t' | b'\r')
+}
+
+/// A value without the blanks at both ends.
+fn trimmed(value: &[u8]) -> &[u8]
+    ensures { result.now ≡ trimmed value.now }
+{
+    let value = &value[leading_blanks(value)..];
+    &value[..value.len() - trailing_blanks(value)]
+}
+
+/// The number of blanks at the beginning.
+fn leading_blanks(value: &[u8]) -> usize
+    ensures bound { result ≤ length value.now }
+    ensures count { result ≡ prefix_len is_blank value.now }
+{
+    value.iter().take_while(|byte| is_blank(**byte)).count()
+}
+
+/// The number of blanks at the end.
+fn trailing_blanks(value: &[u8]) -> usize
+    ensures bound { result ≤ length value.now }
+    ensures count { result ≡ suffix_len is_blank value.now }
+{
+    value
+        .iter()
+        .rev()
+        .take_while(|byte| is_blank(**byte))
+        .count()
+}

@@ -1,5 +1,0 @@
-use Rattle.bytes_utils_run.proofs.EventRunsLemmas.{no_event_law}
-use Rattle.bytes_utils_run.proofs.examples.events.event_laws.Goals as goal
-
-pub returns-clause-none : goal.returns-clause-none
-returns-clause-none c = no_event_law

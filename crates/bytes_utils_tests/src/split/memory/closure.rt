@@ -1,0 +1,8 @@
+//! The chunks by a closure.
+use crate::split::closure::Fields;
+use crate::split::memory::assert_next;
+
+#[test]
+fn by_a_closure(rt: HostRuntime) {
+    assert_next::<Fields, HostRuntime>(&rt, rt.alloc(), "BytesIter::next", "a,b,c");
+}

@@ -1,0 +1,8 @@
+//! Lines.
+use crate::split::memory::assert_next;
+use crate::split::ways::Lines;
+
+#[test]
+fn lines(rt: HostRuntime) {
+    assert_next::<Lines, HostRuntime>(&rt, rt.alloc(), "LinesBytes::next", "a\r\nb\n");
+}

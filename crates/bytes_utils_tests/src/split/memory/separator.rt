@@ -1,0 +1,12 @@
+//! The splitters by a separator.
+use crate::split::memory::assert_next;
+use crate::split::ways::{RSplit, RSplitN, Split, SplitN};
+
+#[test]
+fn separated(rt: HostRuntime) {
+    let alloc = rt.alloc();
+    assert_next::<Split, HostRuntime>(&rt, alloc, "SplitBytes::next", "a,b,c");
+    assert_next::<RSplit, HostRuntime>(&rt, alloc, "RSplitBytes::next", "a,b,c");
+    assert_next::<SplitN, HostRuntime>(&rt, alloc, "SplitNBytes::next", "a,b,c");
+    assert_next::<RSplitN, HostRuntime>(&rt, alloc, "RSplitNBytes::next", "a,b,c");
+}

@@ -1,0 +1,125 @@
+//! How often a storage is split: once for each cut of a run, and never again after a refusal.
+ghost use Rattle.std.specs.Prelude.{◌≤◌, length};
+
+use crate::split::closure::Fields;
+use crate::split::ways::{
+    Lines, RSplit, RSplitN, Split, SplitAsciiWhitespace, SplitInclusive, SplitN, SplitWhitespace,
+    StrWay,
+};
+use bytes::Bytes;
+use bytes_utils::string::{Storage, StrInner};
+use bytes_utils::{Reason, Refused};
+use std::alloc::Global;
+use std::cell::Cell;
+use std::process::Abort;
+
+/// The number of splits that the pieces of a storage were asked for, and how many are granted.
+#[derive(Drop)]
+struct Splits {
+    asked: Cell<usize>,
+    granted: usize,
+}
+
+impl Splits {
+    /// Counts one more split and returns whether it is granted.
+    fn ask(&self) -> bool {
+        let asked = self.asked.get().saturating_add(1);
+        self.asked.set(asked);
+        asked <= self.granted
+    }
+}
+
+/// Bytes whose splits are counted. `into_front` and `into_back` count as no split.
+#[derive(Drop)]
+struct Counted<'c> {
+    bytes: Bytes,
+    splits: &'c Splits,
+}
+
+impl<'c> Storage for Counted<'c> {
+    type Creator = Counted<'c>;
+
+    ghost stored = { λ s. s.bytes };
+
+    ghost created = { λ c. c.bytes };
+
+    /// Without bytes there are no splits to count.
+    fn empty(_alloc: Global) -> Result<Self, Reason> {
+        Err(Reason::OutOfMemory)
+    }
+
+    fn as_bytes(&self) -> &[u8] {
+        self.bytes.as_slice()
+    }
+
+    fn from_creator(creator: Counted<'c>) -> Result<Self, Refused<Counted<'c>>> {
+        Ok(creator)
+    }
+
+    fn split_at(mut self, at: usize) -> Result<(Self, Self), Refused<Self>> {
+        let reason = Reason::OutOfMemory;
+        if !self.splits.ask() {
+            return Err(Refused { reason, back: self });
+        }
+        match self.bytes.split_to(at) {
+            Ok(bytes) => {
+                let splits = self.splits;
+                Ok((Counted { bytes, splits }, self))
+            }
+            Err(_) => Err(Refused { reason, back: self }),
+        }
+    }
+
+    fn into_front(mut self, at: usize) -> Result<Self, Refused<Self>> {
+        self.bytes.truncate(at);
+        Ok(self)
+    }
+
+    fn into_back(mut self, at: usize) -> Result<Self, Refused<Self>> {
+        self.bytes.advance(at);
+        Ok(self)
+    }
+}
+
+/// The text in counted bytes.
+fn text_of<'c>(text: &'static str, splits: &'c Splits) -> Option<StrInner<Counted<'c>>> {
+    let bytes = Bytes::from_static(text.as_bytes());
+    StrInner::from_inner(Counted { bytes, splits }).ok()
+}
+
+/// Asserts the number of splits that a run over the text asks for: `cuts` if all are granted, and
+/// none after a refused one. The limit, for a way that has one, is two parts.
+fn assert_splits<W: StrWay, R: Abort>(rt: &R, text: &'static str, separator: &str, cuts: usize) {
+    for granted in 0..4 {
+        let asked = Cell::new(0);
+        let splits = Splits { asked, granted };
+        match text_of(text, &splits) {
+            Some(counted) => {
+                let refused = W::beside(rt, counted, 2, separator, text);
+                assert!(rt; refused.is_some() == (granted < cuts));
+            }
+            None => assert!(rt; false, "not UTF-8"),
+        }
+        assert_eq!(rt; splits.asked.get(), cuts.min(granted + 1));
+    }
+}
+
+#[test]
+fn separated(rt: HostRuntime) {
+    assert_splits::<Split, HostRuntime>(&rt, "a,b,c", ",", 2);
+    assert_splits::<RSplit, HostRuntime>(&rt, "a,b,c", ",", 2);
+    assert_splits::<SplitN, HostRuntime>(&rt, "a,b,c", ",", 1);
+    assert_splits::<RSplitN, HostRuntime>(&rt, "a,b,c", ",", 1);
+    assert_splits::<Fields, HostRuntime>(&rt, "a,b,c", ",", 2);
+    assert_splits::<Split, HostRuntime>(&rt, "αβ", "", 3);
+    assert_splits::<RSplit, HostRuntime>(&rt, "αβ", "", 3);
+}
+
+/// A part that reaches to the end of the text needs no split.
+#[test]
+fn pieces(rt: HostRuntime) {
+    assert_splits::<SplitInclusive, HostRuntime>(&rt, "a,b,", ",", 1);
+    assert_splits::<SplitWhitespace, HostRuntime>(&rt, " a b", "", 1);
+    assert_splits::<SplitAsciiWhitespace, HostRuntime>(&rt, " a b", "", 1);
+    assert_splits::<Lines, HostRuntime>(&rt, "a\nb\n", "", 2);
+}
