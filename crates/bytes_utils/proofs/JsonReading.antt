@@ -9,7 +9,7 @@ use Rattle.serde_json.specs.Read.{read}
 use Rattle.serde_json.specs.View.{items_of}
 use Rattle.bytes_utils.specs.declared.json.JsonRefused.{JsonRefused}
 use Rattle.bytes_utils.specs.declared.json.JsonRefused.TheVariants.{OutOfMemory, NotJson, NotText, NotUtf8}
-use Rattle.bytes_utils.specs.Json.{whole_number, Represents, IsRefusedFor, HoldsBytes, HoldsText, HoldsNoBytes, HoldsOtherBytes}
+use Rattle.bytes_utils.specs.Json.{whole_number, Represents, IsJsonRefusal, HoldsBytes, HoldsText, HoldsNoBytes, HoldsOtherBytes}
 
 -- equal JSON lists have equal members
 pub same_members : (xs ys : List Data) → items_of xs ≡ items_of ys → xs ≡ ys
@@ -69,7 +69,7 @@ module _ (json : List ℕ) (value : Data) (has : read json ≡ Some value) where
   nothing : HoldsNoBytes json → (bytes : List ℕ) → ¬ Represents value bytes
   nothing holds bytes = rw (same holds.0 holds.1) at (holds.2 bytes)
 
-  pub reads_text : (r : Result (List ℕ) JsonRefused) → IfOk r (λ text. Represents value text) → IfErr r (λ e. IsRefusedFor value e)
+  pub reads_text : (r : Result (List ℕ) JsonRefused) → IfOk r (λ text. Represents value text) → IfErr r (λ e. IsJsonRefusal value e)
       → (text : List ℕ) → HoldsText json text → (r ≡ Ok text) ⊎ (r ≡ Err OutOfMemory)
   reads_text (Ok t) ok err text holds = inl (ap Ok (same_bytes value t text ok (stands text holds.0)))
   reads_text (Err OutOfMemory) ok err text holds = inr refl
@@ -78,7 +78,7 @@ module _ (json : List ℕ) (value : Data) (has : read json ≡ Some value) where
   reads_text (Err NotUtf8) ok err text holds =
       absurd (err.2 (subst IsUtf8 (same_bytes value text err.0 (stands text holds.0) err.1) holds.1))
 
-  is_not_text : (r : Result (List ℕ) JsonRefused) → IfOk r (λ text. Represents value text) → IfErr r (λ e. IsRefusedFor value e)
+  is_not_text : (r : Result (List ℕ) JsonRefused) → IfOk r (λ text. Represents value text) → IfErr r (λ e. IsJsonRefusal value e)
       → r ≢ Err OutOfMemory → HoldsNoBytes json → r ≡ Err NotText
   is_not_text (Ok t) ok err other holds = absurd (nothing holds t ok)
   is_not_text (Err OutOfMemory) ok err other holds = absurd (other refl)
@@ -86,7 +86,7 @@ module _ (json : List ℕ) (value : Data) (has : read json ≡ Some value) where
   is_not_text (Err NotText) ok err other holds = refl
   is_not_text (Err NotUtf8) ok err other holds = absurd (nothing holds err.0 err.1)
 
-  is_not_utf8 : (r : Result (List ℕ) JsonRefused) → IfOk r (λ text. Represents value text × IsUtf8 text) → IfErr r (λ e. IsRefusedFor value e)
+  is_not_utf8 : (r : Result (List ℕ) JsonRefused) → IfOk r (λ text. Represents value text × IsUtf8 text) → IfErr r (λ e. IsJsonRefusal value e)
       → r ≢ Err OutOfMemory → HoldsOtherBytes json → r ≡ Err NotUtf8
   is_not_utf8 (Ok t) ok err other holds =
       absurd (holds.2 (subst IsUtf8 (same_bytes value t holds.0 ok.0 (stands holds.0 holds.1)) ok.1))
@@ -95,11 +95,11 @@ module _ (json : List ℕ) (value : Data) (has : read json ≡ Some value) where
   is_not_utf8 (Err NotText) ok err other holds = absurd (err holds.0 (stands holds.0 holds.1))
   is_not_utf8 (Err NotUtf8) ok err other holds = refl
 
-  pub refuses_other_value : (r : Result (List ℕ) JsonRefused) → IfOk r (λ text. Represents value text) → IfErr r (λ e. IsRefusedFor value e)
+  pub refuses_other_value : (r : Result (List ℕ) JsonRefused) → IfOk r (λ text. Represents value text) → IfErr r (λ e. IsJsonRefusal value e)
       → r ≢ Err OutOfMemory → (r ≡ Err NotText) ↔ HoldsNoBytes json
   refuses_other_value r ok err other = (λ is. (value, has, IfErr-at_err _ is err), is_not_text r ok err other)
 
-  pub refuses_other_bytes : (r : Result (List ℕ) JsonRefused) → IfOk r (λ text. Represents value text × IsUtf8 text) → IfErr r (λ e. IsRefusedFor value e)
+  pub refuses_other_bytes : (r : Result (List ℕ) JsonRefused) → IfOk r (λ text. Represents value text × IsUtf8 text) → IfErr r (λ e. IsJsonRefusal value e)
       → r ≢ Err OutOfMemory → (r ≡ Err NotUtf8) ↔ HoldsOtherBytes json
   refuses_other_bytes r ok err other =
-      (λ is. let bytes = IfErr-at_err (λ e. IsRefusedFor value e) is err in (bytes.0, (value, has, bytes.1), bytes.2), is_not_utf8 r ok err other)
+      (λ is. let bytes = IfErr-at_err (λ e. IsJsonRefusal value e) is err in (bytes.0, (value, has, bytes.1), bytes.2), is_not_utf8 r ok err other)

@@ -33,11 +33,11 @@ Represents value bytes =
     ⊎ ((value ≡ array (items_of (map whole_number bytes))) × All (λ b. b < 256) bytes)
 
 -- the error for a value that is no text; for private clauses
-abbrev pub IsRefusedFor : Data → JsonRefused → Type 0
-IsRefusedFor value OutOfMemory = ⊤
-IsRefusedFor value NotJson = ⊥
-IsRefusedFor value NotText = (bytes : List ℕ) → ¬ Represents value bytes
-IsRefusedFor value NotUtf8 = (bytes : List ℕ) × Represents value bytes × ¬ IsUtf8 bytes
+abbrev pub IsJsonRefusal : Data → JsonRefused → Type 0
+IsJsonRefusal value OutOfMemory = ⊤
+IsJsonRefusal value NotJson = ⊥
+IsJsonRefusal value NotText = (bytes : List ℕ) → ¬ Represents value bytes
+IsJsonRefusal value NotUtf8 = (bytes : List ℕ) × Represents value bytes × ¬ IsUtf8 bytes
 
 -- the JSON text has a value that represents these bytes
 abbrev pub HoldsBytes : List ℕ → List ℕ → Type 0

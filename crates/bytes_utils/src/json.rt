@@ -3,7 +3,7 @@ ghost use Rattle.std.specs.Prelude.{◌≡◌, ◌≢◌, ◌⊎◌, Ok, Err, �
 ghost use Rattle.std.specs.Str.{chars};
 ghost use Rattle.serde_json.specs.Read.{read};
 ghost use Rattle.serde_json.specs.View.{view};
-ghost use Rattle.bytes_utils.specs.Json.{json_string, whole_number, Represents, IsRefusedFor, HoldsText, IsNotJson, HoldsNoBytes, HoldsOtherBytes};
+ghost use Rattle.bytes_utils.specs.Json.{json_string, whole_number, Represents, IsJsonRefusal, HoldsText, IsNotJson, HoldsNoBytes, HoldsOtherBytes};
 
 mod show;
 
@@ -119,7 +119,7 @@ where
     fn from_value(alloc: Global, value: &Value) -> Result<Self, JsonRefused>
         requires creator { (c : S.Creator) → S.created c ≡ S.Creator.stored c }
         ensures ok { IfOk result (λ text. Represents (view value.now) text) }
-        ensures err { IfErr result (λ e. IsRefusedFor (view value.now) e) }
+        ensures err { IfErr result (λ e. IsJsonRefusal (view value.now) e) }
     {
         if let Some(text) = value.as_str() {
             return Self::from_str(alloc, text).map_err(|_| JsonRefused::OutOfMemory);

@@ -7,7 +7,7 @@ use Rattle.std.proofs.Math.Seq.{drop-append-add}
 use Rattle.std.proofs.lemmas.List.Elements.{All-nil, All-cons, All-tail, All-same, All-drop, All-append}
 use Rattle.std.specs.List.{concat, filter, AllZip}
 use Rattle.bytes.proofs.Chunks.{concat_push}
-use Rattle.bytes_utils_buf.specs.Segments.{cut_front, cut_at, count_unread, front_of, without_empty, NoneEmpty, FrontUnread, Skips}
+use Rattle.bytes_utils_buf.specs.Segments.{IsPlace, cut_front, cut_at, count_unread, front_of, without_empty, NoneEmpty, FrontUnread, Skips}
 
 -- ---- joined bytes
 
@@ -66,6 +66,24 @@ FrontUnread-cut (x ∷ xs) (suc p) n q = FrontUnread-cut xs p n (λ l. q (omega 
 pub Skips-from_count : (xs ys : List (List ℕ)) (p n m : ℕ) → p ≤ length xs → length (concat (take p xs)) + n ≡ m → m ≤ length (concat xs)
     → (p < length xs → n < length (get_or xs p [])) → ys ≡ cut_front n (drop p xs) → Skips m xs ys
 Skips-from_count xs ys p n m within left fits next same = grind (arith, FrontUnread-cut, concat-cut_front)
+
+-- what a search for a place has found
+pub Skips-from_place : (xs ys : List (List ℕ)) (place index offset : ℕ) → IsPlace place index offset xs → place ≤ length (concat xs)
+    → ys ≡ cut_front offset (drop index xs) → Skips place xs ys
+Skips-from_place xs ys place index offset at fits same = Skips-from_count xs ys index offset place at.within at.before fits at.inside same
+
+-- ---- the list before an index
+
+-- if there are bytes before an index, it isn't 0
+pub some_before : (xs : List (List ℕ)) (index base : ℕ) → base ≡ length (concat (take index xs)) → 0 < base → 0 < index
+some_before xs zero base is some = absurd (omega (arith, is, some))
+some_before xs (suc index) base is some = omega arith
+
+pub one_before : (xs : List (List ℕ)) (index base : ℕ) → 0 < index → index ≤ length xs → base ≡ length (concat (take index xs))
+    → base ≡ length (concat (take (index - 1) xs)) + length (get_or xs (index - 1) [])
+one_before xs index base some within is =
+    let all : index - 1 + 1 ≡ index = omega (arith, some) in
+    is ∙ ap (λ n. length (concat (take n xs))) (sym all) ∙ length-concat-take_more xs (index - 1) (omega (arith, some, within))
 
 -- ---- lists none of which is empty
 

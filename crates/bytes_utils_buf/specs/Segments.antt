@@ -56,6 +56,12 @@ pub record Skips (n : ℕ) (old new : List (List ℕ)) : Type 0 where
 abbrev pub lists_from : ℕ → ℕ → List (List ℕ) → List (List ℕ)
 lists_from passed offset segments = cut_front offset (drop passed segments)
 
+-- the byte at this place of the joined bytes is in the list at `index`, after `offset` bytes of it; if there is none, the index is after all lists
+pub record IsPlace (place index offset : ℕ) (segments : List (List ℕ)) : Type 0 where
+  pub within : index ≤ length segments
+  pub before : length (concat (take index segments)) + offset ≡ place
+  pub inside : index < length segments → offset < length (get_or segments index [])
+
 -- the place is inside that list, or after all of them
 abbrev pub IsInside : ℕ → ℕ → List (List ℕ) → Type 0
 IsInside passed offset segments = offset ≤ length (get_or segments passed [])

@@ -196,16 +196,3 @@ found_later all p start from (Some at) low none found = (
   record { low = omega (arith, low, found.0.low); high = found.0.high; before = Nowhere-then none found.0.before },
   found.1,
 )
-
--- ---- the segment that has a place
-
--- the index of a segment before which there are bytes isn't 0
-pub some_before : (xs : List (List ℕ)) (index base : ℕ) → base ≡ length (concat (take index xs)) → 0 < base → 0 < index
-some_before xs zero base is some = absurd (omega (arith, is, some))
-some_before xs (suc index) base is some = omega arith
-
-pub one_before : (xs : List (List ℕ)) (index base : ℕ) → 0 < index → index ≤ length xs → base ≡ length (concat (take index xs))
-    → base ≡ length (concat (take (index - 1) xs)) + length (get_or xs (index - 1) [])
-one_before xs index base some within is =
-    let all : index - 1 + 1 ≡ index = omega (arith, some) in
-    is ∙ ap (λ n. length (concat (take n xs))) (sym all) ∙ length-concat-take_more xs (index - 1) (omega (arith, some, within))

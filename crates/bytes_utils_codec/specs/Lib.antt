@@ -1,7 +1,6 @@
 pub mod StreamRuns
 pub mod Frames
 pub mod FrameSearch
-pub mod SegmentPlace
 pub mod LimitedFrames
 pub mod StreamLines
 pub mod Cursor

@@ -58,8 +58,8 @@ impl Error for Mismatch {}
 /// memory, the cursor stays where it is.
 ///
 /// The buffer is a [`SegmentedBuf`], or what a `PackedBuf` holds (`as_segmented`), as that of
-/// [`Frames::pieces`](crate::frame::Frames::pieces). Each call steps over the segments from the
-/// front to the cursor. A `PackedBuf` bounds their number.
+/// [`Frames::pieces`](crate::frame::Frames::pieces). Each call steps over the segments between the
+/// cursor and the nearer end. A `PackedBuf` bounds their number.
 #[derive(Drop)]
 pub struct Cursor<'a, B: ContiguousBuf + Drop> {
     buf: &'a SegmentedBuf<B>,

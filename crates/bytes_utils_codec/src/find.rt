@@ -1,11 +1,10 @@
 //! A search for a needle in the bytes of many segments.
-ghost use Rattle.std.specs.Prelude.{◌≡◌, ◌+◌, ◌-◌, ◌*◌, ◌^◌, ◌<◌, ◌≤◌, [], ◌++◌, length, min, take, drop, Some, slice_index_or, IsOk, IfOk, IfErr, IfSome, IfNone, OnErr};
+ghost use Rattle.std.specs.Prelude.{◌≡◌, ◌+◌, ◌-◌, ◌*◌, ◌^◌, ◌<◌, ◌≤◌, [], ◌++◌, length, min, take, drop, Some, IsOk, IfOk, IfErr, IfSome, IfNone, OnErr};
 ghost use Rattle.std.specs.List.{concat};
 ghost use Rattle.memchr.specs.Find.{FindsNeedle, IsFirst, Nowhere, OccursAt};
-ghost use Rattle.bytes_utils_buf.specs.Segments.{CountsPass, IsPaid, Skips};
+ghost use Rattle.bytes_utils_buf.specs.Segments.{CountsPass, IsPaid, IsPlace, Skips};
 ghost use Rattle.bytes_utils_codec.specs.Frames.{TakesFrame};
 ghost use Rattle.bytes_utils.specs.Occurrence.{Occurs};
-ghost use Rattle.bytes_utils_codec.specs.SegmentPlace.{HasPlace};
 
 use bytes::{Buf, Bytes};
 use bytes_utils::needle::{
@@ -162,7 +161,7 @@ pub(crate) fn find_prepared<B: ContiguousBuf + Drop>(
 {
     match find_near(buf, start, finder.needle()) {
         Ok(at) => Some(at),
-        Err(from) => find_from_segment(buf, segment_of(buf, from), from, finder, window),
+        Err(from) => find_from_segment(buf, buf.segment_of(from)?, from, finder, window),
     }
 }
 
@@ -180,7 +179,7 @@ fn find_by<B: ContiguousBuf + Drop>(
         return (start <= buf.remaining()).then_some(start);
     }
     let finder = Finder::new(needle);
-    find_from_segment(buf, segment_of(buf, start), start, &finder, window)
+    find_from_segment(buf, buf.segment_of(start)?, start, &finder, window)
 }
 
 /// The first place of the needle from `start` on, if it is in the first segment and
@@ -215,88 +214,23 @@ fn find_near<B: ContiguousBuf + Drop>(
     }
 }
 
-/// A segment: its index, and the place of its first byte in the joined bytes.
-#[derive(Clone, Copy)]
-struct SegmentStart {
-    index: usize,
-    base: usize,
-}
-
-/// The segment that has the byte at `place`, looked for from the nearer end, or the end of all
-/// segments if there is no byte.
-fn segment_of<B: ContiguousBuf + Drop>(buf: &SegmentedBuf<B>, place: usize) -> SegmentStart
-    ensures found { HasPlace buf.now.segments place result.index result.base }
-    ensures fits { length (concat buf.now.segments) < 2 ^ 64 }
-{
-    if place <= buf.remaining() / 2 {
-        segment_from_front(buf, place)
-    } else {
-        segment_from_back(buf, place)
-    }
-}
-
-/// As `segment_of`, looked for from the front.
-fn segment_from_front<B: ContiguousBuf + Drop>(buf: &SegmentedBuf<B>, place: usize) -> SegmentStart
-    ensures { HasPlace buf.now.segments place result.index result.base }
-{
-    let mut offset = place;
-    for index in 0..buf.segments() {
-        let len = segment_len(buf, index);
-        if offset < len {
-            return SegmentStart {
-                index,
-                base: place - offset,
-            };
-        }
-        offset -= len;
-    }
-    SegmentStart {
-        index: buf.segments(),
-        base: place - offset,
-    }
-}
-
-/// As `segment_of`, looked for from the back.
-fn segment_from_back<B: ContiguousBuf + Drop>(buf: &SegmentedBuf<B>, place: usize) -> SegmentStart
-    ensures { HasPlace buf.now.segments place result.index result.base }
-{
-    let mut index = buf.segments();
-    let mut base = buf.remaining();
-    while base > place {
-        index -= 1;
-        base -= segment_len(buf, index);
-    }
-    SegmentStart { index, base }
-}
-
-/// The number of bytes of the segment at `index`, 0 if there is none.
-#[inline]
-fn segment_len<B: ContiguousBuf + Drop>(buf: &SegmentedBuf<B>, index: usize) -> usize
-    ensures { result ≡ length (slice_index_or buf.now.segments index []) }
-{
-    match buf.segment(index) {
-        Some(segment) => segment.len(),
-        None => 0,
-    }
-}
-
-/// The first place of the needle from `start` on. The search begins in the segment `first`, which
-/// has the byte at `start`, and looks at none before it.
+/// The first place of the needle from `start` on. The search begins in the segment that has the byte
+/// at `start`, and looks at none before it: `first` is its index, and that of the byte in it.
 fn find_from_segment<B: ContiguousBuf + Drop>(
     buf: &SegmentedBuf<B>,
-    first: SegmentStart,
+    first: (usize, usize),
     start: usize,
     finder: &Finder,
     window: &mut [u8],
 ) -> Option<usize>
     requires some { 0 < length finder.now }
     requires room { 2 * (length finder.now - 1) ≤ length window.old }
-    requires first { HasPlace buf.now.segments start first.index first.base }
+    requires first { IsPlace start first.0 first.1 buf.now.segments }
     requires fits { length (concat buf.now.segments) < 2 ^ 64 }
     ensures { FindsNeedle (concat buf.now.segments) finder.now start result }
 {
-    let mut base = first.base;
-    for index in first.index..buf.segments() {
+    let mut base = start - first.1;
+    for index in first.0..buf.segments() {
         let segment = buf.segment(index)?;
         let from = start.saturating_sub(base);
         if let Some(at) = find_starting_in(finder, segment, buf, index + 1, from, window) {

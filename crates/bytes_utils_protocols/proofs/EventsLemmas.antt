@@ -16,7 +16,7 @@ use Rattle.bytes_utils_codec.specs.StreamRuns.{AreFirst}
 use Rattle.bytes_utils_codec.specs.UniversalLines.{IsInLine, IsUniversalEnd, LacksEnds, LineReading, TakesUniversalLine, after_push}
 use Rattle.bytes_utils_codec.proofs.StreamRunsLemmas.{AreFirst-next}
 use Rattle.bytes_utils_codec.proofs.UniversalLinesLemmas.{line_shortens}
-use Rattle.bytes_utils_protocols.specs.Events.{DoesLine, Eventing, Gives, IsEndOf, PassesFault, left_to_read, waiting_count, IsOver, IsTooLarge, LosesNothing, MayWait, Reads, ReadsLine, ReadsNone, TakesFault, TakesNext, Telling, after_field, after_line, byte_order_mark, content, field_name, field_value, is_colon, is_number, number_of, text_len, without_space}
+use Rattle.bytes_utils_protocols.specs.Events.{DoesLine, Eventing, Gives, IsEndOf, PassesFault, left_to_read, waiting_count, NextIsTooLarge, IsTooLarge, LosesNothing, MayWait, Reads, ReadsLine, ReadsNone, TakesFault, TakesNext, Telling, after_field, after_line, byte_order_mark, content, field_name, field_value, is_colon, is_number, number_of, text_len, without_space}
 use Rattle.bytes_utils_protocols.specs.Digits.{WriteNumber}
 use Rattle.bytes_utils_protocols.specs.declared.events.Event.{Event}
 use Rattle.bytes_utils_protocols.specs.declared.events.Limits.{Limits}
@@ -131,7 +131,7 @@ lacks_first (h ∷ held) rest (b ∷ line) c t lacks whole out =
     omega arith
 
 -- the held bytes are more than a line may have
-pub over_long : (reading : Eventing) → reading.waiting ≡ None → LacksEnds reading.lines.held → reading.limits.line < length reading.lines.held → IsOver reading
+pub over_long : (reading : Eventing) → reading.waiting ≡ None → LacksEnds reading.lines.held → reading.limits.line < length reading.lines.held → NextIsTooLarge reading
 over_long reading none lacks long more line taken takes =
     let next : TakesUniversalLine (after_push reading.lines more) line taken.lines =
     subst (λ w. MatchOption w (TakesUniversalLine (after_push reading.lines more) line taken.lines)
@@ -146,7 +146,7 @@ over_long reading none lacks long more line taken takes =
     inl (omega arith)
 
 -- a line that can't be read waits
-pub over_waiting : (taken : Eventing) (line : List ℕ) → IsTooLarge taken line → IsOver (record taken { waiting = Some line })
+pub over_waiting : (taken : Eventing) (line : List ℕ) → IsTooLarge taken line → NextIsTooLarge (record taken { waiting = Some line })
 over_waiting taken line large more next after takes =
     let same : next ≡ line = takes.next.0 in
     let limits : after.limits ≡ taken.limits = ap (λ (r : Eventing). r.limits) takes.others in
@@ -156,19 +156,19 @@ over_waiting taken line large more next after takes =
 
 -- a line that can't be read is kept
 pub over_kept : (old mid taken new : Eventing) (line kept : List ℕ) → Reads old mid → TakesNext mid line taken → IsUtf8 kept → kept ≡ line → new ≡ record taken { waiting = Some kept }
-    → IsTooLarge taken line → LosesNothing old new × IsOver new
+    → IsTooLarge taken line → LosesNothing old new × NextIsTooLarge new
 over_kept old mid taken new line kept reads takes utf8 same is large =
     let waits : new ≡ record taken { waiting = Some line } = is ∙ ap (λ l. record taken { waiting = Some l }) same in (
       (mid, reads, inr (record { line = line; taken = taken; takes = takes; may = inl (subst IsUtf8 same utf8); waits = waits })),
-      subst IsOver (sym waits) (over_waiting taken line large),
+      subst NextIsTooLarge (sym waits) (over_waiting taken line large),
     )
 
 -- a line that isn't UTF-8 passes the limit, and waits
-pub long_fault : (old taken new : Eventing) (line : List ℕ) → TakesNext old line taken → new ≡ record taken { waiting = Some line } → taken.limits.line < length line → ReadsNone old new × IsOver new
+pub long_fault : (old taken new : Eventing) (line : List ℕ) → TakesNext old line taken → new ≡ record taken { waiting = Some line } → taken.limits.line < length line → ReadsNone old new × NextIsTooLarge new
 long_fault old taken new line takes waits long =
     let limits : new.limits ≡ taken.limits = ap (λ (r : Eventing). r.limits) waits in (
       inr (record { line = line; taken = taken; takes = takes; may = inr (subst (λ (l : Limits). l.line < length line) (sym limits) long); waits = waits }),
-      subst IsOver (sym waits) (over_waiting taken line (inl long)),
+      subst NextIsTooLarge (sym waits) (over_waiting taken line (inl long)),
     )
 
 -- the line that was taken off the held bytes isn't UTF-8
@@ -189,7 +189,7 @@ module _ (old mid new : Eventing) (fault line : List ℕ) (none : old.waiting �
       }
 
   -- it passes the limit, and waits
-  pub fault_waits : mid.limits.line < length line → new ≡ record mid { waiting = Some line } → ReadsNone old new × IsOver new
+  pub fault_waits : mid.limits.line < length line → new ≡ record mid { waiting = Some line } → ReadsNone old new × NextIsTooLarge new
   fault_waits long after =
       let next : TakesNext old line mid = record {
         next =

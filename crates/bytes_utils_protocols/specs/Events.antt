@@ -195,8 +195,8 @@ IsTooLarge old line = (old.limits.line < length line)
     ⊎ ((content old.at_start line ≢ []) × (old.limits.data < text_len (after_line old.told (content old.at_start line)).text))
 
 -- whatever comes next, the next line is one of those that can't be read, whether it is UTF-8 or not
-abbrev pub IsOver : Eventing → Type 0
-IsOver reading = (more line : List ℕ) (taken : Eventing) → TakesNext (pushed reading more) line taken → IsTooLarge taken line
+abbrev pub NextIsTooLarge : Eventing → Type 0
+NextIsTooLarge reading = (more line : List ℕ) (taken : Eventing) → TakesNext (pushed reading more) line taken → IsTooLarge taken line
 
 -- ---- what the code takes of a line
 

@@ -119,7 +119,7 @@ pub record AwaitsBody (limits : Limits) (bytes : List ℕ) (start len : ℕ) : T
   pub small : len ≤ limits.bulk
   pub within : start ≤ length bytes
 
--- the bytes begin with this item, which has so many bytes, and at most `room` items of its own
+-- the bytes begin with this item, which has `len` bytes, and at most `room` items of its own
 pub record HasItem (limits : Limits) (room : ℕ) (bytes : List ℕ) (item : Item) (len : ℕ) : Type 0 where
   pub takes : TakesItem limits bytes item (drop len bytes)
   pub within : len ≤ length bytes

@@ -6,7 +6,7 @@ ghost use Rattle.bytes_utils_codec.specs.Pushing.{IsPush};
 ghost use Rattle.bytes_utils_codec.specs.UniversalLines.{nothing_read};
 ghost use Rattle.bytes_utils_protocols.specs.EventData.{text_if_any, text_of};
 ghost use Rattle.bytes_utils_protocols.specs.EventRuns.{EventRunLaw, NoEventLaw, SameEventLaw};
-ghost use Rattle.bytes_utils_protocols.specs.Events.{DoesLine, EndsEvent, Gives, IsEndOf, IsIdle, IsOver, IsTooLarge, LosesNothing, PassesFault, Reads, ReadsNone, TakesFault, TakesNext, after_field, content, text_len, field_name, field_value, left_to_read, nothing_told, number_of, pushed, some_name, with_line, without_space};
+ghost use Rattle.bytes_utils_protocols.specs.Events.{DoesLine, EndsEvent, Gives, IsEndOf, IsIdle, NextIsTooLarge, IsTooLarge, LosesNothing, PassesFault, Reads, ReadsNone, TakesFault, TakesNext, after_field, content, text_len, field_name, field_value, left_to_read, nothing_told, number_of, pushed, some_name, with_line, without_space};
 
 use crate::number::number;
 use bytes::Bytes;
@@ -182,7 +182,7 @@ impl EventReader {
         ensures less_by_fault { IfErr result (λ e. e ≡ EventError.NotUtf8
             → left_to_read self.new < left_to_read self.old) }
         ensures too_large { IfErr result (λ e. e ≡ EventError.TooLarge
-            → LosesNothing self.old self.new × IsOver self.new) }
+            → LosesNothing self.old self.new × NextIsTooLarge self.new) }
     {
         while let Some(line) = self.next_line(alloc)? {
             match self.read(alloc, &line) {
@@ -229,7 +229,7 @@ impl EventReader {
         ensures not_utf8 { IfErr result (λ e. e ≡ EventError.NotUtf8
             → TakesFault self.old self.new) }
         ensures too_large { IfErr result (λ e. e ≡ EventError.TooLarge
-            → ReadsNone self.old self.new × IsOver self.new) }
+            → ReadsNone self.old self.new × NextIsTooLarge self.new) }
     {
         if let Some(line) = self.waiting.take() {
             return match Str::from_inner(line) {

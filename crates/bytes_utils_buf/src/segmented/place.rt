@@ -1,7 +1,7 @@
 //! Places of bytes in held buffers.
 ghost use Rattle.std.specs.Prelude.{◌≡◌, ◌<◌, ◌≤◌, [], length, map, slice_index_or, IfSome, IfNone};
 ghost use Rattle.std.specs.List.{concat};
-ghost use Rattle.bytes_utils_buf.specs.Segments.{IsInside, lists_from, Skips};
+ghost use Rattle.bytes_utils_buf.specs.Segments.{IsInside, IsPlace, lists_from, Skips};
 
 use bytes::Buf;
 use std::collections::VecDeque;
@@ -19,13 +19,27 @@ pub(super) const FRONT: Place = Place {
     offset: 0,
 };
 
-/// Finds the place after the first `at` bytes. It looks at the buffers up to there, and advances
-/// none.
-pub(super) fn find_place<B: Buf>(bufs: &VecDeque<B>, at: usize) -> Place
-    requires { at ≤ length (concat (map B.unread bufs.now.items)) }
+/// Finds the place after the first `at` of the `len` bytes of these buffers. It looks at the buffers
+/// between there and the nearer end, and advances none.
+pub(super) fn find_place<B: Buf>(bufs: &VecDeque<B>, len: usize, at: usize) -> Place
+    requires len { len ≡ length (concat (map B.unread bufs.now.items)) }
+    requires within { at ≤ len }
+    ensures place { IsPlace at result.passed result.offset (map B.unread bufs.now.items) }
     ensures skips { Skips at (map B.unread bufs.now.items)
         (lists_from result.passed result.offset (map B.unread bufs.now.items)) }
     ensures inside { IsInside result.passed result.offset (map B.unread bufs.now.items) }
+{
+    if at <= len / 2 {
+        place_from_front(bufs, at)
+    } else {
+        place_from_back(bufs, len, at)
+    }
+}
+
+/// As `find_place`, from the front.
+fn place_from_front<B: Buf>(bufs: &VecDeque<B>, at: usize) -> Place
+    requires { at ≤ length (concat (map B.unread bufs.now.items)) }
+    ensures { IsPlace at result.passed result.offset (map B.unread bufs.now.items) }
 {
     let mut passed = 0;
     let mut offset = at;
@@ -34,6 +48,24 @@ pub(super) fn find_place<B: Buf>(bufs: &VecDeque<B>, at: usize) -> Place
         passed += 1;
     }
     Place { passed, offset }
+}
+
+/// As `find_place`, from the back.
+fn place_from_back<B: Buf>(bufs: &VecDeque<B>, len: usize, at: usize) -> Place
+    requires len { len ≡ length (concat (map B.unread bufs.now.items)) }
+    requires within { at ≤ len }
+    ensures { IsPlace at result.passed result.offset (map B.unread bufs.now.items) }
+{
+    let mut passed = bufs.len();
+    let mut before = len;
+    while before > at {
+        passed -= 1;
+        before -= size_at(bufs, passed);
+    }
+    Place {
+        passed,
+        offset: at - before,
+    }
 }
 
 /// Returns how many bytes the buffer at index `at` has, if they are at most `left`.
@@ -48,4 +80,13 @@ fn size_within<B: Buf>(bufs: &VecDeque<B>, at: usize, left: usize) -> Option<usi
         Some(buf) if buf.remaining() <= left => Some(buf.remaining()),
         _ => None,
     }
+}
+
+/// Returns how many bytes the buffer at index `at` has.
+#[inline]
+fn size_at<B: Buf>(bufs: &VecDeque<B>, at: usize) -> usize
+    requires { at < length bufs.now.items }
+    ensures { result ≡ length (slice_index_or (map B.unread bufs.now.items) at []) }
+{
+    bufs[at].remaining()
 }

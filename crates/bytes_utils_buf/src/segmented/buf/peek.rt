@@ -1,12 +1,13 @@
 //! Peeking at the bytes.
-ghost use Rattle.std.specs.Prelude.{◌≡◌, ◌++◌, length, min, take, drop, IsTrue, ◌↔◌};
+ghost use Rattle.std.specs.Prelude.{◌≡◌, ◌^◌, ◌<◌, ◌≤◌, ◌++◌, length, min, take, drop, IsTrue, ◌↔◌, IfSome, IfNone};
 ghost use Rattle.std.specs.List.{concat, slice_get};
 ghost use Rattle.std.specs.Option.{option_map};
+ghost use Rattle.bytes_utils_buf.specs.Segments.{IsPlace};
 
 use super::SegmentedBuf;
 use crate::contiguous::ContiguousBuf;
 use crate::segmented::pieces::{copy_into, starts_with};
-use crate::segmented::place::FRONT;
+use crate::segmented::place::{FRONT, find_place};
 
 impl<B: ContiguousBuf + Drop> SegmentedBuf<B> {
     /// Returns the bytes of the segment at index `place`, from 0 at the front, if there is one.
@@ -15,6 +16,22 @@ impl<B: ContiguousBuf + Drop> SegmentedBuf<B> {
         ensures { option_map (λ bytes. bytes.now) result ≡ slice_get self.now.segments place }
     {
         Some(self.segments.get(place)?.as_contiguous())
+    }
+
+    /// Returns where the byte at index `place` is, if there is one: the index of its segment, and its
+    /// index in that. Of `Hello` and ` World`, byte 6 is at `(1, 1)`. It is looked for from the
+    /// nearer end.
+    pub fn segment_of(&self, place: usize) -> Option<(usize, usize)>
+        ensures some { IfSome result
+            (λ at. IsPlace place at.0 at.1 self.now.segments × (at.0 < length self.now.segments)) }
+        ensures none { IfNone result (length (concat self.now.segments) ≤ place) }
+        ensures fits { length (concat self.now.segments) < 2 ^ 64 }
+    {
+        if place >= self.remaining {
+            return None;
+        }
+        let found = find_place(&self.segments, self.remaining, place);
+        Some((found.passed, found.offset))
     }
 
     /// Copies the first bytes into `dst`, as many as fit, and returns how many. They stay here too.

@@ -22,7 +22,7 @@ impl<B: ContiguousBuf + Drop> SegmentedBuf<B> {
         if place >= self.remaining {
             return None;
         }
-        Some(rest_at(&self.segments, find_place(&self.segments, place))[0])
+        Some(rest_at(&self.segments, find_place(&self.segments, self.remaining, place))[0])
     }
 
     /// Returns whether the unread bytes from index `place` on start with `bytes`: those of `Hello`
@@ -35,7 +35,7 @@ impl<B: ContiguousBuf + Drop> SegmentedBuf<B> {
         if place > self.remaining || bytes.len() > self.remaining - place {
             return false;
         }
-        starts_with(&self.segments, find_place(&self.segments, place), bytes)
+        starts_with(&self.segments, find_place(&self.segments, self.remaining, place), bytes)
     }
 
     /// Returns the bytes of a range as segments of their own, shared if a segment shares its own.
@@ -56,7 +56,7 @@ impl<B: ContiguousBuf + Drop> SegmentedBuf<B> {
         ensures none { range.start ≡ range.end → IsOk result }
     {
         let len = range.end - range.start;
-        let from = find_place(&self.segments, range.start);
+        let from = find_place(&self.segments, self.remaining, range.start);
         let pieces = share_pieces(&self.segments, from, alloc, len)?;
         Ok(SegmentedBuf::newly_held(pieces, len))
     }
@@ -77,7 +77,7 @@ impl<B: ContiguousBuf + Drop> SegmentedBuf<B> {
         if len == 0 {
             return Ok(Bytes::new());
         }
-        let from = find_place(&self.segments, range.start);
+        let from = find_place(&self.segments, self.remaining, range.start);
         if len <= rest_at(&self.segments, from).len() {
             return part_at(&self.segments, from, alloc, len);
         }
@@ -101,7 +101,7 @@ impl<B: ContiguousBuf + Drop> SegmentedBuf<B> {
         if len == 0 {
             return Ok(CowSlice::Borrowed(&[]));
         }
-        let from = find_place(&self.segments, range.start);
+        let from = find_place(&self.segments, self.remaining, range.start);
         let rest = rest_at(&self.segments, from);
         if len <= rest.len() {
             return Ok(CowSlice::Borrowed(&rest[..len]));

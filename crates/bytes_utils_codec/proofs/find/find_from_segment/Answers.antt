@@ -7,8 +7,8 @@ use Rattle.bytes_utils_codec.proofs.find.find_from_segment.Goals as goal
 
 pub loop-index-init : goal.loop-index-init
 loop-index-init g c = record {
-  base = c.requires.first.begins;
-  none = λ k low high here. absurd (omega (arith, low, high, c.requires.first.low));
+  base = omega (arith, c.requires.first.before);
+  none = λ k low high here. absurd (omega (arith, low, high, c.requires.first.before));
 }
 
 pub returns-in-Some : goal.returns-in-Some

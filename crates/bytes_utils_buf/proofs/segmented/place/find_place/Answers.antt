@@ -1,24 +1,9 @@
-use Rattle.std.proofs.Common.{map, arith, refl}
-use Rattle.std.proofs.lemmas.List.{length-map}
-use Rattle.bytes_utils_buf.proofs.Lists.{length-concat-take_more, Skips-from_count}
+use Rattle.std.proofs.Common.{arith, refl}
+use Rattle.bytes_utils_buf.proofs.Lists.{Skips-from_place}
 use Rattle.bytes_utils_buf.proofs.segmented.place.find_place.Goals as goal
 
-pub loop-size-preserved : goal.loop-size-preserved
-loop-size-preserved g c =
-    let items = c.args.bufs.now.items in
-    let lists = map g.B.Buf.unread items in
-    let some = c.in-Some.ensures.some in
-    let sum = length-concat-take_more lists c.loop-size.passed (omega (arith, some.0, length-map items g.B.Buf.unread)) in
-    record {
-      within = omega (arith, some.0);
-      left = omega (arith, sum, some.1, some.2, c.loop-size.invariant.left);
-    }
+pub returns-then-at-len-clause-skips : goal.returns-then-at-len-clause-skips
+returns-then-at-len-clause-skips g c = Skips-from_place _ _ _ _ _ c.place_from_front.ensures (omega (arith, c.requires.len, c.requires.within)) refl
 
-pub returns-clause-skips : goal.returns-clause-skips
-returns-clause-skips g c =
-    let items = c.args.bufs.now.items in
-    let lists = map g.B.Buf.unread items in
-    let size = length-map items g.B.Buf.unread in
-    let kept = c.loop-size.invariant in
-    Skips-from_count lists _ c.loop-size.passed c.loop-size.offset c.args.at (omega (arith, size, kept.within)) kept.left c.requires
-    (λ h. c.in_default.ensures.none (omega (arith, h, size))) refl
+pub returns-else-at-len-clause-skips : goal.returns-else-at-len-clause-skips
+returns-else-at-len-clause-skips g c = Skips-from_place _ _ _ _ _ c.place_from_back.ensures (omega (arith, c.requires.len, c.requires.within)) refl

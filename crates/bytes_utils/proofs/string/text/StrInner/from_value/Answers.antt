@@ -3,7 +3,7 @@ use Rattle.std.proofs.lemmas.Result.{err_from_is_err_and}
 use Rattle.serde_json.specs.View.{view, items_of, items_view}
 use Rattle.serde_json.specs.Data.{array}
 use Rattle.bytes_utils.specs.declared.json.JsonRefused.TheVariants.{NotUtf8}
-use Rattle.bytes_utils.specs.Json.{Represents, IsRefusedFor}
+use Rattle.bytes_utils.specs.Json.{Represents, IsJsonRefusal}
 use Rattle.bytes_utils.proofs.JsonReading.{array_from, represents_nothing, refused_where_not}
 use Rattle.bytes_utils.proofs.string.text.StrInner.from_value.Goals as goal
 
@@ -12,7 +12,7 @@ returns-in_err-bytes-clause-err g c =
     let value = view c.args.value.now in
     let shown = rw c.in_ok-members.ensures.ok_part at c.as_array.ensures in
     let is_list : value ≡ array (items_view c.in_ok-members.members.now.items) = array_from value _ shown in
-    let refused : IsRefusedFor value c.in_err-bytes.field-0.0 = elim c.in_err-bytes.ensures.err [
+    let refused : IsJsonRefusal value c.in_err-bytes.field-0.0 = elim c.in_err-bytes.ensures.err [
       | inl memory ↦ rw memory tt
       | inr other ↦ rw other.0 (represents_nothing value _ is_list (rw c.deref.ensures.value at other.1))
     ] in
@@ -29,5 +29,5 @@ returns-clause-err g c =
     let listed = rw c.deref.ensures.value at c.in_ok-bytes.ensures.ok in
     let stands : Represents value (g.S.Storage.stored c.in_ok-storage.storage) =
     inr (rw stored_is (is_list ∙ ap (λ members. array (items_of members)) listed), rw stored_is c.in_ok-bytes.ensures.in_range) in
-    refused_where_not (IsRefusedFor value) NotUtf8 c.from_inner.result c.map_err-3.result c.map_err-3.ensures.variant c.from_inner.ensures.variant.1 is
+    refused_where_not (IsJsonRefusal value) NotUtf8 c.from_inner.result c.map_err-3.result c.map_err-3.ensures.variant c.from_inner.ensures.variant.1 is
     (λ not_utf8. (g.S.Storage.stored c.in_ok-storage.storage, stands, not_utf8))

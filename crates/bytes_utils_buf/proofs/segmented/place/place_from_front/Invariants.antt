@@ -1,6 +1,6 @@
 use Rattle.std.proofs.Common.{◌≡◌, ◌+◌, ◌-◌, ◌≤◌, length, map, take}
 use Rattle.std.specs.List.{concat}
-use Rattle.bytes_utils_buf.proofs.segmented.place.find_place.Given as goal
+use Rattle.bytes_utils_buf.proofs.segmented.place.place_from_front.Given as goal
 
 abbrev pub invariant-loop-size : goal.invariant-loop-size
 invariant-loop-size g l = record {
