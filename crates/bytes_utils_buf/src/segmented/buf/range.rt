@@ -22,7 +22,12 @@ impl<B: ContiguousBuf + Drop> SegmentedBuf<B> {
         if place >= self.remaining {
             return None;
         }
-        Some(rest_at(&self.segments, find_place(&self.segments, self.remaining, place))[0])
+        Some(
+            rest_at(
+                &self.segments,
+                find_place(&self.segments, self.remaining, place),
+            )[0],
+        )
     }
 
     /// Returns whether the unread bytes from index `place` on start with `bytes`: those of `Hello`
@@ -35,7 +40,11 @@ impl<B: ContiguousBuf + Drop> SegmentedBuf<B> {
         if place > self.remaining || bytes.len() > self.remaining - place {
             return false;
         }
-        starts_with(&self.segments, find_place(&self.segments, self.remaining, place), bytes)
+        starts_with(
+            &self.segments,
+            find_place(&self.segments, self.remaining, place),
+            bytes,
+        )
     }
 
     /// Returns the bytes of a range as segments of their own, shared if a segment shares its own.
