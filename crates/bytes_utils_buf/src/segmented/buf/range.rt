@@ -22,12 +22,8 @@ impl<B: ContiguousBuf + Drop> SegmentedBuf<B> {
         if place >= self.remaining {
             return None;
         }
-        Some(
-            rest_at(
-                &self.segments,
-                find_place(&self.segments, self.remaining, place),
-            )[0],
-        )
+        let from = find_place(&self.segments, self.remaining, place);
+        Some(rest_at(&self.segments, from)[0])
     }
 
     /// Returns whether the unread bytes from index `place` on start with `bytes`: those of `Hello`
@@ -40,11 +36,8 @@ impl<B: ContiguousBuf + Drop> SegmentedBuf<B> {
         if place > self.remaining || bytes.len() > self.remaining - place {
             return false;
         }
-        starts_with(
-            &self.segments,
-            find_place(&self.segments, self.remaining, place),
-            bytes,
-        )
+        let from = find_place(&self.segments, self.remaining, place);
+        starts_with(&self.segments, from, bytes)
     }
 
     /// Returns the bytes of a range as segments of their own, shared if a segment shares its own.
