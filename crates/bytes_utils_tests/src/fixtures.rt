@@ -4,25 +4,12 @@ ghost use Rattle.std.specs.Iterator.{IsFinite};
 pub(crate) mod refusals;
 pub(crate) mod refusing;
 
-use bytes::{Bytes, BytesMut};
 use bytes_utils::string::{Storage, StrInner};
-use bytes_utils::{Reason, Str, StrMut};
+use bytes_utils::{Reason, Str};
 use std::alloc::{AllocError, Global};
+use std::convert::AsStr;
 use std::error::Error;
 use std::process::Abort;
-use std::test::Fail;
-
-/// The text in shared bytes of its own.
-pub(crate) fn shared(alloc: Global, text: &str) -> Result<Str, Fail> {
-    let bytes = Bytes::copy_from_slice(alloc, text.as_bytes())?;
-    Ok(Str::from_inner(bytes)?)
-}
-
-/// The text in bytes of its own that may grow.
-pub(crate) fn growing(alloc: Global, text: &str) -> Result<StrMut, Fail> {
-    let bytes = BytesMut::copy_from_slice(alloc, text.as_bytes())?;
-    Ok(StrMut::from_inner(bytes)?)
-}
 
 /// The items, each with the comma that ends it.
 pub(crate) fn strings(alloc: Global, items: &str) -> Result<Vec<String>, AllocError> {
@@ -38,54 +25,44 @@ pub(crate) fn assert_text(rt: &impl Abort, text: &str, want: &str) {
     assert_eq!(rt; text, want);
 }
 
-/// What an error prints, and what it prints in other styles.
-pub(crate) fn styled<E: Error>(alloc: Global, error: &E) -> Result<String, AllocError> {
-    format!(in alloc; "{error}|{error:#}|{error:>99}")
-}
-
-/// Asserts what an error prints. It is the same in every style.
-pub(crate) fn assert_says<E: Error>(
-    rt: &impl Abort,
-    alloc: Global,
-    error: &E,
-    text: &str,
-) -> Result<(), Fail> {
-    let said = styled(alloc, error)?;
-    let want = format!(in alloc; "{text}|{text}|{text}")?;
-    assert_text(rt, said.as_str(), want.as_str());
-    Ok(())
-}
-
-/// Asserts the debug text of an error.
-pub(crate) fn assert_debugs<E: Error>(
-    rt: &impl Abort,
-    alloc: Global,
-    error: &E,
-    text: &str,
-) -> Result<(), Fail> {
-    let said = format!(in alloc; "{error:?}")?;
-    assert_text(rt, said.as_str(), text);
-    Ok(())
-}
-
-/// Returns why the part was refused. If it wasn't, asserts that it is the expected one.
-fn refusal_of<S: Storage>(
-    rt: &impl Abort,
-    next: Result<StrInner<S>, Reason>,
-    want: &str,
-) -> Option<Reason> {
-    match next {
-        Ok(part) => {
-            assert_text(rt, part.as_str(), want);
-            None
-        }
-        Err(reason) => Some(reason),
+/// Whether there is a text, and it is this one.
+pub(crate) fn is_text<T: AsStr + Drop>(text: Option<T>, want: &str) -> bool {
+    match text {
+        Some(text) => text.as_str() == want,
+        None => false,
     }
 }
 
-/// Asserts that the expected parts come and then the end, or the first of them, one refusal, and
-/// then the end. Returns the reason of the refusal.
-pub(crate) fn taken<'t, S, P, W>(rt: &impl Abort, parts: &mut P, wanted: W) -> Option<Reason>
+/// Whether a text was made, and is this one.
+pub(crate) fn is_made<T: AsStr + Drop, E: Drop>(made: Result<T, E>, want: &str) -> bool {
+    match made {
+        Ok(text) => text.as_str() == want,
+        Err(_) => false,
+    }
+}
+
+/// Whether a text was made, is this one, and shares its bytes with another one.
+pub(crate) fn is_shared<E: Drop>(made: Result<Str, E>, want: &str) -> bool {
+    match made {
+        Ok(text) => text.eq_str(want) && !text.inner().is_unique(),
+        Err(_) => false,
+    }
+}
+
+/// Whether an error prints this text, also in other styles.
+pub(crate) fn says<E: Error>(alloc: Global, error: &E, text: &str) -> Result<bool, AllocError> {
+    let said = format!(in alloc; "{error}|{error:#}|{error:>99}")?;
+    Ok(said == format!(in alloc; "{text}|{text}|{text}")?)
+}
+
+/// Whether the part is this one. Fails if it was refused.
+fn is_right<S: Storage>(part: Result<StrInner<S>, Reason>, want: &str) -> Result<bool, Reason> {
+    Ok(part?.eq_str(want))
+}
+
+/// Whether exactly these parts come. Fails if the first of them come, and one refusal, and then the
+/// end.
+pub(crate) fn are_taken<'t, S, P, W>(parts: &mut P, wanted: W) -> Result<bool, Reason>
 where
     S: Storage,
     P: Iterator<Item = Result<StrInner<S>, Reason>> + Drop,
@@ -94,33 +71,33 @@ where
     requires wanted { W.can_next wanted × IsFinite (W.remaining wanted) }
 {
     for want in wanted {
-        match parts.next() {
-            Some(next) => {
-                let refused = refusal_of(rt, next, want);
-                if refused.is_some() {
-                    assert!(rt; parts.next().is_none(), "an item after the refusal");
-                    return refused;
-                }
-            }
-            None => assert!(rt; false, "a part is missing"),
+        let Some(part) = parts.next() else {
+            return Ok(false);
+        };
+        match is_right(part, want) {
+            Ok(true) => {}
+            Ok(false) => return Ok(false),
+            Err(reason) => return if parts.next().is_none() {
+                Err(reason)
+            } else {
+                Ok(false)
+            },
         }
     }
-    assert!(rt; parts.next().is_none(), "more parts than are wanted");
-    None
+    Ok(parts.next().is_none())
 }
 
-/// Asserts that the parts have ended, also at each further call.
-pub(crate) fn assert_end<P: Iterator>(rt: &impl Abort, mut parts: P)
+/// Whether the parts have ended, also at each further call.
+fn have_ended<P: Iterator>(parts: &mut P) -> bool
 where
-    P: Drop,
     P::Item: Drop,
     requires { (s : P) → P.can_next s }
 {
-    assert!(rt; parts.next().is_none() && parts.next().is_none() && parts.next().is_none());
+    parts.next().is_none() && parts.next().is_none() && parts.next().is_none()
 }
 
-/// As `taken`. Then the parts have ended, also at each further call.
-pub(crate) fn taken_to_end<'t, S, P, W>(rt: &impl Abort, mut parts: P, wanted: W) -> Option<Reason>
+/// As `are_taken`, and then the parts have ended, also at each further call.
+pub(crate) fn are_all<'t, S, P, W>(mut parts: P, wanted: W) -> Result<bool, Reason>
 where
     S: Storage,
     P: Iterator<Item = Result<StrInner<S>, Reason>> + Drop,
@@ -128,7 +105,10 @@ where
     requires can { (s : P) → P.can_next s }
     requires wanted { W.can_next wanted × IsFinite (W.remaining wanted) }
 {
-    let answer = taken(rt, &mut parts, wanted);
-    assert_end(rt, parts);
-    answer
+    let answer = are_taken(&mut parts, wanted);
+    if have_ended(&mut parts) {
+        answer
+    } else {
+        Ok(false)
+    }
 }

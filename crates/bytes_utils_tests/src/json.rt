@@ -3,10 +3,11 @@ mod memory;
 
 ghost use Rattle.std.specs.Prelude.{◌≡◌, IfOk, IfErr};
 
-use crate::fixtures::{assert_debugs, assert_says, assert_text};
+use crate::fixtures::{is_made, says};
 use bytes::{Bytes, BytesMut};
 use bytes_utils::json::JsonRefused;
 use bytes_utils::string::{Storage, StorageMut, StrInner};
+use bytes_utils::{Reason, Str};
 use std::alloc::Global;
 use std::iter::repeat_n;
 use std::process::Abort;
@@ -33,94 +34,85 @@ where
     StrInner::from_json(alloc, json.as_str())
 }
 
-/// Asserts the JSON of a text, and that it is read as that text.
-fn assert_writes<S: Storage>(
-    rt: &impl Abort,
-    alloc: Global,
-    text: &str,
-    want: &str,
-) -> Result<(), Fail>
+/// Whether this is the JSON of a text, and it is read as that text.
+fn is_written<S: Storage>(alloc: Global, text: &str, want: &str) -> bool
 where
     S::Creator: StorageMut,
     requires creator { (c : S.Creator) → S.created c ≡ S.Creator.stored c }
 {
-    let made = StrInner::<S>::from_str(alloc, text)?;
-    assert_text(rt, made.to_json(alloc)?.as_str(), want);
-    assert_text(rt, written_and_read(alloc, &made)?.as_str(), text);
-    Ok(())
+    match StrInner::<S>::from_str(alloc, text) {
+        Ok(made) => {
+            is_made(made.to_json(alloc), want) && is_made(written_and_read(alloc, &made), text)
+        }
+        Err(_) => false,
+    }
 }
 
-/// Whether the result is the expected one.
-fn is_answer(answer: Result<&str, JsonRefused>, want: Result<&str, JsonRefused>) -> bool {
-    answer == want
+/// Whether this is read from the JSON.
+fn is_read<S: Storage>(alloc: Global, json: &str, want: Result<&str, JsonRefused>) -> bool
+where
+    S::Creator: StorageMut,
+    requires creator { (c : S.Creator) → S.created c ≡ S.Creator.stored c }
+{
+    match StrInner::<S>::from_json(alloc, json) {
+        Ok(text) => Ok(text.as_str()) == want,
+        Err(refused) => Err(refused) == want,
+    }
 }
 
-/// Asserts what is read from JSON.
+/// Asserts what is read from each of the JSON texts, which have a bar between.
 fn assert_reads<S: Storage>(
     rt: &impl Abort,
     alloc: Global,
-    json: &str,
+    texts: &str,
     want: Result<&str, JsonRefused>,
 )
 where
     S::Creator: StorageMut,
     requires creator { (c : S.Creator) → S.created c ≡ S.Creator.stored c }
 {
-    let is_as_wanted = match StrInner::<S>::from_json(alloc, json) {
-        Ok(text) => is_answer(Ok(text.as_str()), want),
-        Err(refused) => is_answer(Err(refused), want),
-    };
-    assert!(rt; is_as_wanted, "{json}");
+    for json in texts.split('|') {
+        assert!(rt; is_read::<S>(alloc, json, want), "{json}");
+    }
 }
 
-/// Asserts what is read from JSON of each kind.
-fn assert_reads_all<S: Storage>(rt: &impl Abort, alloc: Global)
+/// Asserts what texts in one storage are read from, and written as.
+fn assert_de_ser<S: Storage>(rt: &impl Abort, alloc: Global)
 where
     S::Creator: StorageMut,
     requires creator { (c : S.Creator) → S.created c ≡ S.Creator.stored c }
 {
     assert_reads::<S>(rt, alloc, "[72,105]", Ok("Hi"));
     assert_reads::<S>(rt, alloc, "[]", Ok(""));
-    assert_reads::<S>(rt, alloc, "\"\\u00e9\"", Ok("é"));
-    assert_reads::<S>(rt, alloc, "[195,169]", Ok("é"));
-    for json in NOT_JSON.split('|') {
-        assert_reads::<S>(rt, alloc, json, Err(JsonRefused::NotJson));
-    }
-    for json in NOT_TEXT.split('|') {
-        assert_reads::<S>(rt, alloc, json, Err(JsonRefused::NotText));
-    }
+    assert_reads::<S>(rt, alloc, "\"\\u00e9\"|[195,169]", Ok("é"));
+    assert_reads::<S>(rt, alloc, NOT_JSON, Err(JsonRefused::NotJson));
+    assert_reads::<S>(rt, alloc, NOT_TEXT, Err(JsonRefused::NotText));
     assert_reads::<S>(rt, alloc, "[255]", Err(JsonRefused::NotUtf8));
-}
-
-/// Asserts all of these of texts in one storage.
-fn assert_de_ser<S: Storage>(rt: &impl Abort, alloc: Global) -> Result<(), Fail>
-where
-    S::Creator: StorageMut,
-    requires creator { (c : S.Creator) → S.created c ≡ S.Creator.stored c }
-{
-    assert_reads_all::<S>(rt, alloc);
-    assert_writes::<S>(rt, alloc, "Hello, world!", "\"Hello, world!\"")?;
-    let json = "\"\\u0001\\\"\\\\\\né\"";
-    assert_writes::<S>(rt, alloc, "\u{1}\"\\\né", json)
+    assert!(rt; is_written::<S>(alloc, "Hello, world!", "\"Hello, world!\""));
+    assert!(rt; is_written::<S>(alloc, "\u{1}\"\\\né", "\"\\u0001\\\"\\\\\\né\""));
 }
 
 #[test]
-fn test_de_ser_str(rt: HostRuntime) -> Result<(), Fail> {
-    assert_de_ser::<Bytes>(&rt, rt.alloc())
+fn test_de_ser_str(rt: HostRuntime) {
+    assert_de_ser::<Bytes>(&rt, rt.alloc());
 }
 
 #[test]
-fn test_de_ser_str_mut(rt: HostRuntime) -> Result<(), Fail> {
-    assert_de_ser::<BytesMut>(&rt, rt.alloc())
+fn test_de_ser_str_mut(rt: HostRuntime) {
+    assert_de_ser::<BytesMut>(&rt, rt.alloc());
+}
+
+/// Whether the text's JSON has this length, and is read as the text.
+fn comes_back(alloc: Global, text: &Str, length: usize) -> Result<bool, Reason> {
+    let json = text.to_json(alloc)?;
+    let json = json.as_str();
+    Ok(json.len() == length && is_made(Str::from_json(alloc, json), text.as_str()))
 }
 
 #[test]
 fn a_long_text(rt: HostRuntime) -> Result<(), Fail> {
-    let text = StrInner::<Bytes>::from_chars(rt.alloc(), repeat_n('\n', 50_000))?;
-    let json = text.to_json(rt.alloc())?;
-    assert!(rt; json.len() == 100_002);
-    let read = StrInner::<Bytes>::from_json(rt.alloc(), json.as_str())?;
-    assert_text(&rt, read.as_str(), text.as_str());
+    let text = Str::from_chars(rt.alloc(), repeat_n('\n', 50_000))?;
+    assert!(rt; comes_back(rt.alloc(), &text, 100_002)?);
     Ok(())
 }
 
@@ -135,10 +127,17 @@ fn numbers_of_refusals(rt: HostRuntime) {
 #[test]
 fn refusals_of_json_say_why(rt: HostRuntime) -> Result<(), Fail> {
     let alloc = rt.alloc();
-    assert_says(&rt, alloc, &JsonRefused::OutOfMemory, "out of memory")?;
-    assert_says(&rt, alloc, &JsonRefused::NotJson, "not JSON")?;
-    let text = "neither a string nor a list of bytes";
-    assert_says(&rt, alloc, &JsonRefused::NotText, text)?;
-    assert_says(&rt, alloc, &JsonRefused::NotUtf8, "not UTF-8")?;
-    assert_debugs(&rt, alloc, &JsonRefused::NotUtf8, "NotUtf8")
+    assert!(rt; says(alloc, &JsonRefused::OutOfMemory, "out of memory")?);
+    assert!(rt; says(alloc, &JsonRefused::NotJson, "not JSON")?);
+    assert!(rt;
+        says(
+            alloc,
+            &JsonRefused::NotText,
+            "neither a string nor a list of bytes"
+        )?
+    );
+    assert!(rt; says(alloc, &JsonRefused::NotUtf8, "not UTF-8")?);
+    let debugged = format!(in alloc; "{:?}", JsonRefused::NotUtf8)?;
+    assert!(rt; debugged.as_str() == "NotUtf8");
+    Ok(())
 }

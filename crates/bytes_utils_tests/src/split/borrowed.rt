@@ -1,10 +1,10 @@
 //! Shared helpers: the splitters compared with the methods of `str` of the same names, which borrow
 //! their parts, over the texts of the worked cases and all short texts of a few letters.
-use crate::fixtures::shared;
 use crate::split::ways::StrWay;
+use bytes::Bytes;
+use bytes_utils::Str;
 use std::alloc::{AllocError, Global};
 use std::process::Abort;
-use std::test::Fail;
 
 /// Texts of worked cases, with a bar between them. The first is empty.
 const TEXTS: &str =
@@ -46,39 +46,55 @@ fn counted(alloc: Global, number: u32) -> Result<String, AllocError> {
     Ok(text)
 }
 
-/// Asserts that the parts of a text, by each of these separators, are those that `str` borrows.
-pub(super) fn assert_each<W: StrWay, R: Abort>(
-    rt: &R,
+/// The text in shared bytes of its own.
+fn shared(alloc: Global, text: &str) -> Option<Str> {
+    let bytes = Bytes::copy_from_slice(alloc, text.as_bytes()).ok()?;
+    Str::from_inner(bytes).ok()
+}
+
+/// Whether the parts of a text, by a separator, are those that `str` borrows.
+pub(super) fn is_as_str<W: StrWay>(
+    alloc: Global,
+    text: &str,
+    most: usize,
+    separator: &str,
+) -> bool {
+    match shared(alloc, text) {
+        Some(whole) => W::beside(whole, most, separator, text) == Ok(true),
+        None => false,
+    }
+}
+
+/// Asserts this by each of these separators.
+fn assert_each<W: StrWay>(
+    rt: &impl Abort,
     alloc: Global,
     text: &str,
     most: usize,
     separators: &str,
-) -> Result<(), Fail> {
+) {
     for separator in separators.split('|') {
-        let refused = W::beside(rt, shared(alloc, text)?, most, separator, text);
-        assert!(rt; refused.is_none());
+        assert!(rt;
+            is_as_str::<W>(alloc, text, most, separator),
+            "{text:?}, {separator:?}"
+        );
     }
-    Ok(())
 }
 
-/// Asserts the same of each text of the worked cases, and of all counted ones.
-pub(super) fn assert_as_str<W: StrWay, R: Abort>(
-    rt: &R,
+/// Asserts this of each text of the worked cases, and of all counted ones.
+pub(super) fn assert_as_str<W: StrWay>(
+    rt: &impl Abort,
     alloc: Global,
     most: usize,
     separators: &str,
-) -> Result<(), Fail> {
+) {
     for text in TEXTS.split('|') {
-        assert_each::<W, R>(rt, alloc, text, most, separators)?;
+        assert_each::<W>(rt, alloc, text, most, separators);
     }
     for number in 0..COUNTED_TEXTS {
-        assert_each::<W, R>(
-            rt,
-            alloc,
-            counted(alloc, number)?.as_str(),
-            most,
-            separators,
-        )?;
+        match counted(alloc, number) {
+            Ok(text) => assert_each::<W>(rt, alloc, text.as_str(), most, separators),
+            Err(_) => assert!(rt; false, "out of memory"),
+        }
     }
-    Ok(())
 }

@@ -3,54 +3,49 @@ ghost use Rattle.std.specs.Prelude.{◌≤◌, IfSome};
 ghost use Rattle.bytes_utils.specs.Walk.{IsLawfulCut};
 ghost use Rattle.bytes_utils.specs.declared.split.direction.Direction.TheVariants.{Forward};
 
-use crate::fixtures::{growing, taken};
+use crate::fixtures::are_taken;
 use crate::split::ways::StrWay;
 use bytes_utils::string::{BytesIter, Direction, Storage, StrInner};
-use bytes_utils::{Reason, Str};
-use std::process::Abort;
+use bytes_utils::{Reason, Str, StrMut};
+use std::alloc::Global;
 use std::test::Fail;
 
 /// The chunks between commas.
 pub(super) struct Fields;
 
 impl StrWay for Fields {
-    fn beside<S: Storage, R: Abort>(
-        rt: &R,
+    fn beside<S: Storage>(
         text: StrInner<S>,
         _most: usize,
         _separator: &str,
         same: &str,
-    ) -> Option<Reason> {
+    ) -> Result<bool, Reason> {
         let mut chunks = BytesIter::new(text, Direction::Forward, |s: &str| {
             s.find(',').map(|at| (at, at + 1))
         });
-        taken(rt, &mut chunks, same.split(','))
+        are_taken(&mut chunks, same.split(','))
     }
 }
 
-/// Asserts the characters, last to first, as `taken` does.
-fn taken_characters<S: Storage>(
-    rt: &impl Abort,
-    text: StrInner<S>,
-    wanted: &str,
-) -> Option<Reason> {
+/// Whether these are the characters, last to first, by `are_taken`.
+fn are_characters<S: Storage>(text: StrInner<S>, wanted: &str) -> Result<bool, Reason> {
     let mut chunks = BytesIter::new(text, Direction::Backward, |s: &str| {
         let last = s.len().checked_sub(1)?;
         let start = s.floor_char_boundary(last);
         Some((start, start))
     });
-    taken(rt, &mut chunks, wanted.split('|'))
+    are_taken(&mut chunks, wanted.split('|'))
 }
 
 #[test]
 fn closure_backward(rt: HostRuntime) -> Result<(), Fail> {
-    assert!(rt; taken_characters(&rt, Str::from_static("aβ"), "β|a|").is_none());
-    assert!(rt; taken_characters(&rt, growing(rt.alloc(), "aβ")?, "β|a|").is_none());
+    assert!(rt; are_characters(Str::from_static("aβ"), "β|a|")?);
+    assert!(rt; are_characters(StrMut::from_str(rt.alloc(), "aβ")?, "β|a|")?);
     Ok(())
 }
 
-/// Asserts the chunks of one, two and three characters and so on, as `taken` does.
-fn taken_growing<S: Storage>(rt: &impl Abort, text: StrInner<S>, wanted: &str) -> Option<Reason> {
+/// Whether these are the chunks of one, two and three characters and so on, by `are_taken`.
+fn are_growing<S: Storage>(text: StrInner<S>, wanted: &str) -> Result<bool, Reason> {
     let mut passed = 0_usize;
     let grows = move |s: &str|
         ensures { IfSome result (λ cut. IsLawfulCut Forward s.now cut.0 cut.1) }
@@ -61,14 +56,17 @@ fn taken_growing<S: Storage>(rt: &impl Abort, text: StrInner<S>, wanted: &str) -
         s.is_char_boundary(end).then_some((end, end))
     };
     let mut chunks = BytesIter::new(text, Direction::Forward, grows);
-    taken(rt, &mut chunks, wanted.split('|'))
+    are_taken(&mut chunks, wanted.split('|'))
+}
+
+/// Whether both storages give these chunks.
+fn both_grow(alloc: Global, text: &'static str, wanted: &str) -> Result<bool, Reason> {
+    let is_shared_cut = are_growing(Str::from_static(text), wanted)?;
+    Ok(is_shared_cut && are_growing(StrMut::from_str(alloc, text)?, wanted)?)
 }
 
 #[test]
-fn closure_growing(rt: HostRuntime) -> Result<(), Fail> {
-    assert!(rt; taken_growing(&rt, Str::from_static("abcdef"), "a|bc|def|").is_none());
-    assert!(rt; taken_growing(&rt, Str::from_static("αβγδεζ"), "α|βγ|δεζ|").is_none());
-    assert!(rt; taken_growing(&rt, growing(rt.alloc(), "abcdef")?, "a|bc|def|").is_none());
-    assert!(rt; taken_growing(&rt, growing(rt.alloc(), "αβγδεζ")?, "α|βγ|δεζ|").is_none());
-    Ok(())
+fn closure_growing(rt: HostRuntime) {
+    assert_eq!(rt; both_grow(rt.alloc(), "abcdef", "a|bc|def|"), Ok(true));
+    assert_eq!(rt; both_grow(rt.alloc(), "αβγδεζ", "α|βγ|δεζ|"), Ok(true));
 }

@@ -1,40 +1,44 @@
 //! Parts with their places: worked cases.
 use bytes_utils::string::{Storage, StrInner};
 use bytes_utils::{Reason, Str};
-use std::process::Abort;
 
-/// Whether this part comes next, at this place.
-fn is_part<S: Storage>(
+/// Whether this part comes next, at this place. Fails if it is refused.
+pub(super) fn is_part<S: Storage>(
     next: Option<Result<(usize, StrInner<S>), Reason>>,
     place: usize,
     want: &str,
-) -> bool {
+) -> Result<bool, Reason> {
     match next {
-        Some(Ok((at, part))) => at == place && part.eq_str(want),
-        _ => false,
+        Some(part) => {
+            let (at, part) = part?;
+            Ok(at == place && part.eq_str(want))
+        }
+        None => Ok(false),
     }
 }
 
-/// Asserts that exactly these parts come, with a bar between them, each at the place after the one
-/// before it and a separator of `between` bytes.
-fn assert_indices<S, P>(rt: &impl Abort, mut parts: P, between: usize, wanted: &str)
+/// Whether exactly these parts come, with a bar between them, each at the place after the one before
+/// it and a separator of `between` bytes.
+fn are_parts<S, P>(parts: &mut P, between: usize, wanted: &str) -> Result<bool, Reason>
 where
     S: Storage,
-    P: Iterator<Item = Result<(usize, StrInner<S>), Reason>> + Drop,
+    P: Iterator<Item = Result<(usize, StrInner<S>), Reason>>,
     requires { (s : P) → P.can_next s }
 {
     let mut place = 0_usize;
     for want in wanted.split('|') {
-        assert!(rt; is_part(parts.next(), place, want), "{want:?} at {place}");
+        if !is_part(parts.next(), place, want)? {
+            return Ok(false);
+        }
         place = place.saturating_add(want.len()).saturating_add(between);
     }
-    assert!(rt; parts.next().is_none());
+    Ok(parts.next().is_none())
 }
 
 #[test]
 fn parts_with_their_places(rt: HostRuntime) {
-    let parts = Str::from_static("a, β, c").split_bytes(", ").indices();
-    assert_indices(&rt, parts, 2, "a|β|c");
-    let parts = Str::from_static("aβ").split_bytes("").indices();
-    assert_indices(&rt, parts, 0, "|a|β|");
+    let mut parts = Str::from_static("a, β, c").split_bytes(", ").indices();
+    assert_eq!(rt; are_parts(&mut parts, 2, "a|β|c"), Ok(true));
+    let mut parts = Str::from_static("aβ").split_bytes("").indices();
+    assert_eq!(rt; are_parts(&mut parts, 0, "|a|β|"), Ok(true));
 }

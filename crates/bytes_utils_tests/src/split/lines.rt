@@ -2,10 +2,9 @@
 use crate::split::borrowed::assert_as_str;
 use crate::split::ways::Lines;
 use bytes_utils::split::line_place;
-use std::test::Fail;
 
 #[test]
-fn lines(rt: HostRuntime) -> Result<(), Fail> {
-    assert!(rt; matches!(line_place("αb\r\n\nc"), Some((3, 5))) && line_place("a\rb").is_none());
-    assert_as_str::<Lines, HostRuntime>(&rt, rt.alloc(), 0, "")
+fn lines(rt: HostRuntime) {
+    assert!(rt; line_place("αb\r\n\nc") == Some((3, 5)) && line_place("a\rb").is_none());
+    assert_as_str::<Lines>(&rt, rt.alloc(), 0, "");
 }

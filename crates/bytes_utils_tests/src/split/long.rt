@@ -1,13 +1,14 @@
 //! Long separators, and texts of many parts: no split is refused while there is memory.
-use crate::fixtures::shared;
-use crate::split::borrowed::assert_each;
+use crate::split::borrowed::is_as_str;
 use crate::split::closure::Fields;
 use crate::split::ways::{
     Lines, RSplit, RSplitN, Split, SplitAsciiWhitespace, SplitInclusive, SplitN, SplitWhitespace,
 };
+use bytes_utils::split::SplitIndicesBytes;
+use bytes_utils::string::{Storage, StrInner};
 use bytes_utils::{Reason, Str};
 use std::alloc::{AllocError, Global};
-use std::process::Abort;
+use std::iter::repeat_n;
 use std::test::Fail;
 
 /// A separator of this many bytes.
@@ -20,65 +21,73 @@ fn separator(alloc: Global, len: usize) -> Result<String, AllocError> {
     Ok(separator)
 }
 
-/// Asserts that the parts are those that `str` borrows, from either end, also with the greatest
-/// limit.
-fn assert_parts<R: Abort>(rt: &R, alloc: Global, text: &str, separator: &str) -> Result<(), Fail> {
-    assert_each::<Split, R>(rt, alloc, text, 0, separator)?;
-    assert_each::<RSplit, R>(rt, alloc, text, 0, separator)?;
-    assert_each::<SplitN, R>(rt, alloc, text, usize::MAX, separator)?;
-    assert_each::<RSplitN, R>(rt, alloc, text, usize::MAX, separator)?;
-    assert_each::<SplitInclusive, R>(rt, alloc, text, 0, separator)
+/// Whether the parts are those that `str` borrows, from either end, also with the greatest limit.
+fn is_cut_by(alloc: Global, text: &str, separator: &str) -> bool {
+    is_as_str::<Split>(alloc, text, 0, separator)
+        && is_as_str::<RSplit>(alloc, text, 0, separator)
+        && is_as_str::<SplitN>(alloc, text, usize::MAX, separator)
+        && is_as_str::<RSplitN>(alloc, text, usize::MAX, separator)
+        && is_as_str::<SplitInclusive>(alloc, text, 0, separator)
 }
 
-/// Asserts what is before the first separator, and what is after the last.
-fn assert_halves(rt: &impl Abort, text: &Str, separator: &str) -> Result<(), Reason> {
-    let (first, following) = text.try_clone()?.split_once_bytes(separator)?;
-    assert!(rt; first.eq_str("a") && following.is_some());
-    let (before, last) = text.try_clone()?.rsplit_once_bytes(separator)?;
-    assert!(rt; last.eq_str("-") && before.is_some());
-    Ok(())
+/// Whether the text begins with `a` and the separator.
+fn begins<S: Storage>(text: StrInner<S>, separator: &str) -> Result<bool, Reason> {
+    let (first, following) = text.split_once_bytes(separator)?;
+    Ok(first.eq_str("a") && following.is_some())
 }
 
-// The last part is the beginning of a separator.
+/// Whether the text ends with the separator and `-`.
+fn ends<S: Storage>(text: StrInner<S>, separator: &str) -> Result<bool, Reason> {
+    let (before, last) = text.rsplit_once_bytes(separator)?;
+    Ok(last.eq_str("-") && before.is_some())
+}
+
+/// Whether a text is split by this separator. Its last part is the beginning of the separator.
+fn is_long_cut(alloc: Global, separator: &str) -> Result<bool, Reason> {
+    let text = Str::join(alloc, "a||β|-".split('|'), separator)?;
+    let are_halves = begins(text.try_clone()?, separator)? && ends(text.try_clone()?, separator)?;
+    Ok(are_halves && is_cut_by(alloc, text.as_str(), separator))
+}
+
 #[test]
 fn long_separators(rt: HostRuntime) -> Result<(), Fail> {
     for len in [300, 65_536] {
         let separator = separator(rt.alloc(), len)?;
-        let parts = ["a", "", "β", "-"];
-        let text = Str::join(rt.alloc(), parts.iter().copied(), separator.as_str())?;
-        assert_parts(&rt, rt.alloc(), text.as_str(), separator.as_str())?;
-        assert_halves(&rt, &text, separator.as_str())?;
+        assert!(rt; is_long_cut(rt.alloc(), separator.as_str())?);
     }
     Ok(())
 }
 
+/// Whether the text is split in each of the other ways.
+fn are_pieces(alloc: Global, text: &str) -> bool {
+    is_as_str::<Fields>(alloc, text, 0, ",")
+        && is_as_str::<Lines>(alloc, text, 0, "")
+        && is_as_str::<SplitWhitespace>(alloc, text, 0, "")
+        && is_as_str::<SplitAsciiWhitespace>(alloc, text, 0, "")
+}
+
 #[test]
 fn many_parts(rt: HostRuntime) -> Result<(), Fail> {
-    let mut text = String::new(rt.alloc());
-    for _ in 0..2_000 {
-        text.push_str("a,β\r\n ")?;
+    let text = Str::from_strs(rt.alloc(), repeat_n("a,β\r\n ", 2_000))?;
+    assert!(rt; is_cut_by(rt.alloc(), text.as_str(), ",") && are_pieces(rt.alloc(), text.as_str()));
+    Ok(())
+}
+
+/// Whether the parts lie three bytes apart, up to the last, at 6,000.
+fn lie_apart<S: Storage>(parts: &mut SplitIndicesBytes<'_, S>) -> Result<bool, Reason> {
+    let mut place = 0_usize;
+    for part in parts {
+        if part?.0 != place {
+            return Ok(false);
+        }
+        place = place.saturating_add(3);
     }
-    assert_parts(&rt, rt.alloc(), text.as_str(), ",")?;
-    assert_each::<Fields, HostRuntime>(&rt, rt.alloc(), text.as_str(), 0, ",")?;
-    assert_each::<Lines, HostRuntime>(&rt, rt.alloc(), text.as_str(), 0, "")?;
-    assert_each::<SplitWhitespace, HostRuntime>(&rt, rt.alloc(), text.as_str(), 0, "")?;
-    assert_each::<SplitAsciiWhitespace, HostRuntime>(&rt, rt.alloc(), text.as_str(), 0, "")
+    Ok(place == 6_003)
 }
 
 #[test]
 fn many_parts_with_places(rt: HostRuntime) -> Result<(), Fail> {
-    let mut text = String::new(rt.alloc());
-    for _ in 0..2_000 {
-        text.push_str("β,")?;
-    }
-    let mut place = 0_usize;
-    for part in shared(rt.alloc(), text.as_str())?
-        .split_bytes(",")
-        .indices()
-    {
-        assert!(rt; part?.0 == place);
-        place = place.saturating_add(3);
-    }
-    assert!(rt; place == 6_003);
+    let text = Str::from_strs(rt.alloc(), repeat_n("β,", 2_000))?;
+    assert!(rt; lie_apart(&mut text.split_bytes(",").indices())?);
     Ok(())
 }

@@ -10,7 +10,7 @@ mod once;
 mod separator;
 mod words;
 
-use crate::fixtures::refusals::report;
+use crate::fixtures::refusals::assert_right;
 use crate::split::ways::StrWay;
 use bytes_utils::StrMut;
 use std::alloc::Global;
@@ -20,15 +20,13 @@ use std::process::Abort;
 /// Asserts the parts of the text by commas, into two parts if the way has a limit. After a refused
 /// split it asserts the parts before it and the end, and reports the refusal. It does nothing if
 /// the text itself is refused.
-pub(super) fn assert_next<W: StrWay, R: Abort + Print>(
-    rt: &R,
+pub(super) fn assert_next<W: StrWay>(
+    rt: &(impl Abort + Print),
     alloc: Global,
     call: &str,
     text: &str,
 ) {
     if let Ok(growing) = StrMut::from_str(alloc, text) {
-        if let Some(reason) = W::beside(rt, growing, 2, ",", text) {
-            report(rt, call, reason);
-        }
+        assert_right(rt, call, W::beside(growing, 2, ",", text));
     }
 }

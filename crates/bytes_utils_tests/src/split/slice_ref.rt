@@ -1,22 +1,22 @@
 //! Owned parts for borrowed ones.
+use crate::fixtures::is_shared;
 use bytes_utils::{Reason, Str};
 use std::test::Fail;
 
-/// Whether the call returned this part, which shares its bytes.
-fn is_shared(part: Result<Option<Str>, Reason>, want: &str) -> bool {
-    match part {
-        Ok(Some(part)) => part.eq_str(want) && !part.inner().is_unique(),
-        _ => false,
+/// Whether the text has this part, which shares its bytes.
+fn has_part(text: &Str, part: &str, want: &str) -> bool {
+    match text.slice_ref(part) {
+        Ok(part) => is_shared(part.ok_or(()), want),
+        Err(_) => false,
     }
 }
 
 #[test]
 fn parts_of_methods(rt: HostRuntime) -> Result<(), Fail> {
     let text = Str::from_str(rt.alloc(), " naïve = 'β' ")?;
-    assert!(rt; is_shared(text.slice_ref(text.trim()), "naïve = 'β'"));
-    let quoted = text.split('\'').nth(1);
-    assert!(rt; matches!(quoted, Some(part) if is_shared(text.slice_ref(part), "β")));
-    assert!(rt; is_shared(text.slice_ref(""), ""));
+    let quoted = text.split('\'').nth(1).unwrap_or("none");
+    let are_parts = has_part(&text, text.trim(), "naïve = 'β'") && has_part(&text, quoted, "β");
+    assert!(rt; are_parts && has_part(&text, "", ""));
     Ok(())
 }
 
@@ -24,7 +24,7 @@ fn parts_of_methods(rt: HostRuntime) -> Result<(), Fail> {
 #[test]
 fn other_texts(rt: HostRuntime) -> Result<(), Fail> {
     let text = Str::from_str(rt.alloc(), "ab")?;
-    assert!(rt; is_shared(text.slice_ref("b"), "b") && is_shared(text.slice_ref("ab"), "ab"));
-    assert!(rt; matches!(text.slice_ref("ba"), Ok(None)));
+    let is_none = matches!(text.slice_ref("ba"), Ok(None));
+    assert!(rt; is_none && has_part(&text, "b", "b") && has_part(&text, "ab", "ab"));
     Ok(())
 }

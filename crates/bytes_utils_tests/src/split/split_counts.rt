@@ -87,39 +87,46 @@ fn text_of<'c>(text: &'static str, splits: &'c Splits) -> Option<StrInner<Counte
     StrInner::from_inner(Counted { bytes, splits }).ok()
 }
 
-/// Asserts the number of splits that a run over the text asks for: `cuts` if all are granted, and
+/// Whether a run over the text asks for the right number of splits: `cuts` if all are granted, and
 /// none after a refused one. The limit, for a way that has one, is two parts.
-fn assert_splits<W: StrWay, R: Abort>(rt: &R, text: &'static str, separator: &str, cuts: usize) {
+fn asks<W: StrWay>(text: &'static str, separator: &str, cuts: usize, granted: usize) -> bool {
+    let asked = Cell::new(0);
+    let splits = Splits { asked, granted };
+    let Some(counted) = text_of(text, &splits) else {
+        return false;
+    };
+    let answer = W::beside(counted, 2, separator, text);
+    answer.is_err() == (granted < cuts)
+        && answer != Ok(false)
+        && splits.asked.get() == cuts.min(granted.saturating_add(1))
+}
+
+/// Asserts this where few splits are granted, and where all are.
+fn assert_splits<W: StrWay>(rt: &impl Abort, text: &'static str, separator: &str, cuts: usize) {
     for granted in 0..4 {
-        let asked = Cell::new(0);
-        let splits = Splits { asked, granted };
-        match text_of(text, &splits) {
-            Some(counted) => {
-                let refused = W::beside(rt, counted, 2, separator, text);
-                assert!(rt; refused.is_some() == (granted < cuts));
-            }
-            None => assert!(rt; false, "not UTF-8"),
-        }
-        assert_eq!(rt; splits.asked.get(), cuts.min(granted + 1));
+        assert!(rt;
+            asks::<W>(text, separator, cuts, granted),
+            "{text:?}, {granted}"
+        );
     }
 }
 
 #[test]
 fn separated(rt: HostRuntime) {
-    assert_splits::<Split, HostRuntime>(&rt, "a,b,c", ",", 2);
-    assert_splits::<RSplit, HostRuntime>(&rt, "a,b,c", ",", 2);
-    assert_splits::<SplitN, HostRuntime>(&rt, "a,b,c", ",", 1);
-    assert_splits::<RSplitN, HostRuntime>(&rt, "a,b,c", ",", 1);
-    assert_splits::<Fields, HostRuntime>(&rt, "a,b,c", ",", 2);
-    assert_splits::<Split, HostRuntime>(&rt, "αβ", "", 3);
-    assert_splits::<RSplit, HostRuntime>(&rt, "αβ", "", 3);
+    assert_splits::<Split>(&rt, "a,b,c", ",", 2);
+    assert_splits::<RSplit>(&rt, "a,b,c", ",", 2);
+    assert_splits::<SplitN>(&rt, "a,b,c", ",", 1);
+    assert_splits::<RSplitN>(&rt, "a,b,c", ",", 1);
+    assert_splits::<Fields>(&rt, "a,b,c", ",", 2);
+    assert_splits::<Split>(&rt, "αβ", "", 3);
+    assert_splits::<RSplit>(&rt, "αβ", "", 3);
 }
 
 /// A part that reaches to the end of the text needs no split.
 #[test]
 fn pieces(rt: HostRuntime) {
-    assert_splits::<SplitInclusive, HostRuntime>(&rt, "a,b,", ",", 1);
-    assert_splits::<SplitWhitespace, HostRuntime>(&rt, " a b", "", 1);
-    assert_splits::<SplitAsciiWhitespace, HostRuntime>(&rt, " a b", "", 1);
-    assert_splits::<Lines, HostRuntime>(&rt, "a\nb\n", "", 2);
+    assert_splits::<SplitInclusive>(&rt, "a,b,", ",", 1);
+    assert_splits::<SplitWhitespace>(&rt, " a b", "", 1);
+    assert_splits::<SplitAsciiWhitespace>(&rt, " a b", "", 1);
+    assert_splits::<Lines>(&rt, "a\nb\n", "", 2);
 }

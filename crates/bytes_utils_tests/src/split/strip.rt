@@ -1,26 +1,25 @@
 //! A text without what it begins with, or without what it ends with.
-use crate::fixtures::assert_text;
+use crate::fixtures::is_shared;
 use crate::split::borrowed::{SEPARATORS, assert_as_str};
 use crate::split::ends::{StripPrefix, StripSuffix};
-use bytes::Bytes;
-use bytes_utils::Str;
+use bytes_utils::{Reason, Str};
 use std::test::Fail;
 
 #[test]
-fn strip(rt: HostRuntime) -> Result<(), Fail> {
-    assert_as_str::<StripPrefix, HostRuntime>(&rt, rt.alloc(), 0, SEPARATORS)?;
-    assert_as_str::<StripSuffix, HostRuntime>(&rt, rt.alloc(), 0, SEPARATORS)
+fn strip(rt: HostRuntime) {
+    assert_as_str::<StripPrefix>(&rt, rt.alloc(), 0, SEPARATORS);
+    assert_as_str::<StripSuffix>(&rt, rt.alloc(), 0, SEPARATORS);
 }
 
-/// Texts without the prefix `αβ` and the suffix `β😈`. None of them is one part of a character.
+/// The text without the prefix `αβ` and the suffix `β😈`. Neither is one part of a character.
+fn stripped(text: Str) -> Result<Str, Reason> {
+    let following = text.strip_prefix_bytes("αβ")?.unwrap_or_default();
+    Ok(following.strip_suffix_bytes("β😈")?.unwrap_or_default())
+}
+
 #[test]
 fn strip_shares(rt: HostRuntime) -> Result<(), Fail> {
-    let bytes = Bytes::copy_from_slice(rt.alloc(), "αβ, β😈".as_bytes())?;
-    let following = Str::from_inner(bytes.clone()?)?.strip_prefix_bytes("αβ")?;
-    let following = following.ok_or("no prefix")?;
-    assert!(rt; !bytes.is_unique());
-    let between = following.strip_suffix_bytes("β😈")?.ok_or("no suffix")?;
-    assert_text(&rt, between.as_str(), ", ");
-    assert!(rt; !bytes.is_unique() && between.inner().len() == 2);
+    let text = Str::from_str(rt.alloc(), "αβ, β😈")?;
+    assert!(rt; is_shared(stripped(text.try_clone()?), ", "));
     Ok(())
 }

@@ -1,39 +1,36 @@
 //! A text without the white space at its ends.
-use crate::fixtures::{assert_text, shared};
-use crate::split::borrowed::assert_as_str;
+use crate::fixtures::is_shared;
+use crate::split::borrowed::{assert_as_str, is_as_str};
 use crate::split::ends::{Trim, TrimEnd, TrimStart};
-use crate::split::ways::StrWay;
-use bytes::Bytes;
 use bytes_utils::Str;
+use std::alloc::{AllocError, Global};
 use std::test::Fail;
 
 #[test]
-fn trim(rt: HostRuntime) -> Result<(), Fail> {
-    assert_as_str::<Trim, HostRuntime>(&rt, rt.alloc(), 0, "")?;
-    assert_as_str::<TrimStart, HostRuntime>(&rt, rt.alloc(), 0, "")?;
-    assert_as_str::<TrimEnd, HostRuntime>(&rt, rt.alloc(), 0, "")
+fn trim(rt: HostRuntime) {
+    assert_as_str::<Trim>(&rt, rt.alloc(), 0, "");
+    assert_as_str::<TrimStart>(&rt, rt.alloc(), 0, "");
+    assert_as_str::<TrimEnd>(&rt, rt.alloc(), 0, "");
 }
 
-/// Asserts what is left of each character up to U+3001 between two others.
+/// Whether a text between two of these characters is trimmed as its `str`.
+fn is_trimmed(alloc: Global, c: char) -> Result<bool, AllocError> {
+    let text = format!(in alloc; "{c}a b{c}")?;
+    Ok(is_as_str::<Trim>(alloc, text.as_str(), 0, ""))
+}
+
+/// Asserts this of each character up to U+3001.
 #[test]
 fn trim_at_each_white_space(rt: HostRuntime) -> Result<(), Fail> {
     for c in '\0'..='\u{3001}' {
-        let mut text = String::new(rt.alloc());
-        text.push(c)?;
-        text.push_str("a b")?;
-        text.push(c)?;
-        let same = text.as_str();
-        let refused = Trim::beside(&rt, shared(rt.alloc(), same)?, 0, "", same);
-        assert!(rt; refused.is_none());
+        assert!(rt; is_trimmed(rt.alloc(), c)?, "{c:?}");
     }
     Ok(())
 }
 
 #[test]
 fn trim_shares(rt: HostRuntime) -> Result<(), Fail> {
-    let bytes = Bytes::copy_from_slice(rt.alloc(), " \u{3000}β b\r\n".as_bytes())?;
-    let part = Str::from_inner(bytes.clone()?)?.trim_bytes()?;
-    assert_text(&rt, part.as_str(), "β b");
-    assert!(rt; !bytes.is_unique() && part.inner().len() == 4);
+    let text = Str::from_str(rt.alloc(), " \u{3000}β b\r\n")?;
+    assert!(rt; is_shared(text.try_clone()?.trim_bytes(), "β b"));
     Ok(())
 }

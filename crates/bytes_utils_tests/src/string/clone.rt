@@ -1,12 +1,11 @@
 //! A text copied by std's trait.
-use crate::fixtures::shared;
+use crate::fixtures::is_shared;
+use bytes_utils::Str;
 use std::test::Fail;
 
-// A copy of a `Str` shares its bytes.
 #[test]
 fn copies(rt: HostRuntime) -> Result<(), Fail> {
-    let text = shared(rt.alloc(), "aβ")?;
-    let copy = text.clone()?;
-    assert!(rt; copy.eq_str("aβ") && !text.inner().is_unique());
+    let text = Str::from_str(rt.alloc(), "aβ")?;
+    assert!(rt; is_shared(text.clone(), "aβ"));
     Ok(())
 }

@@ -1,12 +1,10 @@
 //! Texts formatted by the two macros.
 ghost use Rattle.std.specs.Prelude.{◌≡◌, ◌++◌, codes, decimal, IfOk};
 
-use crate::fixtures::assert_text;
+use crate::fixtures::is_made;
 use bytes_utils::{Str, StrMut, format_bytes, format_bytes_mut};
 use std::alloc::Global;
 use std::fmt;
-use std::process::Abort;
-use std::test::Fail;
 
 /// A name and a number, with text between them.
 fn counted(alloc: Global, name: &str, count: u32) -> Result<Str, fmt::Error>
@@ -26,11 +24,10 @@ fn counted_mut(alloc: Global, name: &str, count: u32) -> (u32, Result<StrMut, fm
 }
 
 #[test]
-fn allocator_is_evaluated_once(rt: HostRuntime) -> Result<(), Fail> {
+fn allocator_is_evaluated_once(rt: HostRuntime) {
     let (evaluated, text) = counted_mut(rt.alloc(), "aβ", 12);
     assert_eq!(rt; evaluated, 1);
-    assert_text(&rt, text?.as_str(), "aβ: 12");
-    Ok(())
+    assert!(rt; is_made(text, "aβ: 12"));
 }
 
 /// An argument whose `fmt` fails.
@@ -43,10 +40,9 @@ impl fmt::Display for Faulty {
 }
 
 #[test]
-fn format(rt: HostRuntime) -> Result<(), Fail> {
-    let text = format_bytes!(rt.alloc(); "Hello {}", "world")?;
-    assert_text(&rt, text.as_str(), "Hello world");
-    assert_text(&rt, counted(rt.alloc(), "aβ", 12)?.as_str(), "aβ: 12");
-    assert!(rt; format_bytes!(rt.alloc(); "before {}", Faulty).is_err());
-    Ok(())
+fn format(rt: HostRuntime) {
+    let alloc = rt.alloc();
+    assert!(rt; is_made(format_bytes!(alloc; "Hello {}", "world"), "Hello world"));
+    assert!(rt; is_made(counted(alloc, "aβ", 12), "aβ: 12"));
+    assert!(rt; format_bytes!(alloc; "before {}", Faulty).is_err());
 }

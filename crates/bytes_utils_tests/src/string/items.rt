@@ -1,69 +1,55 @@
-//! Texts from the items of an iterator, also where the storage refuses one of them.
+//! Items of an iterator, of which the storage refuses one.
 use crate::fixtures::refusing::Refusing;
-use crate::fixtures::{assert_text, strings};
+use crate::fixtures::{is_text, strings};
 use bytes_utils::string::StrInner;
-use bytes_utils::{Reason, Refused, Str};
-use std::process::Abort;
+use bytes_utils::{Reason, Refused};
 use std::test::Fail;
-
-#[test]
-fn from_items(rt: HostRuntime) -> Result<(), Fail> {
-    let text = Str::from_chars(rt.alloc(), "Hi😈".chars())?;
-    assert!(rt; text.eq_str("Hi😈") && text.len() == 6);
-    drop(text);
-    let text = Str::from_strs(rt.alloc(), "".split_inclusive(','))?;
-    assert_text(&rt, text.as_str(), "");
-    Ok(())
-}
 
 /// A text whose storage grants two requests.
 type Text = StrInner<Refusing>;
 
-/// What came back from a call that was refused for the storage's reason, which leaves this text.
-fn back<B: Drop>(
-    rt: &impl Abort,
-    answer: Result<(), Refused<B>>,
-    text: Text,
-    want: &str,
-) -> Result<B, Fail> {
-    assert_text(rt, text.as_str(), want);
-    match answer {
-        Ok(()) => Err(Fail::from("granted")),
-        Err(refused) => {
-            assert_eq!(rt; refused.reason, Reason::TooLong);
-            Ok(refused.back)
-        }
-    }
+/// What came back from a call that was refused for the storage's reason.
+fn back<B: Drop>(answer: Result<(), Refused<B>>) -> Option<B> {
+    let refused = answer.err()?;
+    (refused.reason == Reason::TooLong).then_some(refused.back)
 }
 
-/// A borrowed iterator continues after the refused item.
+/// Whether the refused character comes back, and a borrowed iterator continues after it.
+fn gives_back_a_character(text: &mut Text) -> bool {
+    let mut items = "aβcd".chars();
+    back(text.extend_chars(&mut items)) == Some('c') && items.next() == Some('d')
+}
+
 #[test]
 fn a_refused_character_comes_back(rt: HostRuntime) -> Result<(), Fail> {
-    let mut items = "aβcd".chars();
     let mut text = Text::new(rt.alloc())?;
-    let answer = text.extend_chars(&mut items);
-    assert!(rt; back(&rt, answer, text, "aβ")? == 'c' && items.next() == Some('d'));
+    assert!(rt; gives_back_a_character(&mut text) && text.eq_str("aβ"));
     Ok(())
+}
+
+/// Whether the refused item comes back, and a borrowed iterator continues after it.
+fn gives_back_an_item(text: &mut Text) -> bool {
+    let mut items = "one,,two,three".split(',');
+    back(text.extend_strs(&mut items)) == Some("two") && items.next() == Some("three")
 }
 
 #[test]
 fn a_refused_str_comes_back(rt: HostRuntime) -> Result<(), Fail> {
-    let mut items = "one,,two,three".split(',');
     let mut text = Text::new(rt.alloc())?;
-    let answer = text.extend_strs(&mut items);
-    assert!(rt; back(&rt, answer, text, "one")? == "two" && items.next() == Some("three"));
+    assert!(rt; gives_back_an_item(&mut text) && text.eq_str("one"));
     Ok(())
+}
+
+/// Whether the refused string comes back, and a borrowed iterator continues after it.
+fn gives_back_a_string(text: &mut Text, strings: Vec<String>) -> bool {
+    let mut items = strings.into_iter();
+    is_text(back(text.extend_strings(&mut items)), "c,") && is_text(items.next(), "d")
 }
 
 #[test]
 fn a_refused_string_comes_back(rt: HostRuntime) -> Result<(), Fail> {
-    let mut items = strings(rt.alloc(), "a,b,c,d")?.into_iter();
     let mut text = Text::new(rt.alloc())?;
-    let answer = text.extend_strings(&mut items);
-    let back = back(&rt, answer, text, "a,b,")?;
-    assert_text(&rt, back.as_str(), "c,");
-    drop(back);
-    let next = items.next().ok_or("no item is left")?;
-    assert_text(&rt, next.as_str(), "d");
+    let strings = strings(rt.alloc(), "a,b,c,d")?;
+    assert!(rt; gives_back_a_string(&mut text, strings) && text.eq_str("a,b,"));
     Ok(())
 }

@@ -1,5 +1,6 @@
 //! Texts joined with a separator between them.
 use bytes_utils::{Reason, Str};
+use std::alloc::Global;
 use std::test::Fail;
 
 /// Whether the call returned this text, with a block of its own or not.
@@ -10,18 +11,18 @@ fn is_joined(joined: Result<Str, Reason>, want: &str, is_unique: bool) -> bool {
     }
 }
 
-/// One text is shared. More are copied.
+/// Whether one text is shared, and more are copied, of these: `a`, an empty one, and `β`.
+fn are_joined(alloc: Global, texts: &[Str; 3]) -> bool {
+    is_joined(Str::join_texts(alloc, texts, ", "), "a, , β", true)
+        && is_joined(Str::join_texts(alloc, &texts[..2], ""), "a", true)
+        && is_joined(Str::join_texts(alloc, &texts[..1], ", "), "a", false)
+        && is_joined(Str::join_texts(alloc, &[], ", "), "", false)
+}
+
 #[test]
 fn join_texts(rt: HostRuntime) -> Result<(), Fail> {
-    let alloc = rt.alloc();
-    let texts = [
-        Str::from_str(alloc, "a")?,
-        Str::from_static(""),
-        Str::from_static("β"),
-    ];
-    assert!(rt; is_joined(Str::join_texts(alloc, &texts, ", "), "a, , β", true));
-    assert!(rt; is_joined(Str::join_texts(alloc, &texts[..2], ""), "a", true));
-    assert!(rt; is_joined(Str::join_texts(alloc, &texts[..1], ", "), "a", false));
-    assert!(rt; is_joined(Str::join_texts(alloc, &[], ", "), "", false));
+    let first = Str::from_str(rt.alloc(), "a")?;
+    let texts = [first, Str::from_static(""), Str::from_static("β")];
+    assert!(rt; are_joined(rt.alloc(), &texts));
     Ok(())
 }

@@ -1,12 +1,11 @@
 //! Texts as values of `serde`, in JSON.
-use crate::fixtures::assert_text;
+use crate::fixtures::is_made;
 use bytes_utils::{Str, StrMut};
 use serde::{Deserialize, DeserializeOwned};
-use serde_json::{Value, from_str, from_value, to_string};
+use serde_json::{Error, Value, from_str, from_value, to_string};
 use std::alloc::Global;
 use std::convert::AsStr;
 use std::iter::repeat_n;
-use std::process::Abort;
 use std::test::Fail;
 
 /// A text of characters that JSON escapes, and its JSON.
@@ -15,36 +14,38 @@ const TEXT: &str = "\u{1}\"\\\né😈";
 const JSON: &str = "\"\\u0001\\\"\\\\\\né😈\"";
 
 #[test]
-fn writes(rt: HostRuntime) -> Result<(), Fail> {
-    let json = to_string(rt.alloc(), &Str::from_static(TEXT))?;
-    assert_text(&rt, json.as_str(), JSON);
-    Ok(())
+fn writes(rt: HostRuntime) {
+    assert!(rt; is_made(to_string(rt.alloc(), &Str::from_static(TEXT)), JSON));
 }
 
-/// Asserts the text that is read from the JSON, by both traits.
-fn assert_reads<'j, T: Deserialize<'j> + DeserializeOwned + AsStr>(
-    rt: &impl Abort,
+/// Whether the text is read from its JSON, by both traits.
+fn is_read<'j, T: Deserialize<'j> + DeserializeOwned + AsStr>(
     alloc: Global,
     json: &'j str,
-) -> Result<(), Fail> {
-    let text: T = from_str(alloc, json)?;
-    assert_text(rt, text.as_str(), TEXT);
-    let owned: T = from_value(alloc, Value::from_str(alloc, json)?)?;
-    assert_text(rt, owned.as_str(), TEXT);
-    Ok(())
-}
-
-#[test]
-fn a_long_text(rt: HostRuntime) -> Result<(), Fail> {
-    let alloc = rt.alloc();
-    let json = to_string(alloc, &Str::from_chars(alloc, repeat_n('x', 100_000))?)?;
-    let text: Str = from_str(alloc, json.as_str())?;
-    assert!(rt; json.len() == 100_002 && text.len() == 100_000);
-    Ok(())
+) -> Result<bool, Error> {
+    let value = Value::from_str(alloc, json)?;
+    Ok(
+        is_made::<T, _>(from_value(alloc, value), TEXT)
+            && is_made::<T, _>(from_str(alloc, json), TEXT),
+    )
 }
 
 #[test]
 fn reads(rt: HostRuntime) -> Result<(), Fail> {
-    assert_reads::<Str>(&rt, rt.alloc(), JSON)?;
-    assert_reads::<StrMut>(&rt, rt.alloc(), JSON)
+    assert!(rt; is_read::<Str>(rt.alloc(), JSON)? && is_read::<StrMut>(rt.alloc(), JSON)?);
+    Ok(())
+}
+
+/// Whether the text is read from the JSON that is written of it, which has this length.
+fn comes_back(alloc: Global, text: &Str, length: usize) -> Result<bool, Error> {
+    let json = to_string(alloc, text)?;
+    let json = json.as_str();
+    Ok(json.len() == length && is_made::<Str, _>(from_str(alloc, json), text.as_str()))
+}
+
+#[test]
+fn a_long_text(rt: HostRuntime) -> Result<(), Fail> {
+    let text = Str::from_chars(rt.alloc(), repeat_n('x', 100_000))?;
+    assert!(rt; comes_back(rt.alloc(), &text, 100_002)?);
+    Ok(())
 }

@@ -1,5 +1,4 @@
 //! Printed texts, compared with what their `str` prints.
-use crate::fixtures::assert_text;
 use bytes_utils::Str;
 use std::alloc::{AllocError, Global};
 use std::fmt;
@@ -15,12 +14,16 @@ fn shown<T: fmt::Display + fmt::Debug>(alloc: Global, value: &T) -> Result<Strin
     )
 }
 
+/// Whether the text shows as its `str`.
+fn is_shown_as_str(alloc: Global, text: &'static str) -> Result<bool, AllocError> {
+    let want = shown(alloc, &text)?;
+    Ok(shown(alloc, &Str::from_static(text))? == want)
+}
+
 #[test]
 fn shows_as_str(rt: HostRuntime) -> Result<(), Fail> {
     for text in TEXTS.split('|') {
-        let want = shown(rt.alloc(), &text)?;
-        let said = shown(rt.alloc(), &Str::from_static(text))?;
-        assert_text(&rt, said.as_str(), want.as_str());
+        assert!(rt; is_shown_as_str(rt.alloc(), text)?, "{text:?}");
     }
     Ok(())
 }

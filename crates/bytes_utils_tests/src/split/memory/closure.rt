@@ -4,5 +4,5 @@ use crate::split::memory::assert_next;
 
 #[test]
 fn by_a_closure(rt: HostRuntime) {
-    assert_next::<Fields, HostRuntime>(&rt, rt.alloc(), "BytesIter::next", "a,b,c");
+    assert_next::<Fields>(&rt, rt.alloc(), "BytesIter::next", "a,b,c");
 }

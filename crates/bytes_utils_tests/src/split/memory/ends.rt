@@ -6,17 +6,17 @@ use crate::split::memory::assert_next;
 #[test]
 fn strip(rt: HostRuntime) {
     let call = "StrInner::strip_prefix_bytes";
-    assert_next::<StripPrefix, HostRuntime>(&rt, rt.alloc(), call, ",β");
+    assert_next::<StripPrefix>(&rt, rt.alloc(), call, ",β");
     let call = "StrInner::strip_suffix_bytes";
-    assert_next::<StripSuffix, HostRuntime>(&rt, rt.alloc(), call, "β,");
+    assert_next::<StripSuffix>(&rt, rt.alloc(), call, "β,");
 }
 
 #[test]
 fn trim(rt: HostRuntime) {
     let call = "StrInner::trim_bytes";
-    assert_next::<Trim, HostRuntime>(&rt, rt.alloc(), call, " β ");
+    assert_next::<Trim>(&rt, rt.alloc(), call, " β ");
     let call = "StrInner::trim_start_bytes";
-    assert_next::<TrimStart, HostRuntime>(&rt, rt.alloc(), call, " β ");
+    assert_next::<TrimStart>(&rt, rt.alloc(), call, " β ");
     let call = "StrInner::trim_end_bytes";
-    assert_next::<TrimEnd, HostRuntime>(&rt, rt.alloc(), call, " β ");
+    assert_next::<TrimEnd>(&rt, rt.alloc(), call, " β ");
 }

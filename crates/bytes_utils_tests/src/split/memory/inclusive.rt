@@ -5,5 +5,5 @@ use crate::split::ways::SplitInclusive;
 #[test]
 fn split_inclusive(rt: HostRuntime) {
     let call = "SplitInclusiveBytes::next";
-    assert_next::<SplitInclusive, HostRuntime>(&rt, rt.alloc(), call, "a,b,");
+    assert_next::<SplitInclusive>(&rt, rt.alloc(), call, "a,b,");
 }

@@ -1,31 +1,23 @@
 //! Parts with their places.
-use crate::fixtures::refusals::report;
-use bytes_utils::string::{Storage, StrInner};
+use crate::fixtures::refusals::assert_right;
+use crate::split::indices::is_part;
+use bytes_utils::split::SplitIndicesBytes;
+use bytes_utils::string::Storage;
 use bytes_utils::{Reason, StrMut};
-use std::io::Print;
-use std::process::Abort;
 
-/// Asserts that `a` comes at first, or a refusal, which is reported, and then the end.
-fn assert_first<S, P, R>(rt: &R, mut parts: P)
-where
-    S: Storage,
-    P: Iterator<Item = Result<(usize, StrInner<S>), Reason>> + Drop,
-    R: Abort + Print,
-    requires { (s : P) → P.can_next s }
-{
-    match parts.next() {
-        Some(Ok((at, part))) => assert!(rt; at == 0 && part.eq_str("a")),
-        Some(Err(reason)) => {
-            assert!(rt; parts.next().is_none());
-            report(rt, "SplitIndicesBytes::next", reason);
-        }
-        None => assert!(rt; false, "no part"),
+/// Whether `a` comes at first. Fails if it is refused, and then the end comes.
+fn gives_first<S: Storage>(parts: &mut SplitIndicesBytes<'_, S>) -> Result<bool, Reason> {
+    let answer = is_part(parts.next(), 0, "a");
+    if answer.is_err() && parts.next().is_some() {
+        return Ok(false);
     }
+    answer
 }
 
 #[test]
 fn indices(rt: HostRuntime) {
     if let Ok(text) = StrMut::from_str(rt.alloc(), "a,b") {
-        assert_first(&rt, text.split_bytes(",").indices());
+        let answer = gives_first(&mut text.split_bytes(",").indices());
+        assert_right(&rt, "SplitIndicesBytes::next", answer);
     }
 }

@@ -4,5 +4,5 @@ use crate::split::ways::Lines;
 
 #[test]
 fn lines(rt: HostRuntime) {
-    assert_next::<Lines, HostRuntime>(&rt, rt.alloc(), "LinesBytes::next", "a\r\nb\n");
+    assert_next::<Lines>(&rt, rt.alloc(), "LinesBytes::next", "a\r\nb\n");
 }

@@ -5,7 +5,7 @@ use crate::split::ways::{SplitAsciiWhitespace, SplitWhitespace};
 #[test]
 fn words(rt: HostRuntime) {
     let call = "SplitWhitespaceBytes::next";
-    assert_next::<SplitWhitespace, HostRuntime>(&rt, rt.alloc(), call, " a b ");
+    assert_next::<SplitWhitespace>(&rt, rt.alloc(), call, " a b ");
     let call = "SplitAsciiWhitespaceBytes::next";
-    assert_next::<SplitAsciiWhitespace, HostRuntime>(&rt, rt.alloc(), call, " a b ");
+    assert_next::<SplitAsciiWhitespace>(&rt, rt.alloc(), call, " a b ");
 }
