@@ -1,12 +1,16 @@
 //! Events in pieces.
+use crate::fixtures::{after_text, after_text_or_dash, debugs_as, filled};
 use bytes::Bytes;
-use bytes_utils::Str;
-use bytes_utils_protocols::events::{Event, EventError, EventReader, Limits};
+use bytes_utils_protocols::events::{Event, EventReader, Limits};
 use std::alloc::Global;
 use std::test::Fail;
 
 /// Limits that the streams below stay within.
 const LIMITS: Limits = Limits { line: 23, data: 14 };
+
+fn event_reader(alloc: Global) -> EventReader {
+    EventReader::new(alloc, LIMITS)
+}
 
 /// Streams, and after `>` their events. In order:
 ///
@@ -31,74 +35,108 @@ const STREAMS: &str = "data: YHOO\ndata: +2\ndata: 10\n\n>-|-|YHOO\n+2\n10|~\
     event: a\n\ndata: b\n\nevent: a\nevent\ndata: b\nid: 7\nid: 1\0\nDATA: c\n data: c\n\n>\
     -|-|b|-|7|b|";
 
-/// Whether this is the text, where a dash is none.
-fn is_text(text: &Option<Str>, wanted: &str) -> bool {
-    match text {
-        Some(text) => text.eq_str(wanted),
-        None => wanted == "-",
-    }
-}
-
 /// What is wanted after this event, if it is wanted first: by its name, identifier and data.
 fn after_event<'w>(event: &Event, wanted: &'w str) -> Option<&'w str> {
-    let (name, rest) = wanted.split_once('|')?;
-    let (id, rest) = rest.split_once('|')?;
-    let (data, rest) = rest.split_once('|')?;
-    if is_text(&event.name, name) && is_text(&event.id, id) && event.data.eq_str(data) {
-        return Some(rest);
-    }
-    None
+    let rest = after_text_or_dash(&event.name, wanted)?;
+    let rest = after_text_or_dash(&event.id, rest)?;
+    after_text(event.data.as_str(), rest)
 }
 
-/// What is wanted after the events that are there now, of which there are at most three.
-fn after_events<'w>(
+/// What is wanted after what the next call returns: an event that is wanted first, or none.
+fn after_next_event<'w>(
     alloc: Global,
     events: &mut EventReader,
     wanted: &'w str,
-) -> Result<&'w str, Fail> {
+) -> Option<&'w str> {
+    match events.next_event(alloc) {
+        Ok(Some(event)) => after_event(&event, wanted),
+        Ok(None) => Some(wanted),
+        Err(_) => None,
+    }
+}
+
+/// What is wanted after the events that are there now, of which there are at most three.
+fn after_events<'w>(alloc: Global, events: &mut EventReader, wanted: &'w str) -> Option<&'w str> {
     let mut rest = wanted;
     for _ in 0..4 {
-        let Some(event) = events.next_event(alloc)? else {
-            break;
-        };
-        rest = after_event(&event, rest).ok_or("another event")?;
+        rest = after_next_event(alloc, events, rest)?;
     }
-    Ok(rest)
+    Some(rest)
+}
+
+/// What is wanted after the events that come with this piece.
+fn after_events_of<'w>(
+    alloc: Global,
+    events: &mut EventReader,
+    piece: &'static [u8],
+    wanted: &'w str,
+) -> Option<&'w str> {
+    events.push(Bytes::from_static(piece)).ok()?;
+    after_events(alloc, events, wanted)
+}
+
+/// Whether a stream in two pieces gives these events, and no other ones.
+fn events_come_in_two(
+    alloc: Global,
+    events: &mut EventReader,
+    (front, back): (&'static [u8], &'static [u8]),
+    wanted: &str,
+) -> bool {
+    match after_events_of(alloc, events, front, wanted) {
+        Some(rest) => after_events_of(alloc, events, back, rest) == Some(""),
+        None => false,
+    }
+}
+
+/// Whether a stream gives the events of its row, wherever it is cut in two.
+fn events_come_wherever_cut(alloc: Global, row: &'static str) -> bool {
+    let Some((stream, wanted)) = row.split_once('>') else {
+        return false;
+    };
+    for cut in 0..stream.len() {
+        let pieces = stream.as_bytes().split_at(cut);
+        if !events_come_in_two(alloc, &mut event_reader(alloc), pieces, wanted) {
+            return false;
+        }
+    }
+    true
 }
 
 #[test]
-fn streams_cut_at_each_place(rt: HostRuntime) -> Result<(), Fail> {
+fn streams_cut_at_each_place(rt: HostRuntime) {
     for row in STREAMS.split('~') {
-        let (stream, wanted) = row.split_once('>').ok_or("no stream")?;
-        for cut in 0..stream.len() {
-            let (front, back) = stream.as_bytes().split_at(cut);
-            let mut events = EventReader::new(rt.alloc(), LIMITS);
-            events.push(Bytes::from_static(front))?;
-            let rest = after_events(rt.alloc(), &mut events, wanted)?;
-            events.push(Bytes::from_static(back))?;
-            assert_eq!(rt; after_events(rt.alloc(), &mut events, rest)?, "");
+        assert!(rt; events_come_wherever_cut(rt.alloc(), row), "{row}");
+    }
+}
+
+/// Pushes a stream in slices of one byte, and returns whether they were taken.
+fn takes_slices(events: &mut EventReader, stream: &[u8]) -> bool {
+    for byte in stream.chunks(1) {
+        if events.push_slice(byte).is_err() {
+            return false;
         }
     }
-    Ok(())
+    true
+}
+
+fn events_come_in_slices(alloc: Global, events: &mut EventReader, row: &str) -> bool {
+    match row.split_once('>') {
+        Some((stream, wanted)) => {
+            takes_slices(events, stream.as_bytes())
+                && after_events(alloc, events, wanted) == Some("")
+        }
+        None => false,
+    }
 }
 
 #[test]
-fn streams_in_slices(rt: HostRuntime) -> Result<(), Fail> {
+fn streams_in_slices(rt: HostRuntime) {
     for row in STREAMS.split('~') {
-        let (stream, wanted) = row.split_once('>').ok_or("no stream")?;
-        let mut events = EventReader::new(rt.alloc(), LIMITS);
-        for byte in stream.as_bytes().chunks(1) {
-            events.push_slice(byte)?;
-        }
-        assert_eq!(rt; after_events(rt.alloc(), &mut events, wanted)?, "");
+        assert!(rt;
+            events_come_in_slices(rt.alloc(), &mut event_reader(rt.alloc()), row),
+            "{row}"
+        );
     }
-    Ok(())
-}
-
-/// Whether a call says that a limit is passed, and the same call says so once more.
-fn is_too_large(alloc: Global, events: &mut EventReader) -> bool {
-    let first = events.next_event(alloc).err();
-    first == Some(EventError::TooLarge) && events.next_event(alloc).err() == first
 }
 
 /// What passes a limit: a line with and without its end, a line of data, and lines of data together.
@@ -108,85 +146,116 @@ const LARGE: &str = ":45678901234567890123456|: 3456789012345678901234\n|data: 1
 /// A line that passes the limit and isn't UTF-8.
 const LARGE_FAULT: &[u8] = b": 345678901234567890123\xff\n";
 
-/// Whether a stream passes a limit in pieces of one byte, of twelve, and whole. The reader is asked
-/// for an event after each.
-fn passes_limit(alloc: Global, stream: &[u8]) -> Result<bool, Fail> {
-    for len in [1, 12, 99] {
-        let mut events = EventReader::new(alloc, LIMITS);
-        for piece in stream.chunks(len) {
-            events.push_slice(piece)?;
-            let _ = events.next_event(alloc);
+/// Whether the next call returns what `Debug` writes so.
+fn gives_event(alloc: Global, events: &mut EventReader, wanted: &str) -> bool {
+    debugs_as(alloc, &events.next_event(alloc), wanted)
+}
+
+/// Whether a stream passes a limit in pieces of this length, and still does at a second call. The
+/// reader is asked for an event after each.
+fn passes_limit_in(alloc: Global, events: &mut EventReader, stream: &[u8], len: usize) -> bool {
+    for piece in stream.chunks(len) {
+        if events.push_slice(piece).is_err() {
+            return false;
         }
-        if !is_too_large(alloc, &mut events) {
-            return Ok(false);
-        }
+        let _ = events.next_event(alloc);
     }
-    Ok(true)
+    gives_event(alloc, events, "Err(TooLarge)") && gives_event(alloc, events, "Err(TooLarge)")
+}
+
+/// Whether a stream passes a limit in pieces of one byte, of twelve, and whole.
+fn passes_limit(alloc: Global, stream: &[u8]) -> bool {
+    passes_limit_in(alloc, &mut event_reader(alloc), stream, 1)
+        && passes_limit_in(alloc, &mut event_reader(alloc), stream, 12)
+        && passes_limit_in(alloc, &mut event_reader(alloc), stream, 99)
 }
 
 #[test]
-fn bad_lines(rt: HostRuntime) -> Result<(), Fail> {
+fn large_lines(rt: HostRuntime) {
     for stream in LARGE.split('|') {
-        assert!(rt; passes_limit(rt.alloc(), stream.as_bytes())?);
+        assert!(rt; passes_limit(rt.alloc(), stream.as_bytes()), "{stream}");
     }
-    assert!(rt; passes_limit(rt.alloc(), LARGE_FAULT)?);
-    let mut events = EventReader::new(rt.alloc(), LIMITS);
-    events.push(Bytes::from_static(b"data: \xff\ndata: a\n\n"))?;
-    assert!(rt; events.next_event(rt.alloc()).err() == Some(EventError::NotUtf8));
-    assert_eq!(rt; after_events(rt.alloc(), &mut events, "-|-|a|")?, "");
-    Ok(())
+    assert!(rt; passes_limit(rt.alloc(), LARGE_FAULT));
 }
 
-/// The event of a piece of at least 600 bytes, which are data up to this end, and one more owner of
-/// the piece.
-fn event_of_long_data(alloc: Global, end: &[u8]) -> Result<(Event, Bytes), Fail> {
-    let mut piece = Vec::from_slice(alloc, b"data: ")?;
-    piece.extend_from_slice(&[b'a'; 592])?;
-    piece.extend_from_slice(end)?;
-    let piece = Bytes::from_vec(piece)?;
+/// Whether a line that isn't UTF-8 is an error, and the event after it comes.
+fn passes_over_a_fault(alloc: Global, events: &mut EventReader) -> bool {
+    events
+        .push(Bytes::from_static(b"data: \xff\ndata: a\n\n"))
+        .is_ok()
+        && gives_event(alloc, events, "Err(NotUtf8)")
+        && after_events(alloc, events, "-|-|a|") == Some("")
+}
+
+#[test]
+fn a_line_that_is_not_utf8(rt: HostRuntime) {
+    assert!(rt; passes_over_a_fault(rt.alloc(), &mut event_reader(rt.alloc())));
+}
+
+/// The event of a piece, if there is one.
+fn event_of(alloc: Global, piece: Bytes) -> Option<Event> {
     let limits = Limits {
         line: 598,
         data: 594,
     };
     let mut events = EventReader::new(alloc, limits);
-    events.push(piece.clone()?)?;
-    let event = events.next_event(alloc)?.ok_or("no event")?;
-    Ok((event, piece))
+    events.push(piece).ok()?;
+    events.next_event(alloc).ok().flatten()
 }
 
-/// Data of one line, in a piece of more than 512 bytes, shares that piece.
+/// Whether the event of a piece shares it, if there is one and its data has this length.
+fn shares_piece(alloc: Global, piece: &Bytes, len: usize) -> Option<bool> {
+    let event = event_of(alloc, piece.clone().ok()?)?;
+    (event.data.len() == len).then_some(!piece.is_unique())
+}
+
+/// Data of one line, in a piece of more than 512 bytes, shares that piece, and lets it go.
 #[test]
 fn data_of_one_line_is_shared(rt: HostRuntime) -> Result<(), Fail> {
-    let (event, piece) = event_of_long_data(rt.alloc(), b"\n\n")?;
-    assert!(rt; event.data.len() == 592 && !piece.is_unique());
-    drop(event);
-    assert!(rt; piece.is_unique());
+    let piece = filled(rt.alloc(), b"data: ", (592, b'a'), b"\n\n").ok_or("no piece")?;
+    assert!(rt; shares_piece(rt.alloc(), &piece, 592) == Some(true) && piece.is_unique());
     Ok(())
 }
 
 /// Data of two lines is a copy, and their piece is let go.
 #[test]
 fn data_of_two_lines_shares_nothing(rt: HostRuntime) -> Result<(), Fail> {
-    let (event, piece) = event_of_long_data(rt.alloc(), b"\ndata: b\n\n")?;
-    assert!(rt; event.data.len() == 594 && piece.is_unique());
+    let piece = filled(rt.alloc(), b"data: ", (592, b'a'), b"\ndata: b\n\n").ok_or("no piece")?;
+    assert!(rt; shares_piece(rt.alloc(), &piece, 594) == Some(false));
     Ok(())
+}
+
+/// Whether no event comes with this piece.
+fn gives_no_event(alloc: Global, events: &mut EventReader, piece: &'static [u8]) -> bool {
+    events.push(Bytes::from_static(piece)).is_ok() && gives_event(alloc, events, "Ok(None)")
+}
+
+/// Whether many comments and empty lines give no event, and none of their bytes is held.
+fn passes_over_comments(alloc: Global, events: &mut EventReader) -> bool {
+    for _ in 0..1_000 {
+        if !gives_no_event(alloc, events, b": a\n:\n\n") || events.remaining() != 0 {
+            return false;
+        }
+    }
+    true
+}
+
+/// Whether no event comes with any byte of a stream.
+fn gives_no_event_in_bytes(alloc: Global, events: &mut EventReader, stream: &'static [u8]) -> bool {
+    for byte in stream.chunks(1) {
+        if !gives_no_event(alloc, events, byte) {
+            return false;
+        }
+    }
+    true
 }
 
 /// Many comments and empty lines, and then single bytes.
 #[test]
-fn a_long_stream(rt: HostRuntime) -> Result<(), Fail> {
-    let mut events = EventReader::new(rt.alloc(), LIMITS);
-    for _ in 0..1_000 {
-        events.push(Bytes::from_static(b": a\n:\n\n"))?;
-        assert!(rt; events.next_event(rt.alloc())?.is_none() && events.remaining() == 0);
-    }
-    let stream: &'static [u8] = b"retry: 1\ndata: abc\n";
-    for byte in stream.chunks(1) {
-        events.push(Bytes::from_static(byte))?;
-        assert!(rt; events.next_event(rt.alloc())?.is_none());
-    }
-    events.push(Bytes::from_static(b"\n"))?;
-    assert_eq!(rt; after_events(rt.alloc(), &mut events, "-|-|abc|")?, "");
+fn a_long_stream(rt: HostRuntime) {
+    let mut events = event_reader(rt.alloc());
+    assert!(rt; passes_over_comments(rt.alloc(), &mut events));
+    assert!(rt; gives_no_event_in_bytes(rt.alloc(), &mut events, b"retry: 1\ndata: abc\n"));
+    assert!(rt; after_events_of(rt.alloc(), &mut events, b"\n", "-|-|abc|") == Some(""));
     assert!(rt; events.retry() == Some(1));
-    Ok(())
 }

@@ -5,6 +5,8 @@
 #[cfg(test)]
 mod events;
 #[cfg(test)]
+mod fixtures;
+#[cfg(test)]
 mod long;
 #[cfg(test)]
 mod memory;

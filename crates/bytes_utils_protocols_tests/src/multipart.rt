@@ -1,9 +1,8 @@
 //! Parts in pieces.
-use bytes::{Buf, Bytes};
-use bytes_utils::Str;
+use crate::fixtures::{after_text, after_text_or_dash, filled};
+use bytes::Bytes;
 use bytes_utils_protocols::multipart::{Limits, Part, PartError, PartReader};
 use std::alloc::Global;
-use std::str;
 use std::test::Fail;
 
 /// Limits that the good bodies below stay within.
@@ -59,93 +58,102 @@ Content-Type: text/plain\r\n\
 Content-Disposition: form-data; filename=\"a%22.txt\"; name=\"files\"|files|a%22.txt|\r\n\
 --AaB03\r\n|";
 
-fn or_dash(text: &Option<Str>) -> &str {
-    match text {
-        Some(text) => text.as_str(),
-        None => "-",
+/// What is wanted after this part, if it is wanted first: by its head, its names and its body.
+fn after_part<'w>(part: &Part, wanted: &'w str) -> Option<&'w str> {
+    let rest = after_text(part.head.as_str(), wanted)?;
+    let rest = after_text_or_dash(&part.name, rest)?;
+    let rest = after_text_or_dash(&part.file_name, rest)?;
+    let (body, rest) = rest.split_once('|')?;
+    part.body.eq_bytes(body.as_bytes()).then_some(rest)
+}
+
+/// What is wanted after what the next call returns: a part that is wanted first, or none.
+fn after_next_part<'w>(alloc: Global, parts: &mut PartReader, wanted: &'w str) -> Option<&'w str> {
+    match parts.next_part(alloc) {
+        Ok(Some(part)) => after_part(&part, wanted),
+        Ok(None) => Some(wanted),
+        Err(_) => None,
     }
 }
 
-/// Writes what a part has, with a bar after each.
-fn write_part(alloc: Global, text: &mut String, part: &Part) -> Result<(), Fail> {
-    let body = part.body.peek_bytes(alloc, part.body.remaining())?;
-    let body = str::from_utf8(body.as_slice())?;
-    let (name, file_name) = (or_dash(&part.name), or_dash(&part.file_name));
-    write!(text, "{}|{name}|{file_name}|{body}|", part.head.as_str())?;
-    Ok(())
-}
-
-/// Whether these two pieces have two parts, as they are written, and end.
-fn are_parts(
+/// What is wanted after the parts that come with this piece, of which there are at most two.
+fn after_parts_of<'w>(
     alloc: Global,
-    boundary: &[u8],
-    pieces: (&'static [u8], &'static [u8]),
-    wanted: &str,
-) -> Result<bool, Fail> {
-    let mut parts = PartReader::new(alloc, boundary, LIMITS)?;
-    parts.push(Bytes::from_static(pieces.0))?;
-    let mut text = String::new(alloc);
-    for _ in 0..4 {
-        match parts.next_part(alloc)? {
-            Some(part) => write_part(alloc, &mut text, &part)?,
-            None if parts.has_ended() => {}
-            None => parts.push(Bytes::from_static(pieces.1))?,
-        }
-    }
-    Ok(text.as_str() == wanted && parts.has_ended())
+    parts: &mut PartReader,
+    piece: &'static [u8],
+    wanted: &'w str,
+) -> Option<&'w str> {
+    parts.push(Bytes::from_static(piece)).ok()?;
+    let rest = after_next_part(alloc, parts, wanted)?;
+    let rest = after_next_part(alloc, parts, rest)?;
+    after_next_part(alloc, parts, rest)
 }
 
-/// Whether a body that is cut at each place has two parts, as they are written, and ends.
-fn are_parts_of_pieces(
+/// Whether these two pieces have these parts, and end.
+fn parts_come_in_two(
+    alloc: Global,
+    parts: &mut PartReader,
+    (front, back): (&'static [u8], &'static [u8]),
+    wanted: &str,
+) -> bool {
+    match after_parts_of(alloc, parts, front, wanted) {
+        Some(rest) => after_parts_of(alloc, parts, back, rest) == Some("") && parts.has_ended(),
+        None => false,
+    }
+}
+
+/// Whether a body has these parts, and ends, wherever it is cut in two.
+fn parts_come_wherever_cut(
     alloc: Global,
     boundary: &[u8],
     body: &'static str,
     wanted: &str,
-) -> Result<bool, Fail> {
+) -> bool {
     for cut in 0..body.len() {
-        if !are_parts(alloc, boundary, body.as_bytes().split_at(cut), wanted)? {
-            return Ok(false);
+        let Ok(mut parts) = PartReader::new(alloc, boundary, LIMITS) else {
+            return false;
+        };
+        if !parts_come_in_two(alloc, &mut parts, body.as_bytes().split_at(cut), wanted) {
+            return false;
         }
     }
-    Ok(true)
+    true
 }
 
 #[test]
-fn mail_cut_at_each_place(rt: HostRuntime) -> Result<(), Fail> {
-    assert!(rt; are_parts_of_pieces(rt.alloc(), b"simple boundary", MAIL, IN_MAIL)?);
-    Ok(())
+fn mail_cut_at_each_place(rt: HostRuntime) {
+    assert!(rt; parts_come_wherever_cut(rt.alloc(), b"simple boundary", MAIL, IN_MAIL));
 }
 
 #[test]
-fn form_cut_at_each_place(rt: HostRuntime) -> Result<(), Fail> {
-    assert!(rt; are_parts_of_pieces(rt.alloc(), b"AaB03x", FORM, IN_FORM)?);
-    Ok(())
+fn form_cut_at_each_place(rt: HostRuntime) {
+    assert!(rt; parts_come_wherever_cut(rt.alloc(), b"AaB03x", FORM, IN_FORM));
 }
 
-/// Writes the parts of a body that comes in slices of one byte.
-fn write_parts(
+/// What is wanted after the parts of a body that comes in slices of one byte.
+fn after_parts_in_slices<'w>(
     alloc: Global,
     parts: &mut PartReader,
-    text: &mut String,
     body: &[u8],
-) -> Result<(), Fail> {
+    wanted: &'w str,
+) -> Option<&'w str> {
+    let mut rest = wanted;
     for byte in body.chunks(1) {
-        parts.push_slice(byte)?;
-        if let Some(part) = parts.next_part(alloc)? {
-            write_part(alloc, text, &part)?;
-        }
+        parts.push_slice(byte).ok()?;
+        rest = after_next_part(alloc, parts, rest)?;
     }
-    Ok(())
+    Some(rest)
 }
 
 /// After the close delimiter a slice is dropped.
 #[test]
 fn form_in_slices(rt: HostRuntime) -> Result<(), Fail> {
     let mut parts = PartReader::new(rt.alloc(), b"AaB03x", LIMITS)?;
-    let mut text = String::new(rt.alloc());
-    write_parts(rt.alloc(), &mut parts, &mut text, FORM.as_bytes())?;
-    write_parts(rt.alloc(), &mut parts, &mut text, FORM.as_bytes())?;
-    assert!(rt; parts.has_ended() && text.as_str() == IN_FORM);
+    assert!(rt;
+        after_parts_in_slices(rt.alloc(), &mut parts, FORM.as_bytes(), IN_FORM) == Some("")
+    );
+    assert!(rt; after_parts_in_slices(rt.alloc(), &mut parts, FORM.as_bytes(), "") == Some(""));
+    assert!(rt; parts.has_ended());
     Ok(())
 }
 
@@ -169,11 +177,9 @@ const ODD: &str = "--b-->the end|--b\r\n\r\n\r\n--b>a part|\
     --b\r\n\r\n12345678901234567890123456789012345678901234567890123456789012345678901234567890\
     12345678901\r\n--b>too large";
 
-/// What comes first.
-fn first_of(alloc: Global, body: Bytes) -> Result<&'static str, Fail> {
-    let mut parts = PartReader::new(alloc, b"b", LIMITS)?;
-    parts.push(body)?;
-    Ok(match parts.next_part(alloc) {
+/// What the next call returns.
+fn outcome(alloc: Global, parts: &mut PartReader) -> &'static str {
+    match parts.next_part(alloc) {
         Ok(Some(_)) => "a part",
         Ok(None) if parts.has_ended() => "the end",
         Ok(None) => "waits",
@@ -181,56 +187,55 @@ fn first_of(alloc: Global, body: Bytes) -> Result<&'static str, Fail> {
         Err(PartError::NotUtf8) => "not UTF-8",
         Err(PartError::TooLarge) => "too large",
         Err(PartError::Refused(_)) => "refused",
-    })
+    }
+}
+
+fn is_outcome(alloc: Global, body: Bytes, wanted: &str) -> bool {
+    let Ok(mut parts) = PartReader::new(alloc, b"b", LIMITS) else {
+        return false;
+    };
+    parts.push(body).is_ok() && outcome(alloc, &mut parts) == wanted
+}
+
+fn is_outcome_of(alloc: Global, row: &'static str) -> bool {
+    match row.split_once('>') {
+        Some((body, wanted)) => is_outcome(alloc, Bytes::from_static(body.as_bytes()), wanted),
+        None => false,
+    }
 }
 
 #[test]
-fn odd_bodies(rt: HostRuntime) -> Result<(), Fail> {
+fn odd_bodies(rt: HostRuntime) {
     for row in ODD.split('|') {
-        let (body, wanted) = row.split_once('>').ok_or("no body")?;
-        let body = Bytes::from_static(body.as_bytes());
-        assert_eq!(rt; first_of(rt.alloc(), body)?, wanted);
+        assert!(rt; is_outcome_of(rt.alloc(), row), "{row}");
     }
     let body = Bytes::from_static(b"--b\r\n\xff\r\n\r\n\r\n--b");
-    assert_eq!(rt; first_of(rt.alloc(), body)?, "not UTF-8");
-    Ok(())
+    assert!(rt; is_outcome(rt.alloc(), body, "not UTF-8"));
 }
 
-/// What comes before the most dashes that may wait, their number, and what comes after them. The
-/// limits allow 190 bytes, and five more while a delimiter may begin among the last. In order:
-///
-/// - a preamble, after the line end that is held first, without and with the delimiter after it
-/// - a head, a body, and a body after a preamble
-const ENDLESS: &str = ">193>|>188>\r\n--b|--b\r\nA: >190>|--b\r\n\r\n>191>|a\r\n--b\r\n\r\n>191>";
-
-/// What comes first of these bytes with this number of dashes between them.
-fn first_around(
-    alloc: Global,
-    before: &str,
-    count: usize,
-    after: &str,
-) -> Result<&'static str, Fail> {
-    let mut body = Vec::from_slice(alloc, before.as_bytes())?;
-    for _ in 0..count {
-        body.push(b'-')?;
+/// Whether this comes first of these bytes with this number of dashes between them.
+fn is_outcome_around(alloc: Global, before: &str, count: usize, after: &str, wanted: &str) -> bool {
+    match filled(alloc, before.as_bytes(), (count, b'-'), after.as_bytes()) {
+        Some(body) => is_outcome(alloc, body, wanted),
+        None => false,
     }
-    body.extend_from_slice(after.as_bytes())?;
-    first_of(alloc, Bytes::from_vec(body)?)
 }
 
+/// Whether this is the greatest number of dashes that may wait between these bytes.
+fn is_most(alloc: Global, before: &str, count: usize, after: &str) -> bool {
+    is_outcome_around(alloc, before, count, after, "waits")
+        && is_outcome_around(alloc, before, count.saturating_add(1), after, "too large")
+        && is_outcome_around(alloc, before, 600, after, "too large")
+}
+
+/// The limits allow 190 bytes, and five more while a delimiter may begin among the last.
 #[test]
-fn endless_bodies(rt: HostRuntime) -> Result<(), Fail> {
-    for row in ENDLESS.split('|') {
-        let (before, rest) = row.split_once('>').ok_or("no count")?;
-        let (count, after) = rest.split_once('>').ok_or("no end")?;
-        let most: usize = count.parse()?;
-        for (count, wanted) in [
-            (most, "waits"),
-            (most.saturating_add(1), "too large"),
-            (600, "too large"),
-        ] {
-            assert_eq!(rt; first_around(rt.alloc(), before, count, after)?, wanted);
-        }
-    }
-    Ok(())
+fn endless_bodies(rt: HostRuntime) {
+    // a preamble, after the line end that is held first, without and with the delimiter after it
+    assert!(rt; is_most(rt.alloc(), "", 193, ""));
+    assert!(rt; is_most(rt.alloc(), "", 188, "\r\n--b"));
+    // a head, a body, and a body after a preamble
+    assert!(rt; is_most(rt.alloc(), "--b\r\nA: ", 190, ""));
+    assert!(rt; is_most(rt.alloc(), "--b\r\n\r\n", 191, ""));
+    assert!(rt; is_most(rt.alloc(), "a\r\n--b\r\n\r\n", 191, ""));
 }

@@ -1,13 +1,16 @@
 //! Netstrings from a reader. The first two are the examples of their definition.
+use crate::fixtures::debugs_as;
 use bytes::Bytes;
-use bytes_utils::Reason;
 use bytes_utils_codec::decode::{Decoded, read_item};
-use bytes_utils_protocols::netstrings::{NetstringError, Netstrings};
+use bytes_utils_protocols::netstrings::Netstrings;
 use std::alloc::Global;
-use std::test::Fail;
+
+fn netstrings(alloc: Global) -> Decoded<Netstrings> {
+    Decoded::new(alloc, Netstrings { max_length: 12 })
+}
 
 /// Whether the next text is this one.
-fn is_next(
+fn is_next_text(
     alloc: Global,
     input: &mut &[u8],
     texts: &mut Decoded<Netstrings>,
@@ -24,37 +27,42 @@ fn is_end(alloc: Global, input: &mut &[u8], texts: &mut Decoded<Netstrings>, lef
     matches!(read_item(input, texts, alloc), Ok(None)) && texts.remaining() == left
 }
 
-#[test]
-fn from_a_reader(rt: HostRuntime) -> Result<(), Fail> {
+/// Whether the three texts are read, and then the end, after which five bytes are left.
+fn are_read(alloc: Global, texts: &mut Decoded<Netstrings>) -> bool {
     let mut input = "12:hello world!,0:,5:hello,5:hel".as_bytes();
-    let mut texts = Decoded::new(rt.alloc(), Netstrings { max_length: 12 });
-    for wanted in ["hello world!", "", "hello"] {
-        assert!(rt; is_next(rt.alloc(), &mut input, &mut texts, wanted.as_bytes()));
-    }
-    assert!(rt; is_end(rt.alloc(), &mut input, &mut texts, 5));
-    Ok(())
-}
-
-/// What comes of these bytes.
-fn outcome_of(alloc: Global, bytes: &'static [u8]) -> Result<&'static str, Fail> {
-    let mut texts = Decoded::new(alloc, Netstrings { max_length: 12 });
-    texts.push(Bytes::from_static(bytes))?;
-    Ok(match texts.next_item(alloc) {
-        Ok(Some(_)) => "text",
-        Ok(None) => "waits",
-        Err(NetstringError::Malformed) => "malformed",
-        Err(NetstringError::Refused(Reason::TooLong)) => "too long",
-        Err(NetstringError::Refused(Reason::OutOfMemory)) => "refused",
-    })
+    is_next_text(alloc, &mut input, texts, b"hello world!")
+        && is_next_text(alloc, &mut input, texts, b"")
+        && is_next_text(alloc, &mut input, texts, b"hello")
+        && is_end(alloc, &mut input, texts, 5)
 }
 
 #[test]
-fn odd_bytes(rt: HostRuntime) -> Result<(), Fail> {
-    let rows = "1:a,>text|1:a>waits|1>waits|12:>waits|13:>too long|123456789012345678901>too long|\
-        1:a;>malformed|+1:a,>malformed|:,>malformed";
-    for row in rows.split('|') {
-        let (bytes, wanted) = row.split_once('>').ok_or("no bytes")?;
-        assert_eq!(rt; outcome_of(rt.alloc(), bytes.as_bytes())?, wanted);
+fn from_a_reader(rt: HostRuntime) {
+    assert!(rt; are_read(rt.alloc(), &mut netstrings(rt.alloc())));
+}
+
+/// Whether the first call returns this of bytes, as `Debug` writes it.
+fn is_first_outcome(alloc: Global, texts: &mut Decoded<Netstrings>, row: &'static str) -> bool {
+    match row.split_once('>') {
+        Some((bytes, wanted)) => {
+            texts.push(Bytes::from_static(bytes.as_bytes())).is_ok()
+                && debugs_as(alloc, &texts.next_item(alloc), wanted)
+        }
+        None => false,
     }
-    Ok(())
+}
+
+/// Bytes, and what the first call returns.
+const ODD: &str = "1:a,>Ok(Some(b\"a\"))|1:a>Ok(None)|1>Ok(None)|12:>Ok(None)|\
+    13:>Err(Refused(TooLong))|123456789012345678901>Err(Refused(TooLong))|\
+    1:a;>Err(Malformed)|+1:a,>Err(Malformed)|:,>Err(Malformed)";
+
+#[test]
+fn odd_bytes(rt: HostRuntime) {
+    for row in ODD.split('|') {
+        assert!(rt;
+            is_first_outcome(rt.alloc(), &mut netstrings(rt.alloc()), row),
+            "{row}"
+        );
+    }
 }

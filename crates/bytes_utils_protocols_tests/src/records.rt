@@ -1,40 +1,31 @@
 //! Records of a stream.
+use crate::fixtures::debugs_as;
 use bytes::Bytes;
-use bytes_utils_protocols::records::{RecordError, Records};
-use std::alloc::{AllocError, Global};
+use bytes_utils_protocols::records::Records;
+use std::alloc::Global;
 use std::test::Fail;
 
-/// Appends what a call returns, with a bar after it: a record, which call failed, or the bytes of a
-/// record that isn't UTF-8.
-fn report(alloc: Global, records: &mut Records, told: &mut Vec<u8>) -> Result<(), AllocError> {
-    let written = match records.next_record(alloc) {
-        Ok(Some(text)) => told.extend_from_slice(text.as_str().as_bytes()),
-        Ok(None) => told.extend_from_slice(b"none"),
-        Err(RecordError::TooLong) => told.extend_from_slice(b"too long"),
-        Err(RecordError::NotUtf8(bytes)) => told.extend_from_slice(&bytes),
-        Err(RecordError::OutOfMemory) => told.extend_from_slice(b"refused"),
-    };
-    written?;
-    told.extend_from_slice(b"|")
+/// Whether the next call returns what `Debug` writes so.
+fn gives_record(alloc: Global, records: &mut Records, wanted: &str) -> bool {
+    debugs_as(alloc, &records.next_record(alloc), wanted)
 }
 
 const STREAM: &[u8] = b"Gr\xc3\xbc\xc3\x9fe\r\n\r\nalle, die\r\n\r\na\xffb\r\n\r\n\r\n\r\nrest";
 
-/// Pushes the stream, and appends what five calls return.
-fn report_all(alloc: Global, records: &mut Records, told: &mut Vec<u8>) -> Result<(), Fail> {
-    records.push(Bytes::from_static(STREAM))?;
-    for _ in 0..5 {
-        report(alloc, records, told)?;
-    }
-    Ok(())
+/// Whether the records of the stream come, in order, and four bytes are left.
+fn gives_records(alloc: Global, records: &mut Records) -> bool {
+    records.push(Bytes::from_static(STREAM)).is_ok()
+        && gives_record(alloc, records, "Ok(Some(\"Grüße\"))")
+        && gives_record(alloc, records, "Err(TooLong)")
+        && gives_record(alloc, records, "Err(NotUtf8(b\"a\\xffb\"))")
+        && gives_record(alloc, records, "Ok(Some(\"\"))")
+        && gives_record(alloc, records, "Ok(None)")
+        && records.remaining() == 4
 }
 
 #[test]
 fn records_of_a_stream(rt: HostRuntime) -> Result<(), Fail> {
     let mut records = Records::new(rt.alloc(), 7)?;
-    let mut told = Vec::new(rt.alloc());
-    report_all(rt.alloc(), &mut records, &mut told)?;
-    let is_told = told.as_slice() == b"Gr\xc3\xbc\xc3\x9fe|too long|a\xffb||none|".as_slice();
-    assert!(rt; is_told && records.remaining() == 4);
+    assert!(rt; gives_records(rt.alloc(), &mut records));
     Ok(())
 }

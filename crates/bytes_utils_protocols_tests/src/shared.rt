@@ -1,112 +1,132 @@
 //! Parts share the bytes that they were cut from. Each test keeps one more owner of these bytes,
 //! which is the only one in the end.
+use crate::fixtures::filled;
 use bytes::Bytes;
+use bytes_utils::SegmentedBuf;
 use bytes_utils_protocols::multipart::{Limits, PartReader};
 use bytes_utils_protocols::records::Records;
 use bytes_utils_protocols::requests::Requests;
 use std::alloc::Global;
-use std::process::Abort;
 use std::test::Fail;
 
-/// Bytes of their own, and one more owner of them.
-fn piece(alloc: Global, bytes: &[u8]) -> Result<(Bytes, Bytes), Fail> {
-    let piece = Bytes::copy_from_slice(alloc, bytes)?;
-    Ok((piece.clone()?, piece))
-}
+const LIMITS: Limits = Limits {
+    head: 9,
+    body: 2_000,
+};
 
-/// Asserts that a part is one more owner of its block, and no other one is left.
-fn assert_lets_go(rt: &impl Abort, part: Bytes, other: Bytes) {
-    assert!(rt; !part.is_unique());
-    drop(part);
-    assert!(rt; other.is_unique());
+/// Whether a part is there, has this length, and isn't the only owner of its block.
+fn is_shared(part: Option<Bytes>, len: usize) -> bool {
+    match part {
+        Some(part) => part.len() == len && !part.is_unique(),
+        None => false,
+    }
 }
 
 /// Two bytes, an empty line after them, and more.
-fn two_and_an_end() -> [u8; 600] {
-    let mut bytes = [b'a'; 600];
-    bytes[2..6].copy_from_slice(b"\r\n\r\n");
-    bytes
+fn two_and_an_end(alloc: Global) -> Result<Bytes, Fail> {
+    Ok(filled(alloc, b"aa\r\n\r\n", (594, b'a'), b"").ok_or("no piece")?)
+}
+
+/// The record of a piece, if there is one.
+fn record_of(alloc: Global, piece: &Bytes) -> Option<Bytes> {
+    let mut records = Records::new(alloc, 9).ok()?;
+    records.push(piece.clone().ok()?).ok()?;
+    let record = records.next_record(alloc).ok().flatten()?;
+    Some(record.into_inner())
 }
 
 #[test]
 fn a_record_in_one_piece_is_shared(rt: HostRuntime) -> Result<(), Fail> {
-    let mut records = Records::new(rt.alloc(), 9)?;
-    let (bytes, other) = piece(rt.alloc(), &two_and_an_end())?;
-    records.push(bytes)?;
-    let record = records.next_record(rt.alloc()).ok().flatten();
-    drop(records);
-    assert_lets_go(&rt, record.ok_or("no record")?.into_inner(), other);
+    let piece = two_and_an_end(rt.alloc())?;
+    assert!(rt; is_shared(record_of(rt.alloc(), &piece), 2) && piece.is_unique());
     Ok(())
+}
+
+/// The head of a piece, if there is one.
+fn head_of(alloc: Global, piece: &Bytes) -> Option<Bytes> {
+    let mut requests = Requests::new(alloc).ok()?;
+    requests.push(piece.clone().ok()?).ok()?;
+    requests.next_head(alloc).ok().flatten()
 }
 
 #[test]
 fn a_head_in_one_piece_is_shared(rt: HostRuntime) -> Result<(), Fail> {
-    let mut requests = Requests::new(rt.alloc())?;
-    let (bytes, other) = piece(rt.alloc(), &two_and_an_end())?;
-    requests.push(bytes)?;
-    let head = requests.next_head(rt.alloc())?;
-    drop(requests);
-    assert_lets_go(&rt, head.ok_or("no head")?, other);
+    let piece = two_and_an_end(rt.alloc())?;
+    assert!(rt; is_shared(head_of(rt.alloc(), &piece), 2) && piece.is_unique());
     Ok(())
+}
+
+/// A body that comes with two pieces, which share a block, up to the last 200 bytes.
+fn body_of_request(alloc: Global, piece: &Bytes) -> Option<SegmentedBuf<Bytes>> {
+    let mut requests = Requests::new(alloc).ok()?;
+    requests.push(piece.clone().ok()?).ok()?;
+    requests.push(piece.clone().ok()?).ok()?;
+    requests.next_body(alloc, 1_000).ok().flatten()
+}
+
+/// Whether a body has two pieces, of these lengths, and neither is the only owner of its block.
+fn are_shared(body: Option<SegmentedBuf<Bytes>>, first: usize, second: usize) -> bool {
+    match body {
+        Some(mut body) => {
+            is_shared(body.pop(), first) && is_shared(body.pop(), second) && body.pop().is_none()
+        }
+        None => false,
+    }
+}
+
+fn six_hundred(alloc: Global) -> Result<Bytes, Fail> {
+    Ok(filled(alloc, b"", (600, b'a'), b"").ok_or("no piece")?)
 }
 
 #[test]
 fn a_body_in_two_pieces_is_shared(rt: HostRuntime) -> Result<(), Fail> {
-    let mut requests = Requests::new(rt.alloc())?;
-    let (first, other) = piece(rt.alloc(), &[b'a'; 600])?;
-    requests.push(first)?;
-    requests.push(other.clone()?)?;
-    for piece in requests.next_body(rt.alloc(), 1_000)?.ok_or("no body")? {
-        assert!(rt; !piece.is_unique());
-    }
-    drop(requests);
-    assert!(rt; other.is_unique());
+    let piece = six_hundred(rt.alloc())?;
+    assert!(rt; are_shared(body_of_request(rt.alloc(), &piece), 600, 400) && piece.is_unique());
     Ok(())
+}
+
+/// The body of a part that comes with two pieces, which share a block.
+fn body_of_part(alloc: Global, piece: &Bytes) -> Option<SegmentedBuf<Bytes>> {
+    let mut parts = PartReader::new(alloc, b"b", LIMITS).ok()?;
+    parts.push(Bytes::from_static(b"--b\r\n\r\n")).ok()?;
+    parts.push(piece.clone().ok()?).ok()?;
+    parts.push(piece.clone().ok()?).ok()?;
+    parts.push(Bytes::from_static(b"\r\n--b--")).ok()?;
+    let part = parts.next_part(alloc).ok().flatten()?;
+    Some(part.body)
 }
 
 #[test]
 fn a_part_in_two_pieces_is_shared(rt: HostRuntime) -> Result<(), Fail> {
-    let limits = Limits {
-        head: 9,
-        body: 2_000,
-    };
-    let mut parts = PartReader::new(rt.alloc(), b"b", limits)?;
-    parts.push(Bytes::from_static(b"--b\r\n\r\n"))?;
-    let (first, other) = piece(rt.alloc(), &[b'a'; 600])?;
-    parts.push(first)?;
-    parts.push(other.clone()?)?;
-    parts.push(Bytes::from_static(b"\r\n--b--"))?;
-    let part = parts.next_part(rt.alloc())?.ok_or("no part")?;
-    for piece in part.body {
-        assert!(rt; piece.len() == 600 && !piece.is_unique());
-    }
-    drop(parts);
-    assert!(rt; other.is_unique());
+    let piece = six_hundred(rt.alloc())?;
+    assert!(rt; are_shared(body_of_part(rt.alloc(), &piece), 600, 600) && piece.is_unique());
     Ok(())
 }
 
-/// Asserts that nothing is held of a piece that comes between these bytes, of which no part is made.
-fn assert_holds_none(
-    rt: &impl Abort,
+/// Pushes a piece between these bytes. Returns whether no part is made of it.
+fn gives_no_part(
     alloc: Global,
-    before: &'static [u8],
-    after: &'static [u8],
-) -> Result<(), Fail> {
-    let limits = Limits {
-        head: 9,
-        body: 2_000,
-    };
-    let mut parts = PartReader::new(alloc, b"b", limits)?;
-    let (bytes, other) = piece(alloc, &[b'a'; 600])?;
-    parts.push(Bytes::from_static(before))?;
-    parts.push(bytes)?;
-    parts.push(Bytes::from_static(after))?;
-    assert!(rt; parts.next_part(alloc)?.is_none() && other.is_unique());
-    Ok(())
+    parts: &mut PartReader,
+    (before, after): (&'static [u8], &'static [u8]),
+    piece: Bytes,
+) -> bool {
+    parts.push(Bytes::from_static(before)).is_ok()
+        && parts.push(piece).is_ok()
+        && parts.push(Bytes::from_static(after)).is_ok()
+        && matches!(parts.next_part(alloc), Ok(None))
+}
+
+/// Whether nothing is held of a piece that comes between these bytes, of which no part is made.
+fn holds_none(alloc: Global, around: (&'static [u8], &'static [u8])) -> Result<bool, Fail> {
+    let piece = six_hundred(alloc)?;
+    let other = piece.clone()?;
+    let mut parts = PartReader::new(alloc, b"b", LIMITS)?;
+    Ok(gives_no_part(alloc, &mut parts, around, other) && piece.is_unique())
 }
 
 #[test]
 fn what_is_before_and_after_all_parts_is_let_go(rt: HostRuntime) -> Result<(), Fail> {
-    assert_holds_none(&rt, rt.alloc(), b"", b"\r\n--b")?;
-    assert_holds_none(&rt, rt.alloc(), b"--b--", b"")
+    assert!(rt; holds_none(rt.alloc(), (b"", b"\r\n--b"))?);
+    assert!(rt; holds_none(rt.alloc(), (b"--b--", b""))?);
+    Ok(())
 }
