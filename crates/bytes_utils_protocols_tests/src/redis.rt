@@ -223,3 +223,48 @@ fn bulk_in_one_piece_is_shared(rt: HostRuntime) -> Result<(), Fail> {
     assert!(rt; shares_its_piece(rt.alloc(), &mut replies, piece));
     Ok(())
 }
+
+/// Pushes a line of 4,000 bytes in pieces of 1 and of 513 bytes in turn, the last one shorter, and
+/// its end. Returns whether no reply came before that.
+fn takes_a_long_line(alloc: Global, replies: &mut ReplyReader) -> bool {
+    let mut is_taken = takes_piece(replies, b"+");
+    for _ in 0..7 {
+        is_taken = is_taken
+            && takes_piece(replies, &[b'a'; 513])
+            && gives_reply(alloc, replies, "Ok(None)")
+            && takes_piece(replies, b"a")
+            && gives_reply(alloc, replies, "Ok(None)");
+    }
+    is_taken
+        && takes_piece(replies, &[b'a'; 401])
+        && gives_reply(alloc, replies, "Ok(None)")
+        && takes_piece(replies, b"\r\n")
+}
+
+/// Whether a reply is a text of 3,999 times the same byte.
+fn is_long_text(items: &[Item]) -> bool {
+    match items {
+        [Item::Simple(bytes)] => bytes.as_slice() == [b'a'; 3_999].as_slice(),
+        _ => false,
+    }
+}
+
+fn gives_long_text(alloc: Global, replies: &mut ReplyReader) -> bool {
+    match replies.next_reply(alloc) {
+        Ok(Some(items)) => is_long_text(&items),
+        _ => false,
+    }
+}
+
+/// A line of many pieces, shared and copied ones in turn, comes when its end has come.
+#[test]
+fn a_long_line_of_pieces(rt: HostRuntime) {
+    let limits = Limits {
+        line: 4_000,
+        ..LIMITS
+    };
+    let mut replies = ReplyReader::new(rt.alloc(), limits);
+    assert!(rt;
+        takes_a_long_line(rt.alloc(), &mut replies) && gives_long_text(rt.alloc(), &mut replies)
+    );
+}
