@@ -3,26 +3,27 @@
 use super::following;
 use bytes_utils::StrMut;
 use bytes_utils_run::{How, cut_all};
+use std::alloc::Global;
 use std::test::Fail;
+
+/// Splits a text completely, unless memory for the text is refused. Returns whether that was
+/// refused, and what is missing of the parts, if those that are given are the first of them.
+fn cut(alloc: Global) -> Option<(bool, Option<&'static str>)> {
+    let text = StrMut::from_str(alloc, "a,b,,c,d,e").ok()?;
+    let parts = cut_all(alloc, text, How::Split(","));
+    Some((parts.refused.is_some(), following(&parts, "a|b||c|d|e|")))
+}
 
 // After a refused request the parts are a proper beginning of all, and the text is then split
 // completely.
 #[test]
 fn parts(rt: HostRuntime) -> Result<(), Fail> {
-    let wanted = "a|b||c|d|e|";
-    for _ in 0..2 {
-        let Ok(text) = StrMut::from_str(rt.alloc(), "a,b,,c,d,e") else {
-            return Ok(());
-        };
-        let parts = cut_all(rt.alloc(), text, How::Split(","));
-        let rest = following(&parts, wanted);
-        if parts.refused.is_none() {
-            assert!(rt; rest == Some(""));
-            return Ok(());
-        }
-        drop(parts);
+    let mut outcome = cut(rt.alloc());
+    if let Some((true, missing)) = outcome {
         println!(rt; "refused cut_all")?;
-        assert!(rt; rest.is_some() && rest != Some(""));
+        assert!(rt; missing.is_some() && missing != Some(""));
+        outcome = cut(rt.alloc());
     }
-    panic!(rt; "refused again")
+    assert!(rt; outcome.is_none() || outcome == Some((false, Some(""))));
+    Ok(())
 }
