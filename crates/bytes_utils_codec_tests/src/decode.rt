@@ -9,7 +9,6 @@ use bytes::Bytes;
 use bytes_utils::Reason;
 use bytes_utils_codec::decode::{Decoded, Decoder};
 use std::alloc::Global;
-use std::test::Fail;
 
 /// Whether no item is there yet.
 fn waits<D: Decoder<Error = Reason>>(alloc: Global, reader: &mut Decoded<D>) -> bool {
@@ -26,18 +25,67 @@ fn stays_too_long<D: Decoder<Error = Reason>>(alloc: Global, reader: &mut Decode
     true
 }
 
-/// Takes the frames that have come, each with a stroke after it.
+/// Whether this is the next frame.
+fn is_frame<D: Decoder<Item = Bytes, Error = Reason>>(
+    alloc: Global,
+    reader: &mut Decoded<D>,
+    want: &[u8],
+) -> bool {
+    match reader.next_item(alloc) {
+        Ok(Some(frame)) => frame.as_slice() == want,
+        _ => false,
+    }
+}
+
+/// Whether the frame `a` shares a block.
+fn shares_block(frame: Result<Option<Bytes>, Reason>) -> bool {
+    match frame {
+        Ok(Some(frame)) => frame.as_slice() == b"a".as_slice() && !frame.is_unique(),
+        _ => false,
+    }
+}
+
+/// Appends the frame, with a stroke after it.
+fn put_frame(frame: &[u8], out: &mut Vec<u8>) -> Option<()> {
+    out.extend_from_slice(frame).ok()?;
+    out.push(b'|').ok()
+}
+
+/// Takes the frames that have come. Returns `None` if one is refused, or there are too many.
 fn take_frames<D: Decoder<Item = Bytes, Error = Reason>>(
     alloc: Global,
     reader: &mut Decoded<D>,
     out: &mut Vec<u8>,
-) -> Result<(), Fail> {
+) -> Option<()> {
     for _ in 0..6 {
-        let Some(frame) = reader.next_item(alloc)? else {
-            return Ok(());
+        let Some(frame) = reader.next_item(alloc).ok()? else {
+            return Some(());
         };
-        out.extend_from_slice(frame.as_slice())?;
-        out.push(b'|')?;
+        put_frame(frame.as_slice(), out)?;
     }
-    Err(Fail::from("no end"))
+    None
+}
+
+/// Pushes a piece, and takes the frames that come.
+fn take_piece<D: Decoder<Item = Bytes, Error = Reason>>(
+    alloc: Global,
+    reader: &mut Decoded<D>,
+    piece: &[u8],
+    out: &mut Vec<u8>,
+) -> Option<()> {
+    reader.push_slice(piece).ok()?;
+    take_frames(alloc, reader, out)
+}
+
+/// Whether these frames, each with a stroke after it, come with both pieces.
+fn are_frames<D: Decoder<Item = Bytes, Error = Reason>>(
+    alloc: Global,
+    reader: &mut Decoded<D>,
+    (front, back): (&[u8], &[u8]),
+    want: &[u8],
+) -> bool {
+    let mut out = Vec::new(alloc);
+    take_piece(alloc, reader, front, &mut out).is_some()
+        && take_piece(alloc, reader, back, &mut out).is_some()
+        && out.as_slice() == want
 }

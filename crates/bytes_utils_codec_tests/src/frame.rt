@@ -7,6 +7,7 @@ mod lossy;
 mod memory;
 mod read;
 mod readers;
+mod returned;
 mod search;
 mod texts;
 mod universal_lines;

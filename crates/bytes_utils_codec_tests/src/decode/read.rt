@@ -1,13 +1,11 @@
 //! Items from readers that are slow, are interrupted, fail or never end.
-use crate::fixtures::assert_says;
 use crate::fixtures::readers::{InterruptedReader, NotingReader, SlowReader};
+use crate::fixtures::says;
 use bytes_utils::Reason;
 use bytes_utils_codec::decode::{Decoded, ReadItemError, TextLines, read_item, read_item_laws};
 use bytes_utils_codec::frame::ReadError;
 use std::alloc::Global;
 use std::io::{ErrorKind, Read};
-use std::process::Abort;
-use std::test::Fail;
 
 /// Whether the next item is this line.
 fn is_next<R: Read>(
@@ -40,89 +38,92 @@ fn fails<R: Read>(
     }
 }
 
-/// Asserts the lines of this input, of which the last has no end.
-fn assert_reads<R: Read, A: Abort>(
-    rt: &A,
-    alloc: Global,
-    input: &mut R,
-    lines: &mut Decoded<TextLines>,
-) {
+/// Whether the lines of this input come, of which the last has no end.
+fn are_next<R: Read>(alloc: Global, input: &mut R, lines: &mut Decoded<TextLines>) -> bool {
     for want in "ab||cd".split('|') {
-        assert!(rt; is_next(alloc, input, lines, want.as_bytes()));
+        if !is_next(alloc, input, lines, want.as_bytes()) {
+            return false;
+        }
     }
-    assert!(rt; is_end(alloc, input, lines) && is_end(alloc, input, lines));
+    true
+}
+
+/// Whether the lines of this input come, and then its end, which stays.
+fn reads_all<R: Read>(alloc: Global, input: &mut R, lines: &mut Decoded<TextLines>) -> bool {
+    are_next(alloc, input, lines) && is_end(alloc, input, lines) && is_end(alloc, input, lines)
 }
 
 // The input has 7 bytes. With the reads at the end and one interrupted read there are at most 11.
 #[test]
-fn slow_and_interrupted_reads(rt: HostRuntime) -> Result<(), Fail> {
+fn slow_and_interrupted_reads(rt: HostRuntime) {
     read_item_laws::<TextLines>();
     for most in 1..=3_usize {
         for interrupted_at in 0..=11_usize {
-            let mut input = SlowReader::new("ab\r\n\ncd".as_bytes(), most, interrupted_at);
-            let mut lines = Decoded::new(rt.alloc(), TextLines::new(rt.alloc())?);
-            assert_reads(&rt, rt.alloc(), &mut input, &mut lines);
+            let decoder = TextLines::new(rt.alloc()).expect(&rt, "no memory");
+            let mut lines = Decoded::new(rt.alloc(), decoder);
+            let mut input = SlowReader::new(b"ab\r\n\ncd", most, interrupted_at);
+            assert!(rt; reads_all(rt.alloc(), &mut input, &mut lines));
         }
     }
-    Ok(())
+}
+
+/// Whether an error of the reader, which comes before the line or after it, is handed on, and the
+/// next call reads on.
+fn hands_on<R: Read>(
+    alloc: Global,
+    input: &mut R,
+    lines: &mut Decoded<TextLines>,
+    comes_before: bool,
+) -> bool {
+    let kind = ErrorKind::TimedOut;
+    (!comes_before || fails(alloc, input, lines, kind))
+        && is_next(alloc, input, lines, "abc".as_bytes())
+        && (comes_before || fails(alloc, input, lines, kind))
+        && is_end(alloc, input, lines)
 }
 
 // The reader fails at its first, second or third read.
 #[test]
-fn an_error_is_handed_on_and_the_next_call_reads_on(rt: HostRuntime) -> Result<(), Fail> {
-    let kind = ErrorKind::TimedOut;
+fn an_error_is_handed_on_and_the_next_call_reads_on(rt: HostRuntime) {
     for fails_at in 1..=3_usize {
-        let mut input = SlowReader::new("abc\n".as_bytes(), 2, fails_at).failing_as(kind);
-        let mut lines = Decoded::new(rt.alloc(), TextLines::new(rt.alloc())?);
-        if fails_at < 3 {
-            assert!(rt; fails(rt.alloc(), &mut input, &mut lines, kind));
-        }
-        assert!(rt; is_next(rt.alloc(), &mut input, &mut lines, "abc".as_bytes()));
-        if fails_at == 3 {
-            assert!(rt; fails(rt.alloc(), &mut input, &mut lines, kind));
-        }
-        assert!(rt; is_end(rt.alloc(), &mut input, &mut lines));
+        let decoder = TextLines::new(rt.alloc()).expect(&rt, "no memory");
+        let mut lines = Decoded::new(rt.alloc(), decoder);
+        let mut input = SlowReader::new(b"abc\n", 2, fails_at).failing_as(ErrorKind::TimedOut);
+        assert!(rt; hands_on(rt.alloc(), &mut input, &mut lines, fails_at < 3));
     }
-    Ok(())
 }
 
-/// Whether the bytes, which have no line feed, are read as the last line.
-fn is_last(alloc: Global, bytes: &[u8]) -> Result<bool, Fail> {
-    let mut lines = Decoded::new(alloc, TextLines::new(alloc)?);
-    Ok(is_next(alloc, &mut NotingReader::new(bytes), &mut lines, bytes))
-}
-
-// The line fills many blocks.
+// The line, which has no line feed, fills many blocks.
 #[test]
-fn a_long_line(rt: HostRuntime) -> Result<(), Fail> {
-    let bytes = vec![in rt.alloc(); b'a'; 300_000]?;
-    let is_read = is_last(rt.alloc(), &bytes)?;
-    assert!(rt; is_read);
-    Ok(())
+fn a_long_line(rt: HostRuntime) {
+    let bytes = [b'a'; 300_000];
+    let decoder = TextLines::new(rt.alloc()).expect(&rt, "no memory");
+    let mut lines = Decoded::new(rt.alloc(), decoder);
+    let mut input = NotingReader::new(&bytes);
+    assert!(rt; is_next(rt.alloc(), &mut input, &mut lines, &bytes));
 }
 
 /// Whether the call reports that it read too often.
-fn gives_up<R: Read>(alloc: Global, input: &mut R, lines: &mut Decoded<TextLines>) -> bool {
+fn gives_up(alloc: Global, input: &mut InterruptedReader, lines: &mut Decoded<TextLines>) -> bool {
     matches!(
         read_item(input, lines, alloc),
         Err(ReadItemError::Read(ReadError::TooManyReads))
-    )
+    ) && input.calls == 65_536
 }
 
 // An interrupted read counts.
 #[test]
-fn too_many_reads_of_an_item(rt: HostRuntime) -> Result<(), Fail> {
+fn too_many_reads_of_an_item(rt: HostRuntime) {
+    let decoder = TextLines::new(rt.alloc()).expect(&rt, "no memory");
+    let mut lines = Decoded::new(rt.alloc(), decoder);
     let mut input = InterruptedReader { calls: 0 };
-    let mut lines = Decoded::new(rt.alloc(), TextLines::new(rt.alloc())?);
-    assert!(rt; gives_up(rt.alloc(), &mut input, &mut lines) && input.calls == 65_536);
-    Ok(())
+    assert!(rt; gives_up(rt.alloc(), &mut input, &mut lines));
 }
 
 #[test]
-fn errors_say_why(rt: HostRuntime) -> Result<(), Fail> {
-    let alloc = rt.alloc();
+fn errors_say_why(rt: HostRuntime) {
     let of_decoder = ReadItemError::Decoder(Reason::TooLong);
-    assert_says(&rt, alloc, &of_decoder, "too long")?;
+    assert!(rt; says(rt.alloc(), &of_decoder, "too long"));
     let of_read: ReadItemError<Reason> = ReadItemError::Read(ReadError::TooManyReads);
-    assert_says(&rt, alloc, &of_read, "too many reads")
+    assert!(rt; says(rt.alloc(), &of_read, "too many reads"));
 }

@@ -1,7 +1,7 @@
 //! What readers of frames and of lines have in common, so that one proof of a test serves all of them.
 use bytes::{Bytes, BytesMut};
 use bytes_utils::segmented::SegmentedBuf;
-use bytes_utils::{EitherBuf, Reason, Refused, Str};
+use bytes_utils::{EitherBuf, Reason, Str};
 use bytes_utils_codec::frame::{
     Frames, LimitedFrames, LimitedLines, LineError, Lines, UniversalLines,
 };
@@ -9,7 +9,7 @@ use std::alloc::Global;
 
 /// A reader that holds pieces.
 pub(super) trait Holds {
-    fn put(&mut self, piece: Bytes) -> Result<(), Refused<Bytes>>;
+    fn put(&mut self, piece: Bytes) -> Result<(), Reason>;
 
     fn put_copy(&mut self, bytes: &[u8]) -> Result<(), Reason>;
 
@@ -18,9 +18,14 @@ pub(super) trait Holds {
     fn end(self) -> SegmentedBuf<EitherBuf<Bytes, BytesMut>>;
 }
 
+/// Pushes a share of the piece.
+pub(super) fn put_share<F: Holds>(reader: &mut F, piece: &Bytes) -> Result<(), Reason> {
+    reader.put(piece.clone()?)
+}
+
 impl Holds for Frames {
-    fn put(&mut self, piece: Bytes) -> Result<(), Refused<Bytes>> {
-        self.push(piece)
+    fn put(&mut self, piece: Bytes) -> Result<(), Reason> {
+        Ok(self.push(piece)?)
     }
 
     fn put_copy(&mut self, bytes: &[u8]) -> Result<(), Reason> {
@@ -37,8 +42,8 @@ impl Holds for Frames {
 }
 
 impl Holds for LimitedFrames {
-    fn put(&mut self, piece: Bytes) -> Result<(), Refused<Bytes>> {
-        self.push(piece)
+    fn put(&mut self, piece: Bytes) -> Result<(), Reason> {
+        Ok(self.push(piece)?)
     }
 
     fn put_copy(&mut self, bytes: &[u8]) -> Result<(), Reason> {
@@ -55,8 +60,8 @@ impl Holds for LimitedFrames {
 }
 
 impl Holds for Lines {
-    fn put(&mut self, piece: Bytes) -> Result<(), Refused<Bytes>> {
-        self.push(piece)
+    fn put(&mut self, piece: Bytes) -> Result<(), Reason> {
+        Ok(self.push(piece)?)
     }
 
     fn put_copy(&mut self, bytes: &[u8]) -> Result<(), Reason> {
@@ -73,8 +78,8 @@ impl Holds for Lines {
 }
 
 impl Holds for LimitedLines {
-    fn put(&mut self, piece: Bytes) -> Result<(), Refused<Bytes>> {
-        self.push(piece)
+    fn put(&mut self, piece: Bytes) -> Result<(), Reason> {
+        Ok(self.push(piece)?)
     }
 
     fn put_copy(&mut self, bytes: &[u8]) -> Result<(), Reason> {
@@ -91,8 +96,8 @@ impl Holds for LimitedLines {
 }
 
 impl Holds for UniversalLines {
-    fn put(&mut self, piece: Bytes) -> Result<(), Refused<Bytes>> {
-        self.push(piece)
+    fn put(&mut self, piece: Bytes) -> Result<(), Reason> {
+        Ok(self.push(piece)?)
     }
 
     fn put_copy(&mut self, bytes: &[u8]) -> Result<(), Reason> {

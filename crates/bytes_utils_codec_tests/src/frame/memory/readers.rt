@@ -1,5 +1,5 @@
 //! What the tests of each reader assert.
-use crate::fixtures::refusals::{given, without_back};
+use crate::fixtures::refusals::given;
 use crate::frame::readers::{Holds, ReadsFrames};
 use bytes::Bytes;
 use std::alloc::Global;
@@ -14,7 +14,7 @@ pub(super) fn is_held<F: Holds, R: Abort + Print>(
     piece: &'static str,
 ) -> bool {
     let answer = reader.put(Bytes::from_static(piece.as_bytes()));
-    let is_held = given(rt, call, without_back(answer)).is_some();
+    let is_held = given(rt, call, answer).is_some();
     assert!(rt; !is_held || reader.left() == piece.len());
     is_held
 }
