@@ -1,30 +1,31 @@
-//! Buffers that many tests read, and assertions about any buffer.
+//! Buffers that many tests read, and questions about any buffer.
 pub(crate) mod odd;
 pub(crate) mod refusals;
 pub(crate) mod slow_writer;
 
 use bytes::{Buf, Bytes};
 use bytes_utils_buf::contiguous::ContiguousBuf;
-use bytes_utils_buf::parts::{BufParts, CopyRefused};
+use bytes_utils_buf::parts::BufParts;
 use bytes_utils_buf::segmented::{SegmentedBuf, SegmentedSlice};
-use bytes_utils_buf::{Reason, Refused};
 use odd::Asked;
 use std::alloc::{AllocError, Global};
 use std::fmt;
 use std::io::Read;
 use std::process::Abort;
-use std::test::Fail;
 
-pub(crate) const FOUR: [&str; 4] = ["Hello", " ", "", "World"];
+/// The texts of four buffers, one of them empty.
+pub(crate) const FOUR: &str = "Hello| ||World";
 
-pub(crate) const FIVE: [&str; 5] = ["Hello", "", " ", "", "World"];
+/// The texts of five buffers, two of them empty.
+pub(crate) const FIVE: &str = "Hello|| ||World";
 
 /// The bytes of `FOUR` and `FIVE`, joined.
 pub(crate) const JOINED: &str = "Hello World";
 
-pub(crate) fn bytes_of(alloc: Global, texts: &[&'static str]) -> Result<Vec<Bytes>, AllocError> {
-    let mut bufs = Vec::with_capacity(alloc, texts.len())?;
-    for text in texts {
+/// Buffers of these texts, in room for all.
+pub(crate) fn bytes_of(alloc: Global, texts: &'static str) -> Result<Vec<Bytes>, AllocError> {
+    let mut bufs = Vec::with_capacity(alloc, texts.len().saturating_add(1))?;
+    for text in texts.split('|') {
         bufs.push(Bytes::from_static(text.as_bytes()))?;
     }
     Ok(bufs)
@@ -32,20 +33,20 @@ pub(crate) fn bytes_of(alloc: Global, texts: &[&'static str]) -> Result<Vec<Byte
 
 pub(crate) fn slices_of(
     alloc: Global,
-    texts: &[&'static str],
+    texts: &'static str,
 ) -> Result<Vec<&'static [u8]>, AllocError> {
-    let mut bufs = Vec::with_capacity(alloc, texts.len())?;
-    for text in texts {
+    let mut bufs = Vec::new(alloc);
+    for text in texts.split('|') {
         bufs.push(text.as_bytes())?;
     }
     Ok(bufs)
 }
 
 /// A buffer, and another that owns the storage alone once the first is dropped.
-pub(crate) fn shared(alloc: Global) -> Result<(Bytes, Bytes), Fail> {
-    let bytes = Bytes::copy_from_slice(alloc, JOINED.as_bytes())?;
-    let other = bytes.clone()?;
-    Ok((bytes, other))
+pub(crate) fn shared(alloc: Global) -> Option<(Bytes, Bytes)> {
+    let bytes = Bytes::copy_from_slice(alloc, JOINED.as_bytes()).ok()?;
+    let other = bytes.clone().ok()?;
+    Some((bytes, other))
 }
 
 /// A thousand buffers of one byte each.
@@ -58,75 +59,48 @@ pub(crate) fn thousand(alloc: Global) -> Result<Vec<Asked>, AllocError> {
 }
 
 /// A hundred thousand bytes.
-pub(crate) fn long(alloc: Global) -> Result<Vec<u8>, AllocError> {
-    vec![in alloc; b'x'; 100_000]
+pub(crate) fn long() -> &'static [u8] {
+    &[b'x'; 100_000]
 }
 
-/// A hundred thousand bytes are taken out of a buffer of any type.
-pub(crate) fn assert_copies_long<B: BufParts>(
-    rt: &impl Abort,
+/// Holds buffers of these texts.
+pub(crate) fn held(alloc: Global, texts: &'static str) -> Option<SegmentedBuf<Bytes>> {
+    SegmentedBuf::from_vec(alloc, bytes_of(alloc, texts).ok()?).ok()
+}
+
+pub(crate) fn held_slices(
     alloc: Global,
-    buf: &mut B,
-) -> Result<(), Fail> {
-    let copy = take_out(rt, alloc, buf, 100_000)?;
-    assert!(rt; copy.len() == 100_000);
-    Ok(())
+    texts: &'static str,
+) -> Option<SegmentedBuf<&'static [u8]>> {
+    SegmentedBuf::from_vec(alloc, slices_of(alloc, texts).ok()?).ok()
 }
 
-/// Puts buffers of any type into one.
-pub(crate) fn gather<B: Buf + Drop>(alloc: Global, bufs: Vec<B>) -> Result<SegmentedBuf<B>, Fail> {
-    Ok(SegmentedBuf::from_vec(alloc, bufs).ok().ok_or("too long")?)
-}
-
-pub(crate) fn held(alloc: Global, texts: &[&'static str]) -> Result<SegmentedBuf<Bytes>, Fail> {
-    gather(alloc, bytes_of(alloc, texts)?)
-}
-
-/// Puts a buffer of any type alone into one.
-pub(crate) fn hold<B: Buf + Drop>(
-    rt: &impl Abort,
-    alloc: Global,
-    buf: B,
-) -> Result<SegmentedBuf<B>, Fail> {
+/// Holds a buffer of any type alone.
+pub(crate) fn hold<B: Buf + Drop>(alloc: Global, buf: B) -> Option<SegmentedBuf<B>> {
     let mut held = SegmentedBuf::new(alloc);
-    put(rt, &mut held, buf)?;
-    Ok(held)
+    held.try_push(buf).ok()?;
+    Some(held)
 }
 
-/// Appends one more buffer.
-pub(crate) fn push<B: Buf + Drop>(
-    rt: &impl Abort,
-    held: &mut SegmentedBuf<B>,
-    buf: B,
-) -> Result<(), Refused<B>> {
-    assert!(rt; held.fits(buf.remaining()));
-    held.push(buf)
+/// Appends one more buffer, and returns whether it was accepted.
+pub(crate) fn put<B: Buf + Drop>(held: &mut SegmentedBuf<B>, buf: B) -> bool {
+    if !held.fits(buf.remaining()) {
+        return false;
+    }
+    held.push(buf).is_ok()
 }
 
-/// Like `push`, but an error fails the test.
-pub(crate) fn put<B: Buf + Drop>(
-    rt: &impl Abort,
-    held: &mut SegmentedBuf<B>,
-    buf: B,
-) -> Result<(), Fail> {
-    push(rt, held, buf).ok().ok_or("refused")?;
-    Ok(())
+/// Puts a buffer before the others, and returns whether it was accepted.
+pub(crate) fn put_first<B: Buf + Drop>(held: &mut SegmentedBuf<B>, buf: B) -> bool {
+    if !held.fits(buf.remaining()) {
+        return false;
+    }
+    held.prepend(buf).is_ok()
 }
 
-/// Puts a buffer before the others. An error fails the test.
-pub(crate) fn put_first<B: Buf + Drop>(
-    rt: &impl Abort,
-    held: &mut SegmentedBuf<B>,
-    buf: B,
-) -> Result<(), Fail> {
-    assert!(rt; held.fits(buf.remaining()));
-    held.prepend(buf).ok().ok_or("refused")?;
-    Ok(())
-}
-
-/// Appends more buffers.
-pub(crate) fn extend<B: Buf + Drop>(buf: &mut SegmentedBuf<B>, bufs: Vec<B>) -> Result<(), Fail> {
-    Ok(buf.extend(bufs.into_iter()).ok().ok_or("refused")?)
+/// Appends more buffers, and returns whether all were accepted.
+pub(crate) fn extend<B: Buf + Drop>(held: &mut SegmentedBuf<B>, bufs: Vec<B>) -> bool {
+    held.extend(bufs.into_iter()).is_ok()
 }
 
 pub(crate) fn lend<'a, B: Buf>(rt: &impl Abort, bufs: &'a mut [B]) -> SegmentedSlice<'a, B> {
@@ -134,138 +108,111 @@ pub(crate) fn lend<'a, B: Buf>(rt: &impl Abort, bufs: &'a mut [B]) -> SegmentedS
     SegmentedSlice::new(bufs)
 }
 
-/// Removes the first bytes of a buffer of any type.
-pub(crate) fn skip<B: Buf>(rt: &impl Abort, buf: &mut B, cnt: usize) {
-    assert!(rt; cnt <= buf.remaining());
-    buf.advance(cnt);
-}
-
-/// Takes the first bytes out of a buffer of any type.
-pub(crate) fn take_out<B: BufParts>(
-    rt: &impl Abort,
-    alloc: Global,
-    buf: &mut B,
-    len: usize,
-) -> Result<Bytes, CopyRefused> {
-    assert!(rt; len <= buf.remaining());
-    buf.copy_out(alloc, len)
-}
-
-pub(crate) fn assert_bytes(rt: &impl Abort, found: &[u8], wanted: &str) {
-    assert!(rt; found == wanted.as_bytes(), "these are not {wanted}");
-}
-
-/// The block of `other`, which was taken out whole, has one more owner and no third one. A copy of
-/// it would be a block of its own.
-pub(crate) fn assert_moved(rt: &impl Abort, front: Bytes, other: &Bytes) {
-    assert!(rt; front == *other && !other.is_unique());
-    drop(front);
-    assert!(rt; other.is_unique());
-}
-
-/// `left` bytes are unread, and this is the first chunk.
-pub(crate) fn assert_reads<B: Buf>(rt: &impl Abort, buf: &B, left: usize, chunk: &str) {
-    assert!(rt; buf.remaining() == left, "unread in {chunk}");
-    assert_bytes(rt, buf.chunk(), chunk);
-}
-
-/// How many bytes are unread, how many segments are held, and the first chunk.
-pub(crate) type Shown = (usize, usize, &'static str);
-
-pub(crate) fn assert_shows<B: Buf + Drop>(rt: &impl Abort, buf: &SegmentedBuf<B>, shown: Shown) {
-    let (left, segments, chunk) = shown;
-    assert!(rt; buf.segments() == segments, "segments in {chunk}");
-    assert_reads(rt, buf, left, chunk);
-}
-
-/// The debug text of a value of any type starts with `front`.
-pub(crate) fn assert_debugs<T: fmt::Debug>(
-    rt: &impl Abort,
-    alloc: Global,
-    value: &T,
-    front: &str,
-) -> Result<(), Fail> {
-    let text = format!(in alloc; "{value:?}")?;
-    assert!(rt; text.as_str().starts_with(front), "no debug text: {front}");
-    Ok(())
-}
-
-/// Takes the next bytes out of a buffer of any type. They are `piece`.
-pub(crate) fn gives<B: BufParts>(
-    rt: &impl Abort,
-    alloc: Global,
-    buf: &mut B,
-    piece: &str,
-) -> Result<(), CopyRefused> {
-    let copy = take_out(rt, alloc, buf, piece.len())?;
-    assert_bytes(rt, copy.as_slice(), piece);
-    Ok(())
-}
-
-/// An empty buffer reads as nothing, also after calls with no bytes.
-pub(crate) fn reads_nothing<B: Buf + Drop>(rt: &impl Abort, mut buf: B) -> Result<(), Fail> {
-    assert_reads(rt, &buf, 0, "");
-    buf.copy_to_slice(&mut [0; 0]);
-    skip(rt, &mut buf, 0);
-    assert_reads(rt, &buf, 0, "");
-    assert_eq!(rt; buf.reader().read(&mut [0; 10])?, 0);
-    Ok(())
-}
-
-/// The first `places` places of a table are filled with these slices.
-pub(crate) fn assert_fills<B: BufParts>(
-    rt: &impl Abort,
-    buf: &B,
-    places: usize,
-    slices: &[&'static str],
-) {
-    let mut table: [&[u8]; 10] = [b"-"; 10];
-    assert!(rt; places <= 10);
-    let filled = buf.chunks_into(&mut table[..places]);
-    assert!(rt; filled == slices.len() && filled <= 10);
-    assert_table(rt, &table, slices);
-}
-
-fn assert_table(rt: &impl Abort, table: &[&[u8]], slices: &[&'static str]) {
-    assert!(rt; slices.len() <= table.len());
-    for place in 0..slices.len() {
-        assert_bytes(rt, table[place], slices[place]);
+/// Removes the first bytes of a buffer of any type, and returns whether it has as many.
+pub(crate) fn skip<B: Buf>(buf: &mut B, cnt: usize) -> bool {
+    let is_within = cnt <= buf.remaining();
+    if is_within {
+        buf.advance(cnt);
     }
+    is_within
 }
 
-/// Takes the next bytes out of a buffer. They are `piece`, and share the block of the buffer.
-pub(crate) fn shares_taken<B: BufParts>(
-    rt: &impl Abort,
-    alloc: Global,
-    buf: &mut B,
-    piece: &str,
-) -> Result<(), Fail> {
-    let copy = take_out(rt, alloc, buf, piece.len())?;
-    assert!(rt; copy.as_slice() == piece.as_bytes() && !copy.is_unique());
-    Ok(())
+/// Takes the first bytes out of a buffer of any type, if it has as many and there is memory.
+pub(crate) fn take_out<B: BufParts>(alloc: Global, buf: &mut B, len: usize) -> Option<Bytes> {
+    if len > buf.remaining() {
+        return None;
+    }
+    buf.copy_out(alloc, len).ok()
 }
 
-/// These are the bytes of a result, and they are shared.
-fn assert_shared(rt: &impl Abort, found: Result<Bytes, Reason>, wanted: &str) -> Result<(), Fail> {
-    let found = found?;
-    assert!(rt; found.as_slice() == wanted.as_bytes() && !found.is_unique());
-    Ok(())
+/// Takes the next bytes out of a buffer of any type, and returns whether they are `piece`.
+pub(crate) fn gives<B: BufParts>(alloc: Global, buf: &mut B, piece: &str) -> bool {
+    let taken = take_out(alloc, buf, piece.len());
+    matches!(&taken, Some(copy) if copy.as_slice() == piece.as_bytes())
 }
 
-/// A buffer of `JOINED` reads as one slice. Its first bytes, a part, and bytes taken out share its
-/// block.
-pub(crate) fn shares<B: BufParts + ContiguousBuf>(
-    rt: &impl Abort,
-    alloc: Global,
-    buf: &mut B,
-) -> Result<(), Fail> {
-    assert_bytes(rt, buf.as_contiguous(), JOINED);
-    assert_fills(rt, buf, 10, &[JOINED]);
-    assert!(rt; buf.remaining() >= 6);
-    assert_shared(rt, buf.prefix(alloc, 5), "Hello")?;
-    assert_shared(rt, buf.part(alloc, 1..5), "ello")?;
-    shares_taken(rt, alloc, buf, "Hello")?;
-    skip(rt, buf, 1);
-    assert_reads(rt, buf, 5, "World");
-    Ok(())
+/// Takes the next bytes out of a buffer, and returns whether they are `piece` and share a block.
+pub(crate) fn shares_taken<B: BufParts>(alloc: Global, buf: &mut B, piece: &str) -> bool {
+    is_shared(&take_out(alloc, buf, piece.len()), piece)
+}
+
+/// Whether a hundred thousand bytes come out of a buffer of any type.
+pub(crate) fn copies_long<B: BufParts>(alloc: Global, buf: &mut B) -> bool {
+    matches!(&take_out(alloc, buf, 100_000), Some(copy) if copy.len() == 100_000)
+}
+
+/// Whether the block of `other`, which was taken out whole, has one more owner and no third one. A
+/// copy of it would be a block of its own.
+pub(crate) fn is_moved(front: Bytes, other: &Bytes) -> bool {
+    let is_one = front == *other && !other.is_unique();
+    drop(front);
+    is_one && other.is_unique()
+}
+
+/// Whether `left` bytes are unread, and this is the first chunk.
+pub(crate) fn reads<B: Buf>(buf: &B, left: usize, chunk: &str) -> bool {
+    buf.remaining() == left && buf.chunk() == chunk.as_bytes()
+}
+
+/// Whether as many bytes are unread, as many segments are held, and this is the first chunk.
+pub(crate) fn shows<B: Buf + Drop>(
+    buf: &SegmentedBuf<B>,
+    (left, segments, chunk): (usize, usize, &str),
+) -> bool {
+    buf.segments() == segments && reads(buf, left, chunk)
+}
+
+/// Whether the debug text of a value of any type starts with `front`.
+pub(crate) fn debugs<T: fmt::Debug>(alloc: Global, value: &T, front: &str) -> bool {
+    let text = format!(in alloc; "{value:?}");
+    matches!(&text, Ok(text) if text.as_str().starts_with(front))
+}
+
+/// Whether an empty buffer reads as nothing, also after calls with no bytes.
+pub(crate) fn reads_nothing<B: Buf>(buf: &mut B) -> bool {
+    let is_empty = reads(buf, 0, "");
+    buf.copy_to_slice(&mut [0; 0]);
+    is_empty
+        && skip(buf, 0)
+        && reads(buf, 0, "")
+        && matches!(buf.reader().read(&mut [0; 10]), Ok(0))
+}
+
+/// Whether the first `places` places of a table are filled with slices of these texts.
+pub(crate) fn fills<B: BufParts>(buf: &B, places: usize, texts: &str) -> bool {
+    let mut table: [&[u8]; 10] = [b"-"; 10];
+    let filled = buf.chunks_into(&mut table[..places.min(10)]);
+    are_texts(&table[..filled], texts)
+}
+
+fn are_texts(slices: &[&[u8]], texts: &str) -> bool {
+    let mut wanted = texts.split('|');
+    for slice in slices {
+        if wanted.next().map(str::as_bytes) != Some(*slice) {
+            return false;
+        }
+    }
+    wanted.next().is_none() || (slices.is_empty() && texts.is_empty())
+}
+
+/// Whether bytes were returned, are these, and are shared.
+fn is_shared(found: &Option<Bytes>, wanted: &str) -> bool {
+    matches!(found, Some(bytes) if bytes.as_slice() == wanted.as_bytes() && !bytes.is_unique())
+}
+
+/// Whether a buffer of `JOINED` reads as one slice, and its first bytes, a part, and bytes taken out
+/// share its block.
+pub(crate) fn shares<B: BufParts + ContiguousBuf>(alloc: Global, buf: &mut B) -> bool {
+    buf.as_contiguous() == JOINED.as_bytes()
+        && fills(buf, 10, JOINED)
+        && shares_parts(alloc, buf)
+        && shares_taken(alloc, buf, "Hello")
+        && skip(buf, 1)
+        && reads(buf, 5, "World")
+}
+
+fn shares_parts<B: ContiguousBuf>(alloc: Global, buf: &B) -> bool {
+    buf.remaining() >= 6
+        && is_shared(&buf.prefix(alloc, 5).ok(), "Hello")
+        && is_shared(&buf.part(alloc, 1..5).ok(), "ello")
 }

@@ -1,23 +1,16 @@
 //! How errors print, and what `?` converts them to.
-use crate::fixtures::{assert_debugs, shared};
+use crate::fixtures::{debugs, shared};
 use bytes_utils_buf::parts::CopyRefused;
 use bytes_utils_buf::{Reason, Refused};
 use std::alloc::{AllocError, AllocFailed, Global};
 use std::error::Error;
 use std::process::Abort;
-use std::test::Fail;
 
-/// Asserts the text of any error. It is the same in every style.
-fn assert_says<E: Error>(
-    rt: &impl Abort,
-    alloc: Global,
-    error: &E,
-    text: &str,
-) -> Result<(), Fail> {
-    let said = format!(in alloc; "{error}|{error:#}|{error:>60}")?;
-    let want = format!(in alloc; "{text}|{text}|{text}")?;
-    assert!(rt; said == want, "{text}");
-    Ok(())
+/// Whether any error has this text, the same in every style.
+fn says<E: Error>(alloc: Global, error: &E, text: &str) -> Option<bool> {
+    let said = format!(in alloc; "{error}|{error:#}|{error:>60}").ok()?;
+    let want = format!(in alloc; "{text}|{text}|{text}").ok()?;
+    Some(said == want)
 }
 
 /// An error that gives back a value.
@@ -29,16 +22,14 @@ fn too_long() -> Refused<u8> {
 }
 
 #[test]
-fn refusals_say_why(rt: HostRuntime) -> Result<(), Fail> {
-    let alloc = rt.alloc();
-    assert_says(&rt, alloc, &Reason::OutOfMemory, "out of memory")?;
-    assert_says(&rt, alloc, &too_long(), "too long")?;
-    assert_says(
-        &rt,
-        alloc,
-        &CopyRefused { taken: usize::MAX },
-        "out of memory, bytes lost: 18446744073709551615",
-    )
+fn refusals_say_why(rt: HostRuntime) {
+    let all_lost = CopyRefused { taken: usize::MAX };
+    let text = "out of memory, bytes lost: 18446744073709551615";
+    assert!(rt;
+        says(rt.alloc(), &Reason::OutOfMemory, "out of memory") == Some(true)
+            && says(rt.alloc(), &too_long(), "too long") == Some(true)
+            && says(rt.alloc(), &all_lost, text) == Some(true)
+    );
 }
 
 /// What `?` converts an error to.
@@ -60,19 +51,24 @@ fn question_mark_gives_the_reason(rt: HostRuntime) {
     );
 }
 
-#[test]
-fn question_mark_drops_the_value(rt: HostRuntime) -> Result<(), Fail> {
-    let (back, other) = shared(rt.alloc())?;
+/// Whether `?` drops the value that comes back, the other owner of a block.
+fn drops_back(alloc: Global) -> Option<bool> {
+    let (back, other) = shared(alloc)?;
+    let is_owned = !other.is_unique();
     let reason = Reason::TooLong;
-    assert!(rt; !other.is_unique() && reason_of(Refused { reason, back }) == Err(reason));
-    assert!(rt; other.is_unique());
-    Ok(())
+    let is_same = reason_of(Refused { reason, back }) == Err(reason);
+    Some(is_owned && is_same && other.is_unique())
 }
 
 #[test]
-fn refusals_have_a_debug_text(rt: HostRuntime) -> Result<(), Fail> {
+fn question_mark_drops_the_value(rt: HostRuntime) {
+    assert!(rt; drops_back(rt.alloc()) == Some(true));
+}
+
+#[test]
+fn refusals_have_a_debug_text(rt: HostRuntime) {
     let text = "Refused { reason: TooLong, back: 7 }";
-    assert_debugs(&rt, rt.alloc(), &too_long(), text)?;
+    assert!(rt; debugs(rt.alloc(), &too_long(), text));
     let text = "CopyRefused { taken: 3 }";
-    assert_debugs(&rt, rt.alloc(), &CopyRefused { taken: 3 }, text)
+    assert!(rt; debugs(rt.alloc(), &CopyRefused { taken: 3 }, text));
 }

@@ -3,45 +3,62 @@ use crate::fixtures::slow_writer::SlowWriter;
 use bytes::Buf;
 use bytes_utils_buf::segmented::SegmentedSlice;
 use bytes_utils_buf::write::write_all_of;
-use std::alloc::Global;
+use std::alloc::{AllocError, Global};
 use std::io::ErrorKind;
 use std::process::Abort;
-use std::test::Fail;
+use std::str::Split;
 
-/// The most bytes that a writer takes a call, the call at which it fails, how many bytes are
-/// written until then, by how many calls, and the error.
-type Row = (usize, usize, usize, usize, Option<ErrorKind>);
+/// What writing buffers by a writer of few bytes a call gives.
+#[derive(Clone, Copy)]
+struct Row<'t> {
+    /// The lengths of the buffers in turn.
+    lengths: &'t str,
+    /// The length of all of them.
+    len: usize,
+    /// The most bytes that the writer takes a call.
+    most: usize,
+    /// The call at which it fails, or 0.
+    fails_at: usize,
+    /// How many bytes are written until then.
+    written: usize,
+    /// By how many calls.
+    calls: usize,
+    error: Option<ErrorKind>,
+}
 
-/// Writes borrowed buffers by such a writer. Asserts how many of the bytes are written, by how many
-/// calls, that the others are left, and the error. A second try writes what was left.
-fn assert_writes(
-    rt: &impl Abort,
-    alloc: Global,
-    lent: &mut [&[u8]],
-    whole: &[u8],
-    (most, fails_at, written, calls, error): Row,
-) {
-    assert!(rt; SegmentedSlice::total(lent) == Some(whole.len()) && written <= whole.len());
-    let kind = error.unwrap_or(ErrorKind::Other);
-    let mut writer = SlowWriter::new(Vec::new(alloc), most, fails_at, kind);
-    let mut all = SegmentedSlice::new(lent);
-    let found = match write_all_of(&mut writer, &mut all) {
-        Ok(()) => None,
-        Err(reported) => Some(reported.kind()),
-    };
-    assert!(rt;
-        writer.held() == &whole[..written]
-            && all.remaining() == whole.len() - written
-            && writer.calls() == calls
-            && found == error
-    );
-    if error.is_some() && most > 0 {
-        assert!(rt; write_all_of(&mut writer, &mut all).is_ok() && writer.held() == whole);
+fn number(words: &mut Split<'_, char>) -> Option<usize> {
+    words.next()?.parse().ok()
+}
+
+fn kind_of(name: &str) -> Option<ErrorKind> {
+    match name {
+        "BrokenPipe" => Some(ErrorKind::BrokenPipe),
+        "Interrupted" => Some(ErrorKind::Interrupted),
+        "OutOfMemory" => Some(ErrorKind::OutOfMemory),
+        "TimedOut" => Some(ErrorKind::TimedOut),
+        "WouldBlock" => Some(ErrorKind::WouldBlock),
+        "WriteZero" => Some(ErrorKind::WriteZero),
+        _ => None,
     }
 }
 
+/// Reads a row: its fields in their order, with the word `of` after the lengths.
+fn row_of(text: &str) -> Option<Row<'_>> {
+    let (lengths, rest) = text.split_once(" of ")?;
+    let mut words = rest.split(' ');
+    Some(Row {
+        lengths,
+        len: number(&mut words)?,
+        most: number(&mut words)?,
+        fails_at: number(&mut words)?,
+        written: number(&mut words)?,
+        calls: number(&mut words)?,
+        error: words.next().and_then(kind_of),
+    })
+}
+
 /// `len` bytes, of which no two in a row are the same.
-fn whole(alloc: Global, len: usize) -> Result<Vec<u8>, Fail> {
+fn whole(alloc: Global, len: usize) -> Result<Vec<u8>, AllocError> {
     let mut bytes = Vec::new(alloc);
     for i in 0..len {
         bytes.push((i % 251) as u8)?;
@@ -50,159 +67,148 @@ fn whole(alloc: Global, len: usize) -> Result<Vec<u8>, Fail> {
 }
 
 /// Cuts the bytes into buffers of these lengths, in turn.
-fn cut<'s>(alloc: Global, bytes: &'s [u8], lengths: &[usize]) -> Result<Vec<&'s [u8]>, Fail> {
+fn cut<'s>(alloc: Global, bytes: &'s [u8], lengths: &str) -> Result<Vec<&'s [u8]>, AllocError> {
     let mut pieces = Vec::new(alloc);
     let mut rest = bytes;
-    for i in 0..bytes.len() {
-        if rest.is_empty() || lengths.is_empty() {
-            break;
+    for _ in 0..bytes.len() {
+        for length in lengths.split(' ') {
+            if rest.is_empty() {
+                return Ok(pieces);
+            }
+            let length: usize = length.parse().unwrap_or(0);
+            let (piece, following) = rest.split_at(length.min(rest.len()));
+            pieces.push(piece)?;
+            rest = following;
         }
-        let (piece, following) = rest.split_at(lengths[i % lengths.len()].min(rest.len()));
-        pieces.push(piece)?;
-        rest = following;
     }
     Ok(pieces)
 }
 
-/// The lengths of the buffers in turn, the length of all of them, and what writing them gives.
-type Case = (&'static [usize], usize, Row);
+/// Writes the buffers. Returns whether the row says how many of the bytes are written, by how many
+/// calls, and the error, and the others are left.
+fn stops_there(
+    writer: &mut SlowWriter,
+    all: &mut SegmentedSlice<'_, &[u8]>,
+    whole: &[u8],
+    row: &Row<'_>,
+) -> bool {
+    let error = match write_all_of(writer, all) {
+        Ok(()) => None,
+        Err(reported) => Some(reported.kind()),
+    };
+    error == row.error
+        && writer.calls() == row.calls
+        && writer.held() == &whole[..row.written.min(whole.len())]
+        && all.remaining().checked_add(row.written) == Some(whole.len())
+}
 
-fn writes(rt: &impl Abort, alloc: Global, cases: &[Case]) -> Result<(), Fail> {
-    for (lengths, len, row) in cases {
-        let whole = whole(alloc, *len)?;
-        let mut lent = cut(alloc, &whole, lengths)?;
-        assert_writes(rt, alloc, &mut lent, &whole, *row);
+/// Writes what is left, and returns whether all of the bytes are written then.
+fn goes_on(writer: &mut SlowWriter, all: &mut SegmentedSlice<'_, &[u8]>, whole: &[u8]) -> bool {
+    write_all_of(writer, all).is_ok() && writer.held() == whole
+}
+
+/// Whether the buffers are written as the row says. After an error a second try writes what was left.
+fn is_written(alloc: Global, lent: &mut [&[u8]], whole: &[u8], row: &Row<'_>) -> bool {
+    if SegmentedSlice::total(lent) != Some(whole.len()) {
+        return false;
     }
-    Ok(())
+    let kind = row.error.unwrap_or(ErrorKind::Other);
+    let mut writer = SlowWriter::new(Vec::new(alloc), row.most, row.fails_at, kind);
+    let mut all = SegmentedSlice::new(lent);
+    stops_there(&mut writer, &mut all, whole, row)
+        && (row.error.is_none() || row.most == 0 || goes_on(&mut writer, &mut all, whole))
+}
+
+fn is_right(alloc: Global, row: &str) -> Option<bool> {
+    let row = row_of(row)?;
+    let whole = whole(alloc, row.len).ok()?;
+    let mut lent = cut(alloc, &whole, row.lengths).ok()?;
+    Some(is_written(alloc, &mut lent, &whole, &row))
+}
+
+fn assert_writes(rt: &impl Abort, alloc: Global, rows: &'static str) {
+    for row in rows.split('|') {
+        assert!(rt; is_right(alloc, row) == Some(true), "{row}");
+    }
 }
 
 // A writer that takes three bytes a call takes part of the block three times, and stops in the
 // third of the buffers. One call takes all of them, and no call follows it.
-const LENT: &[Case] = &[
-    (&[3, 0, 5, 4], 12, (1, 0, 12, 12, None)),
-    (&[3, 0, 5, 4], 12, (3, 0, 12, 4, None)),
-    (&[3, 0, 5, 4], 12, (100, 2, 12, 1, None)),
-    (&[3, 0, 5, 4], 12, (0, 0, 0, 1, Some(ErrorKind::WriteZero))),
-    (
-        &[3, 0, 5, 4],
-        12,
-        (0, 1, 0, 1, Some(ErrorKind::Interrupted)),
-    ),
-    (
-        &[3, 0, 5, 4],
-        12,
-        (100, 1, 0, 1, Some(ErrorKind::Interrupted)),
-    ),
-    (
-        &[3, 0, 5, 4],
-        12,
-        (2, 2, 2, 2, Some(ErrorKind::Interrupted)),
-    ),
-    (
-        &[3, 0, 5, 4],
-        12,
-        (3, 4, 9, 4, Some(ErrorKind::Interrupted)),
-    ),
-];
+const LENT: &str = "\
+3 0 5 4 of 12 1 0 12 12|\
+3 0 5 4 of 12 3 0 12 4|\
+3 0 5 4 of 12 100 2 12 1|\
+3 0 5 4 of 12 0 0 0 1 WriteZero|\
+3 0 5 4 of 12 0 1 0 1 Interrupted|\
+3 0 5 4 of 12 100 1 0 1 Interrupted|\
+3 0 5 4 of 12 2 2 2 2 Interrupted|\
+3 0 5 4 of 12 3 4 9 4 Interrupted";
 
 #[test]
-fn lent_buffers(rt: HostRuntime) -> Result<(), Fail> {
-    writes(&rt, rt.alloc(), LENT)
+fn lent_buffers(rt: HostRuntime) {
+    assert_writes(&rt, rt.alloc(), LENT);
 }
-
-const ALL: usize = usize::MAX;
 
 // One call writes up to 1,024 small buffers, in blocks of whole buffers and at most 16,384 bytes, or
 // 65,536 where there are more than 32,768. A buffer of more than 4,096 bytes is written by a call of
-// its own.
-const CALLS: &[Case] = &[
-    (&[1], 15, (ALL, 0, 15, 1, None)),
-    (&[1], 16, (ALL, 0, 16, 1, None)),
-    (&[137], 2_055, (ALL, 0, 2_055, 1, None)),
-    (&[16], 16_000, (ALL, 0, 16_000, 1, None)),
-    (&[16], 16_384, (ALL, 0, 16_384, 1, None)),
-    (&[16], 16_385, (ALL, 0, 16_385, 2, None)),
-    (&[1], 2_049, (ALL, 0, 2_049, 3, None)),
-    (&[4_095], 16_380, (ALL, 0, 16_380, 1, None)),
-    (&[4_095], 16_384, (ALL, 0, 16_384, 1, None)),
-    (&[4_095], 16_385, (ALL, 0, 16_385, 2, None)),
-    (&[4_096], 16_384, (ALL, 0, 16_384, 1, None)),
-    (&[4_096], 32_768, (ALL, 0, 32_768, 2, None)),
-    (&[4_095], 32_769, (ALL, 0, 32_769, 1, None)),
-    (&[4_096], 65_536, (ALL, 0, 65_536, 1, None)),
-    (&[4_096], 65_537, (ALL, 0, 65_537, 2, None)),
-    (&[4_097], 16_388, (ALL, 0, 16_388, 4, None)),
-    (&[16_384], 32_768, (ALL, 0, 32_768, 2, None)),
-    (&[16_385], 32_770, (ALL, 0, 32_770, 2, None)),
-    (&[1, 4_097, 1, 1], 8_198, (ALL, 0, 8_198, 4, None)),
-];
+// its own. The writer takes all that it is given.
+const CALLS: &str = "\
+1 of 15 100000 0 15 1|\
+1 of 16 100000 0 16 1|\
+137 of 2055 100000 0 2055 1|\
+16 of 16000 100000 0 16000 1|\
+16 of 16384 100000 0 16384 1|\
+16 of 16385 100000 0 16385 2|\
+1 of 2049 100000 0 2049 3|\
+4095 of 16380 100000 0 16380 1|\
+4095 of 16384 100000 0 16384 1|\
+4095 of 16385 100000 0 16385 2|\
+4096 of 16384 100000 0 16384 1|\
+4096 of 32768 100000 0 32768 2|\
+4095 of 32769 100000 0 32769 1|\
+4096 of 65536 100000 0 65536 1|\
+4096 of 65537 100000 0 65537 2|\
+4097 of 16388 100000 0 16388 4|\
+16384 of 32768 100000 0 32768 2|\
+16385 of 32770 100000 0 32770 2|\
+1 4097 1 1 of 8198 100000 0 8198 4";
 
 #[test]
-fn calls(rt: HostRuntime) -> Result<(), Fail> {
-    writes(&rt, rt.alloc(), CALLS)
+fn calls(rt: HostRuntime) {
+    assert_writes(&rt, rt.alloc(), CALLS);
 }
 
 // What a short write leaves of a block is written by itself: 16,000 bytes by four calls, and then
 // the other 4,000.
-const SHORT: &[Case] = &[
-    (&[16], 64, (1, 0, 64, 64, None)),
-    (&[1_000], 20_000, (5_000, 0, 20_000, 5, None)),
-    (&[5_000], 10_000, (3_000, 0, 10_000, 4, None)),
-    (
-        &[1_000],
-        20_000,
-        (5_000, 2, 5_000, 2, Some(ErrorKind::Interrupted)),
-    ),
-    (
-        &[1_000],
-        20_000,
-        (5_000, 4, 15_000, 4, Some(ErrorKind::Interrupted)),
-    ),
-    (
-        &[1_000],
-        20_000,
-        (5_000, 5, 16_000, 5, Some(ErrorKind::Interrupted)),
-    ),
-    (
-        &[16, 5_000],
-        10_032,
-        (ALL, 1, 0, 1, Some(ErrorKind::Interrupted)),
-    ),
-    (
-        &[16, 5_000],
-        10_032,
-        (ALL, 2, 16, 2, Some(ErrorKind::Interrupted)),
-    ),
-    (
-        &[16, 5_000],
-        10_032,
-        (ALL, 3, 5_016, 3, Some(ErrorKind::Interrupted)),
-    ),
-    (
-        &[16, 5_000],
-        10_032,
-        (3_000, 3, 3_016, 3, Some(ErrorKind::Interrupted)),
-    ),
-    (&[1_000], 20_000, (0, 0, 0, 1, Some(ErrorKind::WriteZero))),
-    (&[5_000], 20_000, (0, 0, 0, 1, Some(ErrorKind::WriteZero))),
-];
+const SHORT: &str = "\
+16 of 64 1 0 64 64|\
+1000 of 20000 5000 0 20000 5|\
+5000 of 10000 3000 0 10000 4|\
+1000 of 20000 5000 2 5000 2 Interrupted|\
+1000 of 20000 5000 4 15000 4 Interrupted|\
+1000 of 20000 5000 5 16000 5 Interrupted|\
+16 5000 of 10032 100000 1 0 1 Interrupted|\
+16 5000 of 10032 100000 2 16 2 Interrupted|\
+16 5000 of 10032 100000 3 5016 3 Interrupted|\
+16 5000 of 10032 3000 3 3016 3 Interrupted|\
+1000 of 20000 0 0 0 1 WriteZero|\
+5000 of 20000 0 0 0 1 WriteZero";
 
 #[test]
-fn short_writes(rt: HostRuntime) -> Result<(), Fail> {
-    writes(&rt, rt.alloc(), SHORT)
+fn short_writes(rt: HostRuntime) {
+    assert_writes(&rt, rt.alloc(), SHORT);
 }
 
 // Each error comes back as it is, and no call follows it. At `WriteZero` a call takes nothing.
-const KINDS: &[Case] = &[
-    (&[3, 5], 8, (ALL, 1, 0, 1, Some(ErrorKind::WouldBlock))),
-    (&[3, 5], 8, (3, 2, 3, 2, Some(ErrorKind::WouldBlock))),
-    (&[3, 5], 8, (3, 2, 3, 2, Some(ErrorKind::BrokenPipe))),
-    (&[3, 5], 8, (3, 2, 3, 2, Some(ErrorKind::TimedOut))),
-    (&[3, 5], 8, (3, 3, 6, 3, Some(ErrorKind::OutOfMemory))),
-    (&[3, 5], 8, (3, 2, 3, 2, Some(ErrorKind::WriteZero))),
-];
+const KINDS: &str = "\
+3 5 of 8 100000 1 0 1 WouldBlock|\
+3 5 of 8 3 2 3 2 WouldBlock|\
+3 5 of 8 3 2 3 2 BrokenPipe|\
+3 5 of 8 3 2 3 2 TimedOut|\
+3 5 of 8 3 3 6 3 OutOfMemory|\
+3 5 of 8 3 2 3 2 WriteZero";
 
 #[test]
-fn kinds_of_errors(rt: HostRuntime) -> Result<(), Fail> {
-    writes(&rt, rt.alloc(), KINDS)
+fn kinds_of_errors(rt: HostRuntime) {
+    assert_writes(&rt, rt.alloc(), KINDS);
 }

@@ -1,6 +1,6 @@
 //! Refused memory: the buffers of std and of the crate `bytes`.
+use crate::fixtures::JOINED;
 use crate::fixtures::refusals::copies_out;
-use crate::fixtures::{JOINED, assert_bytes};
 use bytes::{Buf, Bytes, BytesMut, BytesQueue};
 use bytes_utils_buf::EitherBuf;
 use bytes_utils_buf::contiguous::ContiguousBuf;
@@ -9,72 +9,73 @@ use std::alloc::Global;
 use std::collections::VecDeque;
 use std::io::Cursor;
 use std::process::Abort;
-use std::test::Fail;
 
-/// Copies out of a buffer that has one slice.
+/// Whether a buffer of `JOINED` has one slice, and its bytes are copied out.
 fn copies_whole<B: BufParts + ContiguousBuf>(
-    rt: &(impl Abort + Print),
+    rt: &impl Print,
     alloc: Global,
     call: &str,
     buf: &mut B,
-) -> Result<(), Fail> {
-    assert_bytes(rt, buf.as_contiguous(), JOINED);
-    copies_out(rt, alloc, call, buf, &[JOINED])
+) -> bool {
+    buf.as_contiguous() == JOINED.as_bytes() && copies_out(rt, alloc, call, buf, JOINED)
 }
 
 #[test]
-fn copy_out_of_borrowed_ones(rt: HostRuntime) -> Result<(), Fail> {
+fn copy_out_of_borrowed_ones(rt: HostRuntime) {
     let mut cursor = Cursor::new(b"> Hello World".as_slice());
     cursor.set_position(2);
-    copies_whole(&rt, rt.alloc(), "copy_out of Cursor", &mut cursor)?;
+    assert!(rt; copies_whole(&rt, rt.alloc(), "copy_out of Cursor", &mut cursor));
     let mut limited = b"Hello World, and more".as_slice().take(11);
-    copies_whole(&rt, rt.alloc(), "copy_out of Take", &mut limited)?;
+    assert!(rt; copies_whole(&rt, rt.alloc(), "copy_out of Take", &mut limited));
     let mut either: EitherBuf<&[u8], Bytes> = EitherBuf::Left(JOINED.as_bytes());
-    copies_whole(&rt, rt.alloc(), "copy_out of EitherBuf", &mut either)?;
-    let mut chain = Bytes::from_static(b"Hello").chain(b" World".as_slice());
-    copies_out(
-        &rt,
-        rt.alloc(),
-        "copy_out of Chain",
-        &mut chain,
-        &["Hello", " World"],
-    )
+    assert!(rt; copies_whole(&rt, rt.alloc(), "copy_out of EitherBuf", &mut either));
 }
 
 #[test]
-fn copy_out_of_grown_ones(rt: HostRuntime) -> Result<(), Fail> {
-    match BytesMut::copy_from_slice(rt.alloc(), JOINED.as_bytes()) {
-        Ok(mut buf) => copies_whole(&rt, rt.alloc(), "copy_out of BytesMut", &mut buf),
-        Err(_) => Ok(()),
+fn copy_out_of_chains(rt: HostRuntime) {
+    let mut chain = Bytes::from_static(b"Hello").chain(b" World".as_slice());
+    assert!(rt;
+        copies_out(
+            &rt,
+            rt.alloc(),
+            "copy_out of Chain",
+            &mut chain,
+            "Hello| World"
+        )
+    );
+}
+
+#[test]
+fn copy_out_of_grown_ones(rt: HostRuntime) {
+    if let Ok(mut buf) = BytesMut::copy_from_slice(rt.alloc(), JOINED.as_bytes()) {
+        assert!(rt; copies_whole(&rt, rt.alloc(), "copy_out of BytesMut", &mut buf));
     }
 }
 
 /// A deque of `JOINED` whose bytes lie in two slices.
 fn wrapped(alloc: Global) -> Option<VecDeque<u8>> {
     let mut deque = VecDeque::with_capacity(alloc, 16).ok()?;
-    for i in 0..11 {
-        let byte = b"olleH World".as_slice()[i];
-        let put = if i < 5 {
-            deque.push_front(byte)
-        } else {
-            deque.push_back(byte)
-        };
-        put.ok()?;
+    for byte in b" World" {
+        deque.push_back(*byte).ok()?;
+    }
+    for byte in b"olleH" {
+        deque.push_front(*byte).ok()?;
     }
     Some(deque)
 }
 
 #[test]
-fn copy_out_of_deques(rt: HostRuntime) -> Result<(), Fail> {
-    match wrapped(rt.alloc()) {
-        Some(mut buf) => copies_out(
-            &rt,
-            rt.alloc(),
-            "copy_out of VecDeque",
-            &mut buf,
-            &["Hello", " World"],
-        ),
-        None => Ok(()),
+fn copy_out_of_deques(rt: HostRuntime) {
+    if let Some(mut buf) = wrapped(rt.alloc()) {
+        assert!(rt;
+            copies_out(
+                &rt,
+                rt.alloc(),
+                "copy_out of VecDeque",
+                &mut buf,
+                "Hello| World"
+            )
+        );
     }
 }
 
@@ -86,15 +87,16 @@ fn queue(alloc: Global) -> Option<BytesQueue> {
 }
 
 #[test]
-fn copy_out_of_queues(rt: HostRuntime) -> Result<(), Fail> {
-    match queue(rt.alloc()) {
-        Some(mut buf) => copies_out(
-            &rt,
-            rt.alloc(),
-            "copy_out of BytesQueue",
-            &mut buf,
-            &["Hello", " World"],
-        ),
-        None => Ok(()),
+fn copy_out_of_queues(rt: HostRuntime) {
+    if let Some(mut buf) = queue(rt.alloc()) {
+        assert!(rt;
+            copies_out(
+                &rt,
+                rt.alloc(),
+                "copy_out of BytesQueue",
+                &mut buf,
+                "Hello| World"
+            )
+        );
     }
 }

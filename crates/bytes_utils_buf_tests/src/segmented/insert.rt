@@ -1,205 +1,168 @@
 //! Buffers that a `SegmentedBuf` accepts, and those that it refuses.
 use crate::fixtures::odd::Zeros;
-use crate::fixtures::{Shown, assert_shows, bytes_of, extend, gather, gives, hold, put, skip};
+use crate::fixtures::{bytes_of, extend, hold, put, shows, skip};
 use bytes::{Buf, Bytes};
-use bytes_utils_buf::parts::BufParts;
 use bytes_utils_buf::segmented::SegmentedBuf;
 use bytes_utils_buf::{Reason, Refused};
 use std::alloc::{AllocError, Global};
 use std::collections::VecDeque;
 use std::process::Abort;
-use std::test::Fail;
 use std::vec::IntoIter;
 
-/// What is pushed, how many bytes are skipped after that, which are copied then, and what is shown
-/// at the end.
-type Step = (&'static str, usize, &'static str, Shown);
-
-fn accepts_and_gives<B: BufParts + Drop>(
-    rt: &impl Abort,
-    alloc: Global,
-    buf: &mut SegmentedBuf<B>,
-    more: B,
-    (_, cnt, piece, shown): Step,
-) -> Result<(), Fail> {
-    put(rt, buf, more)?;
-    skip(rt, buf, cnt);
-    gives(rt, alloc, buf, piece)?;
-    assert_shows(rt, buf, shown);
-    Ok(())
+fn holds_none<B: Buf + Drop>(buf: &SegmentedBuf<B>) -> bool {
+    shows(buf, (0, 0, ""))
 }
 
-fn steps(rt: &impl Abort, alloc: Global, steps: &[Step]) -> Result<(), Fail> {
-    let mut buf: SegmentedBuf<Bytes> = SegmentedBuf::new(alloc);
-    for step in steps {
-        let more = Bytes::from_static(step.0.as_bytes());
-        accepts_and_gives(rt, alloc, &mut buf, more, *step)?;
+/// Whether buffers were accepted, and none is held.
+fn has_none<B: Buf + Drop, E: Drop>(made: Result<SegmentedBuf<B>, E>) -> bool {
+    match made {
+        Ok(buf) => holds_none(&buf) && buf.into_inner().is_empty(),
+        Err(_) => false,
     }
-    Ok(())
 }
 
-/// An empty buffer changes nothing at any time.
-const ADVANCED: &[Step] = &[
-    ("Hello", 0, "", (5, 1, "Hello")),
-    (" ", 0, "", (6, 2, "Hello")),
-    ("", 0, "", (6, 2, "Hello")),
-    ("World", 0, "", (11, 3, "Hello")),
-    ("", 3, "", (8, 3, "lo")),
-    ("", 4, "", (4, 1, "orld")),
-    ("", 4, "", (0, 0, "")),
-    ("", 0, "", (0, 0, "")),
-];
-
-#[test]
-fn push_and_advance(rt: HostRuntime) -> Result<(), Fail> {
-    steps(&rt, rt.alloc(), ADVANCED)
+/// The same of buffers that are held as a vector, or one after another.
+fn has_none_of(alloc: Global, bufs: Vec<Bytes>, is_vec: bool) -> bool {
+    if is_vec {
+        has_none(SegmentedBuf::from_vec(alloc, bufs))
+    } else {
+        has_none(SegmentedBuf::from_iter(alloc, bufs.into_iter()))
+    }
 }
 
-const COPIED: &[Step] = &[
-    ("Hello", 0, "Hel", (2, 1, "lo")),
-    ("World", 0, "", (7, 2, "lo")),
-    ("", 0, "loW", (4, 1, "orld")),
-];
-
-#[test]
-fn push_and_copy(rt: HostRuntime) -> Result<(), Fail> {
-    steps(&rt, rt.alloc(), COPIED)
-}
-
-fn assert_holds_none<B: Buf + Drop>(rt: &impl Abort, buf: SegmentedBuf<B>) {
-    assert_shows(rt, &buf, (0, 0, ""));
-    assert!(rt; buf.into_inner().is_empty());
-}
-
-fn holds_none<B: Buf + Drop>(rt: &impl Abort, made: Option<SegmentedBuf<B>>) -> Result<(), Fail> {
-    assert_holds_none(rt, made.ok_or("refused")?);
-    Ok(())
+/// The same of two empty buffers.
+fn drops_both(alloc: Global, is_vec: bool) -> bool {
+    match bytes_of(alloc, "|") {
+        Ok(both) => has_none_of(alloc, both, is_vec),
+        Err(_) => false,
+    }
 }
 
 #[test]
-fn empty_bufs(rt: HostRuntime) -> Result<(), Fail> {
-    let alloc = rt.alloc();
-    holds_none(
-        &rt,
-        SegmentedBuf::from_vec(alloc, bytes_of(alloc, &[])?).ok(),
-    )?;
-    let two = bytes_of(alloc, &["", ""])?;
-    holds_none(&rt, SegmentedBuf::from_vec(alloc, two).ok())?;
-    let two = bytes_of(alloc, &["", ""])?;
-    holds_none(&rt, SegmentedBuf::from_iter(alloc, two.into_iter()).ok())
+fn empty_bufs(rt: HostRuntime) {
+    assert!(rt;
+        has_none_of(rt.alloc(), Vec::new(rt.alloc()), true)
+            && drops_both(rt.alloc(), true)
+            && drops_both(rt.alloc(), false)
+    );
 }
 
-// An empty buffer is pushed, and others follow.
-fn accepts_none<B: Buf + Drop>(
-    rt: &impl Abort,
-    alloc: Global,
-    first: B,
-    others: Vec<B>,
-) -> Result<(), Fail> {
-    let mut buf = hold(rt, alloc, first)?;
-    extend(&mut buf, others)?;
-    assert_holds_none(rt, buf);
-    Ok(())
+/// Whether nothing is held after an empty buffer is pushed, and others follow.
+fn accepts_empty<B: Buf + Drop>(alloc: Global, first: B, others: Vec<B>) -> bool {
+    let mut buf = SegmentedBuf::new(alloc);
+    let is_first_accepted = put(&mut buf, first);
+    let is_accepted = extend(&mut buf, others) && is_first_accepted && holds_none(&buf);
+    buf.into_inner().is_empty() && is_accepted
 }
 
 #[test]
-fn empty_bufs_after_an_empty_one(rt: HostRuntime) -> Result<(), Fail> {
-    let others = bytes_of(rt.alloc(), &["", ""])?;
-    accepts_none(&rt, rt.alloc(), Bytes::new(), others)
+fn empty_bufs_after_an_empty_one(rt: HostRuntime) {
+    assert!(rt;
+        match bytes_of(rt.alloc(), "|") {
+            Ok(others) => accepts_empty(rt.alloc(), Bytes::new(), others),
+            Err(_) => false,
+        }
+    );
 }
 
 // `x`, ten thousand empty buffers, and `y`.
 fn mostly_empty(alloc: Global) -> Result<Vec<Bytes>, AllocError> {
     let mut bufs = Vec::with_capacity(alloc, 10_002)?;
-    bufs.push(Bytes::from_static(b"x"))?;
-    for _ in 0..10_000 {
-        bufs.push(Bytes::new())?;
+    for place in 0..10_002 {
+        bufs.push(Bytes::from_static(match place {
+            0 => b"x",
+            10_001 => b"y",
+            _ => b"",
+        }))?;
     }
-    bufs.push(Bytes::from_static(b"y"))?;
     Ok(bufs)
 }
 
-#[test]
-fn many_empties(rt: HostRuntime) -> Result<(), Fail> {
-    let mut buf = gather(rt.alloc(), mostly_empty(rt.alloc())?)?;
-    assert_shows(&rt, &buf, (2, 2, "x"));
-    skip(&rt, &mut buf, 1);
-    assert_shows(&rt, &buf, (1, 1, "y"));
-    Ok(())
+fn shows_others<B: Buf + Drop>(buf: &mut SegmentedBuf<B>) -> bool {
+    shows(buf, (2, 2, "x")) && skip(buf, 1) && shows(buf, (1, 1, "y"))
 }
 
-fn zeros(alloc: Global, counts: &[usize]) -> Result<Vec<Zeros>, AllocError> {
-    let mut bufs = Vec::with_capacity(alloc, counts.len())?;
+fn drops_empties(alloc: Global) -> Option<bool> {
+    let bufs = mostly_empty(alloc).ok()?;
+    Some(shows_others(&mut SegmentedBuf::from_vec(alloc, bufs).ok()?))
+}
+
+#[test]
+fn many_empties(rt: HostRuntime) {
+    assert!(rt; drops_empties(rt.alloc()) == Some(true));
+}
+
+fn zeros(alloc: Global, counts: &[usize]) -> Option<Vec<Zeros>> {
+    let mut bufs = Vec::with_capacity(alloc, counts.len()).ok()?;
     for &left in counts {
-        bufs.push(Zeros { left })?;
+        bufs.push(Zeros { left }).ok()?;
     }
-    Ok(bufs)
+    Some(bufs)
 }
 
-// A buffer of the greatest length accepts no bytes, and refuses one byte.
-fn refuses_a_byte<B: Buf + Drop>(
-    rt: &impl Abort,
-    buf: &mut SegmentedBuf<B>,
-    more: Vec<B>,
-) -> Result<(), Fail> {
-    assert!(rt; buf.fits(0) && !buf.fits(1));
-    let refused = buf.extend(more.into_iter()).err().ok_or("accepted")?;
-    assert!(rt; refused.reason == Reason::TooLong && refused.back.remaining() == 1);
-    assert!(rt; buf.segments() == 1 && buf.remaining() == usize::MAX);
-    Ok(())
+fn is_of_one_byte<B: Buf>(refused: &Refused<B>) -> bool {
+    refused.reason == Reason::TooLong && refused.back.remaining() == 1
+}
+
+/// Whether a buffer of the greatest length accepts no bytes, and refuses one byte.
+fn refuses_a_byte<B: Buf + Drop>(buf: &mut SegmentedBuf<B>, more: Vec<B>) -> bool {
+    let is_full = buf.fits(0) && !buf.fits(1);
+    let is_refused = match buf.extend(more.into_iter()) {
+        Ok(()) => false,
+        Err(refused) => is_of_one_byte(&refused),
+    };
+    is_full && is_refused && buf.segments() == 1 && buf.remaining() == usize::MAX
+}
+
+fn longest_refuses(alloc: Global) -> Option<bool> {
+    let more = zeros(alloc, &[0, 1])?;
+    Some(refuses_a_byte(&mut hold(alloc, Zeros { left: usize::MAX })?, more))
 }
 
 #[test]
-fn too_long(rt: HostRuntime) -> Result<(), Fail> {
-    let mut longest = hold(&rt, rt.alloc(), Zeros { left: usize::MAX })?;
-    refuses_a_byte(&rt, &mut longest, zeros(rt.alloc(), &[0, 1])?)
+fn too_long(rt: HostRuntime) {
+    assert!(rt; longest_refuses(rt.alloc()) == Some(true));
+}
+
+/// The reason for which a deque is refused, and how many buffers come back.
+fn refusal(alloc: Global) -> Option<(Reason, usize)> {
+    let both = VecDeque::from_vec(zeros(alloc, &[usize::MAX, 1])?);
+    let refused = SegmentedBuf::from_deque(both).err()?;
+    Some((refused.reason, refused.back.len()))
 }
 
 #[test]
-fn too_long_conversions(rt: HostRuntime) -> Result<(), Fail> {
-    let both = VecDeque::from_vec(zeros(rt.alloc(), &[usize::MAX, 1])?);
-    let refused = SegmentedBuf::from_deque(both).err().ok_or("accepted")?;
-    assert!(rt; refused.reason == Reason::TooLong && refused.back.len() == 2);
-    Ok(())
+fn too_long_conversions(rt: HostRuntime) {
+    assert!(rt; refusal(rt.alloc()) == Some((Reason::TooLong, 2)));
 }
 
-// The item of one byte is refused, and the one of two bytes stays with the iterator.
-fn assert_stays<T: Drop, B: Buf + Drop>(
-    rt: &impl Abort,
+/// Whether the item of one byte is refused, and the one of two bytes stays with the iterator.
+fn stays<T: Drop, B: Buf + Drop>(
     answer: Result<T, Refused<B>>,
     items: &mut IntoIter<B, Global>,
-) -> Result<(), Fail> {
-    let refused = answer.err().ok_or("accepted")?;
-    let next = items.next().ok_or("no item is left")?;
-    assert!(rt; refused.back.remaining() == 1 && next.remaining() == 2);
-    Ok(())
+) -> bool {
+    matches!(&answer, Err(refused) if refused.back.remaining() == 1)
+        && matches!(&items.next(), Some(next) if next.remaining() == 2)
+}
+
+fn extends_in_part<B: Buf + Drop>(alloc: Global, bufs: Option<Vec<B>>) -> Option<bool> {
+    let mut items = bufs?.into_iter();
+    let answer = SegmentedBuf::new(alloc).extend(items.by_ref());
+    Some(stays(answer, &mut items))
+}
+
+fn collects_in_part<B: Buf + Drop>(alloc: Global, bufs: Option<Vec<B>>) -> Option<bool> {
+    let mut items = bufs?.into_iter();
+    let answer = SegmentedBuf::from_iter(alloc, items.by_ref());
+    Some(stays(answer, &mut items))
 }
 
 /// The lengths of these items. The third one doesn't fit after the second.
 const LENGTHS: &[usize] = &[0, usize::MAX, 1, 2];
 
-fn extends_in_part<B: Buf + Drop>(
-    rt: &impl Abort,
-    alloc: Global,
-    bufs: Vec<B>,
-) -> Result<(), Fail> {
-    let mut items = bufs.into_iter();
-    let answer = SegmentedBuf::new(alloc).extend(items.by_ref());
-    assert_stays(rt, answer, &mut items)
-}
-
-fn collects_in_part<B: Buf + Drop>(
-    rt: &impl Abort,
-    alloc: Global,
-    bufs: Vec<B>,
-) -> Result<(), Fail> {
-    let mut items = bufs.into_iter();
-    let answer = SegmentedBuf::from_iter(alloc, items.by_ref());
-    assert_stays(rt, answer, &mut items)
-}
-
 #[test]
-fn items_after_a_refused_one_stay(rt: HostRuntime) -> Result<(), Fail> {
-    extends_in_part(&rt, rt.alloc(), zeros(rt.alloc(), LENGTHS)?)?;
-    collects_in_part(&rt, rt.alloc(), zeros(rt.alloc(), LENGTHS)?)
+fn items_after_a_refused_one_stay(rt: HostRuntime) {
+    let alloc = rt.alloc();
+    assert!(rt; extends_in_part(alloc, zeros(alloc, LENGTHS)) == Some(true));
+    assert!(rt; collects_in_part(alloc, zeros(alloc, LENGTHS)) == Some(true));
 }

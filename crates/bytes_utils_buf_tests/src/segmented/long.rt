@@ -1,12 +1,11 @@
 //! Long bodies: no call is refused while there is memory.
 use super::queue::{append_queue, drain_into_queue};
-use crate::fixtures::{assert_copies_long, gather, lend, put, put_first};
+use super::split::cut;
+use crate::fixtures::{copies_long, lend, put, put_first};
 use bytes::{Buf, Bytes, BytesQueue};
-use bytes_utils_buf::Reason;
 use bytes_utils_buf::segmented::{PackedBuf, SegmentedBuf};
 use std::alloc::{AllocError, Global};
 use std::process::Abort;
-use std::test::Fail;
 
 /// A thousand pieces of a hundred bytes each.
 fn pieces(alloc: Global) -> Result<Vec<Bytes>, AllocError> {
@@ -17,89 +16,120 @@ fn pieces(alloc: Global) -> Result<Vec<Bytes>, AllocError> {
     Ok(pieces)
 }
 
-#[test]
-fn long_body_is_copied(rt: HostRuntime) -> Result<(), Fail> {
-    let mut body = gather(rt.alloc(), pieces(rt.alloc())?)?;
-    assert_copies_long(&rt, rt.alloc(), &mut body)?;
-    let mut bufs = pieces(rt.alloc())?;
-    assert_copies_long(&rt, rt.alloc(), &mut lend(&rt, &mut bufs))
+/// They are held.
+fn body(alloc: Global) -> Option<SegmentedBuf<Bytes>> {
+    SegmentedBuf::from_iter(alloc, pieces(alloc).ok()?.into_iter()).ok()
 }
 
-/// The first bytes and a range come in one piece and in segments, of which the last is cut.
-fn assert_parts(rt: &impl Abort, alloc: Global, body: &SegmentedBuf<Bytes>) -> Result<(), Reason> {
-    assert!(rt; body.remaining() == 100_000);
-    assert!(rt; body.peek_bytes(alloc, 99_950)?.len() == 99_950);
-    assert!(rt; body.prefix(alloc, 99_950)?.segments() == 1_000);
-    assert!(rt; body.copy_range(alloc, 50..99_950)?.len() == 99_900);
-    assert!(rt; body.slice(alloc, 50..99_950)?.segments() == 1_000);
-    Ok(())
+fn copies_body(alloc: Global) -> Option<bool> {
+    Some(copies_long(alloc, &mut body(alloc)?))
+}
+
+fn copies_lent_body(rt: &impl Abort, alloc: Global) -> Option<bool> {
+    Some(copies_long(alloc, &mut lend(rt, &mut pieces(alloc).ok()?)))
 }
 
 #[test]
-fn long_body_is_shared(rt: HostRuntime) -> Result<(), Fail> {
-    let body = SegmentedBuf::from_iter(rt.alloc(), pieces(rt.alloc())?.into_iter());
-    assert_parts(&rt, rt.alloc(), &body.ok().ok_or("refused")?)?;
-    Ok(())
+fn long_body_is_copied(rt: HostRuntime) {
+    assert!(rt; copies_body(rt.alloc()) == Some(true));
+    assert!(rt; copies_lent_body(&rt, rt.alloc()) == Some(true));
 }
 
-/// A clone of the body is cut in two, within a segment, and its halves are put together again.
-fn cut_and_joined(
-    rt: &impl Abort,
-    alloc: Global,
-    body: &SegmentedBuf<Bytes>,
-    is_front: bool,
-) -> Result<SegmentedBuf<Bytes>, Fail> {
-    let mut one = body.try_clone()?;
-    assert!(rt; one.remaining() >= 50_050);
-    let other = if is_front {
-        one.split_to(alloc, 50_050)?
-    } else {
-        one.split_off(alloc, 50_050)?
+/// Whether the first bytes come in one piece and in segments, of which the last is cut.
+fn gives_first(alloc: Global, body: &SegmentedBuf<Bytes>) -> bool {
+    body.remaining() == 100_000
+        && matches!(&body.peek_bytes(alloc, 99_950), Ok(first) if first.len() == 99_950)
+        && matches!(&body.prefix(alloc, 99_950), Ok(first) if first.segments() == 1_000)
+}
+
+/// Whether a range does.
+fn gives_range(alloc: Global, body: &SegmentedBuf<Bytes>) -> bool {
+    body.remaining() == 100_000
+        && matches!(&body.copy_range(alloc, 50..99_950), Ok(range) if range.len() == 99_900)
+        && matches!(&body.slice(alloc, 50..99_950), Ok(range) if range.segments() == 1_000)
+}
+
+fn gives_parts(alloc: Global) -> Option<bool> {
+    let body = body(alloc)?;
+    Some(gives_first(alloc, &body) & gives_range(alloc, &body))
+}
+
+#[test]
+fn long_body_is_shared(rt: HostRuntime) {
+    assert!(rt; gives_parts(rt.alloc()) == Some(true));
+}
+
+/// Whether the halves of a body are put together again.
+fn is_joined(one: &mut SegmentedBuf<Bytes>, other: SegmentedBuf<Bytes>) -> bool {
+    if !one.fits(other.remaining()) {
+        return false;
+    }
+    one.append(other).is_ok() && one.segments() == 1_001 && one.remaining() == 100_000
+}
+
+/// The same of a clone of a body, which is cut within a segment.
+fn is_cut_and_joined(alloc: Global, body: &SegmentedBuf<Bytes>, is_front: bool) -> Option<bool> {
+    let mut one = body.try_clone().ok()?;
+    let other = cut(alloc, &mut one, 50_050, is_front).ok()?;
+    Some(is_joined(&mut one, other))
+}
+
+#[test]
+fn long_body_is_cut_and_joined(rt: HostRuntime) {
+    let body = body(rt.alloc());
+    assert!(rt;
+        match &body {
+            Some(body) => {
+                is_cut_and_joined(rt.alloc(), body, false) == Some(true)
+                    && is_cut_and_joined(rt.alloc(), body, true) == Some(true)
+            }
+            None => false,
+        }
+    );
+}
+
+/// Whether a body is moved to a queue and back.
+fn is_moved(body: Option<SegmentedBuf<Bytes>>, queue: &mut BytesQueue) -> bool {
+    let Some(mut body) = body else {
+        return false;
     };
-    assert!(rt; one.fits(other.remaining()));
-    one.append(other).ok().ok_or("refused")?;
-    Ok(one)
+    drain_into_queue(&mut body, queue).is_ok()
+        && append_queue(&mut body, queue).is_ok()
+        && body.segments() == 1_000
+        && queue.is_empty()
 }
 
 #[test]
-fn long_body_is_cut_and_joined(rt: HostRuntime) -> Result<(), Fail> {
-    let body = gather(rt.alloc(), pieces(rt.alloc())?)?;
-    for is_front in [false, true] {
-        let joined = cut_and_joined(&rt, rt.alloc(), &body, is_front)?;
-        assert!(rt; joined.segments() == 1_001 && joined.remaining() == 100_000);
+fn long_body_is_moved_by_a_queue(rt: HostRuntime) {
+    assert!(rt; is_moved(body(rt.alloc()), &mut BytesQueue::new(rt.alloc())));
+}
+
+/// The pieces, each held as it came, become shared.
+fn becomes_shared(alloc: Global) -> Option<SegmentedBuf<Bytes>> {
+    let mut body = PackedBuf::new(alloc, 99);
+    for piece in pieces(alloc).ok()? {
+        body.push(alloc, piece).ok()?;
     }
-    Ok(())
+    body.into_shared(alloc).ok()
 }
 
 #[test]
-fn long_body_is_moved_by_a_queue(rt: HostRuntime) -> Result<(), Fail> {
-    let mut body = gather(rt.alloc(), pieces(rt.alloc())?)?;
-    let mut queue = BytesQueue::new(rt.alloc());
-    drain_into_queue(&rt, &mut body, &mut queue)?;
-    append_queue(&rt, &mut body, &mut queue)?;
-    assert!(rt; body.segments() == 1_000 && queue.is_empty());
-    Ok(())
+fn long_body_becomes_shared(rt: HostRuntime) {
+    let shared = becomes_shared(rt.alloc());
+    assert!(rt; matches!(&shared, Some(it) if it.segments() == 1_000 && it.remaining() == 100_000));
 }
 
-#[test]
-fn long_body_becomes_shared(rt: HostRuntime) -> Result<(), Fail> {
-    let mut body = PackedBuf::new(rt.alloc(), 99);
-    for piece in pieces(rt.alloc())? {
-        body.push(rt.alloc(), piece)?;
-    }
-    let shared = body.into_shared(rt.alloc())?;
-    assert!(rt; shared.segments() == 1_000 && shared.remaining() == 100_000);
-    Ok(())
-}
-
-// The segments are put after and before the others, one at a time.
-#[test]
-fn many_segments(rt: HostRuntime) -> Result<(), Fail> {
-    let mut buf: SegmentedBuf<Bytes> = SegmentedBuf::new(rt.alloc());
+/// Whether segments are put after and before the others, one at a time.
+fn accepts_many(buf: &mut SegmentedBuf<Bytes>) -> bool {
     for _ in 0..1_000 {
-        put(&rt, &mut buf, Bytes::from_static(b"x"))?;
-        put_first(&rt, &mut buf, Bytes::from_static(b"y"))?;
+        if !put(buf, Bytes::from_static(b"x")) || !put_first(buf, Bytes::from_static(b"y")) {
+            return false;
+        }
     }
-    assert!(rt; buf.segments() == 2_000);
-    Ok(())
+    buf.segments() == 2_000
+}
+
+#[test]
+fn many_segments(rt: HostRuntime) {
+    assert!(rt; accepts_many(&mut SegmentedBuf::new(rt.alloc())));
 }

@@ -1,209 +1,232 @@
 //! How often buffers are advanced and looked at.
 use crate::fixtures::odd::Asked;
-use crate::fixtures::{extend, gather, hold, lend, put, put_first, take_out, thousand};
+use crate::fixtures::{extend, hold, lend, put, put_first, take_out, thousand};
 use bytes::Buf;
 use bytes_utils_buf::contiguous::ContiguousBuf;
-use bytes_utils_buf::parts::{BufParts, CopyRefused};
+use bytes_utils_buf::parts::BufParts;
 use bytes_utils_buf::segmented::{SegmentedBuf, SegmentedSlice};
 use std::alloc::Global;
 use std::process::Abort;
-use std::test::Fail;
 
-/// By the call of the type, or by that of the trait; how often; and how many bytes each time.
-type Walk = (bool, usize, usize);
-
-// Skips the bytes of borrowed buffers.
-fn walks_lent<'a, B: Buf>(
-    rt: &impl Abort,
-    bufs: &'a mut [B],
-    (is_own, times, cnt): Walk,
-) -> &'a mut [B] {
-    let mut all = lend(rt, bufs);
-    for _ in 0..times {
-        assert!(rt; all.remaining() >= cnt);
-        if is_own {
-            SegmentedSlice::advance(&mut all, cnt);
-        } else {
-            Buf::advance(&mut all, cnt);
-        }
-    }
-    all.into_lent()
-}
-
-fn assert_asked_seldom(rt: &impl Abort, bufs: &[Asked]) {
-    for buf in bufs {
-        assert!(rt; buf.advanced == 1 && buf.looks.get() <= 32);
-    }
-}
-
-#[test]
-fn walks_once(rt: HostRuntime) -> Result<(), Fail> {
-    for walk in [(true, 1000, 1), (false, 1000, 1), (true, 1, 1000)] {
-        let mut bufs = thousand(rt.alloc())?;
-        assert_asked_seldom(&rt, walks_lent(&rt, &mut bufs, walk));
-    }
-    Ok(())
-}
-
-// Skips all held buffers but the last. Returns those that are left.
-fn walks_held<B: Buf + Drop>(
-    rt: &impl Abort,
-    alloc: Global,
-    bufs: Vec<B>,
+/// Skips the bytes of borrowed buffers, by the call of the type or by that of the trait: so often,
+/// and so many bytes each time. Returns whether there are as many.
+fn walks_lent<B: Buf>(
+    all: &mut SegmentedSlice<'_, B>,
     is_own: bool,
-) -> Result<Vec<B>, Fail> {
-    let mut buf = gather(alloc, bufs)?;
-    for _ in 0..999 {
-        assert!(rt; buf.remaining() >= 1);
+    times: usize,
+    cnt: usize,
+) -> bool {
+    for _ in 0..times {
+        if all.remaining() < cnt {
+            return false;
+        }
         if is_own {
-            SegmentedBuf::advance(&mut buf, 1);
+            SegmentedSlice::advance(all, cnt);
         } else {
-            Buf::advance(&mut buf, 1);
+            Buf::advance(all, cnt);
         }
     }
-    Ok(buf.into_inner().into_vec())
+    true
+}
+
+/// Whether each was advanced or copied from at least and at most so many times, and looked at at most
+/// `looks` times.
+fn are_asked(bufs: &[Asked], (least, most): (usize, usize), looks: usize) -> bool {
+    for buf in bufs {
+        if buf.advanced < least || buf.advanced > most || buf.looks.get() > looks {
+            return false;
+        }
+    }
+    true
+}
+
+/// Whether each of these buffers is advanced once.
+fn walks(rt: &impl Abort, bufs: &mut [Asked], is_own: bool, times: usize, cnt: usize) -> bool {
+    let mut all = lend(rt, bufs);
+    walks_lent(&mut all, is_own, times, cnt) && are_asked(all.into_lent(), (1, 1), 32)
+}
+
+/// Whether each of a thousand buffers is advanced once.
+fn walks_thousand(rt: &impl Abort, alloc: Global, is_own: bool, times: usize, cnt: usize) -> bool {
+    match thousand(alloc) {
+        Ok(mut bufs) => walks(rt, &mut bufs, is_own, times, cnt),
+        Err(_) => false,
+    }
 }
 
 #[test]
-fn walks_held_once(rt: HostRuntime) -> Result<(), Fail> {
-    for is_own in [true, false] {
-        let left = walks_held(&rt, rt.alloc(), thousand(rt.alloc())?, is_own)?;
-        assert!(rt; left.len() == 1 && left[0].advanced <= 2 && left[0].looks.get() <= 32);
-    }
-    Ok(())
+fn walks_once(rt: HostRuntime) {
+    assert!(rt; walks_thousand(&rt, rt.alloc(), true, 1000, 1));
+    assert!(rt; walks_thousand(&rt, rt.alloc(), false, 1000, 1));
+    assert!(rt; walks_thousand(&rt, rt.alloc(), true, 1, 1000));
 }
 
-/// None of these after the first few was advanced or copied from. Each was looked at when it was
-/// accepted, and hardly again.
-fn assert_untouched(rt: &impl Abort, bufs: &[Asked], few: usize) {
-    for i in few..bufs.len() {
-        assert!(rt; bufs[i].advanced == 0 && bufs[i].looks.get() <= 3);
+/// Skips all held buffers but the last, and returns whether there are as many.
+fn walks_held<B: Buf + Drop>(buf: &mut SegmentedBuf<B>, is_own: bool) -> bool {
+    for _ in 0..999 {
+        if buf.remaining() == 0 {
+            return false;
+        }
+        if is_own {
+            SegmentedBuf::advance(buf, 1);
+        } else {
+            Buf::advance(buf, 1);
+        }
     }
+    true
 }
 
-fn copies<B: BufParts>(
-    rt: &impl Abort,
-    alloc: Global,
-    buf: &mut B,
-    lens: &[usize],
-) -> Result<(), CopyRefused> {
+fn is_one(bufs: &[Asked]) -> bool {
+    bufs.len() == 1 && are_asked(bufs, (0, 2), 32)
+}
+
+/// Whether one buffer is left of a thousand, which was hardly looked at.
+fn leaves_one(alloc: Global, is_own: bool) -> Option<bool> {
+    let mut buf = SegmentedBuf::from_vec(alloc, thousand(alloc).ok()?).ok()?;
+    let is_walked = walks_held(&mut buf, is_own);
+    Some(is_walked & is_one(&buf.into_inner().into_vec()))
+}
+
+#[test]
+fn walks_held_once(rt: HostRuntime) {
+    assert!(rt; leaves_one(rt.alloc(), true) == Some(true));
+    assert!(rt; leaves_one(rt.alloc(), false) == Some(true));
+}
+
+/// Whether none of these after the first few was advanced or copied from, and each was looked at
+/// when it was accepted, and hardly again.
+fn are_untouched(bufs: &[Asked], few: usize) -> bool {
+    few <= bufs.len() && are_asked(&bufs[few..], (0, 0), 3)
+}
+
+/// Copies as many bytes out as each of these numbers in turn says.
+fn copies<B: BufParts>(alloc: Global, buf: &mut B, lens: &[u8]) -> bool {
     for &len in lens {
-        let _ = take_out(rt, alloc, buf, len)?;
+        if take_out(alloc, buf, usize::from(len)).is_none() {
+            return false;
+        }
     }
-    Ok(())
+    true
 }
 
-// Shows a chunk, and a table of two slices.
-fn shows_two<B: BufParts>(rt: &impl Abort, buf: &B) {
+/// Shows a chunk, and a table of two slices.
+fn shows_two<B: BufParts>(buf: &B) -> bool {
     let mut table: [&[u8]; 2] = [b"-"; 2];
     for _ in 0..10 {
-        assert!(rt; buf.chunk().len() >= 1 && buf.remaining() >= 2);
-        assert!(rt; buf.chunks_into(&mut table) == 2);
+        if buf.chunk().is_empty() || buf.remaining() < 2 || buf.chunks_into(&mut table) != 2 {
+            return false;
+        }
     }
-}
-
-// Copies out of held buffers. Returns those that are left.
-fn copies_held<B: BufParts + Drop>(
-    rt: &impl Abort,
-    alloc: Global,
-    mut buf: SegmentedBuf<B>,
-    lens: &[usize],
-) -> Result<Vec<B>, Fail> {
-    shows_two(rt, &buf);
-    copies(rt, alloc, &mut buf, lens)?;
-    Ok(buf.into_inner().into_vec())
-}
-
-// Copies out of borrowed buffers.
-fn copies_lent<'a, B: BufParts>(
-    rt: &impl Abort,
-    alloc: Global,
-    bufs: &'a mut [B],
-    lens: &[usize],
-) -> Result<&'a mut [B], CopyRefused> {
-    let mut all = lend(rt, bufs);
-    shows_two(rt, &all);
-    copies(rt, alloc, &mut all, lens)?;
-    Ok(all.into_lent())
+    true
 }
 
 /// Ten bytes are copied. The buffer after them may be looked at, to see that it isn't empty.
-const TEN: &[usize] = &[1, 1, 2, 1, 3, 1, 1];
+const TEN: &[u8] = b"\x01\x01\x02\x01\x03\x01\x01";
 
 // A buffer is put before the others and popped, others are appended, and a segment is seen.
 fn moves_ends<B: ContiguousBuf + Drop>(
-    rt: &impl Abort,
     buf: &mut SegmentedBuf<B>,
     first: B,
     others: SegmentedBuf<B>,
-) -> Result<(), Fail> {
-    put_first(rt, buf, first)?;
-    assert!(rt; buf.fits(others.remaining()));
-    buf.append(others).ok().ok_or("refused")?;
-    assert!(rt; buf.pop().is_some() && buf.segment(0).is_some());
-    Ok(())
+) -> bool {
+    put_first(buf, first)
+        && buf.fits(others.remaining())
+        && buf.append(others).is_ok()
+        && buf.pop().is_some()
+        && buf.segment(0).is_some()
 }
 
-// Buffers of one byte each: many at once, and forty more, one after another.
-fn accepted(rt: &impl Abort, alloc: Global) -> Result<SegmentedBuf<Asked>, Fail> {
-    let mut buf = SegmentedBuf::new(alloc);
-    extend(&mut buf, thousand(alloc)?)?;
-    for _ in 0..20 {
-        put(rt, &mut buf, Asked::of("x"))?;
-        let other = hold(rt, alloc, Asked::of("x"))?;
-        moves_ends(rt, &mut buf, Asked::of("x"), other)?;
+/// Accepts one buffer after the others, and then one before them and two more.
+fn accepts_each(alloc: Global, buf: &mut SegmentedBuf<Asked>) -> bool {
+    match hold(alloc, Asked::of("x")) {
+        Some(other) => put(buf, Asked::of("x")) && moves_ends(buf, Asked::of("x"), other),
+        None => false,
     }
-    Ok(buf)
 }
 
-// Ten bytes are peeked at and shared.
-fn sees_ten<B: ContiguousBuf + Drop>(
+/// Buffers of one byte each are accepted: many at once, and forty more, one after another.
+fn accepts(alloc: Global, buf: &mut SegmentedBuf<Asked>, many: Vec<Asked>) -> bool {
+    let mut is_accepted = extend(buf, many);
+    for _ in 0..20 {
+        is_accepted = accepts_each(alloc, buf) && is_accepted;
+    }
+    is_accepted
+}
+
+/// Ten bytes are peeked at and shared.
+fn sees_ten<B: ContiguousBuf + Drop>(alloc: Global, buf: &SegmentedBuf<B>) -> bool {
+    buf.peek(&mut [0; 10]) == 10
+        && buf.starts_with(b"xxxxxxxxxx")
+        && buf.segments() >= 10
+        && buf.remaining() >= 10
+        && buf.peek_bytes(alloc, 10).is_ok()
+        && buf.prefix(alloc, 10).is_ok()
+}
+
+/// Whether neither a buffer that is accepted nor a read looks at the other segments.
+fn looks_at_first(alloc: Global, many: Vec<Asked>) -> bool {
+    let mut buf = SegmentedBuf::new(alloc);
+    let is_read = accepts(alloc, &mut buf, many)
+        && sees_ten(alloc, &buf)
+        && shows_two(&buf)
+        && copies(alloc, &mut buf, TEN);
+    is_read && are_untouched(&buf.into_inner().into_vec(), 1)
+}
+
+#[test]
+fn held_are_not_looked_at(rt: HostRuntime) {
+    assert!(rt;
+        match thousand(rt.alloc()) {
+            Ok(many) => looks_at_first(rt.alloc(), many),
+            Err(_) => false,
+        }
+    );
+}
+
+/// Copies out of borrowed buffers, and returns whether those after the first few are untouched.
+fn copies_lent(
     rt: &impl Abort,
     alloc: Global,
-    buf: &SegmentedBuf<B>,
-) -> Result<(), Fail> {
-    assert!(rt;
-        buf.peek(&mut [0; 10]) == 10
-            && buf.starts_with(b"xxxxxxxxxx")
-            && buf.segments() >= 10
-            && buf.remaining() >= 10
-    );
-    let _ = buf.peek_bytes(alloc, 10)?;
-    let _ = buf.prefix(alloc, 10)?;
-    Ok(())
+    bufs: &mut [Asked],
+    lens: &[u8],
+    few: usize,
+) -> bool {
+    let mut all = lend(rt, bufs);
+    shows_two(&all) && copies(alloc, &mut all, lens) && are_untouched(all.into_lent(), few)
 }
 
-// Neither a buffer that is accepted nor a read looks at the other segments.
-#[test]
-fn held_are_not_looked_at(rt: HostRuntime) -> Result<(), Fail> {
-    let buf = accepted(&rt, rt.alloc())?;
-    sees_ten(&rt, rt.alloc(), &buf)?;
-    assert_untouched(&rt, &copies_held(&rt, rt.alloc(), buf, TEN)?, 1);
-    Ok(())
+fn copies_lent_thousand(rt: &impl Abort, alloc: Global) -> Option<bool> {
+    Some(copies_lent(rt, alloc, &mut thousand(alloc).ok()?, TEN, 11))
 }
 
 #[test]
-fn lent_are_not_looked_at(rt: HostRuntime) -> Result<(), Fail> {
-    let mut bufs = thousand(rt.alloc())?;
-    assert_untouched(&rt, copies_lent(&rt, rt.alloc(), &mut bufs, TEN)?, 11);
-    Ok(())
+fn lent_are_not_looked_at(rt: HostRuntime) {
+    assert!(rt; copies_lent_thousand(&rt, rt.alloc()) == Some(true));
 }
 
 // A copy takes a whole chunk by one call, with no call for zero bytes before it.
 #[test]
-fn copy_advances_once(rt: HostRuntime) -> Result<(), Fail> {
+fn copy_advances_once(rt: HostRuntime) {
     let mut bufs = [Asked::of("abc"), Asked::of("defghi")];
-    let left = copies_lent(&rt, rt.alloc(), &mut bufs, &[1, 7])?;
-    assert!(rt; left.len() == 2 && left[0].advanced == 2 && left[1].advanced == 1);
-    Ok(())
+    assert!(rt;
+        copies_lent(&rt, rt.alloc(), &mut bufs, b"\x01\x07", 2)
+            && bufs[0].advanced == 2
+            && bufs[1].advanced == 1
+    );
 }
 
-// By a copy across the end of the first, and by two of the second alone.
+/// How often the last of two buffers is advanced by a copy across the end of the first, and by two of
+/// the second alone.
+fn times_advanced(alloc: Global) -> Option<usize> {
+    let mut buf = hold(alloc, Asked::of("abc"))?;
+    let is_copied = put(&mut buf, Asked::of("defghi"))
+        && shows_two(&buf)
+        && copies(alloc, &mut buf, b"\x05\x01\x01");
+    let left = buf.into_inner();
+    (is_copied && left.len() == 1).then_some(left.front()?.advanced)
+}
+
 #[test]
-fn held_are_advanced_once_a_call(rt: HostRuntime) -> Result<(), Fail> {
-    let mut buf = hold(&rt, rt.alloc(), Asked::of("abc"))?;
-    put(&rt, &mut buf, Asked::of("defghi"))?;
-    let left = copies_held(&rt, rt.alloc(), buf, &[5, 1, 1])?;
-    assert!(rt; left.len() == 1 && left[0].advanced == 3);
-    Ok(())
+fn held_are_advanced_once_a_call(rt: HostRuntime) {
+    assert!(rt; times_advanced(rt.alloc()) == Some(3));
 }

@@ -10,46 +10,43 @@ mod queue;
 mod range;
 mod split;
 
-use crate::fixtures::refusals::report;
-use crate::fixtures::{assert_fills, bytes_of};
+use crate::fixtures::refusals::reports;
 use bytes::{Buf, Bytes};
 use bytes_utils_buf::Reason;
+use bytes_utils_buf::contiguous::ContiguousBuf;
 use bytes_utils_buf::segmented::SegmentedBuf;
 use std::alloc::{AllocError, Global};
-use std::process::Abort;
-use std::test::Fail;
 
-/// Six buffers. A deque grows twice while they are appended.
-const LETTERS: &[&str] = &["a", "b", "c", "d", "e", "f"];
+/// Six letters, each for a buffer of its own. A deque grows twice while they are appended.
+const LETTERS: &[u8] = b"abcdef";
 
-fn letters(alloc: Global) -> Result<Vec<Bytes>, AllocError> {
-    bytes_of(alloc, LETTERS)
+fn buffers(alloc: Global, letters: &'static [u8]) -> Result<Vec<Bytes>, AllocError> {
+    let mut bufs = Vec::with_capacity(alloc, letters.len())?;
+    for letter in letters.chunks(1) {
+        bufs.push(Bytes::from_static(letter))?;
+    }
+    Ok(bufs)
 }
 
-// These letters are held, if there is memory for them.
-fn holding(alloc: Global, letters: &[&'static str]) -> Option<SegmentedBuf<Bytes>> {
-    SegmentedBuf::from_vec(alloc, bytes_of(alloc, letters).ok()?).ok()
+/// These letters are held, if there is memory for them.
+fn holding(alloc: Global, letters: &'static [u8]) -> Option<SegmentedBuf<Bytes>> {
+    SegmentedBuf::from_vec(alloc, buffers(alloc, letters).ok()?).ok()
 }
 
-// The first `held` letters are held.
-fn assert_holds(rt: &impl Abort, buf: &SegmentedBuf<Bytes>, held: usize) {
-    assert!(rt; held <= LETTERS.len() && buf.segments() == held && buf.remaining() == held);
-    assert_fills(rt, buf, 10, &LETTERS[..held]);
+/// Whether these letters are held, each by a segment of its own.
+fn holds<B: ContiguousBuf + Drop>(buf: &SegmentedBuf<B>, letters: &[u8]) -> bool {
+    buf.segments() == letters.len() && buf.eq_bytes(letters)
 }
 
-// The letters from `from` on are returned, or the call is refused.
+/// Whether these letters are returned, or the call is refused.
 fn gives_letters(
-    rt: &(impl Abort + Print),
+    rt: &impl Print,
     call: &str,
     answer: Result<SegmentedBuf<Bytes>, Reason>,
-    from: usize,
-) -> Result<(), Fail> {
+    letters: &[u8],
+) -> bool {
     match answer {
-        Ok(part) => {
-            assert!(rt; from <= LETTERS.len());
-            assert_fills(rt, &part, 10, &LETTERS[from..]);
-            Ok(())
-        }
-        Err(reason) => report(rt, call, reason),
+        Ok(part) => holds(&part, letters),
+        Err(reason) => reports(rt, call, reason),
     }
 }

@@ -1,52 +1,41 @@
 //! Segmented buffers in segmented buffers.
-use crate::fixtures::{assert_fills, assert_shows, gather, gives, held, hold, skip};
-use bytes::Buf;
+use crate::fixtures::{fills, gives, held, put, shows, skip};
+use bytes::{Buf, Bytes};
 use bytes_utils_buf::parts::BufParts;
 use bytes_utils_buf::segmented::SegmentedBuf;
 use std::alloc::Global;
 use std::process::Abort;
-use std::test::Fail;
 
 // The outer buffer holds `a`, `b` and `cd`, the last in a segment of its own.
-fn reads_three<B: BufParts + Drop>(
-    rt: &impl Abort,
-    alloc: Global,
-    mut outer: SegmentedBuf<B>,
-) -> Result<(), Fail> {
-    assert_shows(rt, &outer, (4, 2, "a"));
-    assert_fills(rt, &outer, 10, &["a", "b", "cd"]);
-    skip(rt, &mut outer, 2);
-    assert_shows(rt, &outer, (2, 1, "cd"));
-    gives(rt, alloc, &mut outer, "cd")?;
-    assert_shows(rt, &outer, (0, 0, ""));
-    Ok(())
+fn reads_three<B: BufParts + Drop>(alloc: Global, outer: &mut SegmentedBuf<B>) -> bool {
+    shows(outer, (4, 2, "a"))
+        && fills(outer, 10, "a|b|cd")
+        && skip(outer, 2)
+        && shows(outer, (2, 1, "cd"))
+        && gives(alloc, outer, "cd")
+        && shows(outer, (0, 0, ""))
 }
 
-fn pair<B: Buf + Drop>(alloc: Global, first: B, second: B) -> Result<SegmentedBuf<B>, Fail> {
-    let mut bufs = Vec::new(alloc);
-    bufs.push(first).ok().ok_or("refused")?;
-    bufs.push(second).ok().ok_or("refused")?;
-    gather(alloc, bufs)
+/// Holds a buffer and another.
+fn pair<B: Buf + Drop>(alloc: Global, first: B, second: B) -> Option<SegmentedBuf<B>> {
+    let mut both = SegmentedBuf::new(alloc);
+    both.try_push(first).ok()?;
+    put(&mut both, second).then_some(both)
 }
 
-// The middle buffers are of the first two, and of the third.
-fn nests<B: BufParts + Drop>(
-    rt: &impl Abort,
-    alloc: Global,
-    (first, second, third): (B, B, B),
-) -> Result<(), Fail> {
-    let upper = pair(alloc, first, second)?;
-    let lower = hold(rt, alloc, third)?;
-    reads_three(rt, alloc, pair(alloc, upper, lower)?)
+type Middle = SegmentedBuf<SegmentedBuf<Bytes>>;
+
+/// The upper buffer is of two, of which the second is empty, and the lower one of a third.
+fn middle(alloc: Global, texts: &'static str) -> Option<Middle> {
+    pair(alloc, held(alloc, texts)?, SegmentedBuf::new(alloc))
+}
+
+fn reads_levels(alloc: Global) -> Option<bool> {
+    let mut outer = pair(alloc, middle(alloc, "a||b")?, middle(alloc, "cd")?)?;
+    Some(reads_three(alloc, &mut outer))
 }
 
 #[test]
-fn three_levels(rt: HostRuntime) -> Result<(), Fail> {
-    let first = held(rt.alloc(), &["a", "", "b"])?;
-    let third = held(rt.alloc(), &["cd"])?;
-    nests(
-        &rt,
-        rt.alloc(),
-        (first, SegmentedBuf::new(rt.alloc()), third),
-    )
+fn three_levels(rt: HostRuntime) {
+    assert!(rt; reads_levels(rt.alloc()) == Some(true));
 }

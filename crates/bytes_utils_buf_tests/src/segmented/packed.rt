@@ -1,17 +1,33 @@
 //! Pieces of a `PackedBuf`: which become one segment, what is shared, and how large a block is.
-use crate::fixtures::{
-    FOUR, assert_bytes, assert_debugs, assert_fills, assert_reads, gives, shared, skip,
-};
-use bytes::{Buf, Bytes};
+use crate::fixtures::{FOUR, JOINED, debugs, fills, gives, reads, shared, skip};
+use bytes::{Buf, Bytes, BytesMut};
 use bytes_utils_buf::EitherBuf;
-use bytes_utils_buf::segmented::PackedBuf;
+use bytes_utils_buf::segmented::{PackedBuf, SegmentedBuf};
 use std::alloc::Global;
 use std::process::Abort;
-use std::test::Fail;
+
+/// The segments of `hello`.
+pub(super) const HELLO: &str = "Hello| |World";
 
 /// Whether these bytes are unread, and no others.
 pub(super) fn holds(buf: &PackedBuf, bytes: &[u8]) -> bool {
     buf.remaining() == bytes.len() && buf.as_segmented().eq_bytes(bytes)
+}
+
+/// Takes the next bytes out by `take_bytes`, if there are as many, and memory.
+fn take(alloc: Global, buf: &mut PackedBuf, len: usize) -> Option<Bytes> {
+    if len > buf.remaining() {
+        return None;
+    }
+    buf.take_bytes(alloc, len).ok()
+}
+
+/// The same by `split_to`.
+fn split(alloc: Global, buf: &mut PackedBuf, len: usize) -> Option<SegmentedBuf<Bytes>> {
+    if len > buf.remaining() {
+        return None;
+    }
+    buf.split_to(alloc, len).ok()
 }
 
 /// A buffer, and the bytes that it was given, of which the first `read` ones were read.
@@ -32,37 +48,31 @@ impl Both {
     }
 
     /// Makes a call that adds a text or takes it off, and returns whether the bytes are right then.
-    fn call(&mut self, alloc: Global, name: &str, text: &'static [u8]) -> Result<bool, Fail> {
-        let is_right = match name {
-            "push" => {
-                self.flat.extend_from_slice(text)?;
-                self.buf.push(alloc, Bytes::from_static(text))?;
-                true
-            }
-            "copy" => {
-                self.flat.extend_from_slice(text)?;
-                self.buf.push_slice(alloc, text)?;
-                true
-            }
-            _ => self.takes(alloc, name, text)?,
+    fn call(&mut self, alloc: Global, name: &str, text: &'static [u8]) -> bool {
+        let is_made = match name {
+            "push" | "copy" => self.adds(alloc, name, text),
+            _ => self.takes(alloc, name, text),
         };
-        Ok(is_right && self.is_flat())
+        is_made && self.is_flat()
+    }
+
+    fn adds(&mut self, alloc: Global, name: &str, text: &'static [u8]) -> bool {
+        self.flat.extend_from_slice(text).is_ok()
+            && match name {
+                "push" => self.buf.push(alloc, Bytes::from_static(text)).is_ok(),
+                _ => self.buf.push_slice(alloc, text).is_ok(),
+            }
     }
 
     /// Takes a text off, and returns whether it came.
-    fn takes(&mut self, alloc: Global, name: &str, text: &[u8]) -> Result<bool, Fail> {
-        if self.buf.remaining() < text.len() {
-            return Ok(false);
+    fn takes(&mut self, alloc: Global, name: &str, text: &[u8]) -> bool {
+        let len = text.len();
+        self.read = self.read.saturating_add(len);
+        match name {
+            "take" => matches!(&take(alloc, &mut self.buf, len), Some(it) if it.as_slice() == text),
+            "split" => matches!(&split(alloc, &mut self.buf, len), Some(it) if it.eq_bytes(text)),
+            _ => name == "advance" && skip(&mut self.buf, len),
         }
-        self.read = self.read.saturating_add(text.len());
-        Ok(match name {
-            "take" => self.buf.take_bytes(alloc, text.len())?.as_slice() == text,
-            "split" => self.buf.split_to(alloc, text.len())?.eq_bytes(text),
-            _ => {
-                self.buf.advance(text.len());
-                name == "advance"
-            }
-        })
     }
 
     fn is_flat(&self) -> bool {
@@ -83,164 +93,193 @@ const ROWS: &str = "\
 512: push a 1, push bcd 1, push  1, advance ab 1, push e 1, split cde 0, push f 1|\
 18446744073709551615: push abcd 1, push e 1, take abc 1, push f 1, split def 0, push g 1";
 
-/// Makes calls, and returns whether each was right.
-fn are_right(alloc: Global, both: &mut Both, calls: &'static str) -> Result<bool, Fail> {
+/// Makes a call, and returns whether it was right.
+fn is_right(alloc: Global, both: &mut Both, call: &'static str) -> Option<bool> {
+    let (name, rest) = call.split_once(' ')?;
+    let (text, segments) = rest.split_once(' ')?;
+    let segments: usize = segments.parse().ok()?;
+    Some(both.call(alloc, name, text.as_bytes()) && both.buf.segments() == segments)
+}
+
+fn are_right(alloc: Global, both: &mut Both, calls: &'static str) -> bool {
     for call in calls.split(", ") {
-        let (name, rest) = call.split_once(' ').ok_or("no text")?;
-        let (text, segments) = rest.split_once(' ').ok_or("no number")?;
-        if !both.call(alloc, name, text.as_bytes())?
-            || segments.parse().ok() != Some(both.buf.segments())
-        {
-            return Ok(false);
+        if is_right(alloc, both, call) != Some(true) {
+            return false;
         }
     }
-    Ok(true)
+    true
+}
+
+/// Makes the calls of a row, and returns whether each was right.
+fn is_row(alloc: Global, row: &'static str) -> Option<bool> {
+    let (threshold, calls) = row.split_once(": ")?;
+    let mut both = Both::new(alloc, threshold.parse().ok()?);
+    Some(are_right(alloc, &mut both, calls))
 }
 
 #[test]
-fn rows(rt: HostRuntime) -> Result<(), Fail> {
+fn rows(rt: HostRuntime) {
     for row in ROWS.split('|') {
-        let (threshold, calls) = row.split_once(": ").ok_or("no calls")?;
-        let threshold = threshold.parse().ok().ok_or("no threshold")?;
-        let mut both = Both::new(rt.alloc(), threshold);
-        assert!(rt; are_right(rt.alloc(), &mut both, calls)?, "{row}");
+        assert!(rt; is_row(rt.alloc(), row) == Some(true), "{row}");
     }
-    Ok(())
 }
 
 const TEXT: &[u8] = b"abcdefg";
 
-/// Pushes three pieces of the text, with a read of `len` bytes before the last one, and reads the
-/// rest by as many. Returns whether each read was right.
-fn is_cut(
+/// Pushes three pieces of the text, with a read of `len` bytes before the last one. Returns whether
+/// that read was right.
+fn pushes_three(
     alloc: Global,
     both: &mut Both,
     (first, second): (usize, usize),
     len: usize,
-) -> Result<bool, Fail> {
-    if first > second || second > TEXT.len() {
-        return Ok(false);
-    }
-    let mut is_right = both.call(alloc, "push", &TEXT[..first])?
-        && both.call(alloc, "push", &TEXT[first..second])?
-        && both.call(alloc, "take", &TEXT[..len.min(second)])?
-        && both.call(alloc, "push", &TEXT[second..])?;
+) -> bool {
+    first <= second
+        && second <= TEXT.len()
+        && both.call(alloc, "push", &TEXT[..first])
+        && both.call(alloc, "push", &TEXT[first..second])
+        && both.call(alloc, "take", &TEXT[..len.min(second)])
+        && both.call(alloc, "push", &TEXT[second..])
+}
+
+/// Reads the rest of the text by `len` bytes, and returns whether each read was right.
+fn reads_rest(alloc: Global, both: &mut Both, len: usize) -> bool {
     for _ in TEXT {
         let rest = &TEXT[both.read.min(TEXT.len())..];
-        is_right = is_right && both.call(alloc, "take", &rest[..len.min(rest.len())])?;
+        if !both.call(alloc, "take", &rest[..len.min(rest.len())]) {
+            return false;
+        }
     }
-    Ok(is_right && both.buf.segments() == 0)
+    both.buf.segments() == 0
+}
+
+fn is_cut(alloc: Global, threshold: usize, cut: (usize, usize), len: usize) -> bool {
+    let mut both = Both::new(alloc, threshold);
+    pushes_three(alloc, &mut both, cut, len) && reads_rest(alloc, &mut both, len)
 }
 
 /// The thresholds of the cuts, and how many bytes a read has.
 const CUTS: &str = "0 1,0 3,1 1,1 2,2 1,2 4,3 2,4 5,6 1,7 3,512 2,18446744073709551615 1";
 
-fn is_cut_everywhere(alloc: Global, threshold: usize, len: usize) -> Result<bool, Fail> {
+/// Whether all reads are right, wherever the text is cut.
+fn is_cut_everywhere(alloc: Global, row: &str) -> Option<bool> {
+    let (threshold, len) = row.split_once(' ')?;
+    let (threshold, len) = (threshold.parse().ok()?, len.parse().ok()?);
     for second in 0..TEXT.len().saturating_add(1) {
         for first in 0..second.saturating_add(1) {
-            if !is_cut(
-                alloc,
-                &mut Both::new(alloc, threshold),
-                (first, second),
-                len,
-            )? {
-                return Ok(false);
+            if !is_cut(alloc, threshold, (first, second), len) {
+                return Some(false);
             }
         }
     }
-    Ok(true)
+    Some(true)
 }
 
 // The cuts at the ends are those into two pieces.
 #[test]
-fn every_cut(rt: HostRuntime) -> Result<(), Fail> {
+fn every_cut(rt: HostRuntime) {
     for row in CUTS.split(',') {
-        let (threshold, len) = row.split_once(' ').ok_or("no length")?;
-        let threshold = threshold.parse().ok().ok_or("no threshold")?;
-        let len = len.parse().ok().ok_or("no length")?;
-        assert!(rt; is_cut_everywhere(rt.alloc(), threshold, len)?, "{row}");
+        assert!(rt; is_cut_everywhere(rt.alloc(), row) == Some(true), "{row}");
     }
-    Ok(())
 }
 
 /// As many bytes as all pieces of fewer than 1,101 bytes have together, and some more.
-fn stream(alloc: Global) -> Result<Bytes, Fail> {
+fn stream(alloc: Global) -> Option<Bytes> {
     let mut bytes = Vec::new(alloc);
     for _ in 0..2_500 {
         for byte in 0..251 {
-            bytes.push(byte)?;
+            bytes.push(byte).ok()?;
         }
     }
-    Ok(Bytes::from_vec(bytes)?)
+    Bytes::from_vec(bytes).ok()
 }
 
-/// Takes the next bytes out, at most `len`, and returns whether they are the first of `rest`.
-fn is_next(alloc: Global, buf: &mut PackedBuf, len: usize, rest: &[u8]) -> Result<bool, Fail> {
+/// Takes the next bytes out, at most `len`. Returns how many, if they are the first of `rest`.
+fn takes_next(alloc: Global, buf: &mut PackedBuf, len: usize, rest: &[u8]) -> Option<usize> {
     let len = len.min(buf.remaining());
-    let taken = buf.take_bytes(alloc, len)?;
-    Ok(rest.starts_with(taken.as_slice()))
+    (take(alloc, buf, len)?.as_slice() == rest.get(..len)?).then_some(len)
+}
+
+/// Pushes a piece of the stream.
+fn pushes(alloc: Global, buf: &mut PackedBuf, stream: &Bytes, from: usize, to: usize) -> bool {
+    if from > to || to > stream.len() {
+        return false;
+    }
+    match stream.slice(from..to) {
+        Ok(piece) => buf.push(alloc, piece).is_ok(),
+        Err(_) => false,
+    }
 }
 
 /// Pushes pieces of 0 to 1,100 bytes of the stream, and takes `len` bytes out after each. Returns
 /// whether these were right, and all that are left.
-fn is_stream(alloc: Global, buf: &mut PackedBuf, stream: &Bytes, len: usize) -> Result<bool, Fail> {
+fn is_stream(alloc: Global, buf: &mut PackedBuf, stream: &Bytes, len: usize) -> Option<bool> {
     let (mut pushed, mut read) = (0_usize, 0_usize);
     for piece in 0..1_101 {
         let end = pushed.saturating_add(piece);
-        if read > end || end > stream.len() {
-            return Ok(false);
+        if !pushes(alloc, buf, stream, pushed, end) {
+            return None;
         }
-        buf.push(alloc, stream.slice(pushed..end)?)?;
         pushed = end;
-        let len = len.min(buf.remaining());
-        if !is_next(alloc, buf, len, &stream.as_slice()[read..])? {
-            return Ok(false);
-        }
-        read = read.saturating_add(len);
+        let taken = takes_next(alloc, buf, len, stream.as_slice().get(read..)?)?;
+        read = read.saturating_add(taken);
     }
-    let is_within = read <= pushed && pushed <= stream.len();
-    Ok(is_within && holds(buf, &stream.as_slice()[read..pushed]))
+    Some(holds(buf, stream.as_slice().get(read..pushed)?))
+}
+
+/// How many segments are held after that, if all was right.
+fn segments_of_stream(alloc: Global, len: usize) -> Option<usize> {
+    let stream = stream(alloc)?;
+    let mut buf = PackedBuf::new(alloc, 512);
+    is_stream(alloc, &mut buf, &stream, len)?.then_some(buf.segments())
 }
 
 // The pieces of up to 512 bytes have 131,328 bytes. At least 3,585 of a block of 4,096 are used
 // before a piece of at most 512 bytes has no room. So there are 33 to 37 blocks, and 588 pieces of
-// more than 512 bytes.
+// more than 512 bytes: 621 to 625 segments.
 #[test]
-fn pieces_of_all_lengths(rt: HostRuntime) -> Result<(), Fail> {
-    let stream = stream(rt.alloc())?;
-    let mut buf = PackedBuf::new(rt.alloc(), 512);
-    assert!(rt; is_stream(rt.alloc(), &mut buf, &stream, 0)?);
-    let segments = buf.segments();
-    assert!(rt; 588 + 33 <= segments && segments <= 588 + 37);
-    Ok(())
+fn pieces_of_all_lengths(rt: HostRuntime) {
+    assert!(rt; matches!(segments_of_stream(rt.alloc(), 0), Some(621..=625)));
 }
 
 #[test]
-fn pieces_of_all_lengths_with_reads_between(rt: HostRuntime) -> Result<(), Fail> {
-    let stream = stream(rt.alloc())?;
-    let mut buf = PackedBuf::new(rt.alloc(), 512);
-    assert!(rt; is_stream(rt.alloc(), &mut buf, &stream, 7)?);
-    Ok(())
+fn pieces_of_all_lengths_with_reads_between(rt: HostRuntime) {
+    assert!(rt; segments_of_stream(rt.alloc(), 7).is_some());
 }
 
-/// Pushes pieces of one byte each.
-fn put_singles(alloc: Global, buf: &mut PackedBuf, count: usize) -> Result<(), Fail> {
-    for _ in 0..count {
-        buf.push(alloc, Bytes::from_static(b"x"))?;
+/// Pushes as many bytes at once, and returns whether there was memory for them.
+fn puts(alloc: Global, buf: &mut PackedBuf, byte: u8, count: usize) -> bool {
+    match vec![in alloc; byte; count] {
+        Ok(bytes) => buf.push_slice(alloc, &bytes).is_ok(),
+        Err(_) => false,
     }
-    Ok(())
+}
+
+/// The same, one by one.
+fn puts_singles(alloc: Global, buf: &mut PackedBuf, count: usize) -> bool {
+    for _ in 0..count {
+        if buf.push(alloc, Bytes::from_static(b"x")).is_err() {
+            return false;
+        }
+    }
+    true
+}
+
+/// Whether a segment is a block of this number of bytes, with room for at most that one.
+fn is_block(segment: &EitherBuf<Bytes, BytesMut>, block: &str) -> Option<bool> {
+    let (len, most) = block.split_once(" of ")?;
+    let (len, most): (usize, usize) = (len.parse().ok()?, most.parse().ok()?);
+    Some(match segment {
+        EitherBuf::Left(_) => false,
+        EitherBuf::Right(block) => block.len() == len && block.capacity() <= most,
+    })
 }
 
 /// Whether the segments are blocks of these numbers of bytes, with room for at most these.
 fn are_blocks(buf: PackedBuf, blocks: &str) -> Option<bool> {
     let mut wanted = blocks.split(", ");
     for segment in buf.into_segmented().into_inner().iter() {
-        let (len, most) = wanted.next()?.split_once(" of ")?;
-        let EitherBuf::Right(block) = segment else {
-            return Some(false);
-        };
-        let (len, most): (usize, usize) = (len.parse().ok()?, most.parse().ok()?);
-        if block.len() != len || block.capacity() > most {
+        if !is_block(segment, wanted.next()?)? {
             return Some(false);
         }
     }
@@ -256,33 +295,22 @@ const BLOCKS: &str = "\
 512 100000 0: 100000 of 200000|\
 18446744073709551615 0 5000: 5000 of 8194";
 
-/// Pushes as many bytes at once, and as many one by one.
-fn put(alloc: Global, buf: &mut PackedBuf, first: usize, singles: usize) -> Result<(), Fail> {
-    buf.push_slice(alloc, vec![in alloc; b'x'; first]?.as_slice())?;
-    for _ in 0..singles {
-        buf.push(alloc, Bytes::from_static(b"x"))?;
-    }
-    Ok(())
-}
-
-fn has_blocks(alloc: Global, row: &str) -> Result<bool, Fail> {
-    let (counts, blocks) = row.split_once(": ").ok_or("no blocks")?;
-    let (threshold, counts) = counts.split_once(' ').ok_or("no counts")?;
-    let (first, singles) = counts.split_once(' ').ok_or("no count")?;
-    let first = first.parse().ok().ok_or("no count")?;
-    let singles = singles.parse().ok().ok_or("no count")?;
-    let mut buf = PackedBuf::new(alloc, threshold.parse().ok().ok_or("no threshold")?);
-    put(alloc, &mut buf, first, singles)?;
-    Ok(are_blocks(buf, blocks) == Some(true))
+fn has_blocks(alloc: Global, row: &str) -> Option<bool> {
+    let (counts, blocks) = row.split_once(": ")?;
+    let (threshold, counts) = counts.split_once(' ')?;
+    let (first, singles) = counts.split_once(' ')?;
+    let (first, singles) = (first.parse().ok()?, singles.parse().ok()?);
+    let mut buf = PackedBuf::new(alloc, threshold.parse().ok()?);
+    let is_put = puts(alloc, &mut buf, b'x', first) && puts_singles(alloc, &mut buf, singles);
+    Some(are_blocks(buf, blocks)? && is_put)
 }
 
 // A block of 4,096 bytes or more doesn't grow.
 #[test]
-fn blocks(rt: HostRuntime) -> Result<(), Fail> {
+fn blocks(rt: HostRuntime) {
     for row in BLOCKS.split('|') {
-        assert!(rt; has_blocks(rt.alloc(), row)?, "{row}");
+        assert!(rt; has_blocks(rt.alloc(), row) == Some(true), "{row}");
     }
-    Ok(())
 }
 
 /// How many bytes are pushed one by one after a longer piece that is shared, and the blocks that hold
@@ -293,171 +321,201 @@ const LATER_BLOCKS: &str = "\
 65: 65 of 128|\
 5000: 4096 of 4096, 904 of 4096";
 
-fn has_later_blocks(alloc: Global, row: &str) -> Result<bool, Fail> {
-    let (count, blocks) = row.split_once(": ").ok_or("no blocks")?;
+fn has_later_blocks(alloc: Global, row: &str) -> Option<bool> {
+    let (count, blocks) = row.split_once(": ")?;
+    let count = count.parse().ok()?;
     let mut buf = PackedBuf::new(alloc, 10);
-    buf.push(alloc, Bytes::from_static(b"Hello World"))?;
-    put_singles(alloc, &mut buf, count.parse().ok().ok_or("no count")?)?;
-    if buf.remaining() < 11 {
-        return Ok(false);
-    }
-    buf.advance(11);
-    Ok(are_blocks(buf, blocks) == Some(true))
+    let is_put = buf.push(alloc, Bytes::from_static(b"Hello World")).is_ok()
+        && puts_singles(alloc, &mut buf, count)
+        && skip(&mut buf, 11);
+    Some(are_blocks(buf, blocks)? && is_put)
 }
 
 #[test]
-fn blocks_after_a_longer_piece(rt: HostRuntime) -> Result<(), Fail> {
+fn blocks_after_a_longer_piece(rt: HostRuntime) {
     for row in LATER_BLOCKS.split('|') {
-        assert!(rt; has_later_blocks(rt.alloc(), row)?, "{row}");
+        assert!(rt; has_later_blocks(rt.alloc(), row) == Some(true), "{row}");
     }
-    Ok(())
 }
 
 /// Pushes a text and takes it out, and returns whether it shares its block with the room that is
 /// left of that.
-fn shares_room(alloc: Global, buf: &mut PackedBuf, text: &[u8]) -> Result<bool, Fail> {
-    buf.push_slice(alloc, text)?;
-    Ok(buf.remaining() == 3 && shares_taken(alloc, buf)? && buf.segments() == 0)
+fn shares_room(alloc: Global, buf: &mut PackedBuf, text: &[u8]) -> bool {
+    buf.push_slice(alloc, text).is_ok()
+        && buf.remaining() == 3
+        && shares_taken(alloc, buf)
+        && buf.segments() == 0
+}
+
+/// Pushes as many bytes and takes them out, and returns whether nothing shares their block.
+fn gives_block_up(alloc: Global, buf: &mut PackedBuf, count: usize) -> bool {
+    puts(alloc, buf, b'x', count)
+        && buf.remaining() == count
+        && matches!(&take(alloc, buf, count), Some(all) if all.is_unique())
 }
 
 // The room of a block that was read to its end is kept for the next message, but not that of a large
 // block.
 #[test]
-fn messages_share_a_block(rt: HostRuntime) -> Result<(), Fail> {
+fn messages_share_a_block(rt: HostRuntime) {
     let mut buf = PackedBuf::new(rt.alloc(), 512);
-    assert!(rt; shares_room(rt.alloc(), &mut buf, b"one")?);
-    assert!(rt; shares_room(rt.alloc(), &mut buf, b"two")?);
-    put(rt.alloc(), &mut buf, 20_000, 0)?;
-    let len = buf.remaining();
-    assert!(rt; buf.take_bytes(rt.alloc(), len)?.is_unique());
-    Ok(())
+    assert!(rt;
+        shares_room(rt.alloc(), &mut buf, b"one")
+            && shares_room(rt.alloc(), &mut buf, b"two")
+            && gives_block_up(rt.alloc(), &mut buf, 20_000)
+    );
 }
 
 /// Fills a block, takes all but 196 bytes out, and pushes 500. Returns whether one segment holds
 /// these and the rest.
-fn moves_rest(alloc: Global, buf: &mut PackedBuf) -> Result<bool, Fail> {
-    put_singles(alloc, buf, 4_096)?;
-    if buf.remaining() < 3_900 {
-        return Ok(false);
-    }
-    let taken = buf.take_bytes(alloc, 3_900)?;
-    buf.push_slice(alloc, vec![in alloc; b'y'; 500]?.as_slice())?;
-    Ok(taken.len() == 3_900 && buf.segments() == 1 && buf.remaining() == 696)
+fn moves_rest(alloc: Global, buf: &mut PackedBuf) -> bool {
+    let taken = if puts_singles(alloc, buf, 4_096) {
+        take(alloc, buf, 3_900)
+    } else {
+        None
+    };
+    puts(alloc, buf, b'y', 500)
+        && taken.is_some()
+        && buf.segments() == 1
+        && buf.remaining() == 696
+        && buf.last_segment().starts_with(b"xxxx")
+        && buf.last_segment().ends_with(b"yyyy")
 }
 
 #[test]
-fn short_rests_move(rt: HostRuntime) -> Result<(), Fail> {
-    let mut buf = PackedBuf::new(rt.alloc(), 512);
-    assert!(rt; moves_rest(rt.alloc(), &mut buf)?);
-    assert!(rt; buf.last_segment().starts_with(b"xxxx") && buf.last_segment().ends_with(b"yyyy"));
-    Ok(())
+fn short_rests_move(rt: HostRuntime) {
+    assert!(rt; moves_rest(rt.alloc(), &mut PackedBuf::new(rt.alloc(), 512)));
 }
 
-/// Pushes a piece of eleven bytes of which another owner is kept, and returns whether the block has
-/// two owners then.
-fn shares(alloc: Global, threshold: usize) -> Result<bool, Fail> {
+/// Pushes a piece, and returns whether another owner of its block is left, and the buffer holds it.
+fn is_shared(alloc: Global, buf: &mut PackedBuf, piece: Bytes, other: &Bytes) -> bool {
+    buf.push(alloc, piece).is_ok() && !other.is_unique() && holds(buf, other.as_slice())
+}
+
+/// The same of a piece of eleven bytes.
+fn shares_eleven(alloc: Global, threshold: usize) -> Option<bool> {
     let (piece, other) = shared(alloc)?;
-    let mut buf = PackedBuf::new(alloc, threshold);
-    buf.push(alloc, piece)?;
-    Ok(!other.is_unique() && holds(&buf, other.as_slice()))
+    Some(is_shared(alloc, &mut PackedBuf::new(alloc, threshold), piece, &other))
 }
 
 #[test]
-fn large_pieces_are_shared(rt: HostRuntime) -> Result<(), Fail> {
-    assert!(rt; shares(rt.alloc(), 0)? && shares(rt.alloc(), 10)?);
-    assert!(rt; !shares(rt.alloc(), 11)? && !shares(rt.alloc(), usize::MAX)?);
-    Ok(())
+fn large_pieces_are_shared(rt: HostRuntime) {
+    assert!(rt; shares_eleven(rt.alloc(), 0) == Some(true));
+    assert!(rt; shares_eleven(rt.alloc(), 10) == Some(true));
+    assert!(rt; shares_eleven(rt.alloc(), 11) == Some(false));
+    assert!(rt; shares_eleven(rt.alloc(), usize::MAX) == Some(false));
 }
 
-/// A block of eleven bytes, or a piece of as many, held as it came.
-fn eleven(alloc: Global, is_block: bool) -> Result<PackedBuf, Fail> {
-    let mut buf = PackedBuf::new(alloc, if is_block { 11 } else { 10 });
-    buf.push(alloc, shared(alloc)?.0)?;
-    Ok(buf)
+/// A piece of eleven bytes: a block by a threshold of as many, and else held as it came.
+fn eleven(alloc: Global, threshold: usize) -> Option<PackedBuf> {
+    let piece = Bytes::copy_from_slice(alloc, JOINED.as_bytes()).ok()?;
+    let mut buf = PackedBuf::new(alloc, threshold);
+    buf.push(alloc, piece).is_ok().then_some(buf)
 }
 
 /// Takes the next three bytes out, and returns whether another owner of their block is left.
-fn shares_taken(alloc: Global, buf: &mut PackedBuf) -> Result<bool, Fail> {
-    if buf.remaining() < 3 {
-        return Ok(false);
-    }
-    Ok(!buf.take_bytes(alloc, 3)?.is_unique())
+fn shares_taken(alloc: Global, buf: &mut PackedBuf) -> bool {
+    matches!(&take(alloc, buf, 3), Some(taken) if !taken.is_unique())
 }
 
-/// The same of each segment that is split off.
-fn shares_split(alloc: Global, buf: &mut PackedBuf) -> Result<bool, Fail> {
-    if buf.remaining() < 3 {
-        return Ok(false);
-    }
-    let mut pieces = buf.split_to(alloc, 3)?.into_iter();
-    Ok(pieces.next().is_some_and(|piece| !piece.is_unique()))
+/// Whether bytes of two segments are copied.
+fn copies_across(alloc: Global, buf: &mut PackedBuf) -> bool {
+    skip(buf, 7)
+        && buf
+            .push(alloc, Bytes::from_static(b"a longer piece"))
+            .is_ok()
+        && buf.segments() == 2
+        && matches!(&take(alloc, buf, 3), Some(taken) if taken.is_unique())
 }
 
-// Bytes taken out of one segment share it. Those of two segments are copied.
+fn shares_block(alloc: Global, block: &mut PackedBuf) -> bool {
+    shares_taken(alloc, block) && shares_taken(alloc, block)
+}
+
+fn shares_piece(alloc: Global, piece: &mut PackedBuf) -> bool {
+    shares_taken(alloc, piece) && copies_across(alloc, piece)
+}
+
+/// Whether bytes taken out of one segment share it, and those of two segments are copied.
+fn shares_segments(alloc: Global) -> Option<bool> {
+    let is_block_shared = shares_block(alloc, &mut eleven(alloc, 11)?);
+    Some(is_block_shared & shares_piece(alloc, &mut eleven(alloc, 10)?))
+}
+
 #[test]
-fn taken_bytes_are_shared(rt: HostRuntime) -> Result<(), Fail> {
-    let mut block = eleven(rt.alloc(), true)?;
-    assert!(rt; shares_taken(rt.alloc(), &mut block)? && shares_taken(rt.alloc(), &mut block)?);
-    let mut piece = eleven(rt.alloc(), false)?;
-    assert!(rt; shares_taken(rt.alloc(), &mut piece)?);
-    skip(&rt, &mut piece, 7);
-    piece.push(rt.alloc(), Bytes::from_static(b"a longer piece"))?;
-    assert!(rt; piece.segments() == 2 && !shares_taken(rt.alloc(), &mut piece)?);
-    Ok(())
+fn taken_bytes_are_shared(rt: HostRuntime) {
+    assert!(rt; shares_segments(rt.alloc()) == Some(true));
+}
+
+/// Whether a segment that is split off a block, or a piece, has another owner of its block.
+fn shares_split(alloc: Global, threshold: usize) -> Option<bool> {
+    let mut buf = eleven(alloc, threshold)?;
+    let piece = split(alloc, &mut buf, 3)?.into_iter().next()?;
+    Some(!piece.is_unique())
 }
 
 #[test]
-fn split_segments_are_shared_unless_of_a_block(rt: HostRuntime) -> Result<(), Fail> {
-    assert!(rt; !shares_split(rt.alloc(), &mut eleven(rt.alloc(), true)?)?);
-    assert!(rt; shares_split(rt.alloc(), &mut eleven(rt.alloc(), false)?)?);
-    Ok(())
+fn split_segments_are_shared_unless_of_a_block(rt: HostRuntime) {
+    assert!(rt; shares_split(rt.alloc(), 11) == Some(false));
+    assert!(rt; shares_split(rt.alloc(), 10) == Some(true));
+}
+
+/// Whether bytes share the block of the only one of these segments, and no longer once that is
+/// dropped.
+fn are_of_block(taken: &Bytes, all: SegmentedBuf<Bytes>) -> bool {
+    let is_kept = !taken.is_unique() && all.eq_bytes(b"lo World") && all.segments() == 1;
+    drop(all);
+    is_kept && taken.is_unique()
 }
 
 /// Takes bytes out of a buffer, and makes it shared segments. Returns whether the bytes still share
-/// their block then, and no longer once the segments are dropped.
-fn keeps_blocks(alloc: Global, mut buf: PackedBuf) -> Result<bool, Fail> {
-    if buf.remaining() < 3 {
-        return Ok(false);
-    }
-    let taken = buf.take_bytes(alloc, 3)?;
-    let all = buf.into_shared(alloc)?;
-    let is_kept = !taken.is_unique() && all.eq_bytes(b"lo World") && all.segments() == 1;
-    drop(all);
-    Ok(is_kept && taken.is_unique())
+/// their block then.
+fn keeps_blocks(alloc: Global, threshold: usize) -> Option<bool> {
+    let mut buf = eleven(alloc, threshold)?;
+    let taken = take(alloc, &mut buf, 3)?;
+    Some(are_of_block(&taken, buf.into_shared(alloc).ok()?))
 }
 
 #[test]
-fn into_shared_copies_nothing(rt: HostRuntime) -> Result<(), Fail> {
-    assert!(rt; keeps_blocks(rt.alloc(), eleven(rt.alloc(), true)?)?);
-    assert!(rt; keeps_blocks(rt.alloc(), eleven(rt.alloc(), false)?)?);
-    Ok(())
+fn into_shared_copies_nothing(rt: HostRuntime) {
+    assert!(rt; keeps_blocks(rt.alloc(), 11) == Some(true));
+    assert!(rt; keeps_blocks(rt.alloc(), 10) == Some(true));
 }
 
 /// `Hello` and `World` as they came, and a block of one byte between them.
 pub(super) fn hello(alloc: Global) -> Option<PackedBuf> {
     let mut buf = PackedBuf::new(alloc, 4);
-    for text in FOUR {
+    for text in FOUR.split('|') {
         buf.push(alloc, Bytes::from_static(text.as_bytes())).ok()?;
     }
     Some(buf)
 }
 
-#[test]
-fn reads_as_any_buffer(rt: HostRuntime) -> Result<(), Fail> {
-    let mut buf = hello(rt.alloc()).ok_or("refused")?;
-    assert_debugs(&rt, rt.alloc(), &buf, "PackedBuf")?;
-    assert_fills(&rt, &buf, 10, &["Hello", " ", "World"]);
-    assert_bytes(&rt, buf.last_segment(), "World");
-    gives(&rt, rt.alloc(), &mut buf, "Hello W")?;
-    skip(&rt, &mut buf, 1);
-    assert_reads(&rt, &buf, 3, "rld");
-    Ok(())
+/// Whether a buffer of `Hello World` reads as any other.
+fn reads_as_any(alloc: Global, buf: &mut PackedBuf) -> bool {
+    debugs(alloc, buf, "PackedBuf")
+        && fills(buf, 10, HELLO)
+        && buf.last_segment() == b"World".as_slice()
+        && gives(alloc, buf, "Hello W")
+        && skip(buf, 1)
+        && reads(buf, 3, "rld")
+}
+
+fn hello_reads(alloc: Global) -> Option<bool> {
+    Some(reads_as_any(alloc, &mut hello(alloc)?))
 }
 
 #[test]
-fn segments_of_two_types_become_shared(rt: HostRuntime) -> Result<(), Fail> {
-    let all = hello(rt.alloc()).ok_or("refused")?;
-    let shared = all.into_segmented().into_shared(rt.alloc())?;
-    assert_fills(&rt, &shared, 10, &["Hello", " ", "World"]);
-    Ok(())
+fn reads_as_any_buffer(rt: HostRuntime) {
+    assert!(rt; hello_reads(rt.alloc()) == Some(true));
+}
+
+fn become_shared(alloc: Global) -> Option<SegmentedBuf<Bytes>> {
+    hello(alloc)?.into_segmented().into_shared(alloc).ok()
+}
+
+#[test]
+fn segments_of_two_types_become_shared(rt: HostRuntime) {
+    let shared = become_shared(rt.alloc());
+    assert!(rt; matches!(&shared, Some(shared) if fills(shared, 10, HELLO)));
 }

@@ -1,67 +1,77 @@
 //! Reading a `SegmentedSlice`.
 use crate::fixtures::odd::Zeros;
-use crate::fixtures::{
-    FIVE, assert_bytes, assert_debugs, assert_reads, bytes_of, lend, reads_nothing, skip,
-};
+use crate::fixtures::{FIVE, bytes_of, debugs, lend, reads, reads_nothing, skip};
 use bytes::{Buf, Bytes};
+use bytes_utils_buf::contiguous::ContiguousBuf;
 use bytes_utils_buf::segmented::SegmentedSlice;
 use std::alloc::Global;
 use std::io::Read;
 use std::process::Abort;
-use std::test::Fail;
 
-/// How many bytes are left after the skipped ones, the chunk then, and what the borrowed buffers
-/// hold.
-type Left = (usize, &'static str, &'static [&'static str]);
-
-fn assert_hold(rt: &impl Abort, bufs: &[Bytes], texts: &[&'static str]) {
-    assert!(rt; bufs.len() == texts.len());
-    for place in 0..texts.len() {
-        assert_bytes(rt, bufs[place].as_slice(), texts[place]);
-    }
+/// Skips bytes, until the borrow ends. Returns whether as many are left then, and this is the chunk.
+fn skips<B: Buf>(
+    rt: &impl Abort,
+    bufs: &mut [B],
+    cnt: usize,
+    (left, chunk): (usize, &str),
+) -> bool {
+    let mut all = lend(rt, bufs);
+    skip(&mut all, cnt) && reads(&all, left, chunk)
 }
 
-// Skips bytes of `FIVE`, until the borrow ends.
-fn skips(rt: &impl Abort, alloc: Global, cnt: usize, left: &Left) -> Result<(), Fail> {
-    let mut bufs = bytes_of(alloc, &FIVE)?;
-    {
-        let mut all = lend(rt, &mut bufs);
-        skip(rt, &mut all, cnt);
-        assert_reads(rt, &all, left.0, left.1);
+/// Whether the buffers hold these texts.
+fn hold_texts<B: ContiguousBuf>(bufs: &[B], texts: &str) -> bool {
+    let mut wanted = texts.split('|');
+    for buf in bufs {
+        if wanted.next().map(str::as_bytes) != Some(buf.as_contiguous()) {
+            return false;
+        }
     }
-    assert_hold(rt, &bufs, left.2);
-    Ok(())
+    wanted.next().is_none()
 }
 
-const FIVE_SKIPPED: &[(usize, Left)] = &[
-    (0, (11, "Hello", &FIVE)),
-    (3, (8, "lo", &["lo", "", " ", "", "World"])),
-    (6, (5, "World", &["", "", "", "", "World"])),
-];
+/// Skips bytes of `FIVE`. Returns whether that is right, and the buffers hold these texts after the
+/// borrow.
+fn skips_of_five(
+    rt: &impl Abort,
+    alloc: Global,
+    cnt: usize,
+    left: (usize, &str),
+    texts: &str,
+) -> bool {
+    match bytes_of(alloc, FIVE) {
+        Ok(mut bufs) => skips(rt, &mut bufs, cnt, left) && hold_texts(&bufs, texts),
+        Err(_) => false,
+    }
+}
 
 #[test]
-fn slice_advance(rt: HostRuntime) -> Result<(), Fail> {
-    for (cnt, left) in FIVE_SKIPPED {
-        skips(&rt, rt.alloc(), *cnt, left)?;
-    }
-    Ok(())
+fn slice_advance(rt: HostRuntime) {
+    let alloc = rt.alloc();
+    assert!(rt; skips_of_five(&rt, alloc, 0, (11, "Hello"), FIVE));
+    assert!(rt; skips_of_five(&rt, alloc, 3, (8, "lo"), "lo|| ||World"));
+    assert!(rt; skips_of_five(&rt, alloc, 6, (5, "World"), "||||World"));
 }
 
 #[test]
-fn empty_slices(rt: HostRuntime) -> Result<(), Fail> {
+fn empty_slices(rt: HostRuntime) {
     let mut none: [&[u8]; 0] = [];
-    reads_nothing(&rt, lend(&rt, &mut none))
+    assert!(rt; reads_nothing(&mut lend(&rt, &mut none)));
+}
+
+/// Whether a buffer shows its first chunk, and all of its bytes are read by std's reader.
+fn is_read_to_end<B: Buf + Drop>(alloc: Global, buf: B, chunk: &str, text: &str) -> bool {
+    let is_shown = reads(&buf, text.len(), chunk);
+    let mut bytes = Vec::new(alloc);
+    let is_read = buf.reader().read_to_end(&mut bytes).is_ok();
+    is_shown && is_read && bytes.as_slice() == text.as_bytes()
 }
 
 #[test]
-fn sliced_hello(rt: HostRuntime) -> Result<(), Fail> {
+fn sliced_hello(rt: HostRuntime) {
     let mut bufs: [&[u8]; 5] = [b"Hello", b"", b" ", b"", b"World"];
     let all = lend(&rt, &mut bufs);
-    assert_reads(&rt, &all, 11, "Hello");
-    let mut text = Vec::new(rt.alloc());
-    let _ = all.reader().read_to_end(&mut text)?;
-    assert_bytes(&rt, &text, "Hello World");
-    Ok(())
+    assert!(rt; is_read_to_end(rt.alloc(), all, "Hello", "Hello World"));
 }
 
 #[test]
@@ -73,9 +83,9 @@ fn totals(rt: HostRuntime) {
 }
 
 #[test]
-fn has_a_debug_text(rt: HostRuntime) -> Result<(), Fail> {
+fn has_a_debug_text(rt: HostRuntime) {
     let mut bufs = [b"a".as_slice()];
-    assert_debugs(&rt, rt.alloc(), &lend(&rt, &mut bufs), "SegmentedSlice")
+    assert!(rt; debugs(rt.alloc(), &lend(&rt, &mut bufs), "SegmentedSlice"));
 }
 
 // Ghost fields have no bytes: there are only the borrow, the place and the sum.

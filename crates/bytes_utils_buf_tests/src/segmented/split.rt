@@ -1,14 +1,25 @@
 //! The first bytes of held buffers, copied or taken out, which are shared if they can be.
-use crate::fixtures::{hold, put};
 use bytes::{Buf, Bytes};
 use bytes_utils_buf::Reason;
 use bytes_utils_buf::segmented::SegmentedBuf;
 use std::alloc::Global;
 use std::process::Abort;
-use std::test::Fail;
 
-/// Whether each piece has another owner of its block.
-fn are_shared(pieces: SegmentedBuf<Bytes>) -> bool {
+/// Two segments of five and six bytes, each with a block of its own.
+pub(super) fn two_blocks(alloc: Global) -> Option<SegmentedBuf<Bytes>> {
+    let mut buf = SegmentedBuf::new(alloc);
+    for text in "Hello| World".split('|') {
+        buf.try_push(Bytes::copy_from_slice(alloc, text.as_bytes()).ok()?)
+            .ok()?;
+    }
+    Some(buf)
+}
+
+/// Whether pieces are returned, each with another owner of its block.
+pub(super) fn are_shared(pieces: Result<SegmentedBuf<Bytes>, Reason>) -> bool {
+    let Ok(pieces) = pieces else {
+        return false;
+    };
     for piece in pieces {
         if piece.is_unique() {
             return false;
@@ -17,52 +28,53 @@ fn are_shared(pieces: SegmentedBuf<Bytes>) -> bool {
     true
 }
 
-/// The first bytes are shared, or copied if they are in both segments, and so are their pieces.
-fn assert_first(
-    rt: &impl Abort,
-    alloc: Global,
-    buf: &SegmentedBuf<Bytes>,
-    len: usize,
-) -> Result<(), Reason> {
-    assert!(rt; len <= buf.remaining());
-    assert!(rt; buf.peek_bytes(alloc, len)?.is_unique() == (len > 5));
-    assert!(rt; are_shared(buf.prefix(alloc, len)?));
-    Ok(())
+/// Whether the first bytes are shared, or copied if they are in both segments, and so are their
+/// pieces.
+fn shares_first(alloc: Global, buf: &SegmentedBuf<Bytes>, len: usize) -> bool {
+    len <= buf.remaining()
+        && matches!(&buf.peek_bytes(alloc, len), Ok(it) if it.is_unique() == (len > 5))
+        && are_shared(buf.prefix(alloc, len))
 }
 
-/// The pieces before a place and those after it are shared, by either call that cuts there.
-fn assert_cut(
-    rt: &impl Abort,
+/// Cuts segments in two by either call. They keep the one half, and the other is returned.
+pub(super) fn cut(
+    alloc: Global,
+    buf: &mut SegmentedBuf<Bytes>,
+    at: usize,
+    is_front: bool,
+) -> Result<SegmentedBuf<Bytes>, Reason> {
+    if at > buf.remaining() {
+        return Err(Reason::TooLong);
+    }
+    if is_front {
+        buf.split_to(alloc, at)
+    } else {
+        buf.split_off(alloc, at)
+    }
+}
+
+/// Whether the pieces before a place and those after it are shared, by either call that cuts there.
+fn shares_cut(
     alloc: Global,
     buf: &SegmentedBuf<Bytes>,
     at: usize,
     is_front: bool,
-) -> Result<(), Reason> {
+) -> Result<bool, Reason> {
     let mut one = buf.try_clone()?;
-    assert!(rt; at <= one.remaining());
-    let other = if is_front {
-        one.split_to(alloc, at)?
-    } else {
-        one.split_off(alloc, at)?
-    };
-    assert!(rt; are_shared(one) && are_shared(other));
-    Ok(())
+    let is_other_shared = are_shared(cut(alloc, &mut one, at, is_front));
+    Ok(are_shared(Ok(one)) && is_other_shared)
 }
 
-// Two segments of five and six bytes, each with a block of its own.
+fn shares_at(alloc: Global, buf: &SegmentedBuf<Bytes>, len: usize) -> bool {
+    shares_first(alloc, buf, len)
+        && shares_cut(alloc, buf, len, true) == Ok(true)
+        && shares_cut(alloc, buf, len, false) == Ok(true)
+}
+
 #[test]
-fn first_bytes_are_shared(rt: HostRuntime) -> Result<(), Fail> {
-    let front = Bytes::copy_from_slice(rt.alloc(), b"Hello")?;
-    let mut buf = hold(&rt, rt.alloc(), front)?;
-    put(
-        &rt,
-        &mut buf,
-        Bytes::copy_from_slice(rt.alloc(), b" World")?,
-    )?;
+fn first_bytes_are_shared(rt: HostRuntime) {
+    let buf = two_blocks(rt.alloc());
     for len in 1..=11 {
-        assert_first(&rt, rt.alloc(), &buf, len)?;
-        assert_cut(&rt, rt.alloc(), &buf, len, true)?;
-        assert_cut(&rt, rt.alloc(), &buf, len, false)?;
+        assert!(rt; matches!(&buf, Some(buf) if shares_at(rt.alloc(), buf, len)));
     }
-    Ok(())
 }

@@ -1,41 +1,20 @@
-//! Tables that buffers fill with slices.
-use crate::fixtures::{FOUR, assert_fills, held, lend, skip};
+//! Tables that nested buffers fill with slices.
+use crate::fixtures::{FOUR, fills, held, lend, skip};
 use bytes_utils_buf::parts::BufParts;
+use std::alloc::Global;
 use std::process::Abort;
-use std::test::Fail;
 
-/// How many bytes are skipped, how many places a table has after that, and the slices in it.
-type Row = (usize, usize, &'static [&'static str]);
-
-fn fills<B: BufParts>(rt: &impl Abort, buf: &mut B, rows: &[Row]) {
-    for (cnt, places, slices) in rows {
-        skip(rt, buf, *cnt);
-        assert_fills(rt, buf, *places, slices);
-    }
+/// Whether four buffers, held twice, fill a table.
+fn fills_nested<B: BufParts>(buf: &mut B) -> bool {
+    fills(buf, 10, "Hello| |World|Hello| |World") && skip(buf, 2) && fills(buf, 1, "llo")
 }
 
-const FOUR_FILL: &[Row] = &[
-    (0, 0, &[]),
-    (0, 2, &["Hello", " "]),
-    (0, 5, &["Hello", " ", "World"]),
-    (2, 1, &["llo"]),
-];
-
-#[test]
-fn chunk_vectored(rt: HostRuntime) -> Result<(), Fail> {
-    fills(&rt, &mut held(rt.alloc(), &FOUR)?, FOUR_FILL);
-    Ok(())
+fn fills_eight(rt: &impl Abort, alloc: Global) -> Option<bool> {
+    let mut both = [held(alloc, FOUR)?, held(alloc, FOUR)?];
+    Some(fills_nested(&mut lend(rt, &mut both)))
 }
 
-/// Four buffers, held twice: the buffers nest.
-const EIGHT_FILL: &[Row] = &[
-    (0, 10, &["Hello", " ", "World", "Hello", " ", "World"]),
-    (2, 1, &["llo"]),
-];
-
 #[test]
-fn chunk_vectored_nested(rt: HostRuntime) -> Result<(), Fail> {
-    let mut both = vec![in rt.alloc(); held(rt.alloc(), &FOUR)?, held(rt.alloc(), &FOUR)?]?;
-    fills(&rt, &mut lend(&rt, &mut both), EIGHT_FILL);
-    Ok(())
+fn chunk_vectored_nested(rt: HostRuntime) {
+    assert!(rt; fills_eight(&rt, rt.alloc()) == Some(true));
 }

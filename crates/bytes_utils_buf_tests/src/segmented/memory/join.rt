@@ -1,46 +1,51 @@
 //! Refused memory: buffers put before or after those that are held.
-use super::{LETTERS, assert_holds, holding};
-use crate::fixtures::refusals::report;
+use super::{LETTERS, holding, holds};
+use crate::fixtures::refusals::reports;
 use bytes::{Buf, Bytes};
+use bytes_utils_buf::segmented::SegmentedBuf;
 use std::process::Abort;
-use std::test::Fail;
 
-#[test]
-fn prepend(rt: HostRuntime) -> Result<(), Fail> {
-    let Some(mut buf) = holding(rt.alloc(), &LETTERS[1..]) else {
-        return Ok(());
-    };
-    assert!(rt; buf.fits(1));
+/// Puts the first letter before the others.
+fn prepends(rt: &impl Print, buf: &mut SegmentedBuf<Bytes>) -> bool {
+    if !buf.fits(1) {
+        return false;
+    }
     match buf.prepend(Bytes::from_static(b"a")) {
-        Ok(()) => {
-            assert_holds(&rt, &buf, 6);
-            Ok(())
-        }
+        Ok(()) => holds(buf, LETTERS),
         Err(refused) => {
-            assert!(rt; buf.segments() == 5);
-            report(&rt, "SegmentedBuf::prepend", refused.reason)
+            holds(buf, &LETTERS[1..]) && reports(rt, "SegmentedBuf::prepend", refused.reason)
         }
     }
 }
 
-// If the call is refused, both keep their letters.
 #[test]
-fn append(rt: HostRuntime) -> Result<(), Fail> {
-    let (Some(mut buf), Some(others)) = (
-        holding(rt.alloc(), &LETTERS[..2]),
-        holding(rt.alloc(), &LETTERS[2..]),
-    ) else {
-        return Ok(());
-    };
-    assert!(rt; buf.fits(others.remaining()));
+fn prepend(rt: HostRuntime) {
+    if let Some(mut buf) = holding(rt.alloc(), &LETTERS[1..]) {
+        assert!(rt; prepends(&rt, &mut buf));
+    }
+}
+
+/// Appends the last four letters to the first two. If the call is refused, both keep their letters.
+fn appends(rt: &impl Print, buf: &mut SegmentedBuf<Bytes>, others: SegmentedBuf<Bytes>) -> bool {
+    if !buf.fits(others.remaining()) {
+        return false;
+    }
     match buf.append(others) {
-        Ok(()) => {
-            assert_holds(&rt, &buf, 6);
-            Ok(())
-        }
+        Ok(()) => holds(buf, LETTERS),
         Err(refused) => {
-            assert!(rt; buf.segments() == 2 && refused.back.segments() == 4);
-            report(&rt, "SegmentedBuf::append", refused.reason)
+            holds(buf, &LETTERS[..2])
+                && holds(&refused.back, &LETTERS[2..])
+                && reports(rt, "SegmentedBuf::append", refused.reason)
         }
+    }
+}
+
+#[test]
+fn append(rt: HostRuntime) {
+    let Some(mut buf) = holding(rt.alloc(), &LETTERS[..2]) else {
+        return;
+    };
+    if let Some(others) = holding(rt.alloc(), &LETTERS[2..]) {
+        assert!(rt; appends(&rt, &mut buf, others));
     }
 }

@@ -1,63 +1,74 @@
 //! Refused memory: pieces of a `PackedBuf`, and bytes taken out of one.
-use crate::fixtures::refusals::{copies_out, gives_bytes, report};
-use crate::fixtures::{JOINED, assert_fills};
-use crate::segmented::packed::{hello, holds};
+use crate::fixtures::refusals::{copies_out, gives_bytes, reports};
+use crate::fixtures::{JOINED, fills, skip};
+use crate::segmented::packed::{HELLO, hello, holds};
 use bytes::{Buf, Bytes};
 use bytes_utils_buf::segmented::PackedBuf;
 use std::alloc::Global;
 use std::process::Abort;
-use std::test::Fail;
 
 /// Pushes a piece after the bytes `held`. If it is refused, it comes back, nothing has changed, and
 /// it can be pushed again.
 fn pushes(
-    rt: &(impl Abort + Print),
+    rt: &impl Print,
     alloc: Global,
     call: &str,
     buf: &mut PackedBuf,
-    (held, piece): (&str, &'static str),
-) -> Result<(), Fail> {
-    if let Err(refused) = buf.push(alloc, Bytes::from_static(piece.as_bytes())) {
-        report(rt, call, refused.reason)?;
-        assert!(rt; refused.back.as_slice() == piece.as_bytes());
-        assert!(rt; holds(buf, held.as_bytes()));
-        buf.push(alloc, refused.back)?;
-    }
-    Ok(())
+    (held, piece): (&[u8], &'static [u8]),
+) -> bool {
+    let Err(refused) = buf.push(alloc, Bytes::from_static(piece)) else {
+        return true;
+    };
+    reports(rt, call, refused.reason)
+        && refused.back.as_slice() == piece
+        && holds(buf, held)
+        && buf.push(alloc, refused.back).is_ok()
 }
 
-// A small piece, which takes a block and a place; a large one, which has a place left; one that is
-// joined with what is left of that; and one that has room in the block.
-#[test]
-fn push(rt: HostRuntime) -> Result<(), Fail> {
-    let mut buf = PackedBuf::new(rt.alloc(), 4);
-    let call = "PackedBuf::push of a small piece";
-    pushes(&rt, rt.alloc(), call, &mut buf, ("", "abcd"))?;
-    pushes(&rt, rt.alloc(), "no call", &mut buf, ("abcd", "Hello"))?;
-    assert!(rt; buf.segments() == 2 && buf.remaining() >= 8);
-    buf.advance(8);
-    let call = "PackedBuf::push of a joined piece";
-    pushes(&rt, rt.alloc(), call, &mut buf, ("o", "ab"))?;
-    pushes(&rt, rt.alloc(), "no call", &mut buf, ("oab", "c"))?;
-    assert!(rt; buf.segments() == 1 && holds(&buf, b"oabc"));
-    Ok(())
+/// Pushes a small piece, which takes a block and a place; a large one, which has a place left; one
+/// that is joined with what is left of that; and one that has room in the block.
+fn pushes_small(rt: &impl Print, alloc: Global, buf: &mut PackedBuf) -> bool {
+    let small = "PackedBuf::push of a small piece";
+    let joined = "PackedBuf::push of a joined piece";
+    pushes(rt, alloc, small, buf, (b"", b"abcd"))
+        && pushes(rt, alloc, "no call", buf, (b"abcd", b"Hello"))
+        && buf.segments() == 2
+        && skip(buf, 8)
+        && pushes(rt, alloc, joined, buf, (b"o", b"ab"))
+        && pushes(rt, alloc, "no call", buf, (b"oab", b"c"))
+        && buf.segments() == 1
+        && holds(buf, b"oabc")
 }
 
 #[test]
-fn push_of_a_large_piece(rt: HostRuntime) -> Result<(), Fail> {
+fn push(rt: HostRuntime) {
     let mut buf = PackedBuf::new(rt.alloc(), 4);
-    let call = "PackedBuf::push of a large piece";
-    pushes(&rt, rt.alloc(), call, &mut buf, ("", "Hello"))?;
-    assert!(rt; buf.segments() == 1 && holds(&buf, b"Hello"));
-    Ok(())
+    assert!(rt; pushes_small(&rt, rt.alloc(), &mut buf));
+}
+
+fn pushes_large(rt: &impl Print, alloc: Global, buf: &mut PackedBuf) -> bool {
+    pushes(
+        rt,
+        alloc,
+        "PackedBuf::push of a large piece",
+        buf,
+        (b"", b"Hello"),
+    ) && buf.segments() == 1
+        && holds(buf, b"Hello")
+}
+
+#[test]
+fn push_of_a_large_piece(rt: HostRuntime) {
+    let mut buf = PackedBuf::new(rt.alloc(), 4);
+    assert!(rt; pushes_large(&rt, rt.alloc(), &mut buf));
 }
 
 /// As many bytes as a block has that comes after a longer piece.
-const SINGLES: &str = "xxxxxxxxxxxxxxxxxxxxxxxxxxxxxxxxxxxxxxxxxxxxxxxxxxxxxxxxxxxxxxxx";
+const SINGLES: &[u8] = b"xxxxxxxxxxxxxxxxxxxxxxxxxxxxxxxxxxxxxxxxxxxxxxxxxxxxxxxxxxxxxxxx";
 
 /// Pushes them, and returns whether there was memory for all.
 fn puts_singles(alloc: Global, buf: &mut PackedBuf) -> bool {
-    for _ in SINGLES.as_bytes() {
+    for _ in SINGLES {
         if buf.push_slice(alloc, b"x").is_err() {
             return false;
         }
@@ -65,163 +76,168 @@ fn puts_singles(alloc: Global, buf: &mut PackedBuf) -> bool {
     true
 }
 
-// One byte more than the block has room for moves the others to a new one.
-#[test]
-fn push_to_a_full_block(rt: HostRuntime) -> Result<(), Fail> {
-    let mut buf = PackedBuf::new(rt.alloc(), 1);
-    let call = "PackedBuf::push of a large piece";
-    pushes(&rt, rt.alloc(), call, &mut buf, ("", "Hello"))?;
-    if !puts_singles(rt.alloc(), &mut buf) || buf.remaining() < 5 {
-        return Ok(());
-    }
-    buf.advance(5);
-    let call = "PackedBuf::push to a full block";
-    pushes(&rt, rt.alloc(), call, &mut buf, (SINGLES, "x"))?;
-    assert!(rt; buf.segments() == 1 && buf.remaining() == 65);
-    Ok(())
+/// Pushes one byte more than the block has room for, which moves the others to a new one.
+fn moves_block(rt: &impl Print, alloc: Global, buf: &mut PackedBuf) -> bool {
+    skip(buf, 5)
+        && pushes(
+            rt,
+            alloc,
+            "PackedBuf::push to a full block",
+            buf,
+            (SINGLES, b"x"),
+        )
+        && buf.segments() == 1
+        && buf.remaining() == 65
 }
 
 #[test]
-fn push_slice(rt: HostRuntime) -> Result<(), Fail> {
-    let mut buf = PackedBuf::new(rt.alloc(), 4);
-    if let Err(reason) = buf.push_slice(rt.alloc(), JOINED.as_bytes()) {
-        report(&rt, "PackedBuf::push_slice", reason)?;
-        assert!(rt; holds(&buf, b""));
-        buf.push_slice(rt.alloc(), JOINED.as_bytes())?;
+fn push_to_a_full_block(rt: HostRuntime) {
+    let mut buf = PackedBuf::new(rt.alloc(), 1);
+    assert!(rt; pushes_large(&rt, rt.alloc(), &mut buf));
+    if puts_singles(rt.alloc(), &mut buf) {
+        assert!(rt; moves_block(&rt, rt.alloc(), &mut buf));
     }
-    assert!(rt; holds(&buf, JOINED.as_bytes()));
-    Ok(())
+}
+
+fn pushes_slice(rt: &impl Print, alloc: Global, buf: &mut PackedBuf) -> bool {
+    match buf.push_slice(alloc, JOINED.as_bytes()) {
+        Ok(()) => true,
+        Err(reason) => {
+            reports(rt, "PackedBuf::push_slice", reason)
+                && holds(buf, b"")
+                && buf.push_slice(alloc, JOINED.as_bytes()).is_ok()
+        }
+    }
+}
+
+#[test]
+fn push_slice(rt: HostRuntime) {
+    let mut buf = PackedBuf::new(rt.alloc(), 4);
+    assert!(rt; pushes_slice(&rt, rt.alloc(), &mut buf) && holds(&buf, JOINED.as_bytes()));
 }
 
 /// Takes the first bytes of `JOINED` out. If they are refused, no byte is lost.
-fn takes(
-    rt: &(impl Abort + Print),
-    alloc: Global,
-    call: &str,
-    buf: &mut PackedBuf,
-    text: &str,
-) -> Result<(), Fail> {
-    assert!(rt; text.len() <= buf.remaining());
+fn takes(rt: &impl Print, alloc: Global, call: &str, buf: &mut PackedBuf, text: &str) -> bool {
+    if text.len() > buf.remaining() {
+        return false;
+    }
     let taken = buf.take_bytes(alloc, text.len());
-    assert!(rt; taken.is_ok() || holds(buf, JOINED.as_bytes()));
-    gives_bytes(rt, call, taken, text)
+    (taken.is_ok() || holds(buf, JOINED.as_bytes())) && gives_bytes(rt, call, taken, text)
+}
+
+/// `JOINED` in one block, if there is memory for it.
+fn joined(alloc: Global, threshold: usize) -> Option<PackedBuf> {
+    let mut buf = PackedBuf::new(alloc, threshold);
+    buf.push_slice(alloc, JOINED.as_bytes()).ok()?;
+    Some(buf)
 }
 
 #[test]
-fn take_bytes_in_one_segment(rt: HostRuntime) -> Result<(), Fail> {
-    let mut buf = PackedBuf::new(rt.alloc(), 11);
-    if buf.push_slice(rt.alloc(), JOINED.as_bytes()).is_err() {
-        return Ok(());
-    }
-    let call = "PackedBuf::take_bytes in one segment";
-    takes(&rt, rt.alloc(), call, &mut buf, "Hel")
-}
-
-#[test]
-fn take_bytes_across_segments(rt: HostRuntime) -> Result<(), Fail> {
-    let Some(mut buf) = hello(rt.alloc()) else {
-        return Ok(());
-    };
-    let call = "PackedBuf::take_bytes across segments";
-    takes(&rt, rt.alloc(), call, &mut buf, "Hello W")
-}
-
-#[test]
-fn split_to(rt: HostRuntime) -> Result<(), Fail> {
-    let Some(mut buf) = hello(rt.alloc()) else {
-        return Ok(());
-    };
-    assert!(rt; buf.remaining() >= 7);
-    match buf.split_to(rt.alloc(), 7) {
-        Ok(front) => {
-            assert_fills(&rt, &front, 10, &["Hello", " ", "W"]);
-            assert!(rt; holds(&buf, b"orld"));
-            Ok(())
-        }
-        Err(reason) => {
-            assert_fills(&rt, &buf, 10, &["Hello", " ", "World"]);
-            report(&rt, "PackedBuf::split_to", reason)
-        }
+fn take_bytes_in_one_segment(rt: HostRuntime) {
+    if let Some(mut buf) = joined(rt.alloc(), 11) {
+        let call = "PackedBuf::take_bytes in one segment";
+        assert!(rt; takes(&rt, rt.alloc(), call, &mut buf, "Hel"));
     }
 }
 
-/// The three segments of a value that came back, and of the one that it then becomes.
-fn becomes_shared(rt: &impl Abort, alloc: Global, back: PackedBuf) -> Result<(), Fail> {
-    assert_fills(rt, &back, 10, &["Hello", " ", "World"]);
-    assert_fills(rt, &back.into_shared(alloc)?, 10, &["Hello", " ", "World"]);
-    Ok(())
+#[test]
+fn take_bytes_across_segments(rt: HostRuntime) {
+    if let Some(mut buf) = hello(rt.alloc()) {
+        let call = "PackedBuf::take_bytes across segments";
+        assert!(rt; takes(&rt, rt.alloc(), call, &mut buf, "Hello W"));
+    }
+}
+
+fn splits(rt: &impl Print, alloc: Global, buf: &mut PackedBuf) -> bool {
+    if buf.remaining() < 7 {
+        return false;
+    }
+    match buf.split_to(alloc, 7) {
+        Ok(front) => fills(&front, 10, "Hello| |W") && holds(buf, b"orld"),
+        Err(reason) => fills(buf, 10, HELLO) && reports(rt, "PackedBuf::split_to", reason),
+    }
 }
 
 #[test]
-fn into_shared(rt: HostRuntime) -> Result<(), Fail> {
+fn split_to(rt: HostRuntime) {
+    if let Some(mut buf) = hello(rt.alloc()) {
+        assert!(rt; splits(&rt, rt.alloc(), &mut buf));
+    }
+}
+
+/// Whether a value that came back has its three segments, and then becomes shared ones.
+fn becomes_shared(alloc: Global, back: PackedBuf) -> bool {
+    let is_same = fills(&back, 10, HELLO);
+    is_same && matches!(&back.into_shared(alloc), Ok(all) if fills(all, 10, HELLO))
+}
+
+#[test]
+fn into_shared(rt: HostRuntime) {
     let Some(buf) = hello(rt.alloc()) else {
-        return Ok(());
+        return;
     };
-    match buf.into_shared(rt.alloc()) {
-        Ok(all) => {
-            assert_fills(&rt, &all, 10, &["Hello", " ", "World"]);
-            Ok(())
+    assert!(rt;
+        match buf.into_shared(rt.alloc()) {
+            Ok(all) => fills(&all, 10, HELLO),
+            Err(refused) => {
+                reports(&rt, "PackedBuf::into_shared", refused.reason)
+                    && becomes_shared(rt.alloc(), refused.back)
+            }
         }
-        Err(refused) => {
-            report(&rt, "PackedBuf::into_shared", refused.reason)?;
-            becomes_shared(&rt, rt.alloc(), refused.back)
-        }
-    }
+    );
 }
 
 #[test]
-fn segments_become_shared(rt: HostRuntime) -> Result<(), Fail> {
+fn segments_become_shared(rt: HostRuntime) {
     let Some(buf) = hello(rt.alloc()) else {
-        return Ok(());
+        return;
     };
-    match buf.into_segmented().into_shared(rt.alloc()) {
-        Ok(all) => {
-            assert_fills(&rt, &all, 10, &["Hello", " ", "World"]);
-            Ok(())
+    assert!(rt;
+        match buf.into_segmented().into_shared(rt.alloc()) {
+            Ok(all) => fills(&all, 10, HELLO),
+            Err(refused) => {
+                fills(&refused.back, 10, HELLO)
+                    && reports(&rt, "SegmentedBuf::into_shared", refused.reason)
+            }
         }
-        Err(refused) => {
-            assert_fills(&rt, &refused.back, 10, &["Hello", " ", "World"]);
-            report(&rt, "SegmentedBuf::into_shared", refused.reason)
-        }
+    );
+}
+
+#[test]
+fn copy_out(rt: HostRuntime) {
+    if let Some(mut buf) = hello(rt.alloc()) {
+        assert!(rt; copies_out(&rt, rt.alloc(), "copy_out of PackedBuf", &mut buf, HELLO));
     }
 }
 
-#[test]
-fn copy_out(rt: HostRuntime) -> Result<(), Fail> {
-    let Some(mut buf) = hello(rt.alloc()) else {
-        return Ok(());
-    };
-    let call = "copy_out of PackedBuf";
-    copies_out(&rt, rt.alloc(), call, &mut buf, &["Hello", " ", "World"])
+/// Makes calls for no bytes on a buffer that holds nothing.
+fn gives_nothing(alloc: Global, buf: &mut PackedBuf) -> bool {
+    buf.push(alloc, Bytes::new()).is_ok()
+        && buf.push_slice(alloc, b"").is_ok()
+        && skip(buf, 0)
+        && matches!(&buf.take_bytes(alloc, 0), Ok(none) if none.is_empty())
+        && matches!(&buf.split_to(alloc, 0), Ok(none) if none.segments() == 0)
+        && buf.segments() == 0
 }
 
-// Nothing is held, and calls for no bytes are made.
 #[test]
-fn no_memory_needed(rt: HostRuntime) -> Result<(), Fail> {
+fn no_memory_needed(rt: HostRuntime) {
     let mut buf = PackedBuf::new(rt.alloc(), 512);
-    buf.push(rt.alloc(), Bytes::new())?;
-    buf.push_slice(rt.alloc(), b"")?;
-    buf.advance(0);
-    assert!(rt; buf.take_bytes(rt.alloc(), 0)?.is_empty());
-    assert!(rt; buf.split_to(rt.alloc(), 0)?.segments() == 0);
-    assert!(rt; buf.segments() == 0 && buf.into_shared(rt.alloc())?.segments() == 0);
-    Ok(())
+    assert!(rt; gives_nothing(rt.alloc(), &mut buf));
+    assert!(rt; matches!(&buf.into_shared(rt.alloc()), Ok(none) if none.segments() == 0));
 }
 
 /// Pushes a piece of five bytes, and copies as many. Returns whether both are held.
-fn has_room(alloc: Global, buf: &mut PackedBuf) -> Result<bool, Fail> {
-    buf.push(alloc, Bytes::from_static(b"small"))?;
-    buf.push_slice(alloc, b"small")?;
-    Ok(holds(buf, b"Hello Worldsmallsmall"))
+fn has_room(alloc: Global, buf: &mut PackedBuf) -> bool {
+    buf.push(alloc, Bytes::from_static(b"small")).is_ok()
+        && buf.push_slice(alloc, b"small").is_ok()
+        && holds(buf, b"Hello Worldsmallsmall")
 }
 
 // A block with room asks for nothing.
 #[test]
-fn room_in_a_block(rt: HostRuntime) -> Result<(), Fail> {
-    let mut buf = PackedBuf::new(rt.alloc(), 512);
-    if buf.push_slice(rt.alloc(), JOINED.as_bytes()).is_err() {
-        return Ok(());
+fn room_in_a_block(rt: HostRuntime) {
+    if let Some(mut buf) = joined(rt.alloc(), 512) {
+        assert!(rt; has_room(rt.alloc(), &mut buf));
     }
-    assert!(rt; has_room(rt.alloc(), &mut buf)?);
-    Ok(())
 }

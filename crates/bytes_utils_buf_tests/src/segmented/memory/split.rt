@@ -1,49 +1,63 @@
 //! Refused memory: the first bytes, and a body that is cut in two. `refusals.txt` has the most bytes
 //! that a request for long segments may ask for.
-use super::{LETTERS, assert_holds, gives_letters, holding};
-use crate::fixtures::refusals::{gives_bytes, report};
+use super::{LETTERS, gives_letters, holding, holds};
+use crate::fixtures::refusals::{gives_bytes, reports};
 use bytes::{Buf, Bytes};
 use bytes_utils_buf::segmented::SegmentedBuf;
 use std::alloc::Global;
-use std::test::Fail;
+use std::process::Abort;
 
-#[test]
-fn first_bytes(rt: HostRuntime) -> Result<(), Fail> {
-    let Some(buf) = holding(rt.alloc(), LETTERS) else {
-        return Ok(());
-    };
-    assert!(rt; buf.remaining() >= 6);
-    gives_letters(&rt, "SegmentedBuf::prefix", buf.prefix(rt.alloc(), 6), 0)?;
-    gives_bytes(
-        &rt,
-        "SegmentedBuf::peek_bytes",
-        buf.peek_bytes(rt.alloc(), 6),
-        "abcdef",
-    )
+fn gives_first(rt: &impl Print, alloc: Global, buf: &SegmentedBuf<Bytes>) -> bool {
+    buf.remaining() >= 6
+        && gives_letters(rt, "SegmentedBuf::prefix", buf.prefix(alloc, 6), LETTERS)
+        && gives_bytes(
+            rt,
+            "SegmentedBuf::peek_bytes",
+            buf.peek_bytes(alloc, 6),
+            "abcdef",
+        )
 }
 
-// What comes after four of the six letters. All stay if it is refused, and the four if not.
 #[test]
-fn split_off(rt: HostRuntime) -> Result<(), Fail> {
-    let Some(mut buf) = holding(rt.alloc(), LETTERS) else {
-        return Ok(());
-    };
-    assert!(rt; buf.remaining() >= 6);
-    let rest = buf.split_off(rt.alloc(), 4);
-    assert_holds(&rt, &buf, if rest.is_ok() { 4 } else { 6 });
-    gives_letters(&rt, "SegmentedBuf::split_off", rest, 4)
+fn first_bytes(rt: HostRuntime) {
+    if let Some(buf) = holding(rt.alloc(), LETTERS) {
+        assert!(rt; gives_first(&rt, rt.alloc(), &buf));
+    }
 }
 
-// The six letters, which all stay if they are refused.
+/// Cuts off what comes after four of the six letters. All stay if it is refused, and the four if not.
+fn splits_off(rt: &impl Print, alloc: Global, buf: &mut SegmentedBuf<Bytes>) -> bool {
+    if buf.remaining() < 6 {
+        return false;
+    }
+    let rest = buf.split_off(alloc, 4);
+    let left = if rest.is_ok() { 4 } else { 6 };
+    holds(buf, &LETTERS[..left])
+        && gives_letters(rt, "SegmentedBuf::split_off", rest, &LETTERS[4..])
+}
+
 #[test]
-fn split_to(rt: HostRuntime) -> Result<(), Fail> {
-    let Some(mut buf) = holding(rt.alloc(), LETTERS) else {
-        return Ok(());
-    };
-    assert!(rt; buf.remaining() >= 6);
-    let first = buf.split_to(rt.alloc(), 6);
-    assert_holds(&rt, &buf, if first.is_ok() { 0 } else { 6 });
-    gives_letters(&rt, "SegmentedBuf::split_to", first, 0)
+fn split_off(rt: HostRuntime) {
+    if let Some(mut buf) = holding(rt.alloc(), LETTERS) {
+        assert!(rt; splits_off(&rt, rt.alloc(), &mut buf));
+    }
+}
+
+/// Cuts the six letters off, which all stay if they are refused.
+fn splits_to(rt: &impl Print, alloc: Global, buf: &mut SegmentedBuf<Bytes>) -> bool {
+    if buf.remaining() < 6 {
+        return false;
+    }
+    let first = buf.split_to(alloc, 6);
+    let left = if first.is_ok() { 0 } else { 6 };
+    holds(buf, &LETTERS[..left]) && gives_letters(rt, "SegmentedBuf::split_to", first, LETTERS)
+}
+
+#[test]
+fn split_to(rt: HostRuntime) {
+    if let Some(mut buf) = holding(rt.alloc(), LETTERS) {
+        assert!(rt; splits_to(&rt, rt.alloc(), &mut buf));
+    }
 }
 
 /// This many segments of 10,000 bytes each.
@@ -55,34 +69,38 @@ fn long(alloc: Global, count: usize) -> Option<SegmentedBuf<Bytes>> {
     Some(buf)
 }
 
-// The place for one segment.
-#[test]
-fn long_segment_is_shared(rt: HostRuntime) -> Result<(), Fail> {
-    let Some(buf) = long(rt.alloc(), 1) else {
-        return Ok(());
-    };
-    assert!(rt; buf.remaining() == 10_000);
-    match buf.prefix(rt.alloc(), 10_000) {
-        Ok(first) => {
-            assert!(rt; first.segments() == 1 && first.into_inner().capacity() < 100);
-            Ok(())
-        }
-        Err(reason) => report(&rt, "SegmentedBuf::prefix", reason),
+/// The place for one segment.
+fn shares_long(rt: &impl Print, alloc: Global, buf: &SegmentedBuf<Bytes>) -> bool {
+    if buf.remaining() != 10_000 {
+        return false;
+    }
+    match buf.prefix(alloc, 10_000) {
+        Ok(first) => first.segments() == 1 && first.into_inner().capacity() < 100,
+        Err(reason) => reports(rt, "SegmentedBuf::prefix", reason),
     }
 }
 
-// A block of their length.
 #[test]
-fn long_segments_are_copied(rt: HostRuntime) -> Result<(), Fail> {
-    let Some(buf) = long(rt.alloc(), 2) else {
-        return Ok(());
-    };
-    assert!(rt; buf.remaining() == 20_000);
-    match buf.peek_bytes(rt.alloc(), 20_000) {
-        Ok(bytes) => {
-            assert!(rt; bytes.len() == 20_000);
-            Ok(())
-        }
-        Err(reason) => report(&rt, "SegmentedBuf::peek_bytes", reason),
+fn long_segment_is_shared(rt: HostRuntime) {
+    if let Some(buf) = long(rt.alloc(), 1) {
+        assert!(rt; shares_long(&rt, rt.alloc(), &buf));
+    }
+}
+
+/// A block of their length.
+fn copies_long(rt: &impl Print, alloc: Global, buf: &SegmentedBuf<Bytes>) -> bool {
+    if buf.remaining() != 20_000 {
+        return false;
+    }
+    match buf.peek_bytes(alloc, 20_000) {
+        Ok(bytes) => bytes.len() == 20_000,
+        Err(reason) => reports(rt, "SegmentedBuf::peek_bytes", reason),
+    }
+}
+
+#[test]
+fn long_segments_are_copied(rt: HostRuntime) {
+    if let Some(buf) = long(rt.alloc(), 2) {
+        assert!(rt; copies_long(&rt, rt.alloc(), &buf));
     }
 }
