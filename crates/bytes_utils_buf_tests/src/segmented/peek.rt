@@ -1,5 +1,6 @@
-//! The first bytes of held buffers, seen where they are.
-use crate::fixtures::{FOUR, held};
+//! The first bytes of held buffers, seen where they are, and their segments.
+use super::packed::hello;
+use crate::fixtures::{FOUR, held, held_slices};
 use bytes_utils_buf::contiguous::ContiguousBuf;
 use bytes_utils_buf::segmented::SegmentedBuf;
 use std::process::Abort;
@@ -17,4 +18,27 @@ fn sees_first<B: ContiguousBuf + Drop>(buf: &SegmentedBuf<B>) -> bool {
 fn first_bytes_are_seen(rt: HostRuntime) {
     let buf = held(rt.alloc(), FOUR);
     assert!(rt; matches!(&buf, Some(buf) if sees_first(buf)));
+}
+
+/// Whether places of `FOUR` are found: in each half, at the borders of its segments, and past its end.
+fn finds_places<B: ContiguousBuf + Drop>(buf: &SegmentedBuf<B>) -> bool {
+    buf.segment_of(3) == Some((0, 3))
+        && buf.segment_of(8) == Some((2, 2))
+        && buf.segment_of(5) == Some((1, 0))
+        && buf.segment_of(6) == Some((2, 0))
+        && buf.segment_of(11).is_none()
+}
+
+#[test]
+fn places_are_found(rt: HostRuntime) {
+    let bytes = held(rt.alloc(), FOUR);
+    assert!(rt; matches!(&bytes, Some(buf) if finds_places(buf)));
+}
+
+#[test]
+fn places_in_other_buffers_are_found(rt: HostRuntime) {
+    let slices = held_slices(rt.alloc(), FOUR);
+    assert!(rt; matches!(&slices, Some(buf) if finds_places(buf)));
+    let packed = hello(rt.alloc());
+    assert!(rt; matches!(&packed, Some(buf) if finds_places(buf.as_segmented())));
 }
