@@ -12,9 +12,15 @@ fn split(rt: HostRuntime) {
 }
 
 #[test]
-fn split_n(rt: HostRuntime) {
+fn splitn(rt: HostRuntime) {
     for most in 0..5 {
         assert_as_str::<SplitN>(&rt, rt.alloc(), most, SEPARATORS);
+    }
+}
+
+#[test]
+fn rsplitn(rt: HostRuntime) {
+    for most in 0..5 {
         assert_as_str::<RSplitN>(&rt, rt.alloc(), most, SEPARATORS);
     }
 }
