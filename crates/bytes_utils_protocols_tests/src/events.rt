@@ -1,4 +1,6 @@
 //! Events in pieces.
+ghost use Rattle.std.specs.Prelude.{◌<◌};
+
 use crate::fixtures::{after_text, after_text_or_dash, debugs_as, filled};
 use bytes::Bytes;
 use bytes_utils_protocols::events::{Event, EventReader, Limits};
@@ -153,7 +155,9 @@ fn gives_event(alloc: Global, events: &mut EventReader, wanted: &str) -> bool {
 
 /// Whether a stream passes a limit in pieces of this length, and still does at a second call. The
 /// reader is asked for an event after each.
-fn passes_limit_in(alloc: Global, events: &mut EventReader, stream: &[u8], len: usize) -> bool {
+fn passes_limit_in(alloc: Global, events: &mut EventReader, stream: &[u8], len: usize) -> bool
+    requires { 0 < len }
+{
     for piece in stream.chunks(len) {
         if events.push_slice(piece).is_err() {
             return false;

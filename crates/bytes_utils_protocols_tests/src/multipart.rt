@@ -130,6 +130,19 @@ fn form_cut_at_each_place(rt: HostRuntime) {
     assert!(rt; parts_come_wherever_cut(rt.alloc(), b"AaB03x", FORM, IN_FORM));
 }
 
+/// What is wanted after the part that comes with this slice, if one does.
+fn after_slice<'w>(
+    alloc: Global,
+    parts: &mut PartReader,
+    slice: &[u8],
+    wanted: &'w str,
+) -> Option<&'w str> {
+    match parts.push_slice(slice) {
+        Ok(()) => after_next_part(alloc, parts, wanted),
+        Err(_) => None,
+    }
+}
+
 /// What is wanted after the parts of a body that comes in slices of one byte.
 fn after_parts_in_slices<'w>(
     alloc: Global,
@@ -137,12 +150,14 @@ fn after_parts_in_slices<'w>(
     body: &[u8],
     wanted: &'w str,
 ) -> Option<&'w str> {
-    let mut rest = wanted;
+    let mut rest = Some(wanted);
     for byte in body.chunks(1) {
-        parts.push_slice(byte).ok()?;
-        rest = after_next_part(alloc, parts, rest)?;
+        rest = match rest {
+            Some(rest) => after_slice(alloc, parts, byte, rest),
+            None => None,
+        };
     }
-    Some(rest)
+    rest
 }
 
 /// After the close delimiter a slice is dropped.
