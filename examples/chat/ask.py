@@ -85,6 +85,7 @@ def lines(judge, room, at, chat):
         cut.sendall(b"half of a")
     caller.judge("a chat after one that broke off", caller.reply(b"next\n") == b"4\n")
     caller.judge("a line of a MiB", caller.reply(bytes(MOST) + b"\n") == b"%d\n" % MOST)
+    caller.judge("a line of one byte more", caller.reply(b"one\n", bytes(MOST + 1) + b"\n") in (b"3\n", b""))
     caller.judge("a line of 64 MiB", caller.reply(b"one\n", bytes(64 * MOST)) in (b"3\n", b""))
     crowd(caller, b"four\n", b"4\n")
     memory(caller, chat, bytes(100_000) + b"\n")

@@ -10,10 +10,10 @@ use Rattle.bytes_utils_buf.specs.Packing.{Packs}
 use Rattle.bytes_utils_buf.specs.Segments.{Held, without_empty}
 use Rattle.bytes_utils_buf.proofs.PackingLemmas.{length-grow_last}
 use Rattle.bytes_utils_codec.specs.EndSearch.{EndsFirstAt, PassesEnd, SearchedForEnds}
-use Rattle.bytes_utils_codec.specs.FrameSearch.{bytes_before}
+use Rattle.bytes_utils_codec.specs.EndSearch.{bytes_before}
 use Rattle.bytes_utils_codec.specs.UniversalLines.{IsInLine, LacksEnds, without_feed}
 use Rattle.bytes_utils.specs.Lines.{line_feed, carriage_return}
-use Rattle.bytes_utils_codec.specs.declared.frame.end_search.EndSearch.{EndSearch}
+use Rattle.bytes_utils_codec.specs.declared.universal_lines.end_search.EndSearch.{EndSearch}
 use Rattle.bytes_utils_codec.proofs.Pieces.{bytes_before-around, bytes_before-first, bytes_before-grown, bytes_before-more, bytes_before-rest, piece_at}
 
 -- ---- in bytes

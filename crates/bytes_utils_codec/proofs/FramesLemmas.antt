@@ -1,22 +1,16 @@
--- Frames from pieces.
-use Rattle.std.proofs.Common.{map, All, IsUtf8, drop-drop, Option, ◌≤◌, ◌≡◌, true, false, ℕ, zero, suc, ◌+◌, ◌<◌, List, [], ◌∷◌, ◌++◌, length, take, drop, None, Some, inl, inr, ap, ◌∙◌, sym, refl, subst, arith, length-append, append_assoc, append-nil, take-append-drop, ⊎_elim}
+-- Frames of bytes.
+use Rattle.std.proofs.Common.{map, All, IsUtf8, drop-drop, Option, ◌≤◌, ◌≡◌, true, false, ℕ, zero, suc, ◌+◌, ◌<◌, List, [], ◌∷◌, ◌++◌, length, take, drop, None, Some, ap, ◌∙◌, sym, refl, subst, arith, append_assoc, take-append-drop, ⊎_elim}
 use Rattle.std.proofs.lemmas.Bool.{cases_lt, false≢true}
 use Rattle.std.proofs.lemmas.List.{append_cancel_left, length-take-le, take_at, drop_at}
 use Rattle.std.proofs.lemmas.List.Elements.{All-nil, All-cons, All-head, All-tail}
 use Rattle.std.proofs.lemmas.Str.{IsUtf8-drop}
-use Rattle.std.specs.List.{concat}
 use Rattle.std.specs.Str.{chars}
 use Rattle.std.specs.Option.{IfNone, IfSome}
 use Rattle.memchr.specs.Find.{FindsNeedle}
 use Rattle.memchr.proofs.lemmas.MatchLemmas.{OccursAt-part, OccursAt-split}
-use Rattle.bytes_utils_buf.specs.declared.refused.Reason.{Reason}
-use Rattle.bytes_utils_buf.specs.declared.refused.Reason.TheVariants.{OutOfMemory, TooLong}
-use Rattle.bytes_utils_buf.specs.Packing.{Packs}
-use Rattle.bytes_utils_buf.specs.Segments.{Held, after_accepting}
-use Rattle.bytes_utils_buf.proofs.Lists.{Skips-more}
 use Rattle.bytes_utils.specs.Occurrence.{Occurs, OccursAt, OccursFirstAt}
 use Rattle.bytes_utils.specs.Parts.{IsCutAtFirst, AreForwardParts}
-use Rattle.bytes_utils_codec.specs.Frames.{DropsFirst, Framing, HasFrame, HasFrameWithin, PacksPiece, PushesPieces, TakesFrame, AreFrames, FrameOrBytes, Frame, First, TakesFrameOrBytes, framed, FramesLaw, FramesAndBytesLaw, FramePartsLaw, PutFramesLaw, SameFramesLaw, AllFramesLaw, TextFramesLaw}
+use Rattle.bytes_utils_codec.specs.Frames.{HasFrame, HasFrameWithin, TakesFrame, AreFrames, framed, FramePartsLaw, PutFramesLaw, SameFramesLaw, AllFramesLaw, TextFramesLaw}
 use Rattle.bytes_utils.proofs.Boundaries.{OccursAt-fits, HasNeedleAt-from_occurs}
 use Rattle.bytes_utils.proofs.OccurrenceLemmas.{OccursFirstAt-append, first_places_same}
 use Rattle.bytes_utils.proofs.Joins.{append_same}
@@ -24,7 +18,7 @@ use Rattle.bytes_utils.proofs.Forward.{AreForwardParts-led, AreForwardParts-last
 use Rattle.bytes_utils.proofs.FromEnds.{front-from}
 use Rattle.bytes_utils.proofs.PartLists.{first-from_cut, cut-from_first}
 use Rattle.bytes_utils.proofs.PartCut.{next_boundary, chars_before, chars_after}
-use Rattle.bytes_utils_codec.proofs.StreamRunsLemmas.{AreFirst-more, AreFirst-next, stream_law, same_first_law, all_first_law}
+use Rattle.bytes_utils_codec.proofs.StreamRunsLemmas.{AreFirst-more, AreFirst-next, same_first_law, all_first_law}
 use Rattle.bytes_utils.proofs.SearchLemmas.{chars-some, FindsFirst-from_needle}
 
 -- ---- a frame is taken
@@ -74,50 +68,7 @@ HasFrameWithin-taken limit p held len fits takes some within =
 pub HasFrame-taken : (p held : List ℕ) (len : ℕ) → len + length p ≤ length held → TakesFrame p held (take len held) (drop (len + length p) held) → 0 < len → HasFrame p held
 HasFrame-taken p held len fits takes some = (HasFrameWithin-taken len p held len fits takes some (omega arith)).0
 
--- ---- pieces
-
-pub packs_piece : (piece : List ℕ) (old new : Held) → Packs piece old new → PacksPiece piece old.segments new.segments
-packs_piece piece old new (inl accepted) = inl (ap (λ (held : Held). held.segments) accepted)
-packs_piece piece old new (inr grown) = inr (grown.0, ap (λ (held : Held). held.segments) grown.1)
-
-pub large_piece : (piece : List ℕ) (old new : Held) → new ≡ after_accepting old (piece ∷ []) → 0 < length piece → new.segments ≡ old.segments ++ piece ∷ []
-large_piece [] old new accepted some = absurd (omega (arith, some))
-large_piece (b ∷ piece) old new accepted some = ap (λ (held : Held). held.segments) accepted
-
-pub none_to_push : (pieces held : List (List ℕ)) → pieces ≡ [] → PushesPieces pieces held held
-none_to_push pieces held none = rw none refl
-
--- without bytes nothing is pushed
-pub nothing_pushed : (pieces : List (List ℕ)) → length (concat pieces) ≡ 0 → PushesPieces pieces [] []
-nothing_pushed [] none = refl
-nothing_pushed ([] ∷ pieces) none = ([], inl refl, λ large. absurd (omega (arith, large)), nothing_pushed pieces none)
-nothing_pushed ((b ∷ piece) ∷ pieces) none = absurd (omega (arith, none, length-append (b ∷ piece) (concat pieces)))
-
-pushed_after : (pieces old new : List (List ℕ)) → PushesPieces pieces old new → All (λ s. 512 < length s) pieces → new ≡ old ++ pieces
-pushed_after [] old new pushed large = pushed ∙ sym (append-nil old)
-pushed_after (piece ∷ pieces) old new pushed large =
-    pushed_after pieces pushed.0 new pushed.3 (All-tail (λ (s : List ℕ). 512 < length s) piece pieces large)
-    ∙ ap (λ l. l ++ pieces) (pushed.2 (All-head (λ (s : List ℕ). 512 < length s) piece pieces large)) ∙ append_assoc old (piece ∷ []) pieces
-
-pub large_pieces : (pieces new : List (List ℕ)) → PushesPieces pieces [] new → All (λ s. 512 < length s) pieces → new ≡ pieces
-large_pieces pieces new pushed large = pushed_after pieces [] new pushed large
-
-pub not_too_long : (reason : Reason) → ¬ (reason ≡ TooLong) → reason ≡ OutOfMemory
-not_too_long OutOfMemory other = refl
-not_too_long TooLong other = absurd (other refl)
-
--- a frame, and then the separator after it
-pub frame_dropped : (n : ℕ) (old mid new : Framing) → DropsFirst n old mid → DropsFirst (0 + length mid.separator) mid new → DropsFirst (n + length old.separator) old new
-frame_dropped n old mid new frame rest =
-    let same : 0 + length mid.separator ≡ length old.separator = omega (arith, ap length frame.separator) in
-    let rest_is = rw same at rest in
-    record {
-      held = rest_is.held ∙ ap (drop (length old.separator)) frame.held ∙ drop-drop (length old.separator) n old.held;
-      skips = Skips-more n (length old.separator) old.pieces mid.pieces new.pieces frame.skips rest_is.skips;
-      separator = rest_is.separator ∙ frame.separator;
-    }
-
--- ---- runs
+-- ---- bytes that follow
 
 pub first_more : (p xs ys : List ℕ) (i : ℕ) → OccursFirstAt p xs i → OccursFirstAt p (xs ++ ys) i
 first_more [] xs ys i first = record { here = refl; none_before = λ j there. omega (arith, first.none_before 0 refl) }
@@ -135,16 +86,6 @@ AreFrames-more p bytes frames rest piece are = AreFirst-more (λ l piece. l ++ p
 pub AreFrames-next : (p bytes : List ℕ) (frames : List (List ℕ)) (held frame rest : List ℕ) → AreFrames p bytes frames held → TakesFrame p held frame rest
     → AreFrames p bytes (frames ++ frame ∷ []) rest
 AreFrames-next p bytes frames held frame rest are takes = AreFirst-next (TakesFrame p) bytes frames held frame rest are takes
-
-pub frames_law : FramesLaw
-frames_law p = stream_law (TakesFrame p) (TakesFrame-more p)
-
-either_more : (p old : List ℕ) (item : FrameOrBytes) (rest piece : List ℕ) → TakesFrameOrBytes p old item rest → TakesFrameOrBytes p (old ++ piece) item (rest ++ piece)
-either_more p old (Frame frame) rest piece takes = TakesFrame-more p old frame rest piece takes
-either_more p old (First bytes) rest piece takes = ap (λ l. l ++ piece) takes ∙ append_assoc bytes rest piece
-
-pub frames_and_bytes_law : FramesAndBytesLaw
-frames_and_bytes_law p = stream_law (TakesFrameOrBytes p) (either_more p)
 
 -- ---- the list of parts
 
@@ -236,4 +177,4 @@ module _ (p : List ℕ) (some : 0 < length p) where
 pub put_frames_law : PutFramesLaw
 put_frames_law p frames rest some = (each_cut p some frames rest, cut_each p some frames rest)
 
-pub ruleset frame_laws = (frames_law, frames_and_bytes_law, frame_parts_law, text_frames_law, same_frames_law, all_frames_law, put_frames_law)
+pub ruleset frame_laws = (frame_parts_law, text_frames_law, same_frames_law, all_frames_law, put_frames_law)

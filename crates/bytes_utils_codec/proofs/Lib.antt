@@ -1,15 +1,12 @@
 pub mod Pieces
-pub mod FrameSearchLemmas
 pub mod FindLemmas
 pub mod FoundLemmas
+pub mod SearchLemmas
 pub mod StreamRunsLemmas
 pub mod FramesLemmas
-pub mod LimitedFramesLemmas
-pub mod LimitedLinesLemmas
 pub mod DecodingLemmas
-pub mod PrefixedLemmas
 pub mod DelimitedLemmas
-pub mod TextLinesLemmas
+pub mod LineItemsLemmas
 pub mod ReadItemLemmas
 pub mod StreamLinesLemmas
 pub mod CursorLemmas
@@ -23,4 +20,3 @@ pub mod FaultLen
 pub mod LossyFronts
 pub mod StreamTextsLemmas
 pub mod LossyTextsLemmas
-pub mod ReadFrameLemmas

@@ -8,7 +8,7 @@ use Rattle.std.specs.Str.Lossy.{utf8_valid_len, utf8_error_len, replacement_byte
 use Rattle.bytes_utils_codec.specs.LossyTexts.{TakesLastLossy, TakesLossy, LossyRunLaw, WholeLossyLaw, TextLossyLaw}
 use Rattle.bytes_utils_codec.specs.StreamRuns.{AreFirst, pushed_by, given_by}
 use Rattle.bytes_utils_codec.specs.StreamTexts.{IsFront, IsUnfinished}
-use Rattle.bytes_utils_codec.specs.declared.frame.texts.Front.TheVariants.{Text, Fault}
+use Rattle.bytes_utils_codec.specs.declared.texts.Front.TheVariants.{Text, Fault}
 use Rattle.bytes_utils_codec.proofs.CharacterBegins.{faulty}
 use Rattle.bytes_utils_codec.proofs.FaultLen.{fault_of_four, fault_some, fault_within}
 use Rattle.bytes_utils_codec.proofs.LossyFronts.{lossy_text, lossy_fault_more, lossy_unfinished}

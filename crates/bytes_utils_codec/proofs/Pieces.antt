@@ -7,7 +7,7 @@ use Rattle.bytes.proofs.Chunks.{concat_push}
 use Rattle.bytes_utils_buf.specs.Packing.{last_of, grow_last}
 use Rattle.bytes_utils_buf.specs.Segments.{IsInside}
 use Rattle.bytes_utils_buf.proofs.Lists.{concat_split}
-use Rattle.bytes_utils_codec.specs.FrameSearch.{bytes_before}
+use Rattle.bytes_utils_codec.specs.EndSearch.{bytes_before}
 
 -- The piece at place i.
 module _ (pieces : List (List ℕ)) (i : ℕ) (piece : List ℕ) (there : Some piece ≡ slice_get pieces i) where

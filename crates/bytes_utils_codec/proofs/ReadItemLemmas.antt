@@ -4,20 +4,10 @@ use Rattle.std.proofs.KnownBytes.{Consumes-nil, Consumes-trans, Consumes-whole}
 use Rattle.std.specs.Prelude.{◌⊎◌, IfOk, IfErr, IfSome, IfNone}
 use Rattle.std.specs.Io.KnownBytes.{Consumes, IsAtEnd}
 use Rattle.bytes_utils_codec.specs.Decoding.{Decoding, Next, Item, Last, Gives, fed, HasSameNext, LacksItem, IsStable, IsSingle, AreItems}
-use Rattle.bytes_utils_codec.specs.ReadError.{IsDue}
-use Rattle.bytes_utils_codec.specs.ReadItem.{ReadsNext, ReadsMore, TakesHeld, TakesLast, IsItemDue, IsOfDecoder, item_back_bytes, IsReadDue, items_of, ReadItemsLaw, ReadWholeLaw, ReadSameLaw}
-use Rattle.bytes_utils_codec.specs.declared.frame.read.error.ReadError.{ReadError}
-use Rattle.bytes_utils_codec.specs.declared.frame.read.error.ReadError.TheVariants.{Io, TooManyReads, Refused, Unshared, Unpushed}
+use Rattle.bytes_utils_codec.specs.ReadItem.{ReadsNext, ReadsMore, TakesHeld, TakesLast, IsItemDue, IsOfDecoder, item_back_bytes, items_of, ReadItemsLaw, ReadWholeLaw, ReadSameLaw}
 use Rattle.bytes_utils_codec.specs.declared.decode.read.error.ReadItemError.{ReadItemError}
 use Rattle.bytes_utils_codec.specs.declared.decode.read.error.ReadItemError.TheVariants.{Decoder, Read}
 use Rattle.bytes_utils_codec.proofs.DecodingLemmas.{fed-none, fed-joined, SameNext-refl, SameNext-trans, SameNext-fed, SameNext-now, items_fed, decoder_whole}
-
-pub read_due : (separator held : List ℕ) (e : ReadError) → IsDue separator held e → IsReadDue held e
-read_due separator held (Io error) due = due
-read_due separator held TooManyReads due = tt
-read_due separator held (Refused reason) due = due
-read_due separator held (Unshared block) due = due
-read_due separator held (Unpushed refused) due = due
 
 module _ {D A : Type 0} (gives : Gives D A) where
   -- nothing was read yet

@@ -10,11 +10,11 @@ use Rattle.memchr.proofs.lemmas.MatchLemmas.{OccursAt-part}
 use Rattle.bytes_utils.specs.Occurrence.{Occurs, OccursAt}
 use Rattle.bytes_utils.specs.Lines.{lines, line_feed, carriage_return, IsFeedEnd, IsWithoutReturn}
 use Rattle.bytes_utils_codec.specs.Frames.{TakesFrame}
-use Rattle.bytes_utils_codec.specs.StreamLines.{TakesLine, LineRunLaw, FirstLinesLaw, last_line, TextLinesLaw, SameLinesLaw}
+use Rattle.bytes_utils_codec.specs.StreamLines.{TakesLine, FirstLinesLaw, last_line, TextLinesLaw, SameLinesLaw}
 use Rattle.bytes_utils.proofs.Boundaries.{OccursAt-fits}
 use Rattle.bytes_utils.proofs.OccurrenceLemmas.{OccursAt-append}
 use Rattle.bytes_utils.proofs.LinesLemmas.{LacksFeed, LacksFeed-front, lines-at_end, lines-last}
-use Rattle.bytes_utils_codec.proofs.StreamRunsLemmas.{stream_law, same_first_law}
+use Rattle.bytes_utils_codec.proofs.StreamRunsLemmas.{same_first_law}
 use Rattle.bytes_utils.proofs.SearchLemmas.{FindsFirst-from_needle}
 
 -- ---- a line is taken
@@ -49,9 +49,6 @@ TakesLine-more old line rest piece takes = record {
   ends = takes.ends;
   lacks = takes.lacks;
 }
-
-pub line_run_law : LineRunLaw
-line_run_law = stream_law TakesLine TakesLine-more
 
 -- ---- the lines of the bytes
 
@@ -162,5 +159,3 @@ same_lines_law = same_first_law TakesLine (λ old line other x y s t.
     sym (first_lines_law old (line ∷ []) x (x, s, refl)) ∙ first_lines_law old (other ∷ []) y (y, t, refl) in
     let same : line ≡ other = ap (λ ls. get_or ls 0 []) first in
     (same, TakesLine-same old line x y s (subst (λ l. TakesLine old l y) (sym same) t)))
-
-pub ruleset line_laws = (line_run_law, first_lines_law, text_lines_law, same_lines_law)

@@ -4,8 +4,8 @@ use Rattle.std.proofs.lemmas.List.{take-take}
 use Rattle.std.proofs.lemmas.Str.{IsUtf8-append, IsUtf8-nil}
 use Rattle.std.specs.List.{concat}
 use Rattle.std.specs.Str.Lossy.{utf8_valid_len}
-use Rattle.bytes_utils_codec.specs.declared.frame.texts.Front.{Front}
-use Rattle.bytes_utils_codec.specs.declared.frame.texts.Front.TheVariants.{Text, Fault, Unfinished}
+use Rattle.bytes_utils_codec.specs.declared.texts.Front.{Front}
+use Rattle.bytes_utils_codec.specs.declared.texts.Front.TheVariants.{Text, Fault, Unfinished}
 use Rattle.bytes_utils_codec.specs.StreamRuns.{StreamEvent, AreFirst, pushed_by, given_by}
 use Rattle.bytes_utils_codec.specs.StreamTexts.{IsFaulty, IsFront, IsUnfinished, TakesText, IsTextRun, TextRunLaw, FaultyRunLaw, WholeRunLaw}
 use Rattle.bytes_utils_codec.proofs.CharacterBegins.{faulty}

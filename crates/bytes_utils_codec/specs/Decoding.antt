@@ -1,5 +1,5 @@
 -- Items that a decoder takes off the front of the bytes of a stream.
-use Rattle.std.specs.Prelude.{◌≡◌, ◌↔◌, ◌⊎◌, ℕ, List, [], ◌∷◌, ◌++◌, Option, None, Some, Result, Ok, Err}
+use Rattle.std.specs.Prelude.{◌≡◌, ◌↔◌, ◌⊎◌, ℕ, List, [], ◌∷◌, ◌++◌, drop, Option, None, Some, Result, Ok, Err}
 use Rattle.std.specs.List.{concat, flat_map}
 use Rattle.bytes_utils_buf.specs.Packing.{Packing}
 use Rattle.bytes_utils_codec.specs.StreamRuns.{StreamEvent, IsRunOver, pushed_by, given_by, AreFirst}
@@ -33,17 +33,25 @@ HasSameNext {D} {A} gives s t = (more : List ℕ) (next : Next A) (after : Decod
 abbrev pub LacksItem : {D A : Type 0} → Gives D A → Decoding D → Type 0
 LacksItem {D} {A} gives s = (item : A) (after : Decoding D) → ¬ gives s (Item item) after
 
+-- after a call that gave no item the same comes next; `keeps` says what such a call leaves of a state
+abbrev pub KeepsNext : {D A : Type 0} → Gives D A → (Decoding D → Decoding D → Type 0) → Type 0
+KeepsNext {D} gives keeps = (old new : Decoding D) → keeps old new → HasSameNext gives old new
+
 -- what a call for the next item did, by what it returned
-abbrev pub Decodes : {D A E : Type 0} → Gives D A → (Decoding D → Type 0) → (Decoding D → E → Type 0) → Decoding D → Result (Option A) E → Decoding D → Type 0
-Decodes gives waits fails old (Ok (Some item)) new = gives old (Item item) new
-Decodes gives waits fails old (Ok None) new = waits old × HasSameNext gives old new
-Decodes gives waits fails old (Err error) new = fails old error × HasSameNext gives old new
+abbrev pub Decodes : {D A E : Type 0} → Gives D A → (Decoding D → Type 0) → (Decoding D → E → Type 0) → (Decoding D → Decoding D → Type 0) → Decoding D → Result (Option A) E → Decoding D → Type 0
+Decodes gives waits fails keeps old (Ok (Some item)) new = gives old (Item item) new
+Decodes gives waits fails keeps old (Ok None) new = waits old × keeps old new
+Decodes gives waits fails keeps old (Err error) new = fails old error × keeps old new
 
 -- the same of a call at the end of the stream
-abbrev pub DecodesAtEnd : {D A E : Type 0} → Gives D A → (Decoding D → E → Type 0) → Decoding D → Result (Option A) E → Decoding D → Type 0
-DecodesAtEnd gives fails old (Ok (Some item)) new = gives old (Item item) new ⊎ gives old (Last (Some item)) new
-DecodesAtEnd gives fails old (Ok None) new = gives old (Last None) new
-DecodesAtEnd gives fails old (Err error) new = fails old error × HasSameNext gives old new
+abbrev pub DecodesAtEnd : {D A E : Type 0} → Gives D A → (Decoding D → E → Type 0) → (Decoding D → Decoding D → Type 0) → Decoding D → Result (Option A) E → Decoding D → Type 0
+DecodesAtEnd gives fails keeps old (Ok (Some item)) new = gives old (Item item) new ⊎ gives old (Last (Some item)) new
+DecodesAtEnd gives fails keeps old (Ok None) new = gives old (Last None) new
+DecodesAtEnd gives fails keeps old (Err error) new = fails old error × keeps old new
+
+-- the first bytes are gone, and the decoder begins at the front of those after them
+abbrev pub passed : {D : Type 0} → (D → D) → ℕ → Decoding D → Decoding D
+passed restarted len s = record { decoder = restarted s.decoder; held = drop len s.held }
 
 -- bytes that follow change no item that is there
 abbrev pub IsStable : {D A : Type 0} → Gives D A → Type 0
@@ -73,9 +81,9 @@ pub record AreItems {D A : Type 0} (gives : Gives D A) (s : Decoding D) (items :
 
 -- Whatever the pieces are and whenever items are asked for, a run gives the first items of the joined pieces. Its items are those of the calls that
 -- returned one.
-abbrev pub DecoderRunLaw : {D A : Type 0} → (E : Type 0) → Gives D A → (Decoding D → Type 0) → (Decoding D → E → Type 0) → Type 0
-DecoderRunLaw {D} {A} E gives waits fails = (s : Decoding D) (events : List (StreamEvent (Result (Option A) E))) (end : Decoding D)
-    → IsRunOver fed (Decodes gives waits fails) s events end → AreItems gives (fed s (pushed_by events)) (flat_map item_of (given_by events)) end
+abbrev pub DecoderRunLaw : {D A : Type 0} → (E : Type 0) → Gives D A → (Decoding D → Type 0) → (Decoding D → E → Type 0) → (Decoding D → Decoding D → Type 0) → Type 0
+DecoderRunLaw {D} {A} E gives waits fails keeps = (s : Decoding D) (events : List (StreamEvent (Result (Option A) E))) (end : Decoding D)
+    → IsRunOver fed (Decodes gives waits fails keeps) s events end → AreItems gives (fed s (pushed_by events)) (flat_map item_of (given_by events)) end
 
 -- Two lists of items of the same bytes after which no item is there are the same, and then the same comes next.
 abbrev pub DecoderAllLaw : {D A : Type 0} → Gives D A → Type 0

@@ -1,75 +1,184 @@
--- Frames of a decoder that a separator ends. It keeps how far it has searched, so that while it waits it searches no byte again but the last ones, fewer than the separator has.
-use Rattle.std.specs.Prelude.{◌≡◌, ℕ, ◌+◌, ◌-◌, ◌<◌, ◌≤◌, max, List, ◌++◌, length, Option, None, Some, Result, Ok, Err}
+-- Frames of a decoder that a separator ends, up to a limit. A longer frame is an item that says so, and then it is
+-- skipped.
+use Rattle.std.specs.Prelude.{◌≡◌, ◌⊎◌, ℕ, suc, ◌+◌, ◌-◌, ◌<◌, ◌≤◌, max, Bool, true, false, List, [], ◌∷◌, ◌++◌, length, map, take, drop, nat_le, Option, None, Some, Result, Ok, Err, if◌then◌else◌}
+use Rattle.std.specs.Bool.{OnTrue}
 use Rattle.bytes_utils_buf.specs.declared.refused.Reason.{Reason}
 use Rattle.bytes_utils_buf.specs.declared.refused.Reason.TheVariants.{OutOfMemory, TooLong}
-use Rattle.bytes_utils.specs.Occurrence.{OccursAt}
+use Rattle.bytes_utils.specs.Occurrence.{Occurs, OccursAt}
 use Rattle.bytes_utils_codec.specs.Frames.{AreFrames}
-use Rattle.bytes_utils_codec.specs.Decoding.{Decoding, Gives, Item, Last, AreItems}
+use Rattle.bytes_utils_codec.specs.Search.{NoneBegins}
+use Rattle.bytes_utils_codec.specs.Decoding.{Decoding, Gives, Item, Last, AreItems, Decodes, fed}
+use Rattle.bytes_utils_codec.specs.StreamRuns.{StreamEvent, IsRunOver}
+use Rattle.bytes_utils_codec.specs.declared.decode.too_long.FrameTooLong.{FrameTooLong}
 
--- what clauses see of a `Delimited`: the separator, the greatest length of a frame, and the number of held bytes before which no separator begins
+-- What clauses see of a `Delimited`: the separator, the greatest length of a frame, the number of held bytes before
+-- which no separator is looked for, and whether the next frame is skipped, since it was reported to be longer.
 pub record Delimiting : Type 0 where
   pub separator : List ℕ
   pub max_length : ℕ
   pub searched : ℕ
+  pub skipping : Bool
 
--- a decoder that has searched nothing, as a new one
+-- a decoder at the front of a frame, as a new one
 abbrev pub delimiting : List ℕ → ℕ → Delimiting
-delimiting separator limit = record { separator = separator; max_length = limit; searched = 0 }
+delimiting separator limit = record { separator = separator; max_length = limit; searched = 0; skipping = false }
 
--- the same decoder before a search
-abbrev pub from_start : Delimiting → Delimiting
-from_start d = record d { searched = 0 }
+-- the same decoder at the front of a frame
+abbrev pub ready : Delimiting → Delimiting
+ready d = record d { searched = 0; skipping = false }
 
--- The old bytes are the frame, the separator and the rest. Of the separators that begin at place `from` or after it, this is the first.
+-- The old bytes are the frame, the separator and the rest. Of the separators that begin at place `from` or after it,
+-- this is the first.
 pub record TakesFrameFrom (separator : List ℕ) (from : ℕ) (old frame rest : List ℕ) : Type 0 where
   pub bytes : old ≡ frame ++ (separator ++ rest)
   pub low : from ≤ length frame
   pub first : (k : ℕ) → from ≤ k → OccursAt separator old k → length frame ≤ k
 
--- No separator begins at or after the place up to which was searched, and the next frame may still be within the limit.
+-- the held bytes begin with this frame, which its separator ends
+abbrev pub Takes : Decoding Delimiting → List ℕ → List ℕ → Type 0
+Takes s frame rest = TakesFrameFrom s.decoder.separator s.decoder.searched s.held frame rest
+
+-- no separator begins at or after the place up to which was searched
+abbrev pub LacksSeparator : Decoding Delimiting → Type 0
+LacksSeparator s = (k : ℕ) → s.decoder.searched ≤ k → ¬ OccursAt s.decoder.separator s.held k
+
+-- the frame that is skipped, if there is one, is passed with its separator
+abbrev pub PassesSkipped : Bool → Decoding Delimiting → Decoding Delimiting → Type 0
+PassesSkipped false old new = new ≡ old
+PassesSkipped true old new = (gone : List ℕ) × Takes old gone new.held × (new.decoder ≡ ready old.decoder)
+
+abbrev pub Passes : Decoding Delimiting → Decoding Delimiting → Type 0
+Passes old new = PassesSkipped old.decoder.skipping old new
+
+-- no separator is there, and the next frame may still be within the limit
 pub record AwaitsSeparator (s : Decoding Delimiting) : Type 0 where
-  pub lacks : (k : ℕ) → s.decoder.searched ≤ k → ¬ OccursAt s.decoder.separator s.held k
+  pub lacks : LacksSeparator s
   pub few : length s.held < s.decoder.max_length + length s.decoder.separator
 
--- What comes next: a frame within the limit, which ends at the first separator from the searched place on, and then nothing is searched; or at the
--- end of the stream none, and what is held is left.
-abbrev pub gives_delimited : Gives Delimiting (List ℕ)
-gives_delimited old (Item frame) new = (new.decoder ≡ from_start old.decoder) × (length frame ≤ old.decoder.max_length)
-    × TakesFrameFrom old.decoder.separator old.decoder.searched old.held frame new.held
-gives_delimited old (Last None) new = AwaitsSeparator old × (new ≡ record old { decoder = from_start old.decoder })
-gives_delimited old (Last (Some frame)) new = ⊥
+-- all places within the limit at which a separator may begin have come, and none begins there
+pub record IsOverLimit (s : Decoding Delimiting) : Type 0 where
+  pub many : s.decoder.max_length + length s.decoder.separator ≤ length s.held
+  pub none : (k : ℕ) → s.decoder.searched ≤ k → OccursAt s.decoder.separator s.held k → s.decoder.max_length < k
 
--- Whatever comes after the held bytes, the next frame is longer than the limit. Or memory was refused, for a frame that has come, is within the limit
--- and isn't empty.
+-- the frame over the limit was reported: it is skipped up to the first separator that begins after the limit
+abbrev pub skipping_from : Delimiting → Delimiting
+skipping_from d = record d { searched = suc d.max_length; skipping = true }
+
+-- the end of the frame that is skipped has not come
+abbrev pub SkipsOn : Decoding Delimiting → Type 0
+SkipsOn s = (s.decoder.skipping ≡ true) × LacksSeparator s
+
+-- the end of the next frame has not come, or that of the frame that is skipped
+abbrev pub AwaitsFrame : Decoding Delimiting → Type 0
+AwaitsFrame s = SkipsOn s ⊎ ((mid : Decoding Delimiting) × Passes s mid × AwaitsSeparator mid)
+
+-- What comes next: a frame within the limit, or that it is longer. At the end of the stream none, and what is held is
+-- left, but for the bytes of a frame that is skipped.
+abbrev pub gives_delimited : Gives Delimiting (Result (List ℕ) FrameTooLong)
+gives_delimited old (Item (Ok frame)) new =
+    (mid : Decoding Delimiting) × Passes old mid × Takes mid frame new.held × (length frame ≤ old.decoder.max_length) × (new.decoder ≡ ready old.decoder)
+gives_delimited old (Item (Err e)) new =
+    (mid : Decoding Delimiting) × Passes old mid × IsOverLimit mid × (new ≡ record mid { decoder = skipping_from mid.decoder })
+gives_delimited old (Last None) new =
+    (SkipsOn old × (new ≡ record { decoder = ready old.decoder; held = [] }))
+    ⊎ ((mid : Decoding Delimiting) × Passes old mid × AwaitsSeparator mid × (new ≡ record { decoder = ready old.decoder; held = mid.held }))
+gives_delimited old (Last (Some item)) new = ⊥
+
+-- Memory was refused for the next frame, which has come, is within the limit and isn't empty.
 abbrev pub fails_delimited : Decoding Delimiting → Reason → Type 0
-fails_delimited s TooLong = (more : List ℕ) (k : ℕ) → s.decoder.searched ≤ k → OccursAt s.decoder.separator (s.held ++ more) k → s.decoder.max_length < k
-fails_delimited s OutOfMemory =
-    (frame : List ℕ) × (rest : List ℕ) × TakesFrameFrom s.decoder.separator s.decoder.searched s.held frame rest
-    × (length frame ≤ s.decoder.max_length) × (0 < length frame)
+fails_delimited s TooLong = ⊥
+fails_delimited s OutOfMemory = (mid : Decoding Delimiting) × Passes s mid
+    × ((frame : List ℕ) × (rest : List ℕ) × Takes mid frame rest × (length frame ≤ s.decoder.max_length) × (0 < length frame))
 
--- the search came further: no separator begins in the bytes that were passed over, whatever comes after those held
-pub record SearchesOn (held : List ℕ) (old new : Delimiting) : Type 0 where
-  pub others : new ≡ record old { searched = new.searched }
-  pub further : old.searched ≤ new.searched
-  pub none : (more : List ℕ) (k : ℕ) → old.searched ≤ k → OccursAt old.separator (held ++ more) k → new.searched ≤ k
+-- The first bytes of the frame that is skipped are dropped: its separator begins in none of them, whatever comes after
+-- those held. Fewer are left than the separator has.
+pub record DropsSkipped (old new : Decoding Delimiting) : Type 0 where
+  pub gone : List ℕ
+  pub bytes : old.held ≡ gone ++ new.held
+  pub skipping : old.decoder.skipping ≡ true
+  pub decoder : new.decoder ≡ record old.decoder { searched = 0 }
+  pub none : (more : List ℕ) (k : ℕ) → old.decoder.searched ≤ k → OccursAt old.decoder.separator (old.held ++ more) k → length gone ≤ k
+  pub low : old.decoder.searched ≤ length gone
+  pub few : length new.held < length old.decoder.separator
 
--- all these bytes are searched now: only those will be searched again in which a separator may begin, fewer than it has
-abbrev pub IsSearched : List ℕ → Delimiting → Delimiting → Type 0
-IsSearched held old new = new.searched ≡ max old.searched (length held - (length old.separator - 1))
+-- bytes of the frame that is skipped are dropped, unless no separator is looked for in those held
+abbrev pub SkipsMore : Decoding Delimiting → Decoding Delimiting → Type 0
+SkipsMore old new = DropsSkipped old new ⊎ ((length old.held < old.decoder.searched) × (new ≡ old))
 
--- the search came further, and nothing is taken
-pub record OnlySearches (old new : Decoding Delimiting) : Type 0 where
-  pub held : new.held ≡ old.held
-  pub on : SearchesOn old.held old.decoder new.decoder
+-- all held bytes are searched: only those will be searched again in which a separator may begin, fewer than it has
+abbrev pub all_searched : Decoding Delimiting → Decoding Delimiting
+all_searched s =
+    record s { decoder = record s.decoder { searched = max s.decoder.searched (length s.held - (length s.decoder.separator - 1)) } }
 
--- what a call for the next frame did, by what it returned
-abbrev pub TakesDelimited : Decoding Delimiting → Result (Option (List ℕ)) Reason → Decoding Delimiting → Type 0
-TakesDelimited old (Ok (Some frame)) new = gives_delimited old (Item frame) new
-TakesDelimited old (Ok None) new = AwaitsSeparator old × OnlySearches old new × IsSearched old.held old.decoder new.decoder
-TakesDelimited old (Err reason) new = fails_delimited old reason × OnlySearches old new
+-- What a call that gives no item leaves: the frame that is skipped is skipped on; or it is passed, and nothing more has
+-- changed, or all held bytes are searched.
+abbrev pub keeps_delimited : Decoding Delimiting → Decoding Delimiting → Type 0
+keeps_delimited old new =
+    SkipsMore old new ⊎ ((mid : Decoding Delimiting) × Passes old mid × ((new ≡ mid) ⊎ (AwaitsSeparator mid × (new ≡ all_searched mid))))
 
--- The items of a decoder that has searched nothing are the frames of the bytes, as `Frames` takes them.
+-- More bytes have to come, for the end of the frame that is skipped, if one is still, or of the next one: then all held
+-- bytes are searched.
+abbrev pub StopsAt : Bool → Decoding Delimiting → Decoding Delimiting → Type 0
+StopsAt true old new = SkipsOn old × SkipsMore old new
+StopsAt false old new = (mid : Decoding Delimiting) × Passes old mid × AwaitsSeparator mid × (new ≡ all_searched mid)
+
+abbrev pub Stops : Decoding Delimiting → Decoding Delimiting → Type 0
+Stops old new = StopsAt new.decoder.skipping old new
+
+-- what a call that finds the next frame did, by what it returned: the frame can be taken then, by its length
+abbrev pub FindsNext : Decoding Delimiting → Option (Result ℕ FrameTooLong) → Decoding Delimiting → Type 0
+FindsNext old (Some (Ok len)) new = keeps_delimited old new × (len + length new.decoder.separator ≤ length new.held)
+    × gives_delimited old (Item (Ok (take len new.held)))
+    (record { decoder = ready new.decoder; held = drop (len + length new.decoder.separator) new.held })
+FindsNext old (Some (Err over)) new = gives_delimited old (Item (Err over)) new
+FindsNext old None new = Stops old new × AwaitsFrame old × keeps_delimited old new
+
+-- what is reported of a frame: the frame, or that it is longer than the limit
+abbrev pub within : ℕ → List ℕ → Result (List ℕ) FrameTooLong
+within limit frame = if nat_le (length frame) limit then Ok frame else Err (record {})
+
+-- what is reported of a frame whose end has not come
+abbrev pub begun : Bool → List (Result (List ℕ) FrameTooLong)
+begun true = Err (record {}) ∷ []
+begun false = []
+
+-- These items are reported of the bytes: each frame, or that it is longer than the limit; and if the end of a frame has
+-- not come that is certain to be longer, perhaps that.
+pub record AreReports (separator : List ℕ) (limit : ℕ) (bytes : List ℕ) (items : List (Result (List ℕ) FrameTooLong)) : Type 0 where
+  pub frames : List (List ℕ)
+  pub rest : List ℕ
+  pub over : Bool
+  pub are : AreFrames separator bytes frames rest
+  pub reported : items ≡ map (within limit) frames ++ begun over
+  pub long : OnTrue over (NoneBegins separator rest (suc limit))
+
+-- The items of a new decoder are reported of the bytes.
 abbrev pub DelimitedFramesLaw : Type 0
-DelimitedFramesLaw = (separator : List ℕ) (limit : ℕ) (bytes : List ℕ) (items : List (List ℕ)) (end : Decoding Delimiting)
-    → AreItems gives_delimited (record { decoder = delimiting separator limit; held = bytes }) items end
-    → (rest : List ℕ) × AreFrames separator bytes items rest
+DelimitedFramesLaw = (separator : List ℕ) (limit : ℕ) (bytes : List ℕ) (items : List (Result (List ℕ) FrameTooLong)) (end : Decoding Delimiting)
+    → AreItems gives_delimited (record { decoder = delimiting separator limit; held = bytes }) items end → AreReports separator limit bytes items
+
+-- what is left of the bytes after the last frame: none, if they were reported to be too many
+abbrev pub left_of : Bool → List ℕ → List ℕ
+left_of true rest = []
+left_of false rest = rest
+
+-- If no item comes after them at the end of the stream, then the frames are all of the bytes: after them there is no
+-- separator.
+abbrev pub DelimitedWholeLaw : Type 0
+DelimitedWholeLaw = (separator : List ℕ) (limit : ℕ) (bytes : List ℕ) (items : List (Result (List ℕ) FrameTooLong)) (end after : Decoding Delimiting)
+    → AreItems gives_delimited (record { decoder = delimiting separator limit; held = bytes }) items end → gives_delimited end (Last None) after
+    → (reports : AreReports separator limit bytes items) × (¬ Occurs separator reports.rest) × (after.held ≡ left_of reports.over reports.rest)
+
+-- what a call on a new decoder and the bytes that came returned, or a piece that came
+abbrev pub DelimitedEvent : Type 0
+DelimitedEvent = StreamEvent (Result (Option (Result (List ℕ) FrameTooLong)) Reason)
+
+abbrev pub IsDelimitedCall : Decoding Delimiting → Result (Option (Result (List ℕ) FrameTooLong)) Reason → Decoding Delimiting → Type 0
+IsDelimitedCall old result new = Decodes gives_delimited AwaitsFrame fails_delimited keeps_delimited old result new
+
+-- Whatever the pieces are, after a call of a new decoder's that returned nothing fewer bytes are held than the limit
+-- and the separator have together.
+abbrev pub DelimitedHeldLaw : Type 0
+DelimitedHeldLaw = (separator : List ℕ) (limit : ℕ) (events : List DelimitedEvent) (before end : Decoding Delimiting) → 0 < length separator
+    → IsRunOver fed IsDelimitedCall (record { decoder = delimiting separator limit; held = [] }) events before → IsDelimitedCall before (Ok None) end
+    → length end.held < limit + length separator

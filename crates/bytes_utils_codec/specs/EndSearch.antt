@@ -1,10 +1,14 @@
 -- How far a search for the end of a line has come, over pieces in a row.
-use Rattle.std.specs.Prelude.{◌≡◌, ◌↔◌, ◌⊎◌, ℕ, ◌-◌, ◌<◌, ◌≤◌, Bool, true, List, [], ◌∷◌, ◌++◌, length, take, slice_index}
+use Rattle.std.specs.Prelude.{◌≡◌, ◌↔◌, ◌⊎◌, ℕ, ◌-◌, ◌<◌, ◌≤◌, Bool, true, List, [], ◌∷◌, ◌++◌, length, take, get_or, slice_index}
+use Rattle.std.specs.List.{concat}
 use Rattle.bytes_utils_buf.specs.Segments.{IsInside}
-use Rattle.bytes_utils_codec.specs.FrameSearch.{bytes_before}
 use Rattle.bytes_utils.specs.Lines.{line_feed, carriage_return}
 use Rattle.bytes_utils_codec.specs.UniversalLines.{LacksEnds, IsUniversalEnd}
-use Rattle.bytes_utils_codec.specs.declared.frame.end_search.EndSearch.{EndSearch}
+use Rattle.bytes_utils_codec.specs.declared.universal_lines.end_search.EndSearch.{EndSearch}
+
+-- the bytes of the first k pieces, and the first n of the next one
+abbrev pub bytes_before : ℕ → ℕ → List (List ℕ) → List ℕ
+bytes_before k n pieces = concat (take k pieces) ++ take n (get_or pieces k [])
 
 -- at place k is the first byte that ends a line
 pub record EndsFirstAt (bytes : List ℕ) (k : ℕ) : Type 0 where

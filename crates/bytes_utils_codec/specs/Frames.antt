@@ -1,27 +1,9 @@
--- Frames of a stream of bytes that comes in pieces. Each frame is ended by a separator, which is not empty.
-use Rattle.std.specs.Prelude.{◌≡◌, ◌↔◌, ◌⊎◌, ℕ, ◌<◌, ◌≤◌, List, [], ◌∷◌, ◌++◌, length, drop, map, None, All, IsUtf8}
+-- Frames of bytes. Each is ended by a separator, which is not empty.
+use Rattle.std.specs.Prelude.{◌≡◌, ◌↔◌, ℕ, ◌<◌, ◌≤◌, List, [], ◌∷◌, ◌++◌, length, map, None, All, IsUtf8}
 use Rattle.std.specs.Str.{chars}
-use Rattle.bytes_utils_buf.specs.Packing.{grow_last}
-use Rattle.bytes_utils_buf.specs.Segments.{Skips, without_empty}
 use Rattle.bytes_utils.specs.Occurrence.{Occurs, OccursFirstAt}
 use Rattle.bytes_utils.specs.Parts.{IsCutAtFirst, ArePartsFromFront}
-use Rattle.bytes_utils_codec.specs.StreamRuns.{StreamEvent, IsStreamRun, AreFirst, StreamLaw, SameFirstLaw}
-
--- what clauses see of a `Frames`: the separator, the held bytes, which were pushed and not yet taken, and the pieces that hold them
-pub record Framing : Type 0 where
-  pub separator : List ℕ
-  pub held : List ℕ
-  pub pieces : List (List ℕ)
-
--- a piece is held as one more piece, unless it is empty, or copied to the end of the last one
-abbrev pub PacksPiece : List ℕ → List (List ℕ) → List (List ℕ) → Type 0
-PacksPiece piece old new = (new ≡ old ++ without_empty (piece ∷ [])) ⊎ ((0 < length old) × (new ≡ grow_last piece old))
-
--- these pieces are pushed in order: each is packed, and one of more than 512 bytes is held as one more piece
-abbrev pub PushesPieces : List (List ℕ) → List (List ℕ) → List (List ℕ) → Type 0
-PushesPieces [] old new = new ≡ old
-PushesPieces (piece ∷ pieces) old new =
-    (next : List (List ℕ)) × PacksPiece piece old next × (512 < length piece → next ≡ old ++ piece ∷ []) × PushesPieces pieces next new
+use Rattle.bytes_utils_codec.specs.StreamRuns.{AreFirst, SameFirstLaw}
 
 -- the old bytes are the frame, the separator and the rest, and no separator begins before this one
 pub record TakesFrame (separator old frame rest : List ℕ) : Type 0 where
@@ -39,41 +21,9 @@ pub record HasFrame (separator bytes : List ℕ) : Type 0 where
 abbrev pub HasFrameWithin : ℕ → List ℕ → List ℕ → Type 0
 HasFrameWithin limit separator bytes = (has : HasFrame separator bytes) × (length has.frame ≤ limit)
 
--- the first n bytes are gone, and the pieces that held them
-pub record DropsFirst (n : ℕ) (old new : Framing) : Type 0 where
-  pub held : new.held ≡ drop n old.held
-  pub skips : Skips n old.pieces new.pieces
-  pub separator : new.separator ≡ old.separator
-
--- what a caller did: it pushed a piece, or took a frame
-abbrev pub FrameEvent : Type 0
-FrameEvent = StreamEvent (List ℕ)
-
--- these events lead from the held bytes to the bytes held at the end
-abbrev pub IsFrameRun : List ℕ → List ℕ → List FrameEvent → List ℕ → Type 0
-IsFrameRun separator held events end = IsStreamRun (TakesFrame separator) held events end
-
 -- these are the first frames of the bytes, in order, and the bytes after them
 abbrev pub AreFrames : List ℕ → List ℕ → List (List ℕ) → List ℕ → Type 0
 AreFrames separator bytes frames rest = AreFirst (TakesFrame separator) bytes frames rest
-
--- Whatever the pieces are and whenever frames are asked for, a run from an empty reader gives the first frames of the joined pieces, and holds the
--- bytes after them.
-abbrev pub FramesLaw : Type 0
-FramesLaw = (separator : List ℕ) → StreamLaw (TakesFrame separator)
-
--- what a caller took: a frame, or the first bytes, whatever they are
-pub data FrameOrBytes : Type 0 where
-  Frame : List ℕ → FrameOrBytes
-  First : List ℕ → FrameOrBytes
-
-abbrev pub TakesFrameOrBytes : List ℕ → List ℕ → FrameOrBytes → List ℕ → Type 0
-TakesFrameOrBytes separator old (Frame frame) rest = TakesFrame separator old frame rest
-TakesFrameOrBytes separator old (First bytes) rest = old ≡ bytes ++ rest
-
--- the same if first bytes are taken by their number between the frames, as a body after its head
-abbrev pub FramesAndBytesLaw : Type 0
-FramesAndBytesLaw = (separator : List ℕ) → StreamLaw (TakesFrameOrBytes separator)
 
 -- All frames of the bytes, and the bytes after them, are the parts between separators, of which there is one list.
 abbrev pub FramePartsLaw : Type 0

@@ -1,32 +1,131 @@
--- Frames that come after their lengths.
-use Rattle.std.specs.Prelude.{◌≡◌, ◌⊎◌, ℕ, ◌+◌, ◌<◌, ◌≤◌, List, length, take, drop, None, Some}
-use Rattle.std.specs.Int.{w32, from_be_bytes}
+-- Frames of a decoder that come after their lengths, up to a limit. A longer frame is an item that says so, and then it is skipped.
+use Rattle.std.specs.Prelude.{◌≡◌, ◌⊎◌, ℕ, suc, ◌+◌, ◌-◌, ◌<◌, ◌≤◌, nat_lt, if◌then◌else◌, ℤ, pos, negsuc, Bool, true, false, List, length, reverse, take, drop, Option, None, Some, unwrap_or, Result, Ok, Err}
+use Rattle.std.specs.Int.Digits.{number_from_digits}
 use Rattle.bytes_utils_buf.specs.declared.refused.Reason.{Reason}
 use Rattle.bytes_utils_buf.specs.declared.refused.Reason.TheVariants.{OutOfMemory, TooLong}
 use Rattle.bytes_utils_codec.specs.Decoding.{Decoding, Gives, Item, Last}
+use Rattle.bytes_utils_codec.specs.declared.decode.too_long.FrameTooLong.{FrameTooLong}
 
--- the number in the first four bytes, the most significant one first; with fewer bytes it has no meaning yet
-abbrev pub stated_len : List ℕ → ℕ
-stated_len bytes = from_be_bytes w32 (take 4 bytes)
+-- What clauses see of a `LengthPrefixed`: the greatest number of bytes after the head, which ends with the length; the place of the length and its number
+-- of bytes, of which the least significant one may come first; what is added to the length; how many bytes are dropped from the front of a frame, or that
+-- these are the head; and how many of the next bytes are skipped, since they are of a frame that was reported to be too long.
+pub record Prefixing : Type 0 where
+  pub max_length : ℕ
+  pub offset : ℕ
+  pub width : ℕ
+  pub is_little_endian : Bool
+  pub adjustment : ℤ
+  pub dropped : Option ℕ
+  pub skipped : ℕ
 
--- the frame is the bytes after the first four, of the stated length, which is within the limit; the rest is what follows it
-pub record TakesPrefixed (limit : ℕ) (old frame rest : List ℕ) : Type 0 where
-  pub whole : 4 + stated_len old ≤ length old
-  pub within : stated_len old ≤ limit
-  pub frame_is : frame ≡ take (stated_len old) (drop 4 old)
-  pub rest_is : rest ≡ drop (4 + stated_len old) old
+-- a new decoder: of frames after four bytes, the most significant one first
+abbrev pub prefixing : ℕ → Prefixing
+prefixing limit =
+    record { max_length = limit; offset = 0; width = 4; is_little_endian = false; adjustment = pos 0; dropped = None; skipped = 0 }
 
--- Some bytes of the length, or of a frame within the limit, are still to come. A decoder is its limit.
-abbrev pub awaits_prefixed : Decoding ℕ → Type 0
-awaits_prefixed s = (length s.held < 4) ⊎ ((stated_len s.held ≤ s.decoder) × (length s.held < 4 + stated_len s.held))
+-- the same decoder at the front of a frame
+abbrev pub ready : Prefixing → Prefixing
+ready d = record d { skipped = 0 }
 
--- what comes next: a frame; or at the end of the stream none, and what is held is left
-abbrev pub gives_prefixed : Gives ℕ (List ℕ)
-gives_prefixed old (Item frame) new = (new.decoder ≡ old.decoder) × TakesPrefixed old.decoder old.held frame new.held
-gives_prefixed old (Last None) new = awaits_prefixed old × (new ≡ old)
-gives_prefixed old (Last (Some frame)) new = ⊥
+-- ---- the length of a frame
 
--- memory was refused for the next frame, which has come and is within the limit, or the length of the next frame is over the limit
-abbrev pub fails_prefixed : Decoding ℕ → Reason → Type 0
-fails_prefixed s OutOfMemory = (4 + stated_len s.held ≤ length s.held) × (stated_len s.held ≤ s.decoder)
-fails_prefixed s TooLong = (4 ≤ length s.held) × (s.decoder < stated_len s.held)
+-- the number of bytes up to the end of the length
+abbrev pub head_len : Prefixing → ℕ
+head_len d = d.offset + d.width
+
+-- the number that these bytes write, the most significant one first, or the least significant one
+abbrev pub number_of : Bool → List ℕ → ℕ
+number_of false bytes = number_from_digits 256 bytes
+number_of true bytes = number_from_digits 256 (reverse bytes)
+
+-- the number in the length; it has no meaning until the head has come
+abbrev pub stated_len : Prefixing → List ℕ → ℕ
+stated_len d bytes = number_of d.is_little_endian (take d.width (drop d.offset bytes))
+
+-- n and what is added to it, if that is not below zero
+abbrev pub adjusted : ℕ → ℤ → Option ℕ
+adjusted n (pos more) = Some (n + more)
+adjusted n (negsuc less) = if nat_lt less n then Some (n - suc less) else None
+
+-- the number of bytes after the head of the frame, if there can be such a frame
+abbrev pub body_len : Prefixing → List ℕ → Option ℕ
+body_len d bytes = adjusted (stated_len d bytes) d.adjustment
+
+-- the number of bytes that are dropped from the front of a frame
+abbrev pub dropped_len : Prefixing → ℕ
+dropped_len d = unwrap_or d.dropped (head_len d)
+
+-- the head has come, and n bytes come after it, which are within the limit
+pub record IsWithinLimit (d : Prefixing) (bytes : List ℕ) (n : ℕ) : Type 0 where
+  pub head : head_len d ≤ length bytes
+  pub len : body_len d bytes ≡ Some n
+  pub within : n ≤ d.max_length
+
+-- as many bytes as these are skipped after the head of a frame over the limit; none, if the length is below zero
+abbrev pub IsOver : ℕ → Option ℕ → ℕ → Type 0
+IsOver limit (Some len) n = (limit < len) × (n ≡ len)
+IsOver limit None n = n ≡ 0
+
+-- the head has come, and the frame is over the limit: it is skipped with n bytes after the head
+pub record IsOverLimit (d : Prefixing) (bytes : List ℕ) (n : ℕ) : Type 0 where
+  pub head : head_len d ≤ length bytes
+  pub over : IsOver d.max_length (body_len d bytes) n
+
+-- ---- what comes next, where no byte of a frame that is skipped is held
+
+-- the old bytes are the head, the n bytes after it, and the rest; the frame is what is left of them without the bytes that are dropped
+pub record TakesPrefixed (d : Prefixing) (old frame rest : List ℕ) : Type 0 where
+  pub len : ℕ
+  pub within : IsWithinLimit d old len
+  pub whole : head_len d + len ≤ length old
+  pub frame_is : frame ≡ drop (dropped_len d) (take (head_len d + len) old)
+  pub rest_is : rest ≡ drop (head_len d + len) old
+
+-- some bytes of a frame within the limit are still to come
+abbrev pub IsPart : Prefixing → List ℕ → Type 0
+IsPart d bytes = (n : ℕ) × IsWithinLimit d bytes n × (length bytes < head_len d + n)
+
+-- some bytes are still to come: of the frame that is skipped, of a head, or of a frame within the limit
+abbrev pub awaits_front : Decoding Prefixing → Type 0
+awaits_front s = (0 < s.decoder.skipped) ⊎ ((length s.held < head_len s.decoder) ⊎ IsPart s.decoder s.held)
+
+-- memory was refused for the next frame, which has come and is within the limit
+abbrev pub fails_front : Decoding Prefixing → Reason → Type 0
+fails_front s TooLong = ⊥
+fails_front s OutOfMemory = (n : ℕ) × IsWithinLimit s.decoder s.held n × (head_len s.decoder + n ≤ length s.held)
+
+-- the frame over the limit was reported: its head is gone, and n bytes after it are skipped
+abbrev pub skipping : ℕ → Decoding Prefixing → Decoding Prefixing
+skipping n s = record { decoder = record s.decoder { skipped = n }; held = drop (head_len s.decoder) s.held }
+
+abbrev pub gives_front : Gives Prefixing (Result (List ℕ) FrameTooLong)
+gives_front old (Item (Ok frame)) new =
+    (old.decoder.skipped ≡ 0) × TakesPrefixed old.decoder old.held frame new.held × (new.decoder ≡ old.decoder)
+gives_front old (Item (Err e)) new =
+    (old.decoder.skipped ≡ 0) × ((n : ℕ) × IsOverLimit old.decoder old.held n × (new ≡ skipping n old))
+gives_front old (Last None) new = awaits_front old × (new ≡ record old { decoder = ready old.decoder })
+gives_front old (Last (Some item)) new = ⊥
+
+-- ---- the same, after the bytes that are skipped
+
+-- the bytes that are skipped are dropped, as many of them as are held
+abbrev pub after_skipped : Decoding Prefixing → Decoding Prefixing
+after_skipped s = record {
+  decoder = record s.decoder { skipped = s.decoder.skipped - length s.held };
+  held = drop s.decoder.skipped s.held;
+}
+
+abbrev pub awaits_prefixed : Decoding Prefixing → Type 0
+awaits_prefixed s = awaits_front (after_skipped s)
+
+-- What comes next: a frame within the limit, or that it is longer. At the end of the stream none, and what is held is left, but for the bytes of a
+-- frame that is skipped.
+abbrev pub gives_prefixed : Gives Prefixing (Result (List ℕ) FrameTooLong)
+gives_prefixed old next new = gives_front (after_skipped old) next new
+
+abbrev pub fails_prefixed : Decoding Prefixing → Reason → Type 0
+fails_prefixed s reason = fails_front (after_skipped s) reason
+
+-- a call that gives no item drops what is skipped
+abbrev pub keeps_prefixed : Decoding Prefixing → Decoding Prefixing → Type 0
+keeps_prefixed old new = new ≡ after_skipped old

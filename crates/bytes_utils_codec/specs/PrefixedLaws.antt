@@ -1,41 +1,154 @@
 -- The laws of the decoder of frames that come after their lengths.
-use Rattle.std.proofs.Common.{◌≡◌, inl, inr, ℕ, ◌+◌, ◌≤◌, List, ◌++◌, length, take, drop, None, Some, ap, ◌∙◌, sym, refl, subst, arith, length-append, length-drop}
-use Rattle.std.proofs.lemmas.List.{take-append-le, drop-append-le}
-use Rattle.std.specs.Int.{w32, from_be_bytes}
-use Rattle.bytes_utils_codec.specs.Decoding.{Item, Last, IsStable, IsSingle, WaitsForItem}
-use Rattle.bytes_utils_codec.specs.Prefixed.{awaits_prefixed, gives_prefixed, stated_len}
+use Rattle.std.proofs.Common.{◌≡◌, inl, inr, ℕ, ◌+◌, ◌-◌, ◌<◌, ◌≤◌, List, ◌++◌, length, take, drop, Option, None, Some, Ok, Err, ap, ◌∙◌, sym, refl, subst, arith, length-append, length-drop, ⊎_elim}
+use Rattle.std.proofs.lemmas.Bool.{cases_lt}
+use Rattle.std.proofs.lemmas.List.{take-append-le, drop-append-le, drop_all}
+use Rattle.std.specs.Prelude.{unwrap_or}
+use Rattle.bytes_utils_buf.proofs.Lists.{drop-append_past}
+use Rattle.bytes_utils_codec.specs.Decoding.{Decoding, Item, Last, fed, IsStable, IsSingle, KeepsNext, WaitsForItem}
+use Rattle.bytes_utils_codec.specs.Prefixed.{Prefixing, adjusted, body_len, head_len, number_of, dropped_len, IsWithinLimit, IsOver, IsOverLimit, TakesPrefixed, after_skipped, awaits_front, awaits_prefixed, gives_front, gives_prefixed, keeps_prefixed, skipping}
 
-stated_len-more : (bytes more : List ℕ) → 4 ≤ length bytes → stated_len (bytes ++ more) ≡ stated_len bytes
-stated_len-more bytes more four = ap (from_be_bytes w32) (take-append-le 4 bytes more four)
+-- ---- more bytes
 
-pub prefixed_stable : IsStable gives_prefixed
-prefixed_stable old frame new more given =
-    let takes = given.1 in
-    let n = stated_len old.held in
-    let same : stated_len (old.held ++ more) ≡ n = stated_len-more old.held more (omega (arith, takes.whole)) in (
+module _ (d : Prefixing) (bytes more : List ℕ) (head : head_len d ≤ length bytes) where
+  body_len-more : body_len d (bytes ++ more) ≡ body_len d bytes
+  body_len-more =
+      let after : drop d.offset (bytes ++ more) ≡ drop d.offset bytes ++ more = drop-append-le d.offset bytes more (omega (arith, head)) in
+      let field : take d.width (drop d.offset (bytes ++ more)) ≡ take d.width (drop d.offset bytes) =
+      ap (take d.width) after ∙ take-append-le d.width (drop d.offset bytes) more (omega (arith, head, length-drop d.offset bytes)) in
+      ap (λ l. adjusted (number_of d.is_little_endian l) d.adjustment) field
+
+  head-more : head_len d ≤ length (bytes ++ more)
+  head-more = omega (arith, head, length-append bytes more)
+
+  rest-more : drop (head_len d) (bytes ++ more) ≡ drop (head_len d) bytes ++ more
+  rest-more = drop-append-le (head_len d) bytes more head
+
+within-more : (d : Prefixing) (bytes more : List ℕ) (n : ℕ) → IsWithinLimit d bytes n → IsWithinLimit d (bytes ++ more) n
+within-more d bytes more n is =
+    record { head = head-more d bytes more is.head; len = body_len-more d bytes more is.head ∙ is.len; within = is.within }
+
+over-more : (d : Prefixing) (bytes more : List ℕ) (n : ℕ) → IsOverLimit d bytes n → IsOverLimit d (bytes ++ more) n
+over-more d bytes more n is =
+    record { head = head-more d bytes more is.head; over = subst (λ len. IsOver d.max_length len n) (sym (body_len-more d bytes more is.head)) is.over }
+
+takes-more : (d : Prefixing) (old frame rest more : List ℕ) → TakesPrefixed d old frame rest → TakesPrefixed d (old ++ more) frame (rest ++ more)
+takes-more d old frame rest more takes =
+    let end = head_len d + takes.len in
+    record {
+      len = takes.len;
+      within = within-more d old more takes.len takes.within;
+      whole = omega (arith, takes.whole, length-append old more);
+      frame_is = takes.frame_is ∙ ap (drop (dropped_len d)) (sym (take-append-le end old more takes.whole));
+      rest_is = ap (λ l. l ++ more) takes.rest_is ∙ sym (drop-append-le end old more takes.whole);
+    }
+
+front_stable : IsStable gives_front
+front_stable old (Ok frame) new more given = (given.0, takes-more old.decoder old.held frame new.held more given.1, given.2)
+front_stable old (Err e) new more given =
+    let n = given.1.0 in
+    let over = given.1.1 in (
       given.0,
-      record {
-        whole = omega (arith, same, takes.whole, length-append old.held more);
-        within = subst (λ k. k ≤ old.decoder) (sym same) takes.within;
-        frame_is = takes.frame_is ∙ sym (take-append-le n (drop 4 old.held) more (omega (arith, length-drop 4 old.held, takes.whole)))
-            ∙ ap (take n) (sym (drop-append-le 4 old.held more (omega (arith, takes.whole)))) ∙ ap (λ k. take k (drop 4 (old.held ++ more))) (sym same);
-        rest_is = ap (λ l. l ++ more) takes.rest_is ∙ sym (drop-append-le (4 + n) old.held more takes.whole) ∙ ap (λ k. drop (4 + k) (old.held ++ more)) (sym same);
-      },
+      (
+        n,
+        over-more old.decoder old.held more n over,
+        ap (λ s. fed s more) given.1.2 ∙ ap (λ l. record (skipping n old) { held = l }) (sym (rest-more old.decoder old.held more over.head)),
+      ),
     )
 
-pub prefixed_waits : WaitsForItem gives_prefixed awaits_prefixed
-prefixed_waits s (inl few) frame after given = omega (arith, few, given.1.whole)
-prefixed_waits s (inr few) frame after given = omega (arith, few.1, given.1.whole)
+-- ---- at most one thing comes next
+
+same_len : (d : Prefixing) (bytes : List ℕ) (n m : ℕ) → IsWithinLimit d bytes n → IsWithinLimit d bytes m → n ≡ m
+same_len d bytes n m one two = ap (λ len. unwrap_or len 0) (sym one.len ∙ two.len)
+
+not_both : (d : Prefixing) (bytes : List ℕ) (n m : ℕ) → IsWithinLimit d bytes n → ¬ IsOverLimit d bytes m
+not_both d bytes n m one two =
+    let over = subst (λ len. IsOver d.max_length len m) one.len two.over in omega (arith, one.within, over.0)
+
+over_same : (limit : ℕ) (len : Option ℕ) (n m : ℕ) → IsOver limit len n → IsOver limit len m → n ≡ m
+over_same limit (Some len) n m one two = one.1 ∙ sym two.1
+over_same limit None n m one two = one ∙ sym two
+
+takes_same : (d : Prefixing) (old f g x y : List ℕ) → TakesPrefixed d old f x → TakesPrefixed d old g y → (f ≡ g) × (x ≡ y)
+takes_same d old f g x y one two =
+    let same = same_len d old one.len two.len one.within two.within in (
+      one.frame_is ∙ ap (λ n. drop (dropped_len d) (take (head_len d + n) old)) same ∙ sym two.frame_is,
+      one.rest_is ∙ ap (λ n. drop (head_len d + n) old) same ∙ sym two.rest_is,
+    )
+
+front_waits : WaitsForItem gives_front awaits_front
+front_waits s (inl some) (Ok frame) after given = omega (arith, some, given.0)
+front_waits s (inl some) (Err e) after given = omega (arith, some, given.0)
+front_waits s (inr (inl few)) (Ok frame) after given = omega (arith, few, given.1.within.head)
+front_waits s (inr (inl few)) (Err e) after given = omega (arith, few, given.1.1.head)
+front_waits s (inr (inr part)) (Ok frame) after given =
+    omega (arith, same_len s.decoder s.held part.0 given.1.len part.1 given.1.within, part.2, given.1.whole)
+front_waits s (inr (inr part)) (Err e) after given = not_both s.decoder s.held part.0 given.1.0 part.1 given.1.1
+
+front_single : IsSingle gives_front
+front_single s (Item (Ok f)) (Item (Ok g)) x y a b =
+    let same = takes_same s.decoder s.held f g x.held y.held a.1 b.1 in
+    let decoders : x.decoder ≡ y.decoder = a.2 ∙ sym b.2 in
+    ((λ i. Item (Ok (same.0 i))), (λ i. record { decoder = decoders i; held = same.1 i }))
+front_single s (Item (Ok f)) (Item (Err e)) x y a b = absurd (not_both s.decoder s.held a.1.len b.1.0 a.1.within b.1.1)
+front_single s (Item (Err e)) (Item (Ok g)) x y a b = absurd (not_both s.decoder s.held b.1.len a.1.0 b.1.within a.1.1)
+front_single s (Item (Err e)) (Item (Err f)) x y a b =
+    let same = over_same s.decoder.max_length (body_len s.decoder s.held) a.1.0 b.1.0 a.1.1.over b.1.1.over in
+    (refl, a.1.2 ∙ ap (λ n. skipping n s) same ∙ sym b.1.2)
+front_single s (Item (Ok f)) (Last None) x y a b = absurd (front_waits s b.0 (Ok f) x a)
+front_single s (Item (Err e)) (Last None) x y a b = absurd (front_waits s b.0 (Err e) x a)
+front_single s (Item (Ok f)) (Last (Some g)) x y a b = absurd b
+front_single s (Item (Err e)) (Last (Some g)) x y a b = absurd b
+front_single s (Last None) (Item (Ok g)) x y a b = absurd (front_waits s a.0 (Ok g) y b)
+front_single s (Last None) (Item (Err e)) x y a b = absurd (front_waits s a.0 (Err e) y b)
+front_single s (Last None) (Last None) x y a b = (refl, a.1 ∙ sym b.1)
+front_single s (Last None) (Last (Some g)) x y a b = absurd b
+front_single s (Last (Some f)) next x y a b = absurd a
+
+-- ---- the bytes that are skipped
+
+drop-split : (k : ℕ) (held more : List ℕ) → drop (k - length held) (drop k held ++ more) ≡ drop k (held ++ more)
+drop-split k held more = ⊎_elim
+    (λ (below : k < length held).
+    let none : k - length held ≡ 0 = omega (arith, below) in
+    ap (λ n. drop n (drop k held ++ more)) none ∙ sym (drop-append-le k held more (omega (arith, below))))
+    (λ (past : length held ≤ k).
+    ap (λ l. drop (k - length held) (l ++ more)) (drop_all k held past) ∙ sym (drop-append_past held more (k - length held) k (omega (arith, past))))
+    (cases_lt k (length held))
+
+-- the bytes that follow are skipped as if they had been there
+after_skipped-fed : (s : Decoding Prefixing) (more : List ℕ) → after_skipped (fed (after_skipped s) more) ≡ after_skipped (fed s more)
+after_skipped-fed s more =
+    let k = s.decoder.skipped in
+    let skipped : (k - length s.held) - length (drop k s.held ++ more) ≡ k - length (s.held ++ more) =
+    omega (arith, length-append (drop k s.held) more, length-append s.held more, length-drop k s.held) in
+    (λ i. record { decoder = record s.decoder { skipped = skipped i }; held = drop-split k s.held more i })
+
+-- with all of them gone, they are bytes like any other
+after_skipped-more : (s : Decoding Prefixing) (more : List ℕ) → (after_skipped s).decoder.skipped ≡ 0 → after_skipped (fed s more) ≡ fed (after_skipped s) more
+after_skipped-more s more gone =
+    let k = s.decoder.skipped in
+    let skipped : k - length (s.held ++ more) ≡ k - length s.held = omega (arith, gone, length-append s.held more) in
+    let held : drop k (s.held ++ more) ≡ drop k s.held ++ more = drop-append-le k s.held more (omega (arith, gone)) in
+    (λ i. record { decoder = record s.decoder { skipped = skipped i }; held = held i })
+
+-- ---- the laws of the decoder
+
+pub prefixed_stable : IsStable gives_prefixed
+prefixed_stable old (Ok frame) new more given =
+    subst (λ s. gives_front s (Item (Ok frame)) (fed new more)) (sym (after_skipped-more old more given.0))
+    (front_stable (after_skipped old) (Ok frame) new more given)
+prefixed_stable old (Err e) new more given =
+    subst (λ s. gives_front s (Item (Err e)) (fed new more)) (sym (after_skipped-more old more given.0))
+    (front_stable (after_skipped old) (Err e) new more given)
 
 pub prefixed_single : IsSingle gives_prefixed
-prefixed_single s (Item f) (Item g) x y a b =
-    let frames : f ≡ g = a.1.frame_is ∙ sym b.1.frame_is in
-    let rests : x.held ≡ y.held = a.1.rest_is ∙ sym b.1.rest_is in
-    let limits : x.decoder ≡ y.decoder = a.0 ∙ sym b.0 in
-    ((λ i. Item (frames i)), (λ i. record { decoder = limits i; held = rests i }))
-prefixed_single s (Item f) (Last None) x y a b = absurd (prefixed_waits s b.0 f x a)
-prefixed_single s (Item f) (Last (Some g)) x y a b = absurd b
-prefixed_single s (Last None) (Item g) x y a b = absurd (prefixed_waits s a.0 g y b)
-prefixed_single s (Last None) (Last None) x y a b = (refl, a.1 ∙ sym b.1)
-prefixed_single s (Last None) (Last (Some g)) x y a b = absurd b
-prefixed_single s (Last (Some f)) next x y a b = absurd a
+prefixed_single s next other x y a b = front_single (after_skipped s) next other x y a b
+
+pub prefixed_waits : WaitsForItem gives_prefixed awaits_prefixed
+prefixed_waits s awaits item after given = front_waits (after_skipped s) awaits item after given
+
+pub prefixed_same : KeepsNext gives_prefixed keeps_prefixed
+prefixed_same old new keeps more next after =
+    let same : after_skipped (fed old more) ≡ after_skipped (fed new more) =
+    sym (after_skipped-fed old more) ∙ ap (λ s. after_skipped (fed s more)) (sym keeps) in
+    (subst (λ s. gives_front s next after) same, subst (λ s. gives_front s next after) (sym same))

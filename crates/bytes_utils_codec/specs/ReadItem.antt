@@ -1,14 +1,9 @@
 -- Items of a decoder read from a reader, piece by piece.
-use Rattle.std.specs.Prelude.{◌≡◌, ◌≢◌, ◌↔◌, ⊤, ℕ, ◌+◌, ◌^◌, ◌<◌, ◌≤◌, List, [], ◌∷◌, length, Option, None, Some, Result, Ok, Err}
+use Rattle.std.specs.Prelude.{◌≡◌, ⊤, ℕ, List, [], ◌∷◌, Option, None, Some, Result, Ok, Err}
 use Rattle.std.specs.List.{filter_map}
 use Rattle.std.specs.Io.KnownBytes.{Consumes, IsAtEnd}
-use Rattle.std.specs.IoError.{error_kind}
-use Rattle.std.specs.declared.io.ErrorKind.TheVariants.{Interrupted}
-use Rattle.bytes_utils_buf.specs.declared.refused.Reason.TheVariants.{OutOfMemory, TooLong}
 use Rattle.bytes_utils_codec.specs.Decoding.{Decoding, Gives, Next, Item, Last, AreItems, HasSameNext, LacksItem, fed}
-use Rattle.bytes_utils_codec.specs.ReadError.{back_bytes, error_text}
-use Rattle.bytes_utils_codec.specs.declared.frame.read.error.ReadError.{ReadError}
-use Rattle.bytes_utils_codec.specs.declared.frame.read.error.ReadError.TheVariants.{Io, TooManyReads, Refused, Unshared, Unpushed}
+use Rattle.bytes_utils_codec.specs.ReadError.{IsReadDue, back_bytes, error_text}
 use Rattle.bytes_utils_codec.specs.declared.decode.read.error.ReadItemError.{ReadItemError}
 use Rattle.bytes_utils_codec.specs.declared.decode.read.error.ReadItemError.TheVariants.{Decoder, Read}
 
@@ -46,15 +41,6 @@ abbrev pub TakesLast : {D A E : Type 0} → Gives D A → (Decoding D → E → 
 TakesLast gives fails old (Ok last) new = gives old (Last last) new
 TakesLast gives fails old (Err (Decoder error)) new = fails old error × HasSameNext gives old new
 TakesLast gives fails old (Err (Read error)) new = ⊥
-
--- The cause of each error of a read. `Io`: it is not an interruption. `Refused`: memory is refused. `Unshared`: the block holds bytes that were read.
--- `Unpushed`: the reason is `TooLong` exactly if the held bytes and those that come back together pass `usize`.
-abbrev pub IsReadDue : List ℕ → ReadError → Type 0
-IsReadDue held (Io error) = error_kind error ≢ Interrupted
-IsReadDue held TooManyReads = ⊤
-IsReadDue held (Refused reason) = reason ≡ OutOfMemory
-IsReadDue held (Unshared block) = 0 < length block.items
-IsReadDue held (Unpushed refused) = (refused.reason ≡ TooLong) ↔ (2 ^ 64 ≤ length held + length refused.back)
 
 -- The cause of each error: the decoder failed, and what comes next is what came next then; or no item is held, and there is a cause for the error of
 -- the read.

@@ -6,9 +6,9 @@ use Rattle.bytes_utils.specs.Lines.{lines, line_feed, IsFeedEnd}
 use Rattle.bytes_utils_buf.specs.declared.refused.Reason.TheVariants.{OutOfMemory}
 use Rattle.bytes_utils_buf.specs.Refusals.{reason_text}
 use Rattle.bytes_utils.specs.Errors.{IsFaultOf, fault_of, refused_storage, utf8_error_text}
-use Rattle.bytes_utils_codec.specs.StreamRuns.{StreamEvent, IsStreamRun, AreFirst, StreamLaw, SameFirstLaw}
-use Rattle.bytes_utils_codec.specs.declared.frame.lines.LineError.{LineError}
-use Rattle.bytes_utils_codec.specs.declared.frame.lines.LineError.TheVariants.{Refused, NotUtf8}
+use Rattle.bytes_utils_codec.specs.StreamRuns.{AreFirst, SameFirstLaw}
+use Rattle.bytes_utils_codec.specs.declared.line_error.LineError.{LineError}
+use Rattle.bytes_utils_codec.specs.declared.line_error.LineError.TheVariants.{Refused, NotUtf8}
 
 -- the old bytes are the line, its end and the rest, and the line has no line feed
 pub record TakesLine (old line rest : List ℕ) : Type 0 where
@@ -17,18 +17,9 @@ pub record TakesLine (old line rest : List ℕ) : Type 0 where
   pub ends : IsFeedEnd line end
   pub lacks : ¬ Occurs (line_feed ∷ []) line
 
--- these events lead from the held bytes to the bytes held at the end
-abbrev pub IsLineRun : List ℕ → List (StreamEvent (List ℕ)) → List ℕ → Type 0
-IsLineRun held events end = IsStreamRun TakesLine held events end
-
 -- these are the first lines of the bytes, in order, and the bytes after them
 abbrev pub AreFirstLines : List ℕ → List (List ℕ) → List ℕ → Type 0
 AreFirstLines bytes lines rest = AreFirst TakesLine bytes lines rest
-
--- Whatever the pieces are and whenever lines are asked for, a run from an empty reader gives the first lines of the joined pieces, and holds the
--- bytes after them.
-abbrev pub LineRunLaw : Type 0
-LineRunLaw = StreamLaw TakesLine
 
 -- together with the lines of the bytes after them they are the lines of all bytes, of which there is one list
 abbrev pub FirstLinesLaw : Type 0

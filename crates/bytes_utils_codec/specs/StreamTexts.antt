@@ -4,10 +4,10 @@ use Rattle.std.specs.List.{concat}
 use Rattle.std.specs.Str.Lossy.{utf8_valid_len, utf8_error_len}
 use Rattle.bytes_utils_codec.specs.StreamRuns.{StreamEvent, IsStreamRun, pushed_by, given_by}
 use Rattle.bytes_utils_buf.specs.Refusals.{reason_text}
-use Rattle.bytes_utils_codec.specs.declared.frame.texts.Front.{Front}
-use Rattle.bytes_utils_codec.specs.declared.frame.texts.Front.TheVariants.{Text, Fault, Unfinished}
-use Rattle.bytes_utils_codec.specs.declared.frame.texts.TextError.{TextError}
-use Rattle.bytes_utils_codec.specs.declared.frame.texts.TextError.TheVariants.{Refused, NotUtf8}
+use Rattle.bytes_utils_codec.specs.declared.texts.Front.{Front}
+use Rattle.bytes_utils_codec.specs.declared.texts.Front.TheVariants.{Text, Fault, Unfinished}
+use Rattle.bytes_utils_codec.specs.declared.texts.TextError.{TextError}
+use Rattle.bytes_utils_codec.specs.declared.texts.TextError.TheVariants.{Refused, NotUtf8}
 
 -- a text that isn't empty is taken off the front
 pub record TakesText (old text rest : List ℕ) : Type 0 where

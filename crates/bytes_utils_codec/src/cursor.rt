@@ -10,9 +10,9 @@ ghost use Rattle.bytes_utils_codec.specs.StreamLines.{TakesLine};
 
 pub mod read;
 
+use crate::decode::lines::drop_return;
 use crate::find::find_from;
-use crate::frame::LineError;
-use crate::frame::lines::drop_return;
+use crate::line_error::LineError;
 use bytes::{Buf, Bytes};
 use bytes_utils::string::Str;
 use bytes_utils_buf::Reason;
@@ -58,7 +58,7 @@ impl Error for Mismatch {}
 /// memory, the cursor stays where it is.
 ///
 /// The buffer is a [`SegmentedBuf`], or what a `PackedBuf` holds (`as_segmented`), as that of
-/// [`Frames::pieces`](crate::frame::Frames::pieces). Each call steps over the segments between the
+/// [`Framed::pieces`](crate::decode::Framed::pieces). Each call steps over the segments between the
 /// cursor and the nearer end. A `PackedBuf` bounds their number.
 #[derive(Drop)]
 pub struct Cursor<'a, B: ContiguousBuf + Drop> {
@@ -373,7 +373,7 @@ impl<'a, B: ContiguousBuf + Drop> Cursor<'a, B> {
         Ok(Some(()))
     }
 
-    /// Passes the next line with its end and returns it, as [`Lines`](crate::frame::Lines) does, or
+    /// Passes the next line with its end and returns it, as [`Lines`](crate::decode::Lines) does, or
     /// returns `None` if its line feed has not come yet. Fails with `NotUtf8` if the line is not
     /// UTF-8; its bytes are in the error, and the cursor is after the line. Fails with `Refused` if
     /// memory for a line that has come is refused. The cursor then stays, as with `None`.

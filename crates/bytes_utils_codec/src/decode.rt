@@ -1,31 +1,52 @@
 //! Items that a decoder takes off a stream that comes in pieces.
 ghost use Rattle.std.specs.Prelude.{◌≡◌};
-ghost use Rattle.bytes_utils_codec.specs.Decoding.{Decodes, DecodesAtEnd, DecoderAllLaw, DecoderRunLaw, DecoderWholeLaw, Decoding, IsSingle, IsStable, Next, WaitsForItem, decoding};
+ghost use Rattle.bytes_utils_codec.specs.Decoding.{Decodes, DecodesAtEnd, DecoderAllLaw, DecoderRunLaw, DecoderWholeLaw, Decoding, IsSingle, IsStable, KeepsNext, Next, WaitsForItem, decoding};
 
-mod decoded;
 mod delimited;
-mod lines;
-mod prefixed;
+mod framed;
+mod frames;
+mod length_prefixed;
+pub(crate) mod lines;
 mod read;
+mod too_long;
 
 use bytes_utils_buf::Reason;
 use bytes_utils_buf::segmented::PackedBuf;
-pub use decoded::Decoded;
 pub use delimited::{Delimited, delimited_laws};
-pub use lines::{TextLines, text_line_laws};
-pub use prefixed::LengthPrefixed;
-pub use read::{ReadItemError, read_item, read_item_laws};
+pub use framed::Framed;
+pub use frames::frame_laws;
+pub use length_prefixed::LengthPrefixed;
+pub use lines::{LineFault, Lines, line_laws};
+pub use read::{ReadError, ReadItemError, read_item, read_item_laws};
 use std::alloc::Global;
+pub use too_long::FrameTooLong;
 
 /// A way to take items off the front of the bytes of a stream, such as frames of a protocol. Write
-/// `decode` over the bytes that have come. [`Decoded`] holds these, and makes a reader of it, whose
+/// `decode` over the bytes that have come. [`Framed`] holds these, and makes a reader of it, whose
 /// items don't depend on where the pieces were cut (`decoder_laws`).
 ///
 /// The bytes are in a [`PackedBuf`], so that a peer that sends single bytes doesn't fill the memory
 /// with segments. What of them waits for more bytes can be looked at, by `as_segmented` and the
 /// calls of `SegmentedBuf`, before it is taken.
 ///
-/// The members that are ghosts say what a decoder does; the clauses and the last three are its laws.
+/// The members that are ghosts say what a decoder does; the clauses and the last four are its laws.
+/// If its state never changes but for the bytes that it holds, one relation and three facts give
+/// them all: see `specs/Taking.antt`.
+///
+/// To try a decoder before it has laws (`rt try`), copy these members. They say that nothing ever
+/// comes, so its laws hold, and no proof of its calls is found:
+///
+/// ```text
+/// ghost gives = { λ old next new. ⊥ };
+/// ghost waits = { λ old. ⊥ };
+/// ghost fails = { λ old error. ⊥ };
+/// ghost keeps = { λ old new. ⊥ };
+/// ghost restarted = { λ decoder. decoder };
+/// ghost stable = { λ old item new more given. given };
+/// ghost single = { λ s next other x y one two. absurd one };
+/// ghost awaits = { λ s waits item after given. given };
+/// ghost same = { λ old new keeps. absurd keeps };
+/// ```
 pub trait Decoder: Sized + Drop {
     /// What is taken: a frame, or for a stream that goes on after a fault also the fault.
     type Item: Drop;
@@ -42,6 +63,12 @@ pub trait Decoder: Sized + Drop {
     // Why an error comes.
     ghost fails: { Decoding Self → Self.Error → Type 0 };
 
+    // What a call that gives no item leaves: the state before it, and the one after it.
+    ghost keeps: { Decoding Self → Decoding Self → Type 0 };
+
+    // The decoder that begins at the front of the held bytes.
+    ghost restarted: { Self → Self };
+
     /// Takes the next item, or returns `None` if more bytes have to come. With `None` and with an
     /// error it may drop only what changes nothing that comes next. Requests for memory are made
     /// from `alloc`.
@@ -50,7 +77,7 @@ pub trait Decoder: Sized + Drop {
         alloc: Global,
         held: &mut PackedBuf,
     ) -> Result<Option<Self::Item>, Self::Error>
-        ensures step { Decodes gives waits fails (decoding self.old held.old) result
+        ensures step { Decodes gives waits fails keeps (decoding self.old held.old) result
             (decoding self.new held.new) }
         ensures threshold { held.new.threshold ≡ held.old.threshold };
 
@@ -61,9 +88,13 @@ pub trait Decoder: Sized + Drop {
         alloc: Global,
         held: &mut PackedBuf,
     ) -> Result<Option<Self::Item>, Self::Error>
-        ensures step { DecodesAtEnd gives fails (decoding self.old held.old) result
+        ensures step { DecodesAtEnd gives fails keeps (decoding self.old held.old) result
             (decoding self.new held.new) }
         ensures threshold { held.new.threshold ≡ held.old.threshold };
+
+    /// Begins at the front of the held bytes, some of which the caller has taken.
+    fn restart(&mut self)
+        ensures { self.new ≡ restarted self.old };
 
     // Bytes that follow change no item that is there.
     ghost stable: { IsStable gives };
@@ -73,13 +104,16 @@ pub trait Decoder: Sized + Drop {
 
     // While it waits no item is there.
     ghost awaits: { WaitsForItem gives waits };
+
+    // After a call that gave no item the same comes next.
+    ghost same: { KeepsNext gives keeps };
 }
 
 /// The laws of a run of calls, of every decoder. Its items are the first of the joined pieces,
 /// wherever these are cut and whenever items are asked for. Two runs over the same bytes after
 /// which no item is left gave the same items, and at the end of the stream the same last one.
 pub fn decoder_laws<D: Decoder>()
-    ensures run { DecoderRunLaw D.Error D.gives D.waits D.fails }
+    ensures run { DecoderRunLaw D.Error D.gives D.waits D.fails D.keeps }
     ensures all { DecoderAllLaw D.gives }
     ensures whole { DecoderWholeLaw D.gives }
 {}

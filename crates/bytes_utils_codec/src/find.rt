@@ -1,5 +1,5 @@
 //! A search for a needle in the bytes of many segments.
-ghost use Rattle.std.specs.Prelude.{◌≡◌, ◌+◌, ◌-◌, ◌*◌, ◌^◌, ◌<◌, ◌≤◌, [], ◌++◌, length, min, take, drop, Some, IsOk, IfOk, IfErr, IfSome, IfNone, OnErr};
+ghost use Rattle.std.specs.Prelude.{◌≡◌, ◌+◌, ◌-◌, ◌*◌, ◌^◌, ◌<◌, ◌≤◌, ◌++◌, length, min, take, drop, Some, IsOk, IfOk, IfErr, IfSome, IfNone, OnErr};
 ghost use Rattle.std.specs.List.{concat};
 ghost use Rattle.memchr.specs.Find.{FindsNeedle, IsFirst, Nowhere, OccursAt};
 ghost use Rattle.bytes_utils_buf.specs.Segments.{CountsPass, IsPaid, IsPlace, Skips};

@@ -1,11 +1,16 @@
-//! Streams that come in pieces, read as frames, as lines, as text, or as what a decoder of yours
-//! takes.
+//! Streams that come in pieces, read by decoders, or as text; a search, and a cursor, over the bytes
+//! of many segments.
 //!
-//! - `frame` cuts a stream into frames, lines or texts, and `decode` into what a decoder takes.
-//! - `find` searches the bytes of many segments, and `cursor` reads parts off them.
+//! - `decode` takes frames, lines, or what a decoder of yours takes, off a stream; `texts` the text of
+//!   it, and `universal_lines` lines with any of three ends.
+//! - `find` searches the bytes of many segments, `search` goes on where it stopped, and `cursor` reads
+//!   parts off them.
 #![tactic(auto)]
 
 pub mod cursor;
 pub mod decode;
 pub mod find;
-pub mod frame;
+pub mod line_error;
+pub mod search;
+pub mod texts;
+pub mod universal_lines;

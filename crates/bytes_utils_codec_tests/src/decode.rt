@@ -1,48 +1,95 @@
 //! What no clause covers: worked cases, what is shared, and that calls succeed with ample memory.
 mod delimited;
+mod framed;
 mod lines;
 mod memory;
 mod prefixed;
 mod read;
+mod rows;
+mod stream_lines;
 
 use bytes::Bytes;
-use bytes_utils::Reason;
-use bytes_utils_codec::decode::{Decoded, Decoder};
+use bytes_utils::{Reason, Str};
+use bytes_utils_codec::decode::{Decoder, FrameTooLong, Framed, LineFault};
 use std::alloc::Global;
 
-/// Whether no item is there yet.
-fn waits<D: Decoder<Error = Reason>>(alloc: Global, reader: &mut Decoded<D>) -> bool {
-    matches!(reader.next_item(alloc), Ok(None))
+/// An item that is a frame or a line, or says why there is none.
+trait Frame: Drop {
+    /// The bytes, also those of a line that is not UTF-8; or `long`.
+    fn into_bytes(self) -> Bytes;
 }
 
-/// Whether each of three calls reports that the next item is over the limit.
-fn stays_too_long<D: Decoder<Error = Reason>>(alloc: Global, reader: &mut Decoded<D>) -> bool {
-    for _ in 0..3 {
-        if !matches!(reader.next_item(alloc), Err(Reason::TooLong)) {
-            return false;
+impl Frame for Bytes {
+    fn into_bytes(self) -> Bytes {
+        self
+    }
+}
+
+impl Frame for Result<Bytes, FrameTooLong> {
+    fn into_bytes(self) -> Bytes {
+        match self {
+            Ok(frame) => frame,
+            Err(_) => Bytes::from_static(b"long"),
         }
     }
-    true
 }
 
-/// Whether this is the next frame.
-fn is_frame<D: Decoder<Item = Bytes, Error = Reason>>(
-    alloc: Global,
-    reader: &mut Decoded<D>,
-    want: &[u8],
-) -> bool {
-    match reader.next_item(alloc) {
-        Ok(Some(frame)) => frame.as_slice() == want,
-        _ => false,
+impl Frame for Result<Str, LineFault> {
+    fn into_bytes(self) -> Bytes {
+        match self {
+            Ok(line) => line.into_inner(),
+            Err(LineFault::NotUtf8(fault)) => fault.into_inner(),
+            Err(LineFault::TooLong) => Bytes::from_static(b"long"),
+        }
+    }
+}
+
+/// The bytes of what a call returned. `None` is `-`, and a refusal for the limit is `long`.
+fn bytes_of<I: Frame>(answer: Result<Option<I>, Reason>) -> Result<Bytes, Reason> {
+    match answer {
+        Ok(Some(item)) => Ok(item.into_bytes()),
+        Ok(None) => Ok(Bytes::from_static(b"-")),
+        Err(Reason::TooLong) => Ok(Bytes::from_static(b"long")),
+        Err(reason) => Err(reason),
+    }
+}
+
+/// Whether these bytes were returned.
+fn is_given<I: Frame>(answer: Result<Option<I>, Reason>, want: &[u8]) -> bool {
+    match bytes_of(answer) {
+        Ok(bytes) => bytes.as_slice() == want,
+        Err(_) => false,
+    }
+}
+
+/// Whether so many bytes were returned, and whether they are the only owner of their block.
+fn is_owned<I: Frame>(answer: Result<Option<I>, Reason>, len: usize, is_unique: bool) -> bool {
+    match bytes_of(answer) {
+        Ok(bytes) => bytes.len() == len && bytes.is_unique() == is_unique,
+        Err(_) => false,
     }
 }
 
 /// Whether the frame `a` shares a block.
-fn shares_block(frame: Result<Option<Bytes>, Reason>) -> bool {
-    match frame {
-        Ok(Some(frame)) => frame.as_slice() == b"a".as_slice() && !frame.is_unique(),
-        _ => false,
+fn shares_block<I: Frame>(frame: Result<Option<I>, Reason>) -> bool {
+    match bytes_of(frame) {
+        Ok(frame) => frame.as_slice() == b"a".as_slice() && !frame.is_unique(),
+        Err(_) => false,
     }
+}
+
+/// Whether no item is there yet.
+fn waits<D: Decoder<Error = Reason>>(alloc: Global, reader: &mut Framed<D>) -> bool {
+    matches!(reader.next_item(alloc), Ok(None))
+}
+
+/// Whether this is the next frame.
+fn is_frame<I: Frame, D: Decoder<Item = I, Error = Reason>>(
+    alloc: Global,
+    reader: &mut Framed<D>,
+    want: &[u8],
+) -> bool {
+    is_given(reader.next_item(alloc), want)
 }
 
 /// Appends the frame, with a stroke after it.
@@ -52,24 +99,24 @@ fn put_frame(frame: &[u8], out: &mut Vec<u8>) -> Option<()> {
 }
 
 /// Takes the frames that have come. Returns `None` if one is refused, or there are too many.
-fn take_frames<D: Decoder<Item = Bytes, Error = Reason>>(
+fn take_frames<I: Frame, D: Decoder<Item = I, Error = Reason>>(
     alloc: Global,
-    reader: &mut Decoded<D>,
+    reader: &mut Framed<D>,
     out: &mut Vec<u8>,
 ) -> Option<()> {
     for _ in 0..6 {
         let Some(frame) = reader.next_item(alloc).ok()? else {
             return Some(());
         };
-        put_frame(frame.as_slice(), out)?;
+        put_frame(frame.into_bytes().as_slice(), out)?;
     }
     None
 }
 
 /// Pushes a piece, and takes the frames that come.
-fn take_piece<D: Decoder<Item = Bytes, Error = Reason>>(
+fn take_piece<I: Frame, D: Decoder<Item = I, Error = Reason>>(
     alloc: Global,
-    reader: &mut Decoded<D>,
+    reader: &mut Framed<D>,
     piece: &[u8],
     out: &mut Vec<u8>,
 ) -> Option<()> {
@@ -78,9 +125,9 @@ fn take_piece<D: Decoder<Item = Bytes, Error = Reason>>(
 }
 
 /// Whether these frames, each with a stroke after it, come with both pieces.
-fn are_frames<D: Decoder<Item = Bytes, Error = Reason>>(
+fn are_frames<I: Frame, D: Decoder<Item = I, Error = Reason>>(
     alloc: Global,
-    reader: &mut Decoded<D>,
+    reader: &mut Framed<D>,
     (front, back): (&[u8], &[u8]),
     want: &[u8],
 ) -> bool {
@@ -88,4 +135,17 @@ fn are_frames<D: Decoder<Item = Bytes, Error = Reason>>(
     take_piece(alloc, reader, front, &mut out).is_some()
         && take_piece(alloc, reader, back, &mut out).is_some()
         && out.as_slice() == want
+}
+
+/// Pushes a share of the piece.
+fn push_share<D: Decoder>(reader: &mut Framed<D>, piece: &Bytes) -> Result<(), Reason> {
+    Ok(reader.push(piece.clone()?)?)
+}
+
+/// Pushes so many pieces of `a`, each of which is held without a copy.
+fn push_long<D: Decoder>(reader: &mut Framed<D>, count: usize) -> Result<(), Reason> {
+    for _ in 0..count {
+        reader.push(Bytes::from_static(&[b'a'; 1_000]))?;
+    }
+    Ok(())
 }

@@ -1,6 +1,7 @@
 //! Readers and assertions that many tests use.
 pub(crate) mod readers;
 pub(crate) mod refusals;
+pub(crate) mod returned;
 
 use std::alloc::{AllocError, Global};
 use std::error::Error;

@@ -1,4 +1,4 @@
-//! Tests of the frames, decoders, searches and cursors of `bytes_utils_codec`, and the examples of
+//! Tests of the decoders, readers, searches and cursors of `bytes_utils_codec`, and the examples of
 //! the README.
 #![tactic(auto)]
 
@@ -11,6 +11,12 @@ mod find;
 #[cfg(test)]
 mod fixtures;
 #[cfg(test)]
-mod frame;
+mod line_error;
 #[cfg(test)]
 mod readme;
+#[cfg(test)]
+mod search;
+#[cfg(test)]
+mod texts;
+#[cfg(test)]
+mod universal_lines;

@@ -3,15 +3,33 @@ mod tests;
 
 use bytes::{Buf, Bytes};
 use bytes_utils::{Reason, SegmentedBuf, Str};
-use bytes_utils_codec::frame::{LineError, Lines};
+use bytes_utils_codec::decode::{
+    FrameTooLong, Framed, LengthPrefixed, LineFault, Lines, ReadItemError, read_item,
+};
 use std::alloc::Global;
-use std::io::{self, Write};
+use std::io::{self, Read, Write};
+
+/// A line, or why there is no text of it: it is too long, or not UTF-8.
+type Line = Result<Str, LineFault>;
 
 /// Appends a piece of a stream, and returns the next line, or `None` until it has ended. If a piece
-/// ends more lines, `stream.next_line` alone returns them.
-fn next_line(alloc: Global, stream: &mut Lines, piece: Bytes) -> Result<Option<Str>, LineError> {
-    stream.push(piece)?;
-    stream.next_line(alloc)
+/// ends more lines, `lines.next_item` alone returns them.
+fn next_line(
+    alloc: Global,
+    lines: &mut Framed<Lines>,
+    piece: Bytes,
+) -> Result<Option<Line>, Reason> {
+    lines.push(piece)?;
+    lines.next_item(alloc)
+}
+
+/// Reads the next message, which comes after its length, or returns `None` at the end of the input.
+fn message<R: Read>(
+    alloc: Global,
+    input: &mut R,
+    messages: &mut Framed<LengthPrefixed>,
+) -> Result<Option<Result<Bytes, FrameTooLong>>, ReadItemError<Reason>> {
+    read_item(input, messages, alloc) // no byte is lost: `put_back` of the error returns it
 }
 
 /// Splits a line such as `Host: example.org` into name and value.

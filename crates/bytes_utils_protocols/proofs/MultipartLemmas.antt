@@ -6,13 +6,16 @@ use Rattle.std.proofs.lemmas.Str.Pattern.{split_text_parts}
 use Rattle.std.specs.Bool.{MatchBool}
 use Rattle.std.specs.List.{concat}
 use Rattle.std.specs.Str.Pattern.{FindsText, SplitsAroundMatch}
-use Rattle.bytes_utils_codec.specs.Frames.{Framing, TakesFrame}
+use Rattle.bytes_utils_codec.specs.Frames.{TakesFrame}
 use Rattle.bytes_utils.specs.Occurrence.{Occurs, OccursAt}
 use Rattle.bytes_utils_codec.specs.Pushing.{IsPush}
+use Rattle.bytes_utils_codec.specs.Search.{NoneBegins, searched_all}
+use Rattle.bytes_utils_buf.specs.Packing.{Packing}
 use Rattle.bytes_utils_buf.specs.declared.refused.Refused.{Refused}
 use Rattle.bytes_utils_codec.proofs.FramesLemmas.{TakesFrame-more, TakesFrame-same}
+use Rattle.bytes_utils_codec.proofs.SearchLemmas.{NoneBegins-more}
 use Rattle.bytes_utils.proofs.OccurrenceLemmas.{OccursAt-between, OccursAt-front, cut_whole}
-use Rattle.bytes_utils_protocols.specs.Multipart.{FewWait, IsIdle, Parting, appended, closed, line_end, dashes, head_end, PartBytes, part_bytes, IsHeadIn, IsPart, TakesPart, IsPartDue, NoPart, Closes, LacksNext, held_at, AreApart, has_ended, quote, IsQuoted, IsDisposition, NoDisposition, IsFirstDisposition, held_by, IsDivided, SameSections, AfterSearch}
+use Rattle.bytes_utils_protocols.specs.Multipart.{FewWait, IsIdle, Parting, appended, closed, line_end, dashes, head_end, PartBytes, part_bytes, IsHeadIn, IsPart, TakesPart, IsPartDue, NoPart, Closes, LacksNext, held_at, AreApart, has_ended, quote, IsQuoted, IsDisposition, NoDisposition, IsFirstDisposition, held_by, waiting_in, IsDivided, SameSections, AfterSearch}
 use Rattle.bytes_utils_protocols.specs.declared.multipart.limits.Limits.{Limits}
 use Rattle.bytes_utils_protocols.specs.declared.multipart.sections.Sections.{Sections}
 use Rattle.bytes_utils_protocols.specs.declared.multipart.sections.Stage.{Stage}
@@ -20,36 +23,18 @@ use Rattle.bytes_utils_protocols.specs.declared.multipart.sections.Stage.TheVari
 
 -- ---- delimiters
 
--- a delimiter comes at once
-pub at_once : (d w : List ℕ) → TakesFrame d (d ++ w) [] w
-at_once d w = record { bytes = refl; first = record { here = OccursAt-between [] d w; none_before = λ j there. omega arith } }
-
 -- the parts of bytes that are put together again
 pub apart : (d old p w : List ℕ) → TakesFrame d old p w → TakesFrame d (p ++ (d ++ w)) p w
 apart d old p w takes = subst (λ l. TakesFrame d l p w) takes.bytes takes
 
 module _ (d p w : List ℕ) (begins : TakesFrame d (p ++ (d ++ w)) p w) where
-  -- two dashes follow
-  pub closes : take 2 w ≡ dashes → Closes d (p ++ (d ++ w))
-  closes two = (p, drop 2 w, subst (TakesFrame d (p ++ (d ++ w)) p) (sym (take-append-drop 2 w) ∙ ap (λ l. l ++ drop 2 w) two) begins)
-
+  -- two dashes do not follow
   pub not_closed : take 2 w ≢ dashes → ¬ Closes d (p ++ (d ++ w))
   not_closed other closing = other (ap (take 2) (TakesFrame-same d (p ++ (d ++ w)) p closing.0 w (dashes ++ closing.1) begins closing.2).1)
-
-  -- the next delimiter is found
-  pub both_apart : (f v : List ℕ) → TakesFrame d w f v → TakesFrame d (p ++ (d ++ (f ++ (d ++ v)))) p (f ++ (d ++ v)) × TakesFrame d (f ++ (d ++ v)) f v
-  both_apart f v ends = (
-    subst (λ l. TakesFrame d (p ++ (d ++ l)) p l) ends.bytes begins,
-    apart d w f v ends,
-  )
 
   -- the next delimiter has not come
   pub lacks_next : (¬ Occurs d w) → LacksNext d (p ++ (d ++ w))
   lacks_next none preamble after takes occurs = none (subst (Occurs d) (sym (TakesFrame-same d (p ++ (d ++ w)) p preamble w after begins takes).1) occurs)
-
--- without a delimiter nothing is closed
-pub open_without : (d bytes : List ℕ) → (¬ Occurs d bytes) → ¬ Closes d bytes
-open_without d bytes none closing = none (length closing.0, closing.2.first.here)
 
 -- what is before the next delimiter has almost as many bytes as have come, or more
 pub long_frame : (d bytes more frame rest : List ℕ) → (¬ Occurs d bytes) → TakesFrame d (bytes ++ more) frame rest → length bytes < length frame + length d
@@ -127,71 +112,64 @@ module _ (d : List ℕ) (limits : Limits) where
 
 module _ (s : Sections) (waiting : s.stage ≡ Waiting) (divided : IsDivided s) where
   -- neither the next delimiter nor the end
-  pub none_found : (frames : Framing) → frames ≡ s.frames → (¬ Occurs s.frames.separator s.frames.held) → take 2 s.frames.held ≢ dashes
-      → AfterSearch s.stage s (record s { frames = frames })
-  none_found frames same none other =
-      let d = s.frames.separator in
+  pub none_found : (new : Sections) → new ≡ record s { delimiter = searched_all s.delimiter (waiting_in s) } → (¬ Occurs s.delimiter.needle (waiting_in s))
+      → take 2 (waiting_in s) ≢ dashes → AfterSearch new.stage s new
+  none_found new is none other =
+      let d = s.delimiter.needle in
       let p = s.preamble in
       let f = concat s.found.segments in
-      let w = s.frames.held in
-      let begins : TakesFrame d (p ++ (d ++ w)) p w = subst (λ stage. AreApart stage d p f w) waiting divided in
+      let w = waiting_in s in
+      let begins : TakesFrame d (p ++ (d ++ w)) p w = subst (λ stage. AreApart stage d p f w) waiting divided.0 in
       let not_closed = subst (λ stage. ¬ Closes d (held_at stage d p f w)) (sym waiting) (not_closed d p w begins other) in
       let lacks = subst (λ stage. LacksNext d (held_at stage d p f w)) (sym waiting) (lacks_next d p w begins none) in
-      subst (λ other. AfterSearch s.stage s (record s { frames = other })) (sym same)
-      (subst (λ stage. AfterSearch stage s s) (sym waiting) (record { delimiter = refl; ended = refl; held = refl }, none, not_closed, lacks))
+      let searched : Sections = record s { delimiter = searched_all s.delimiter w } in
+      subst (λ (l : Sections). AfterSearch l.stage s l) (sym is)
+      (subst (λ stage. AfterSearch stage s searched) (sym waiting) (record { delimiter = refl; ended = refl; held = refl }, none, not_closed, lacks))
 
 module _ (s : Sections) (is_found : s.stage ≡ Found) (divided : IsDivided s) where
   module _ (limits : Limits) where
     -- what was found is a part, and it is taken
     pub takes_found : (part : PartBytes) (new : Sections) → IsPart limits (concat s.found.segments) part → length s.preamble ≤ limits.head + limits.body
-        → new.stage ≡ Waiting → new.frames ≡ s.frames → new.preamble ≡ [] → TakesPart s.frames.separator limits (held_by s) part (held_by new)
-    takes_found part new is few stage frames preamble =
-        let d = s.frames.separator in
+        → new.stage ≡ Waiting → new.delimiter ≡ s.delimiter → new.waiting ≡ s.waiting → new.preamble ≡ [] → TakesPart s.delimiter.needle limits (held_by s) part (held_by new)
+    takes_found part new is few stage delimiter waiting preamble =
+        let d = s.delimiter.needle in
         let p = s.preamble in
         let f = concat s.found.segments in
-        let v = s.frames.held in
-        let both : AreApart Found d p f v = subst (λ stage. AreApart stage d p f v) is_found divided in
-        let left : held_by new ≡ d ++ v = rw (stage, frames, preamble) refl in
+        let v = waiting_in s in
+        let both : AreApart Found d p f v = subst (λ stage. AreApart stage d p f v) is_found divided.0 in
+        let left : held_by new ≡ d ++ v = rw (stage, delimiter, waiting, preamble) refl in
         rw left (subst (λ stage. TakesPart d limits (held_at stage d p f v) part (d ++ v)) (sym is_found) (found_part d limits p f v both.0 both.1 part is few))
 
     pub part_in_found : (part : PartBytes) → IsPart limits (concat s.found.segments) part → length s.preamble ≤ limits.head + limits.body
-        → (rest : List ℕ) × TakesPart s.frames.separator limits (held_by s) part rest
+        → (rest : List ℕ) × TakesPart s.delimiter.needle limits (held_by s) part rest
     part_in_found part is few =
-        let d = s.frames.separator in
+        let d = s.delimiter.needle in
         let p = s.preamble in
         let f = concat s.found.segments in
-        let v = s.frames.held in
-        let both : AreApart Found d p f v = subst (λ stage. AreApart stage d p f v) is_found divided in
+        let v = waiting_in s in
+        let both : AreApart Found d p f v = subst (λ stage. AreApart stage d p f v) is_found divided.0 in
         (d ++ v, subst (λ stage. TakesPart d limits (held_at stage d p f v) part (d ++ v)) (sym is_found) (found_part d limits p f v both.0 both.1 part is few))
 
     -- the delimiters before and after it have come
-    pub due_in_found : length s.preamble ≤ limits.head + limits.body → IsPartDue s.frames.separator limits (held_by s)
+    pub due_in_found : length s.preamble ≤ limits.head + limits.body → IsPartDue s.delimiter.needle limits (held_by s)
     due_in_found few =
-        let d = s.frames.separator in
+        let d = s.delimiter.needle in
         let p = s.preamble in
         let f = concat s.found.segments in
-        let v = s.frames.held in
-        let both : AreApart Found d p f v = subst (λ stage. AreApart stage d p f v) is_found divided in
+        let v = waiting_in s in
+        let both : AreApart Found d p f v = subst (λ stage. AreApart stage d p f v) is_found divided.0 in
         subst (λ stage. IsPartDue d limits (held_at stage d p f v)) (sym is_found)
         (record { preamble = p; after = f ++ (d ++ v); begins = both.0; raw = f; next = v; ends = both.1; few = few })
 
     -- what was found is no part
-    pub none_in_found : ((part : PartBytes) → ¬ IsPart limits (concat s.found.segments) part) → (more : List ℕ) → NoPart s.frames.separator limits (held_by s ++ more)
+    pub none_in_found : ((part : PartBytes) → ¬ IsPart limits (concat s.found.segments) part) → (more : List ℕ) → NoPart s.delimiter.needle limits (held_by s ++ more)
     none_in_found none more =
-        let d = s.frames.separator in
+        let d = s.delimiter.needle in
         let p = s.preamble in
         let f = concat s.found.segments in
-        let v = s.frames.held in
-        let both : AreApart Found d p f v = subst (λ stage. AreApart stage d p f v) is_found divided in
+        let v = waiting_in s in
+        let both : AreApart Found d p f v = subst (λ stage. AreApart stage d p f v) is_found divided.0 in
         subst (λ stage. NoPart d limits (held_at stage d p f v ++ more)) (sym is_found) (no_found d limits p f v both.0 both.1 none more)
-
--- a delimiter is held, and what follows it
-pub divided_at_once : (s : Sections) → s.stage ≡ Waiting → s.preamble ≡ [] → IsDivided s
-divided_at_once s stage preamble =
-    let d = s.frames.separator in
-    let w = s.frames.held in
-    subst (λ stage. AreApart stage d s.preamble (concat s.found.segments) w) (sym stage)
-    (subst (λ l. TakesFrame d (l ++ (d ++ w)) l w) (sym preamble) (at_once d w))
 
 -- ---- a piece is pushed
 
@@ -220,19 +198,26 @@ held_apart Waiting d p f w on = sym (append_assoc p d w)
 held_apart Found d p f w on = sym (append_assoc p d (f ++ (d ++ w))) ∙ ap (λ l. (p ++ d) ++ l) (sym (append_assoc f d w)) ∙ sym (append_assoc (p ++ d) (f ++ d) w)
 held_apart Ended d p f w on = cc
 
-module _ (s : Sections) (frames : Framing) (piece : List ℕ) (same : frames.separator ≡ s.frames.separator) (held : frames.held ≡ s.frames.held ++ piece) where
-  pub divided_more : has_ended s.stage ≡ false → IsDivided s → IsDivided (record s { frames = frames })
-  divided_more on parts = rw (same, held) (apart_more s.stage s.frames.separator s.preamble (concat s.found.segments) s.frames.held piece on parts)
-
-  pub held_more : has_ended s.stage ≡ false → held_by (record s { frames = frames }) ≡ held_by s ++ piece
-  held_more on =
-      let d = s.frames.separator in
+module _ (s : Sections) (waiting : Packing) (piece : List ℕ) (held : concat waiting.held.segments ≡ waiting_in s ++ piece) where
+  pub divided_more : has_ended s.stage ≡ false → IsDivided s → IsDivided (record s { waiting = waiting })
+  divided_more on parts =
+      let d = s.delimiter.needle in
       let p = s.preamble in
       let f = concat s.found.segments in
-      let w = s.frames.held in
+      let w = waiting_in s in (
+        subst (AreApart s.stage d p f) (sym held) (apart_more s.stage d p f w piece on parts.0),
+        subst (λ l. NoneBegins d l s.delimiter.searched) (sym held) (NoneBegins-more d w piece s.delimiter.searched parts.1),
+      )
+
+  pub held_more : has_ended s.stage ≡ false → held_by (record s { waiting = waiting }) ≡ held_by s ++ piece
+  held_more on =
+      let d = s.delimiter.needle in
+      let p = s.preamble in
+      let f = concat s.found.segments in
+      let w = waiting_in s in
       let before = held_before s.stage d p f in
-      let joined = held_apart s.stage d p f (w ++ piece) on ∙ sym (append_assoc before w piece) ∙ ap (λ l. l ++ piece) (sym (held_apart s.stage d p f w on)) in
-      rw (same, held) joined
+      ap (held_at s.stage d p f) held ∙ held_apart s.stage d p f (w ++ piece) on ∙ sym (append_assoc before w piece)
+      ∙ ap (λ l. l ++ piece) (sym (held_apart s.stage d p f w on))
 
 -- what a push says of a part of the state, and of all of it
 pub push_of_all : {U : Type 0} (held piece : List ℕ) (result : Result U (Refused (List ℕ))) {A B C D : Type 0} → IsPush held piece result A B → (A → C) → (B → D) → IsPush held piece result C D
@@ -241,32 +226,35 @@ push_of_all held piece (Err e) push all same = record { ok = tt; err = same push
 
 -- what clauses see
 abbrev seen : Limits → Sections → Parting
-seen limits s = record { delimiter = s.frames.separator; limits = limits; ended = has_ended s.stage; held = held_by s }
+seen limits s = record { delimiter = s.delimiter.needle; limits = limits; ended = has_ended s.stage; held = held_by s }
 
-module _ (s : Sections) (frames : Framing) (piece : List ℕ) (same : frames.separator ≡ s.frames.separator) where
-  pub still_divided : {E : Type 0} (result : Result (Unit {0}) E) → OnOk result (frames.held ≡ s.frames.held ++ piece) → OnErr result (frames ≡ s.frames) → has_ended s.stage ≡ false
-      → IsDivided s → IsDivided (record s { frames = frames })
-  still_divided (Ok u) held unchanged on parts = divided_more s frames piece same held on parts
-  still_divided (Err e) held unchanged on parts = subst (λ l. IsDivided (record s { frames = l })) (sym unchanged) parts
+module _ (s new : Sections) (piece : List ℕ) (others : new ≡ record s { waiting = new.waiting }) where
+  pub still_divided : {E : Type 0} (result : Result (Unit {0}) E) → OnOk result (waiting_in new ≡ waiting_in s ++ piece) → OnErr result (new ≡ s) → has_ended s.stage ≡ false
+      → IsDivided s → IsDivided new
+  still_divided (Ok u) held unchanged on parts = subst IsDivided (sym others) (divided_more s new.waiting piece held on parts)
+  still_divided (Err e) held unchanged on parts = subst IsDivided (sym unchanged) parts
+
+  pub seen_more : (limits : Limits) → waiting_in new ≡ waiting_in s ++ piece → has_ended s.stage ≡ false → seen limits new ≡ appended (seen limits s) piece
+  seen_more limits held on =
+      let more = held_more s new.waiting piece held on in
+      ap (seen limits) others ∙ (rw on (λ i. record { delimiter = s.delimiter.needle; limits = limits; ended = false; held = more i }))
 
 -- the bytes that wait are the last ones that are held
-pub waiting_last : (s : Sections) → has_ended s.stage ≡ false → (front : List ℕ) × (held_by s ≡ front ++ s.frames.held)
+pub waiting_last : (s : Sections) → has_ended s.stage ≡ false → (front : List ℕ) × (held_by s ≡ front ++ (waiting_in s))
 waiting_last s on = (
-  held_before s.stage s.frames.separator s.preamble (concat s.found.segments),
-  held_apart s.stage s.frames.separator s.preamble (concat s.found.segments) s.frames.held on,
+  held_before s.stage s.delimiter.needle s.preamble (concat s.found.segments),
+  held_apart s.stage s.delimiter.needle s.preamble (concat s.found.segments) (waiting_in s) on,
 )
 
-module _ (s : Sections) (limits : Limits) (frames : Framing) (piece : List ℕ) (result : Result (Unit {0}) (Refused (List ℕ))) (same : frames.separator ≡ s.frames.separator)
-    (push : IsPush s.frames.held piece result (frames.held ≡ s.frames.held ++ piece) (frames ≡ s.frames)) where
+module _ (s new : Sections) (limits : Limits) (piece : List ℕ) (result : Result (Unit {0}) (Refused (List ℕ))) (others : new ≡ record s { waiting = new.waiting })
+    (push : IsPush (waiting_in s) piece result (waiting_in new ≡ waiting_in s ++ piece) (new ≡ s)) where
   pub is_pushed : has_ended s.stage ≡ false → (front : List ℕ) × (waiting : List ℕ) × (held_by s ≡ front ++ waiting)
-      × IsPush waiting piece result (seen limits (record s { frames = frames }) ≡ appended (seen limits s) piece) (seen limits (record s { frames = frames }) ≡ seen limits s)
+      × IsPush waiting piece result (seen limits new ≡ appended (seen limits s) piece) (seen limits new ≡ seen limits s)
   is_pushed on = let last = waiting_last s on in (
     last.0,
-    s.frames.held,
+    waiting_in s,
     last.1,
-    push_of_all s.frames.held piece result push
-        (λ held. let more = held_more s frames piece same held on in rw on (λ i. record { delimiter = same i; limits = limits; ended = false; held = more i }))
-        (λ unchanged. ap (λ l. seen limits (record s { frames = l })) unchanged),
+    push_of_all (waiting_in s) piece result push (λ held. seen_more s new piece others limits held on) (ap (seen limits)),
   )
 
 -- ---- without a part
@@ -308,15 +296,10 @@ module _ (d : List ℕ) (limits : Limits) where
       no_dashes limits takes.raw part (d ++ takes.next) takes.is (whole ∙ ap (λ l. dashes ++ l) (sym (ap (drop 2) whole)))
 
 -- the bytes that are held now are those from before
-pub none_of_same : (old new : Sections) → SameSections old new → (limits : Limits) (more : List ℕ) → NoPart new.frames.separator limits (held_by new ++ more)
-    → NoPart old.frames.separator limits (held_by old ++ more)
+pub none_of_same : (old new : Sections) → SameSections old new → (limits : Limits) (more : List ℕ) → NoPart new.delimiter.needle limits (held_by new ++ more)
+    → NoPart old.delimiter.needle limits (held_by old ++ more)
 none_of_same old new same limits more none =
-    subst (λ l. NoPart l limits (held_by old ++ more)) same.delimiter (subst (λ l. NoPart new.frames.separator limits (l ++ more)) same.held none)
-
-pub due_of_same : (old new : Sections) → SameSections old new → (limits : Limits) → IsPartDue new.frames.separator limits (held_by new)
-    → IsPartDue old.frames.separator limits (held_by old)
-due_of_same old new same limits due =
-    subst (λ l. IsPartDue l limits (held_by old)) same.delimiter (subst (λ l. IsPartDue new.frames.separator limits l) same.held due)
+    subst (λ l. NoPart l limits (held_by old ++ more)) same.delimiter (subst (λ l. NoPart new.delimiter.needle limits (l ++ more)) same.held none)
 
 -- ---- few bytes wait
 
@@ -347,22 +330,22 @@ module _ (limits : Limits) (d : List ℕ) where
 
 module _ (limits : Limits) (old s : Sections) where
   -- if it found no part, there is none
-  pub none_after : (stage : Stage) → AfterSearch stage old s → stage ≢ Found → NoPart old.frames.separator limits (held_by old)
-  none_after Preamble after not_found = no_part_yet old.frames.separator limits (held_by old) after.3
-  none_after Waiting after not_found = no_part_yet old.frames.separator limits (held_by old) after.3
+  pub none_after : (stage : Stage) → AfterSearch stage old s → stage ≢ Found → NoPart old.delimiter.needle limits (held_by old)
+  none_after Preamble after not_found = no_part_yet old.delimiter.needle limits (held_by old) after.3
+  none_after Waiting after not_found = no_part_yet old.delimiter.needle limits (held_by old) after.3
   none_after Found after not_found = absurd (not_found refl)
   none_after Ended (inl before) not_found =
-      subst (λ stage. NoPart old.frames.separator limits (held_at stage old.frames.separator old.preamble (concat old.found.segments) old.frames.held)) (sym before)
-      (none_in_nothing old.frames.separator limits)
-  none_after Ended (inr closing) not_found = none_closed old.frames.separator limits (held_by old) closing
+      subst (λ stage. NoPart old.delimiter.needle limits (held_at stage old.delimiter.needle old.preamble (concat old.found.segments) (waiting_in old))) (sym before)
+      (none_in_nothing old.delimiter.needle limits)
+  none_after Ended (inr closing) not_found = none_closed old.delimiter.needle limits (held_by old) closing
 
   abbrev Kept : Type 0
-  Kept = (seen limits s ≡ seen limits old) × (¬ Closes old.frames.separator (held_by old)) × LacksNext old.frames.separator (held_by old)
+  Kept = (seen limits s ≡ seen limits old) × (¬ Closes old.delimiter.needle (held_by old)) × LacksNext old.delimiter.needle (held_by old)
 
   abbrev End : Type 0
-  End = (seen limits s ≡ closed (seen limits old)) × ((has_ended old.stage ≡ true) ⊎ Closes old.frames.separator (held_by old))
+  End = (seen limits s ≡ closed (seen limits old)) × ((has_ended old.stage ≡ true) ⊎ Closes old.delimiter.needle (held_by old))
 
-  idle_kept : has_ended s.stage ≡ false → SameSections old s → (¬ Closes old.frames.separator (held_by old)) → LacksNext old.frames.separator (held_by old)
+  idle_kept : has_ended s.stage ≡ false → SameSections old s → (¬ Closes old.delimiter.needle (held_by old)) → LacksNext old.delimiter.needle (held_by old)
       → IsIdle (seen limits old) (seen limits s)
   idle_kept on same still_open lacks =
       let unchanged : seen limits s ≡ seen limits old =
@@ -370,49 +353,49 @@ module _ (limits : Limits) (old s : Sections) where
       subst (λ b. MatchBool b End Kept) (sym on) (unchanged, still_open, lacks)
 
   -- then it changed nothing, or the close delimiter was read
-  pub idle_after : (stage : Stage) → s.stage ≡ stage → s.frames.separator ≡ old.frames.separator → AfterSearch stage old s → stage ≢ Found → IsIdle (seen limits old) (seen limits s)
+  pub idle_after : (stage : Stage) → s.stage ≡ stage → s.delimiter.needle ≡ old.delimiter.needle → AfterSearch stage old s → stage ≢ Found → IsIdle (seen limits old) (seen limits s)
   idle_after Preamble is delimiter after not_found = idle_kept (ap has_ended is) after.0 after.2 after.3
   idle_after Waiting is delimiter after not_found = idle_kept (ap has_ended is) after.0 after.2 after.3
   idle_after Found is delimiter after not_found = absurd (not_found refl)
   idle_after Ended is delimiter after not_found =
-      let nothing : held_by s ≡ [] = ap (λ stage. held_at stage s.frames.separator s.preamble (concat s.found.segments) s.frames.held) is in
+      let nothing : held_by s ≡ [] = ap (λ stage. held_at stage s.delimiter.needle s.preamble (concat s.found.segments) (waiting_in s)) is in
       let ended : seen limits s ≡ closed (seen limits old) =
       λ i. record { delimiter = delimiter i; limits = limits; ended = ap has_ended is i; held = nothing i } in
-      let why : (has_ended old.stage ≡ true) ⊎ Closes old.frames.separator (held_by old) = elim after [ inl before ↦ inl (ap has_ended before) | inr closing ↦ inr closing ] in
+      let why : (has_ended old.stage ≡ true) ⊎ Closes old.delimiter.needle (held_by old) = elim after [ inl before ↦ inl (ap has_ended before) | inr closing ↦ inr closing ] in
       subst (λ b. MatchBool b End Kept) (sym (ap has_ended is)) (ended, why)
 
   -- few bytes wait then, if they are within the limits
-  module _ (short : length s.preamble ≤ limits.head + limits.body) (few : length s.frames.held ≤ limits.head + limits.body + length s.frames.separator) where
-    pub few_wait : (stage : Stage) → AfterSearch stage old s → stage ≢ Found → AreApart stage s.frames.separator s.preamble (concat s.found.segments) s.frames.held
-        → FewWait s.frames.separator limits (held_at stage s.frames.separator s.preamble (concat s.found.segments) s.frames.held)
+  module _ (short : length s.preamble ≤ limits.head + limits.body) (few : length (waiting_in s) ≤ limits.head + limits.body + length s.delimiter.needle) where
+    pub few_wait : (stage : Stage) → AfterSearch stage old s → stage ≢ Found → AreApart stage s.delimiter.needle s.preamble (concat s.found.segments) (waiting_in s)
+        → FewWait s.delimiter.needle limits (held_at stage s.delimiter.needle s.preamble (concat s.found.segments) (waiting_in s))
     few_wait Preamble after not_found parts =
-        few_before limits s.frames.separator s.frames.held (subst (λ d. ¬ Occurs d s.frames.held) (sym after.0.delimiter) after.1) few
-    few_wait Waiting after not_found parts = few_after limits s.frames.separator s.preamble s.frames.held parts short few
+        few_before limits s.delimiter.needle (waiting_in s) (subst (λ d. ¬ Occurs d (waiting_in s)) (sym after.0.delimiter) after.1) few
+    few_wait Waiting after not_found parts = few_after limits s.delimiter.needle s.preamble (waiting_in s) parts short few
     few_wait Found after not_found parts = absurd (not_found refl)
-    few_wait Ended after not_found parts = few_in_nothing limits s.frames.separator
+    few_wait Ended after not_found parts = few_in_nothing limits s.delimiter.needle
 
   -- if they are not, no part comes
   module _ (more : List ℕ) where
     same_none : (stage : Stage) → s.stage ≡ stage → SameSections old s
-        → NoPart s.frames.separator limits (held_at stage s.frames.separator s.preamble (concat s.found.segments) s.frames.held ++ more) → NoPart old.frames.separator limits (held_by old ++ more)
+        → NoPart s.delimiter.needle limits (held_at stage s.delimiter.needle s.preamble (concat s.found.segments) (waiting_in s) ++ more) → NoPart old.delimiter.needle limits (held_by old ++ more)
     same_none stage is same none =
         none_of_same old s same limits more
-        (subst (λ stage. NoPart s.frames.separator limits (held_at stage s.frames.separator s.preamble (concat s.found.segments) s.frames.held ++ more)) (sym is) none)
+        (subst (λ stage. NoPart s.delimiter.needle limits (held_at stage s.delimiter.needle s.preamble (concat s.found.segments) (waiting_in s) ++ more)) (sym is) none)
 
-    pub over_limits : (stage : Stage) → s.stage ≡ stage → AfterSearch stage old s → AreApart stage s.frames.separator s.preamble (concat s.found.segments) s.frames.held
-        → ((limits.head + limits.body < length s.preamble) ⊎ ((s.stage ≢ Found) × (limits.head + limits.body + length s.frames.separator < length s.frames.held)))
-        → NoPart old.frames.separator limits (held_by old ++ more)
+    pub over_limits : (stage : Stage) → s.stage ≡ stage → AfterSearch stage old s → AreApart stage s.delimiter.needle s.preamble (concat s.found.segments) (waiting_in s)
+        → ((limits.head + limits.body < length s.preamble) ⊎ ((s.stage ≢ Found) × (limits.head + limits.body + length s.delimiter.needle < length (waiting_in s))))
+        → NoPart old.delimiter.needle limits (held_by old ++ more)
     over_limits Preamble is after parts (inl much) = absurd (omega (arith, much, ap length parts))
     over_limits Preamble is after parts (inr waits) =
         same_none Preamble is after.0
-        (long_preamble s.frames.separator limits s.frames.held (subst (λ d. ¬ Occurs d s.frames.held) (sym after.0.delimiter) after.1) waits.1 more)
-    over_limits Waiting is after parts (inl much) = same_none Waiting is after.0 (many_before s.frames.separator limits s.preamble s.frames.held parts much more)
+        (long_preamble s.delimiter.needle limits (waiting_in s) (subst (λ d. ¬ Occurs d (waiting_in s)) (sym after.0.delimiter) after.1) waits.1 more)
+    over_limits Waiting is after parts (inl much) = same_none Waiting is after.0 (many_before s.delimiter.needle limits s.preamble (waiting_in s) parts much more)
     over_limits Waiting is after parts (inr waits) =
         same_none Waiting is after.0
-        (long_part s.frames.separator limits s.preamble s.frames.held parts (subst (λ d. ¬ Occurs d s.frames.held) (sym after.0.delimiter) after.1) waits.1 more)
+        (long_part s.delimiter.needle limits s.preamble (waiting_in s) parts (subst (λ d. ¬ Occurs d (waiting_in s)) (sym after.0.delimiter) after.1) waits.1 more)
     over_limits Found is after parts (inl much) =
         same_none Found is after
-        (many_before s.frames.separator limits s.preamble (concat s.found.segments ++ (s.frames.separator ++ s.frames.held)) parts.0 much more)
+        (many_before s.delimiter.needle limits s.preamble (concat s.found.segments ++ (s.delimiter.needle ++ (waiting_in s))) parts.0 much more)
     over_limits Found is after parts (inr waits) = absurd (waits.0 is)
     over_limits Ended is after parts (inl much) = absurd (omega (arith, much, ap length parts.0))
     over_limits Ended is after parts (inr waits) = absurd (omega (arith, waits.1, ap length parts.1))

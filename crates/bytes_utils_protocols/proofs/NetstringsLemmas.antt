@@ -1,18 +1,12 @@
 -- Netstrings, read part by part.
-use Rattle.std.proofs.Common.{◌≡◌, ℕ, ◌+◌, ◌<◌, List, [], ◌∷◌, ◌++◌, length, Option, None, Some, Result, Ok, Err, inl, ap, ◌∙◌, sym, refl, subst, arith, append_assoc, append-nil, length-append}
-use Rattle.std.specs.Prelude.{IfOk, IfErr, IfSome, IfNone, OnErr}
-use Rattle.std.specs.List.{concat}
+use Rattle.std.proofs.Common.{◌≡◌, ℕ, ◌+◌, ◌<◌, List, [], ◌∷◌, ◌++◌, length, ap, ◌∙◌, sym, subst, arith, append_assoc, append-nil, length-append}
 use Rattle.std.specs.Str.Parse.{digits_value}
-use Rattle.bytes_utils_buf.specs.Packing.{Packing}
 use Rattle.bytes_utils_codec.specs.Cursor.{IsBegun, NeverBegins, TakesFirst}
-use Rattle.bytes_utils_codec.specs.Decoding.{Decodes, DecodesAtEnd, HasSameNext, decoding}
 use Rattle.bytes_utils_codec.specs.Frames.{TakesFrame}
-use Rattle.bytes_utils_codec.proofs.DecodingLemmas.{SameNext-refl}
 use Rattle.bytes_utils_codec.proofs.FramesLemmas.{TakesFrame-more, TakesFrame-same}
 use Rattle.bytes_utils.proofs.Joins.{append_same}
-use Rattle.bytes_utils_protocols.specs.Netstrings.{NoNetstring, TakesNetstring, awaits_netstring, comma, fails_netstring, gives_netstring}
+use Rattle.bytes_utils_protocols.specs.Netstrings.{NoNetstring, TakesNetstring, comma}
 use Rattle.bytes_utils_protocols.specs.Digits.{WriteNumber, colon}
-use Rattle.bytes_utils_protocols.specs.declared.netstrings.NetstringError.{NetstringError}
 
 -- the bytes up to the first colon, and those after it
 module _ (bytes digits after : List ℕ) (front : TakesFrame (colon ∷ []) bytes digits after) where
@@ -48,23 +42,3 @@ module _ (bytes digits after : List ℕ) (front : TakesFrame (colon ∷ []) byte
           let joined : text ++ (left ++ more) ≡ other ++ (comma ∷ rest) =
           sym (append_assoc text left more) ∙ ap (λ l. l ++ more) (sym first.bytes) ∙ whole more other rest takes in
           never more rest (append_same text other (left ++ more) (comma ∷ rest) (first.size ∙ size more other rest takes) joined).1
-
--- ---- what a call did
-
-module _ {D : Type 0} (d : D) (old new : Packing) where
-  same_next : new ≡ old → HasSameNext gives_netstring (decoding d old) (decoding d new)
-  same_next is = subst (λ p. HasSameNext gives_netstring (decoding d old) (decoding d p)) (sym is) (SameNext-refl gives_netstring (decoding d old))
-
-  pub decodes_netstring : (r : Result (Option (List ℕ)) NetstringError) → IfOk r (λ next. IfSome next (λ text. TakesNetstring (concat old.held.segments) text (concat new.held.segments)))
-      → IfOk r (λ next. IfNone next (NoNetstring (concat old.held.segments))) → IfOk r (λ next. IfNone next (new ≡ old)) → OnErr r (new ≡ old)
-      → IfErr r (fails_netstring (decoding d old)) → Decodes gives_netstring awaits_netstring fails_netstring (decoding d old) r (decoding d new)
-  decodes_netstring (Ok (Some text)) takes none waits err fails = (refl, takes)
-  decodes_netstring (Ok None) takes none waits err fails = (none, same_next waits)
-  decodes_netstring (Err error) takes none waits err fails = (fails, same_next err)
-
-  pub ends_netstring : (r : Result (Option (List ℕ)) NetstringError) → IfOk r (λ next. IfSome next (λ text. TakesNetstring (concat old.held.segments) text (concat new.held.segments)))
-      → IfOk r (λ next. IfNone next (NoNetstring (concat old.held.segments))) → IfOk r (λ next. IfNone next (new ≡ old)) → OnErr r (new ≡ old)
-      → IfErr r (fails_netstring (decoding d old)) → DecodesAtEnd gives_netstring fails_netstring (decoding d old) r (decoding d new)
-  ends_netstring (Ok (Some text)) takes none waits err fails = inl (refl, takes)
-  ends_netstring (Ok None) takes none waits err fails = (none, ap (decoding d) waits)
-  ends_netstring (Err error) takes none waits err fails = (fails, same_next err)

@@ -8,6 +8,7 @@ use Rattle.std.specs.Str.Lines.{lines}
 use Rattle.bytes_utils_codec.specs.Frames.{TakesFrame}
 use Rattle.bytes_utils.specs.Occurrence.{Occurs}
 use Rattle.bytes_utils.specs.Lines.{carriage_return, line_feed}
+use Rattle.bytes_utils_codec.specs.Search.{NoneBegins}
 use Rattle.bytes_utils_codec.specs.StreamRuns.{StreamEvent, IsRunOver, AreFirst, SameFirstLaw, pushed_by, given_by}
 use Rattle.bytes_utils_protocols.specs.Digits.{colon}
 use Rattle.bytes_utils_protocols.specs.declared.multipart.limits.Limits.{Limits}
@@ -189,26 +190,34 @@ has_ended Waiting = false
 has_ended Found = false
 has_ended Ended = true
 
+-- the bytes that wait for the next delimiter
+abbrev pub waiting_in : Sections → List ℕ
+waiting_in s = concat s.waiting.held.segments
+
 abbrev pub held_by : Sections → List ℕ
-held_by s = held_at s.stage s.frames.separator s.preamble (concat s.found.segments) s.frames.held
+held_by s = held_at s.stage s.delimiter.needle s.preamble (concat s.found.segments) (waiting_in s)
+
+-- of the bytes that wait, the search has passed none in which a delimiter begins, whatever comes after them
+abbrev pub NonePassed : Sections → Type 0
+NonePassed s = NoneBegins s.delimiter.needle (waiting_in s) s.delimiter.searched
 
 abbrev pub IsDivided : Sections → Type 0
-IsDivided s = AreApart s.stage s.frames.separator s.preamble (concat s.found.segments) s.frames.held
+IsDivided s = AreApart s.stage s.delimiter.needle s.preamble (concat s.found.segments) (waiting_in s) × NonePassed s
 
 -- the same delimiter, end and bytes
 pub record SameSections (old new : Sections) : Type 0 where
-  pub delimiter : new.frames.separator ≡ old.frames.separator
+  pub delimiter : new.delimiter.needle ≡ old.delimiter.needle
   pub ended : has_ended new.stage ≡ has_ended old.stage
   pub held : held_by new ≡ held_by old
 
 -- after a search, by what was found
 abbrev pub AfterSearch : Stage → Sections → Sections → Type 0
 AfterSearch Preamble old new =
-    SameSections old new × (¬ Occurs old.frames.separator new.frames.held) × (¬ Closes old.frames.separator (held_by old)) × LacksNext old.frames.separator (held_by old)
+    SameSections old new × (¬ Occurs old.delimiter.needle (waiting_in new)) × (¬ Closes old.delimiter.needle (held_by old)) × LacksNext old.delimiter.needle (held_by old)
 AfterSearch Waiting old new =
-    SameSections old new × (¬ Occurs old.frames.separator new.frames.held) × (¬ Closes old.frames.separator (held_by old)) × LacksNext old.frames.separator (held_by old)
+    SameSections old new × (¬ Occurs old.delimiter.needle (waiting_in new)) × (¬ Closes old.delimiter.needle (held_by old)) × LacksNext old.delimiter.needle (held_by old)
 AfterSearch Found old new = SameSections old new
-AfterSearch Ended old new = (old.stage ≡ Ended) ⊎ Closes old.frames.separator (held_by old)
+AfterSearch Ended old new = (old.stage ≡ Ended) ⊎ Closes old.delimiter.needle (held_by old)
 
 -- ---- a run of calls
 

@@ -1,7 +1,8 @@
 -- Netstrings (http://cr.yp.to/proto/netstrings.txt): a length in decimal digits, a colon, as many bytes, and a comma.
-use Rattle.std.specs.Prelude.{◌≡◌, ℕ, List, [], ◌∷◌, ◌++◌, length, None, Some}
+use Rattle.std.specs.Prelude.{◌≡◌, ℕ, List, [], ◌∷◌, ◌++◌, length}
 use Rattle.bytes_utils_codec.specs.Frames.{TakesFrame}
-use Rattle.bytes_utils_codec.specs.Decoding.{Decoding, Gives, Item, Last}
+use Rattle.bytes_utils_codec.specs.Decoding.{Decoding, Gives}
+use Rattle.bytes_utils_codec.specs.Taking.{Taking, gives_by}
 use Rattle.bytes_utils_protocols.specs.Digits.{WriteNumber, colon}
 use Rattle.bytes_utils_protocols.specs.declared.netstrings.NetstringError.{NetstringError}
 use Rattle.bytes_utils_protocols.specs.declared.netstrings.NetstringError.TheVariants.{Refused, Malformed}
@@ -22,15 +23,17 @@ pub record TakesNetstring (old text rest : List ℕ) : Type 0 where
 abbrev pub NoNetstring : List ℕ → Type 0
 NoNetstring bytes = (text rest : List ℕ) → ¬ TakesNetstring bytes text rest
 
--- what comes next: a text; or at the end of the stream none, and what is held is left
-abbrev pub gives_netstring : {D : Type 0} → Gives D (List ℕ)
-gives_netstring old (Item text) new = (new.decoder ≡ old.decoder) × TakesNetstring old.held text new.held
-gives_netstring old (Last None) new = NoNetstring old.held × (new ≡ old)
-gives_netstring old (Last (Some text)) new = ⊥
+-- the next text, and what is left
+abbrev pub takes_netstring : {D : Type 0} → Taking D (List ℕ)
+takes_netstring old text new = (new.decoder ≡ old.decoder) × TakesNetstring old.held text new.held
 
 -- no whole netstring has come
 abbrev pub awaits_netstring : {D : Type 0} → Decoding D → Type 0
 awaits_netstring s = NoNetstring s.held
+
+-- what comes next: a text; or at the end of the stream none, and what is held is left
+abbrev pub gives_netstring : {D : Type 0} → Gives D (List ℕ)
+gives_netstring = gives_by takes_netstring awaits_netstring
 
 -- `Malformed` only if the bytes begin with no netstring, whatever comes after them; of a refusal nothing is said
 abbrev pub fails_netstring : {D : Type 0} → Decoding D → NetstringError → Type 0

@@ -11,7 +11,8 @@ ghost use Rattle.bytes_utils_protocols.specs.Events.{DoesLine, EndsEvent, Gives,
 use crate::number::number;
 use bytes::Bytes;
 use bytes_utils::{Reason, Refused, Str};
-use bytes_utils_codec::frame::{LineError, UniversalLines};
+use bytes_utils_codec::line_error::LineError;
+use bytes_utils_codec::universal_lines::UniversalLines;
 use std::alloc::Global;
 use std::marker::Model;
 

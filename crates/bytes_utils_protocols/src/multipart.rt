@@ -11,10 +11,8 @@ mod sections;
 
 use bytes::{Buf, Bytes};
 use bytes_utils::{Reason, Refused, SegmentedBuf, Str};
-use bytes_utils_codec::frame::Frames;
 use head::{disposition_of, parameter, read_head};
 pub use limits::{Limits, PartError};
-use preamble::Preamble;
 use sections::{Sections, Stage};
 use std::alloc::Global;
 use std::marker::Model;
@@ -53,6 +51,7 @@ pub struct Part {
 /// delimiter are not searched again.
 #[derive(Debug, Drop)]
 pub struct PartReader {
+    alloc: Global,
     sections: Sections,
     limits: Limits,
 }
@@ -63,7 +62,7 @@ impl Model for PartReader {
     ghost Value = { Parting };
 
     ghost view = { λ r. record {
-      delimiter = r.sections.frames.separator;
+      delimiter = r.sections.delimiter.needle;
       limits = r.limits;
       ended = has_ended r.sections.stage;
       held = held_by r.sections;
@@ -86,15 +85,13 @@ impl PartReader {
     {
         let mut delimiter = Vec::from_slice(alloc, b"\r\n--")?;
         delimiter.extend_from_slice(boundary)?;
-        let mut frames = Frames::new(alloc, &delimiter)?;
-        frames.push_slice(b"\r\n")?;
-        let sections = Sections {
-            frames,
-            stage: Stage::Preamble,
-            preamble: Preamble::none(alloc),
-            found: SegmentedBuf::new(alloc),
-        };
-        Ok(PartReader { sections, limits })
+        let mut sections = Sections::new(alloc, &delimiter)?;
+        sections.push_slice(alloc, b"\r\n")?;
+        Ok(PartReader {
+            alloc,
+            sections,
+            limits,
+        })
     }
 
     /// Appends a piece, or drops it if the close delimiter was read. A piece of at most 512 bytes
@@ -111,7 +108,7 @@ impl PartReader {
         if self.has_ended() {
             return Ok(());
         }
-        self.sections.frames.push(piece)
+        self.sections.push(self.alloc, piece)
     }
 
     /// Appends a copy of `piece`, in a block that it shares with other small pieces, or drops it if
@@ -128,7 +125,7 @@ impl PartReader {
         ensures drops { self.old.ended ≡ true → IsOk result }
     {
         if !self.has_ended() {
-            self.sections.frames.push_slice(piece)?;
+            self.sections.push_slice(self.alloc, piece)?;
         }
         Ok(())
     }
@@ -212,23 +209,23 @@ fn take_part(sections: &mut Sections, alloc: Global, limits: Limits) -> Result<P
     requires found { sections.old.stage ≡ Stage.Found }
     requires few { length sections.old.preamble ≤ limits.head + limits.body }
     ensures divided { IsDivided sections.new }
-    ensures part { IfOk result (λ part. TakesPart sections.old.frames.separator limits
+    ensures part { IfOk result (λ part. TakesPart sections.old.delimiter.needle limits
         (held_by sections.old) (bytes_of part) (held_by sections.new)) }
     ensures name { IfOk result (λ part. HasParameter name_key part.head part.name) }
     ensures file_name { IfOk result (λ part. HasParameter file_name_key part.head part.file_name) }
     ensures goes_on { OnOk result (sections.new.stage ≡ Stage.Waiting) }
-    ensures delimiter { sections.new.frames.separator ≡ sections.old.frames.separator }
+    ensures delimiter { sections.new.delimiter.needle ≡ sections.old.delimiter.needle }
     ensures err { OnErr result (sections.new ≡ sections.old) }
     ensures malformed { IfErr result (λ e. e ≡ PartError.Malformed
         → (any : Limits) (more : List ℕ)
-        → NoPart sections.old.frames.separator any (held_by sections.old ++ more)) }
+        → NoPart sections.old.delimiter.needle any (held_by sections.old ++ more)) }
     ensures due { IfErr result (λ e. e ≡ PartError.Malformed
-        → IsPartDue sections.old.frames.separator limits (held_by sections.old)) }
+        → IsPartDue sections.old.delimiter.needle limits (held_by sections.old)) }
     ensures too_large { IfErr result (λ e. e ≡ PartError.TooLarge → (more : List ℕ)
-        → NoPart sections.old.frames.separator limits (held_by sections.old ++ more)) }
+        → NoPart sections.old.delimiter.needle limits (held_by sections.old ++ more)) }
     ensures not_utf8 { IfErr result (λ e. e ≡ PartError.NotUtf8
         → (part : PartBytes) × (rest : List ℕ)
-        × TakesPart sections.old.frames.separator limits (held_by sections.old) part rest
+        × TakesPart sections.old.delimiter.needle limits (held_by sections.old) part rest
         × (¬ IsUtf8 part.head)) }
     ensures reason { IfErr result (λ e. (reason : _) → e ≡ PartError.Refused reason
         → reason ≡ Reason.OutOfMemory) }

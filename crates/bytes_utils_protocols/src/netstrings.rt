@@ -1,9 +1,9 @@
 //! A decoder of netstrings: `5:hello,` is `hello` (http://cr.yp.to/proto/netstrings.txt).
-ghost use Rattle.std.specs.Prelude.{◌≡◌, IfOk, IfErr, IfSome, IfNone, OnErr};
-ghost use Rattle.std.specs.List.{concat};
+ghost use Rattle.std.specs.Prelude.{◌≡◌, IfOk, IfErr, IfSome, IfNone};
 ghost use Rattle.bytes_utils_codec.specs.Decoding.{decoding};
-ghost use Rattle.bytes_utils_protocols.specs.Netstrings.{NoNetstring, TakesNetstring, awaits_netstring, fails_netstring, gives_netstring};
-ghost use Rattle.bytes_utils_protocols.specs.NetstringsLaws.{netstring_single, netstring_stable, netstring_waits};
+ghost use Rattle.bytes_utils_codec.specs.Taking.{keeps_same, taken_same, taken_single, taken_stable, taken_waits};
+ghost use Rattle.bytes_utils_protocols.specs.Netstrings.{awaits_netstring, fails_netstring, gives_netstring, takes_netstring};
+ghost use Rattle.bytes_utils_protocols.specs.NetstringsLaws.{netstring_facts};
 
 use crate::number::number;
 use bytes::{Buf, Bytes};
@@ -45,13 +45,13 @@ pub struct Netstrings {
 impl Netstrings {
     /// Takes the next text, if all of its netstring has come. If not, nothing changes.
     fn take(self, alloc: Global, held: &mut PackedBuf) -> Next
-        ensures text { IfOk result (λ next. IfSome next (λ text. TakesNetstring
-            (concat held.old.held.segments) text (concat held.new.held.segments))) }
-        ensures none { IfOk result
-            (λ next. IfNone next (NoNetstring (concat held.old.held.segments))) }
-        ensures waits { IfOk result (λ next. IfNone next (held.new ≡ held.old)) }
-        ensures err { OnErr result (held.new ≡ held.old) }
-        ensures fails { IfErr result (fails_netstring (decoding self held.old)) }
+        ensures item { IfOk result (λ next. IfSome next (λ text. takes_netstring
+            (decoding self held.old) text (decoding self held.new))) }
+        ensures none { IfOk result (λ next. IfNone next
+            (awaits_netstring (decoding self held.old)
+            × (decoding self held.new ≡ decoding self held.old))) }
+        ensures err { IfErr result (λ error. fails_netstring (decoding self held.old) error
+            × (decoding self held.new ≡ decoding self held.old)) }
         ensures threshold { held.new.threshold ≡ held.old.threshold }
     {
         let mut cursor = Cursor::new(held.as_segmented());
@@ -89,17 +89,27 @@ impl Decoder for Netstrings {
 
     ghost fails = { fails_netstring };
 
+    ghost keeps = { keeps_same };
+
+    ghost restarted = { λ decoder. decoder };
+
+    #[tactic(auto, using(bytes_utils_codec::specs::Taking::decodes_by))]
     fn decode(&mut self, alloc: Global, held: &mut PackedBuf) -> Next {
         self.take(alloc, held)
     }
 
+    #[tactic(auto, using(bytes_utils_codec::specs::Taking::ends_by))]
     fn decode_eof(&mut self, alloc: Global, held: &mut PackedBuf) -> Next {
         self.take(alloc, held)
     }
 
-    ghost stable = { netstring_stable };
+    fn restart(&mut self) {}
 
-    ghost single = { netstring_single };
+    ghost stable = { taken_stable netstring_facts };
 
-    ghost awaits = { netstring_waits };
+    ghost single = { taken_single netstring_facts };
+
+    ghost awaits = { taken_waits netstring_facts };
+
+    ghost same = { taken_same netstring_facts };
 }

@@ -1,43 +1,45 @@
 //! Records of a stream, each followed by an empty line, with a limit of length.
-ghost use Rattle.std.specs.Prelude.{◌≡◌, ◌+◌, ◌<◌, false, [], ◌++◌, length, IsUtf8, IsErrOf, IfOk, IfErr, IfSome, IfNone};
+ghost use Rattle.std.specs.Prelude.{◌≡◌, [], length, IfErr, IfNone, IfOk, IfSome};
+ghost use Rattle.bytes_utils_codec.specs.Decoding.{fed};
+ghost use Rattle.bytes_utils_codec.specs.Delimited.{AwaitsFrame, delimiting, fails_delimited, keeps_delimited};
 ghost use Rattle.bytes_utils_codec.specs.Pushing.{IsPush};
-ghost use Rattle.bytes_utils.specs.Occurrence.{Occurs};
-ghost use Rattle.bytes_utils_codec.specs.LimitedFrames.{Gives, Discards, Reports};
-ghost use Rattle.bytes_utils_protocols.specs.Records.{record_end};
+ghost use Rattle.bytes_utils_protocols.specs.Records.{GivesRecord, IsTextOf, record_end};
 
 use bytes::Bytes;
 use bytes_utils::{Reason, Refused, Str};
-use bytes_utils_codec::frame::LimitedFrames;
+use bytes_utils_codec::decode::{Delimited, FrameTooLong, Framed};
 use std::alloc::Global;
 use std::marker::Model;
 
-/// Why `next_record` returned no record.
+/// Why there is no text of a record. The next one is that after it.
 #[derive(Debug, Drop)]
-pub enum RecordError {
-    /// The next record is longer than the limit. It is skipped.
+pub enum RecordFault {
+    /// The record is longer than the limit.
     TooLong,
-    /// The next record isn't UTF-8. It was taken out, and these are its bytes.
+    /// The record is not UTF-8. These are its bytes.
     NotUtf8(Bytes),
-    /// Memory was refused. The call can be repeated.
-    OutOfMemory,
 }
+
+/// A record, or why there is no text of it.
+type Record = Result<Str, RecordFault>;
 
 /// A stream that arrives in pieces, and the records in it. Each record ends with `\r\n\r\n`.
 #[derive(Drop)]
 pub struct Records {
-    frames: LimitedFrames,
+    frames: Framed<Delimited>,
 }
 
 impl Model for Records {
     ghost use Rattle.std.specs.Prelude.{◌≡◌};
-    ghost use Rattle.bytes_utils_codec.specs.LimitedFrames.{Limiting};
+    ghost use Rattle.bytes_utils_codec.specs.Decoding.{Decoding};
+    ghost use Rattle.bytes_utils_codec.specs.Delimited.{Delimiting};
     ghost use Rattle.bytes_utils_protocols.specs.Records.{record_end};
 
-    ghost Value = { Limiting };
+    ghost Value = { Decoding Delimiting };
 
     ghost view = { λ r. r.frames };
 
-    ghost invariant = { λ r. r.frames.separator ≡ record_end };
+    ghost invariant = { λ r. r.frames.decoder.separator ≡ record_end };
 }
 
 impl Records {
@@ -45,15 +47,15 @@ impl Records {
     /// memory is refused.
     pub fn new(alloc: Global, max_length: usize) -> Result<Records, Reason>
         ensures ok { IfOk result (λ r. r ≡ record {
-          separator = record_end;
+          decoder = delimiting record_end max_length;
           held = [];
-          max_length = max_length;
-          discarding = false;
         }) }
         ensures reason { IfErr result (λ reason. reason ≡ Reason.OutOfMemory) }
     {
-        let frames = LimitedFrames::new(alloc, b"\r\n\r\n", max_length)?;
-        Ok(Records { frames })
+        let decoder = Delimited::with_limit(alloc, b"\r\n\r\n", max_length)?;
+        Ok(Records {
+            frames: Framed::new(alloc, decoder),
+        })
     }
 
     /// Appends `piece`. If it has at most 512 bytes, it is copied; if not, it is shared. Fails with
@@ -61,47 +63,48 @@ impl Records {
     /// refused; then nothing has changed and `piece` comes back.
     pub fn push(&mut self, piece: Bytes) -> Result<(), Refused<Bytes>>
         ensures pushed { IsPush self.old.held piece result
-            (self.new ≡ record self.old { held = self.old.held ++ piece }) (self.new ≡ self.old) }
+            (self.new ≡ fed self.old piece) (self.new ≡ self.old) }
     {
         self.frames.push(piece)
     }
 
-    /// Takes out the next record, or returns `None` until its end has arrived; then fewer than
-    /// `max_length + 4` bytes are held. Fails with `TooLong` or `NotUtf8`; then the next call
-    /// continues after that record. Fails with `OutOfMemory` if memory is refused; then the call
-    /// can be repeated.
-    pub fn next_record(&mut self, alloc: Global) -> Result<Option<Str>, RecordError>
-        ensures text { IfOk result (λ next. IfSome next (λ text. Gives self.old text self.new)) }
-        ensures waits { IfOk result (λ next. IfNone next (Discards self.old self.new)) }
-        ensures too_long { IsErrOf result RecordError.TooLong → Reports self.old self.new }
-        ensures not_utf8 { IfErr result (λ error. (bytes : _) → error ≡ RecordError.NotUtf8 bytes
-            → Gives self.old bytes self.new × (¬ IsUtf8 bytes)) }
-        ensures memory { IsErrOf result RecordError.OutOfMemory → Discards self.old self.new }
-
-        // It waits only for a record whose end is missing and that may still be within the limit.
-        ensures lacks { IfOk result (λ next. IfNone next (¬ Occurs record_end self.new.held)) }
-        ensures few { IfOk result
-            (λ next. IfNone next (length self.new.held < self.new.max_length + 4)) }
-        ensures max_length { self.new.max_length ≡ self.old.max_length }
+    /// Takes out the next record, or returns `None` until its end has arrived. One that is longer
+    /// than the limit, or not UTF-8, is reported once, in its place. Fails with `OutOfMemory` if
+    /// memory is refused; then the call can be repeated.
+    pub fn next_record(&mut self, alloc: Global) -> Result<Option<Record>, Reason>
+        ensures given { IfOk result (λ next. IfSome next
+            (λ given. GivesRecord self.old given self.new)) }
+        ensures waits { IfOk result (λ next. IfNone next (AwaitsFrame self.old)) }
+        ensures kept { IfOk result (λ next. IfNone next (keeps_delimited self.old self.new)) }
+        ensures fails { IfErr result (fails_delimited self.old) }
+        ensures kept_at_error { IfErr result (λ _. keeps_delimited self.old self.new) }
     {
-        match self.frames.next_frame(alloc) {
-            Ok(Some(record)) => match Str::from_inner(record) {
-                Ok(text) => Ok(Some(text)),
-                Err(error) => Err(RecordError::NotUtf8(error.into_inner())),
-            },
-            Ok(None) => Ok(None),
-            Err(Reason::TooLong) => Err(RecordError::TooLong),
-            Err(Reason::OutOfMemory) => Err(RecordError::OutOfMemory),
+        match self.frames.next_item(alloc)? {
+            None => Ok(None),
+            Some(frame) => Ok(Some(text_of(frame))),
         }
     }
 
-    /// Returns the number of bytes that arrived and weren't taken out or skipped.
+    /// Returns the number of bytes that arrived and weren't taken out or dropped.
     pub fn remaining(&self) -> usize
         ensures value { result ≡ length self.now.held }
 
         // True of every value, after any calls.
-        ensures separator { self.now.separator ≡ record_end }
+        ensures separator { self.now.decoder.separator ≡ record_end }
     {
         self.frames.remaining()
+    }
+}
+
+/// The text of a frame.
+fn text_of(frame: Result<Bytes, FrameTooLong>) -> Record
+    ensures { IsTextOf frame result }
+{
+    let Ok(bytes) = frame else {
+        return Err(RecordFault::TooLong);
+    };
+    match Str::from_inner(bytes) {
+        Ok(text) => Ok(text),
+        Err(error) => Err(RecordFault::NotUtf8(error.into_inner())),
     }
 }

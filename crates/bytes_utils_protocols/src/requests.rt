@@ -1,19 +1,19 @@
 //! Requests of a stream: lines before an empty one, and a body as long as these lines report.
 //!
 //! This finds where heads and bodies end, and is no HTTP parser: a server takes `hyper`.
-ghost use Rattle.std.specs.Prelude.{◌≡◌, ◌≢◌, ℕ, ◌<◌, ◌≤◌, ◌↔◌, List, [], ◌++◌, length, IfOk, IfErr, IfSome, IfNone, OnErr, IsSomeAnd, MatchOption};
+ghost use Rattle.std.specs.Prelude.{◌≡◌, ◌≢◌, ℕ, ◌<◌, ◌≤◌, ◌↔◌, List, [], length, take, IfOk, IfErr, IfSome, IfNone, OnErr, IsSomeAnd};
 ghost use Rattle.std.specs.List.{concat, prefix_len, suffix_len};
 ghost use Rattle.std.specs.Option.{option_or};
+ghost use Rattle.bytes_utils_codec.specs.Decoding.{Decodes, fed, passed};
+ghost use Rattle.bytes_utils_codec.specs.Delimited.{AwaitsFrame, delimiting, fails_delimited, gives_delimited, keeps_delimited, ready};
 ghost use Rattle.bytes_utils_codec.specs.Pushing.{IsPush};
-ghost use Rattle.bytes_utils_codec.specs.Frames.{TakesFrame};
-ghost use Rattle.bytes_utils.specs.Occurrence.{Occurs};
 ghost use Rattle.bytes_utils_protocols.specs.Digits.{WriteNumber};
 ghost use Rattle.bytes_utils_protocols.specs.Requests.{IsHeader, ReportError, ReportLength, Reports, head_end, header_lines, is_blank, is_name_byte, trimmed};
 
 use crate::number::number;
 use bytes::Bytes;
 use bytes_utils::{Reason, Refused, SegmentedBuf};
-use bytes_utils_codec::frame::Frames;
+use bytes_utils_codec::decode::{Delimited, FrameTooLong, Framed};
 use std::alloc::Global;
 use std::marker::Model;
 
@@ -31,82 +31,91 @@ pub enum LengthError {
     UnknownFraming,
 }
 
+/// A head, or that it is too long.
+type Head = Result<Bytes, FrameTooLong>;
+
 /// A stream that comes in pieces, and the requests in it: a head, an empty line, and a body.
 ///
 /// ```text
-/// let Some(head) = requests.next_head(alloc)? else { .. };  // `PUT / ..`, `Content-Length: 5`
-/// let len = body_len(&head)?;                // 5
+/// let mut requests = Requests::new(alloc, 8192)?;
+/// requests.push(piece)?;                     // `PUT / ..`, `Content-Length: 5`, and some of the body
+/// let Some(head) = requests.next_head(alloc)? else { .. };
+/// let len = body_len(&head?)?;               // 5
 /// requests.next_body(alloc, len)?            // `None`, until five bytes more have come
 /// ```
 #[derive(Drop)]
 pub struct Requests {
-    frames: Frames,
+    heads: Framed<Delimited>,
 }
 
 impl Model for Requests {
-    ghost use Rattle.std.specs.Prelude.{◌≡◌, ℕ, List};
+    ghost use Rattle.std.specs.Prelude.{◌≡◌};
+    ghost use Rattle.bytes_utils_codec.specs.Decoding.{Decoding};
+    ghost use Rattle.bytes_utils_codec.specs.Delimited.{Delimiting};
     ghost use Rattle.bytes_utils_protocols.specs.Requests.{head_end};
 
-    ghost Value = { List ℕ };
+    ghost Value = { Decoding Delimiting };
 
-    ghost view = { λ r. r.frames.held };
+    ghost view = { λ r. r.heads };
 
-    ghost invariant = { λ r. r.frames.separator ≡ head_end };
+    ghost invariant = { λ r. r.heads.decoder.separator ≡ head_end };
 }
 
 impl Requests {
-    /// Makes a reader that holds no bytes. Fails with `OutOfMemory` if memory is refused.
-    pub fn new(alloc: Global) -> Result<Requests, Reason>
-        ensures ok { IfOk result (λ requests. requests ≡ []) }
+    /// Makes a reader of heads of at most `max_head` bytes. Fails with `OutOfMemory` if memory is
+    /// refused.
+    pub fn new(alloc: Global, max_head: usize) -> Result<Requests, Reason>
+        ensures ok { IfOk result (λ requests. requests ≡ record {
+          decoder = delimiting head_end max_head;
+          held = [];
+        }) }
         ensures reason { IfErr result (λ reason. reason ≡ Reason.OutOfMemory) }
     {
+        let decoder = Delimited::with_limit(alloc, b"\r\n\r\n", max_head)?;
         Ok(Requests {
-            frames: Frames::new(alloc, b"\r\n\r\n")?,
+            heads: Framed::new(alloc, decoder),
         })
     }
 
-    /// Appends a piece, as `Frames` does. Fails as `Frames` does; then nothing has changed and
+    /// Appends a piece, as `Framed` does. Fails as `Framed` does; then nothing has changed and
     /// `piece` comes back.
     pub fn push(&mut self, piece: Bytes) -> Result<(), Refused<Bytes>>
-        ensures pushed { IsPush self.old piece result
-            (self.new ≡ self.old ++ piece) (self.new ≡ self.old) }
+        ensures pushed { IsPush self.old.held piece result
+            (self.new ≡ fed self.old piece) (self.new ≡ self.old) }
     {
-        self.frames.push(piece)
+        self.heads.push(piece)
     }
 
-    /// Returns the head before the next empty line, or `None` while that line is to come. Fails
-    /// with `OutOfMemory` if memory is refused; then nothing has changed.
-    pub fn next_head(&mut self, alloc: Global) -> Result<Option<Bytes>, Reason>
-        ensures head { IfOk result
-            (λ next. IfSome next (λ head. TakesFrame head_end self.old head self.new)) }
-        ensures waits { IfOk result
-            (λ next. IfNone next ((self.new ≡ self.old) × (¬ Occurs head_end self.old))) }
-        ensures err { OnErr result (self.new ≡ self.old) }
-        ensures reason { IfErr result (λ reason. reason ≡ Reason.OutOfMemory) }
+    /// Returns the head before the next empty line, or `None` while that line is to come. A head
+    /// over the limit is reported once, in its place, as soon as that is certain, and is skipped.
+    /// Fails with `OutOfMemory` if memory is refused; then the call can be made again.
+    pub fn next_head(&mut self, alloc: Global) -> Result<Option<Head>, Reason>
+        ensures step { Decodes gives_delimited AwaitsFrame fails_delimited keeps_delimited
+            self.old result self.new }
     {
-        self.frames.next_frame(alloc)
+        self.heads.next_item(alloc)
     }
 
-    /// Returns a body of `len` bytes, in pieces as `Frames` returns them, or `None` while some of
-    /// it is to come. Fails with `OutOfMemory` if memory is refused; then nothing has changed.
+    /// Returns a body of `len` bytes, in pieces as `Framed` returns them, or `None` while some of it
+    /// is to come. Fails with `OutOfMemory` if memory is refused; then nothing has changed.
     pub fn next_body(
         &mut self,
         alloc: Global,
         len: usize,
     ) -> Result<Option<SegmentedBuf<Bytes>>, Reason>
         ensures body { IfOk result (λ next. IfSome next
-            (λ body. self.old ≡ concat body.segments ++ self.new)) }
-        ensures len { IfOk result (λ next. IfSome next
-            (λ body. length (concat body.segments) ≡ len)) }
+            (λ body. concat body.segments ≡ take len self.old.held)) }
+        ensures passed { IfOk result (λ next. IfSome next
+            (λ _. (len ≤ length self.old.held) × (self.new ≡ passed ready len self.old))) }
         ensures waits { IfOk result
-            (λ next. IfNone next ((self.new ≡ self.old) × (length self.old < len))) }
+            (λ next. IfNone next ((self.new ≡ self.old) × (length self.old.held < len))) }
         ensures err { OnErr result (self.new ≡ self.old) }
         ensures reason { IfErr result (λ reason. reason ≡ Reason.OutOfMemory) }
     {
-        if self.frames.remaining() < len {
+        if self.heads.remaining() < len {
             return Ok(None);
         }
-        Ok(Some(self.frames.split_to(alloc, len)?))
+        Ok(Some(self.heads.split_to(alloc, len)?))
     }
 }
 

@@ -23,7 +23,7 @@ fn takes_record(records: &mut Records) -> bool {
 /// Whether the next record has 100,000 bytes.
 fn is_long_record(alloc: Global, records: &mut Records) -> bool {
     match records.next_record(alloc) {
-        Ok(Some(record)) => record.len() == 100_000,
+        Ok(Some(Ok(record))) => record.len() == 100_000,
         _ => false,
     }
 }
@@ -55,7 +55,7 @@ fn takes_request(requests: &mut Requests) -> bool {
 /// Whether the next head has 100,000 bytes.
 fn is_long_head(alloc: Global, requests: &mut Requests) -> bool {
     match requests.next_head(alloc) {
-        Ok(Some(head)) => head.len() == 100_000,
+        Ok(Some(Ok(head))) => head.len() == 100_000,
         _ => false,
     }
 }
@@ -74,7 +74,7 @@ fn gives_long_request(alloc: Global, requests: &mut Requests) -> bool {
 
 #[test]
 fn a_long_request(rt: HostRuntime) -> Result<(), Fail> {
-    let mut requests = Requests::new(rt.alloc())?;
+    let mut requests = Requests::new(rt.alloc(), usize::MAX)?;
     assert!(rt; gives_long_request(rt.alloc(), &mut requests));
     Ok(())
 }

@@ -48,7 +48,7 @@ fn of_records(alloc: Global, records: &mut Records) -> Named {
 }
 
 fn of_new_requests(alloc: Global) -> Named {
-    match Requests::new(alloc) {
+    match Requests::new(alloc, 9) {
         Ok(mut requests) => of_requests(alloc, &mut requests),
         Err(_) => Err("Requests::new"),
     }

@@ -1,19 +1,19 @@
 //! Netstrings from a reader. The first two are the examples of their definition.
 use crate::fixtures::debugs_as;
 use bytes::Bytes;
-use bytes_utils_codec::decode::{Decoded, read_item};
+use bytes_utils_codec::decode::{Framed, read_item};
 use bytes_utils_protocols::netstrings::Netstrings;
 use std::alloc::Global;
 
-fn netstrings(alloc: Global) -> Decoded<Netstrings> {
-    Decoded::new(alloc, Netstrings { max_length: 12 })
+fn netstrings(alloc: Global) -> Framed<Netstrings> {
+    Framed::new(alloc, Netstrings { max_length: 12 })
 }
 
 /// Whether the next text is this one.
 fn is_next_text(
     alloc: Global,
     input: &mut &[u8],
-    texts: &mut Decoded<Netstrings>,
+    texts: &mut Framed<Netstrings>,
     wanted: &[u8],
 ) -> bool {
     match read_item(input, texts, alloc) {
@@ -23,12 +23,12 @@ fn is_next_text(
 }
 
 /// Whether the input has ended, and this many bytes of it are in no netstring.
-fn is_end(alloc: Global, input: &mut &[u8], texts: &mut Decoded<Netstrings>, left: usize) -> bool {
+fn is_end(alloc: Global, input: &mut &[u8], texts: &mut Framed<Netstrings>, left: usize) -> bool {
     matches!(read_item(input, texts, alloc), Ok(None)) && texts.remaining() == left
 }
 
 /// Whether the three texts are read, and then the end, after which five bytes are left.
-fn are_read(alloc: Global, texts: &mut Decoded<Netstrings>) -> bool {
+fn are_read(alloc: Global, texts: &mut Framed<Netstrings>) -> bool {
     let mut input = "12:hello world!,0:,5:hello,5:hel".as_bytes();
     is_next_text(alloc, &mut input, texts, b"hello world!")
         && is_next_text(alloc, &mut input, texts, b"")
@@ -42,7 +42,7 @@ fn from_a_reader(rt: HostRuntime) {
 }
 
 /// Whether the first call returns this of bytes, as `Debug` writes it.
-fn is_first_outcome(alloc: Global, texts: &mut Decoded<Netstrings>, row: &'static str) -> bool {
+fn is_first_outcome(alloc: Global, texts: &mut Framed<Netstrings>, row: &'static str) -> bool {
     match row.split_once('>') {
         Some((bytes, wanted)) => {
             texts.push(Bytes::from_static(bytes.as_bytes())).is_ok()

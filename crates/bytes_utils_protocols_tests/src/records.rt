@@ -15,10 +15,10 @@ const STREAM: &[u8] = b"Gr\xc3\xbc\xc3\x9fe\r\n\r\nalle, die\r\n\r\na\xffb\r\n\r
 /// Whether the records of the stream come, in order, and four bytes are left.
 fn gives_records(alloc: Global, records: &mut Records) -> bool {
     records.push(Bytes::from_static(STREAM)).is_ok()
-        && gives_record(alloc, records, "Ok(Some(\"Grüße\"))")
-        && gives_record(alloc, records, "Err(TooLong)")
-        && gives_record(alloc, records, "Err(NotUtf8(b\"a\\xffb\"))")
-        && gives_record(alloc, records, "Ok(Some(\"\"))")
+        && gives_record(alloc, records, "Ok(Some(Ok(\"Grüße\")))")
+        && gives_record(alloc, records, "Ok(Some(Err(TooLong)))")
+        && gives_record(alloc, records, "Ok(Some(Err(NotUtf8(b\"a\\xffb\"))))")
+        && gives_record(alloc, records, "Ok(Some(Ok(\"\")))")
         && gives_record(alloc, records, "Ok(None)")
         && records.remaining() == 4
 }

@@ -71,7 +71,7 @@ fn are_taken(alloc: Global, requests: &mut Requests) -> bool {
     requests
         .push(Bytes::from_static(b"PUT\r\n\r\n\r\n\r"))
         .is_ok()
-        && debugs_as(alloc, &requests.next_head(alloc), "Ok(Some(b\"PUT\"))")
+        && debugs_as(alloc, &requests.next_head(alloc), "Ok(Some(Ok(b\"PUT\")))")
         && matches!(requests.next_body(alloc, 5), Ok(None))
         && requests.push(Bytes::from_static(b"\nx")).is_ok()
         && is_body(alloc, requests, b"\r\n\r\nx")
@@ -80,7 +80,28 @@ fn are_taken(alloc: Global, requests: &mut Requests) -> bool {
 // No body comes before its last byte, and an empty line may be in it.
 #[test]
 fn a_head_and_its_body(rt: HostRuntime) -> Result<(), Fail> {
-    let mut requests = Requests::new(rt.alloc())?;
+    let mut requests = Requests::new(rt.alloc(), 3)?;
     assert!(rt; are_taken(rt.alloc(), &mut requests));
+    Ok(())
+}
+
+/// Whether a head of four bytes is reported, once, and the next one comes.
+fn is_reported(alloc: Global, requests: &mut Requests) -> bool {
+    requests
+        .push(Bytes::from_static(b"POST\r\n\r\nGET\r\n\r\n"))
+        .is_ok()
+        && debugs_as(
+            alloc,
+            &requests.next_head(alloc),
+            "Ok(Some(Err(FrameTooLong)))",
+        )
+        && debugs_as(alloc, &requests.next_head(alloc), "Ok(Some(Ok(b\"GET\")))")
+        && debugs_as(alloc, &requests.next_head(alloc), "Ok(None)")
+}
+
+#[test]
+fn a_head_over_the_limit(rt: HostRuntime) -> Result<(), Fail> {
+    let mut requests = Requests::new(rt.alloc(), 3)?;
+    assert!(rt; is_reported(rt.alloc(), &mut requests));
     Ok(())
 }

@@ -32,7 +32,7 @@ fn record_of(alloc: Global, piece: &Bytes) -> Option<Bytes> {
     let mut records = Records::new(alloc, 9).ok()?;
     records.push(piece.clone().ok()?).ok()?;
     let record = records.next_record(alloc).ok().flatten()?;
-    Some(record.into_inner())
+    Some(record.ok()?.into_inner())
 }
 
 #[test]
@@ -44,9 +44,9 @@ fn a_record_in_one_piece_is_shared(rt: HostRuntime) -> Result<(), Fail> {
 
 /// The head of a piece, if there is one.
 fn head_of(alloc: Global, piece: &Bytes) -> Option<Bytes> {
-    let mut requests = Requests::new(alloc).ok()?;
+    let mut requests = Requests::new(alloc, 9).ok()?;
     requests.push(piece.clone().ok()?).ok()?;
-    requests.next_head(alloc).ok().flatten()
+    requests.next_head(alloc).ok().flatten()?.ok()
 }
 
 #[test]
@@ -58,7 +58,7 @@ fn a_head_in_one_piece_is_shared(rt: HostRuntime) -> Result<(), Fail> {
 
 /// A body that comes with two pieces, which share a block, up to the last 200 bytes.
 fn body_of_request(alloc: Global, piece: &Bytes) -> Option<SegmentedBuf<Bytes>> {
-    let mut requests = Requests::new(alloc).ok()?;
+    let mut requests = Requests::new(alloc, 9).ok()?;
     requests.push(piece.clone().ok()?).ok()?;
     requests.push(piece.clone().ok()?).ok()?;
     requests.next_body(alloc, 1_000).ok().flatten()

@@ -1,59 +1,60 @@
 //! Frames that a separator ends.
-ghost use Rattle.std.specs.Prelude.{◌≡◌, ◌+◌, ◌-◌, ◌<◌, ◌≤◌, length, max, take, drop, IfOk, IfErr, IfSome, IfNone};
+ghost use Rattle.std.specs.Prelude.{◌≡◌, ◌↔◌, ◌+◌, ◌<◌, ◌≤◌, length, take, drop, IfErr, IfOk, IfNone, IfSome, IsTrue, MatchBool, not, OnErr, OnOk, false};
 ghost use Rattle.std.specs.List.{concat};
-ghost use Rattle.memchr.specs.Find.{FindsNeedle};
-ghost use Rattle.bytes_utils_codec.specs.Decoding.{decoding};
-ghost use Rattle.bytes_utils_codec.specs.Delimited.{AwaitsSeparator, DelimitedFramesLaw, IsSearched, SearchesOn, TakesDelimited, TakesFrameFrom, delimiting, fails_delimited, from_start, gives_delimited};
-ghost use Rattle.bytes_utils_codec.specs.DelimitedLaws.{delimited_single, delimited_stable, delimited_waits};
+ghost use Rattle.bytes_utils_codec.specs.Decoding.{Decodes, decoding};
+ghost use Rattle.bytes_utils_codec.specs.Delimited.{AwaitsFrame, AwaitsSeparator, DelimitedFramesLaw, DelimitedHeldLaw, DelimitedWholeLaw, FindsNext, IsOverLimit, Passes, SkipsMore, SkipsOn, Stops, TakesFrameFrom, all_searched, delimiting, fails_delimited, gives_delimited, keeps_delimited, left_of, ready, skipping_from};
+ghost use Rattle.bytes_utils_codec.specs.DelimitedLaws.{delimited_same, delimited_single, delimited_stable, delimited_waits};
 
-use super::Decoder;
-use crate::find::find_prepared;
+use super::{Decoder, FrameTooLong};
+use crate::search::Search;
 use bytes::{Buf, Bytes};
 use bytes_utils_buf::Reason;
 use bytes_utils_buf::segmented::PackedBuf;
-use memchr::memmem::Finder;
 use std::alloc::Global;
 use std::marker::Model;
+
+/// A frame, or that it is longer than the limit.
+type Frame = Result<Bytes, FrameTooLong>;
 
 /// A decoder of frames that a separator ends.
 ///
 /// ```text
-/// let mut frames = Decoded::new(alloc, Delimited::with_limit(alloc, b"\r\n", 1024)?);
+/// let mut frames = Framed::new(alloc, Delimited::with_limit(alloc, b"\r\n", 10)?);
 /// frames.push_slice(b"GET / HTT")?;
 /// frames.next_item(alloc)?         // `None`
-/// frames.push_slice(b"P/1.1\r\nHost")?;
-/// frames.next_item(alloc)?         // `GET / HTTP/1.1`; `Host` is left
+/// frames.push_slice(b"P/1.1\r\nHost: a\r\n")?;
+/// frames.next_item(alloc)?         // `Err(FrameTooLong)`, of `GET / HTTP/1.1`
+/// frames.next_item(alloc)?         // `Ok(Host: a)`
 /// ```
+///
+/// A frame over the limit is an item that says so: once, when it has ended, or as soon as it has as
+/// many bytes as the limit and the separator together. It is skipped: its bytes are dropped as they
+/// come. So, if items are asked for after each piece until there is none, fewer bytes are held than
+/// the limit and the separator have together.
 ///
 /// While it waits, bytes are not searched again, but for the last ones, in which the separator may
 /// begin, and no memory is asked for. A frame that lies in one segment shares it: a piece of more
 /// than 512 bytes, or a block of copied ones. Any other is copied into one block. `OutOfMemory`
-/// comes only for a frame within the limit that has come and isn't empty. A frame over the limit is
-/// an error that stays. At the end of the stream, bytes with no separator after them are left.
-///
-/// [`Frames`](crate::frame::Frames) is a reader of the same frames.
+/// comes only for a frame within the limit that has come and isn't empty. At the end of the stream,
+/// bytes with no separator after them are left, but for those of a frame that is skipped.
 #[derive(Debug, Drop)]
 pub struct Delimited {
-    finder: Finder<'static>,
-    window: Vec<u8>,
+    search: Search,
     max_length: usize,
-    searched: usize,
+    skipping: bool,
 }
 
 impl Model for Delimited {
-    ghost use Rattle.std.specs.Prelude.{◌-◌, ◌*◌, ◌<◌, ◌≤◌, length};
     ghost use Rattle.bytes_utils_codec.specs.Delimited.{Delimiting};
 
     ghost Value = { Delimiting };
 
     ghost view = { λ d. record {
-      separator = d.finder;
+      separator = d.search.needle;
       max_length = d.max_length;
-      searched = d.searched;
+      searched = d.search.searched;
+      skipping = d.skipping;
     } };
-
-    ghost invariant = { λ d. (0 < length d.finder)
-        × (2 * (length d.finder - 1) ≤ length d.window.items) };
 }
 
 impl Delimited {
@@ -68,9 +69,8 @@ impl Delimited {
     }
 
     /// Makes a decoder of frames of at most `max_length` bytes, which don't count the separator. It
-    /// copies `separator`, and makes a window of less than twice its length, in which it is searched
-    /// for across segments. Requires that `separator` is not empty (test: `is_empty`). Fails with
-    /// `OutOfMemory` if memory is refused.
+    /// prepares a [`Search`] for `separator`. Requires that `separator` is not empty (test:
+    /// `is_empty`). Fails with `OutOfMemory` if memory is refused.
     pub fn with_limit(
         alloc: Global,
         separator: &[u8],
@@ -81,10 +81,9 @@ impl Delimited {
         ensures reason { IfErr result (λ reason. reason ≡ Reason.OutOfMemory) }
     {
         Ok(Delimited {
-            finder: Finder::new(separator).into_owned(alloc)?,
-            window: vec![in alloc; 0; 2 * (separator.len() - 1)]?,
+            search: Search::new(alloc, separator)?,
             max_length,
-            searched: 0,
+            skipping: false,
         })
     }
 
@@ -92,7 +91,7 @@ impl Delimited {
     pub fn separator(&self) -> &[u8]
         ensures { result.now ≡ self.now.separator }
     {
-        self.finder.needle()
+        self.search.needle()
     }
 
     /// Returns the greatest length of a frame, in bytes.
@@ -102,107 +101,204 @@ impl Delimited {
         self.max_length
     }
 
-    /// Takes the next frame, if its end has come.
+    /// Returns whether a frame is skipped whose end has not come.
+    pub(super) fn is_skipping(&self) -> bool
+        ensures { result ≡ self.now.skipping }
+    {
+        self.skipping
+    }
+
+    /// Finds the next frame, and returns its length, or reports that it is longer than the limit.
+    /// No byte of the frame is taken.
+    pub(super) fn next_frame(&mut self, held: &mut PackedBuf) -> Option<Result<usize, FrameTooLong>>
+        ensures finds { FindsNext (decoding self.old held.old) result (decoding self.new held.new) }
+        ensures threshold { held.new.threshold ≡ held.old.threshold }
+    {
+        if !self.pass_skipped(held) {
+            return None;
+        }
+        self.next_len(held)
+    }
+
+    /// Takes the next frame, or reports that it is longer than the limit.
     pub(super) fn take_frame(
         &mut self,
         alloc: Global,
         held: &mut PackedBuf,
-    ) -> Result<Option<Bytes>, Reason>
-        ensures taken { TakesDelimited (decoding self.old held.old) result (decoding self.new held.new) }
-        ensures separator { self.new.separator ≡ self.old.separator }
+    ) -> Result<Option<Frame>, Reason>
+        ensures step { Decodes gives_delimited AwaitsFrame fails_delimited keeps_delimited
+            (decoding self.old held.old) result (decoding self.new held.new) }
         ensures threshold { held.new.threshold ≡ held.old.threshold }
+        ensures stops { IfOk result (λ next. IfNone next
+            (Stops (decoding self.old held.old) (decoding self.new held.new))) }
+
+        // All waiting bytes were searched, but for the last ones, in which a separator may begin.
+        ensures searched { self.old.skipping ≡ false → IfOk result (λ next. IfNone next
+            (decoding self.new held.new ≡ all_searched (decoding self.old held.old))) }
     {
-        let Some(len) = self.next_len(held)? else {
-            return Ok(None);
-        };
-        let frame = held.take_bytes(alloc, len)?;
-        held.advance(self.separator().len());
-        self.restart();
-        Ok(Some(frame))
+        match self.next_frame(held) {
+            None => Ok(None),
+            Some(Err(over)) => Ok(Some(Err(over))),
+            Some(Ok(len)) => Ok(Some(Ok(self.take(alloc, held, len)?))),
+        }
     }
 
-    /// The length of the next frame, or `None` if its end has not come yet.
-    fn next_len(&mut self, held: &PackedBuf) -> Result<Option<usize>, Reason>
-        ensures frame { IfOk result (λ next. IfSome next (λ len. TakesFrameFrom self.old.separator
+    /// Drops the frame that is skipped, or those of its bytes that have come. Returns whether no
+    /// frame is skipped any more.
+    fn pass_skipped(&mut self, held: &mut PackedBuf) -> bool
+        ensures skipped { MatchBool result
+            (Passes (decoding self.old held.old) (decoding self.new held.new))
+            (SkipsOn (decoding self.old held.old)
+            × SkipsMore (decoding self.old held.old) (decoding self.new held.new)) }
+        ensures skipping { self.new.skipping ≡ not result }
+        ensures threshold { held.new.threshold ≡ held.old.threshold }
+    {
+        if !self.skipping {
+            return true;
+        }
+        if let Some(len) = self.search.find(held.as_segmented()) {
+            held.advance(len);
+            self.pass_separator(held);
+            return true;
+        }
+        let begun = self.search.searched();
+        if begun <= held.remaining() {
+            held.advance(begun);
+            self.search.restart();
+        }
+        false
+    }
+
+    /// The length of the next frame, or that it is longer than the limit.
+    fn next_len(&mut self, held: &PackedBuf) -> Option<Result<usize, FrameTooLong>>
+        ensures frame { IfSome result (λ next. IfOk next (λ len. TakesFrameFrom self.old.separator
             self.old.searched (concat held.now.held.segments)
             (take len (concat held.now.held.segments))
             (drop (len + length self.old.separator) (concat held.now.held.segments)))) }
-        ensures within { IfOk result (λ next. IfSome next (λ len. (len ≤ self.old.max_length)
+        ensures within { IfSome result (λ next. IfOk next (λ len. (len ≤ self.old.max_length)
             × (len + length self.old.separator ≤ length (concat held.now.held.segments)))) }
-        ensures waits { IfOk result (λ next. IfNone next (AwaitsSeparator (decoding self.old held.now))) }
-        ensures all { IfOk result (λ next. IfNone next
-            (IsSearched (concat held.now.held.segments) self.old self.new)) }
-        ensures fails { IfErr result (λ reason. (reason ≡ Reason.TooLong)
-            × fails_delimited (decoding self.old held.now) Reason.TooLong) }
-        ensures on { SearchesOn (concat held.now.held.segments) self.old self.new }
+        ensures same { IfSome result (λ next. OnOk next (self.new ≡ self.old)) }
+        ensures over { IfSome result
+            (λ next. OnErr next (IsOverLimit (decoding self.old held.now))) }
+        ensures skips { IfSome result (λ next. OnErr next (self.new ≡ skipping_from self.old)) }
+        ensures waits { IfNone result (AwaitsSeparator (decoding self.old held.now)) }
+        ensures searched { IfNone result
+            (decoding self.new held.now ≡ all_searched (decoding self.old held.now)) }
     {
-        match self.find(held) {
-            Some(len) if len <= self.max_length => Ok(Some(len)),
-            Some(_) => Err(Reason::TooLong),
-            None => {
-                self.pass(held.remaining());
-                if self.searched > self.max_length {
-                    return Err(Reason::TooLong);
-                }
-                Ok(None)
+        match self.search.find(held.as_segmented()) {
+            Some(len) if len <= self.max_length => Some(Ok(len)),
+            None if !self.is_overlong(held.remaining()) => None,
+            _ => {
+                self.skip();
+                Some(Err(FrameTooLong))
             }
         }
     }
 
-    /// The place of the next separator, from the searched place on.
-    fn find(&mut self, held: &PackedBuf) -> Option<usize>
-        ensures found { FindsNeedle (concat held.now.held.segments)
-            self.old.separator self.old.searched result }
-        ensures some { 0 < length self.old.separator }
-        ensures same { self.new ≡ self.old }
+    /// Takes the next frame, of `len` bytes, and its separator.
+    pub(super) fn take(
+        &mut self,
+        alloc: Global,
+        held: &mut PackedBuf,
+        len: usize,
+    ) -> Result<Bytes, Reason>
+        requires { len + length self.old.separator ≤ length (concat held.old.held.segments) }
+        ensures frame { IfOk result (λ frame. frame ≡ take len (concat held.old.held.segments)) }
+        ensures rest { OnOk result (concat held.new.held.segments
+            ≡ drop (len + length self.old.separator) (concat held.old.held.segments)) }
+        ensures ok { OnOk result (self.new ≡ ready self.old) }
+        ensures err { OnErr result (decoding self.new held.new ≡ decoding self.old held.old) }
+        ensures reason { IfErr result (λ reason. reason ≡ Reason.OutOfMemory) }
+        ensures some { OnErr result (0 < len) }
+        ensures threshold { held.new.threshold ≡ held.old.threshold }
     {
-        find_prepared(
-            held.as_segmented(),
-            self.searched,
-            &self.finder,
-            &mut self.window,
-        )
+        let frame = held.take_bytes(alloc, len)?;
+        self.pass_separator(held);
+        Ok(frame)
     }
 
-    /// Notes that no separator is in the `len` bytes that are held.
-    fn pass(&mut self, len: usize)
-        ensures { self.new ≡ record self.old {
-          searched = max self.old.searched (len - (length self.old.separator - 1));
-        } }
+    /// Drops the separator, with which the held bytes begin. The next frame is after it.
+    pub(super) fn pass_separator(&mut self, held: &mut PackedBuf)
+        requires { length self.old.separator ≤ length (concat held.old.held.segments) }
+        ensures bytes { concat held.new.held.segments
+            ≡ drop (length self.old.separator) (concat held.old.held.segments) }
+        ensures ready { self.new ≡ ready self.old }
+        ensures threshold { held.new.threshold ≡ held.old.threshold }
     {
-        let begun = len.saturating_sub(self.separator().len() - 1);
-        self.searched = self.searched.max(begun);
+        held.advance(self.separator().len());
+        self.ready();
     }
 
-    /// Starts the search again.
-    pub(super) fn restart(&mut self)
-        ensures { self.new ≡ from_start self.old }
+    /// Drops the bytes of a frame that is skipped whose end does not come. Begins at the front of a
+    /// frame.
+    pub(super) fn pass_end(&mut self, held: &mut PackedBuf)
+        ensures ready { self.new ≡ ready self.old }
+        ensures bytes { concat held.new.held.segments
+            ≡ left_of self.old.skipping (concat held.old.held.segments) }
+        ensures threshold { held.new.threshold ≡ held.old.threshold }
     {
-        self.searched = 0;
+        if self.skipping {
+            let len = held.remaining();
+            held.advance(len);
+        }
+        self.ready();
+    }
+
+    /// Whether all places within the limit at which a separator may begin are in `len` bytes.
+    fn is_overlong(&self, len: usize) -> bool
+        ensures { IsTrue result ↔ (self.now.max_length + length self.now.separator ≤ len) }
+    {
+        let size = self.separator().len();
+        size <= len && self.max_length <= len - size
+    }
+
+    /// Skips the next frame.
+    fn skip(&mut self)
+        requires { self.old.max_length < usize.MAX }
+        ensures { self.new ≡ skipping_from self.old }
+    {
+        self.search.search_from(self.max_length + 1);
+        self.skipping = true;
+    }
+
+    /// Begins at the front of a frame.
+    pub(super) fn ready(&mut self)
+        ensures { self.new ≡ ready self.old }
+    {
+        self.search.restart();
+        self.skipping = false;
     }
 }
 
 impl Decoder for Delimited {
-    type Item = Bytes;
+    type Item = Result<Bytes, FrameTooLong>;
 
     type Error = Reason;
 
     ghost gives = { gives_delimited };
 
-    ghost waits = { AwaitsSeparator };
+    ghost waits = { AwaitsFrame };
 
     ghost fails = { fails_delimited };
 
-    fn decode(&mut self, alloc: Global, held: &mut PackedBuf) -> Result<Option<Bytes>, Reason> {
+    ghost keeps = { keeps_delimited };
+
+    ghost restarted = { ready };
+
+    fn decode(&mut self, alloc: Global, held: &mut PackedBuf) -> Result<Option<Frame>, Reason> {
         self.take_frame(alloc, held)
     }
 
-    fn decode_eof(&mut self, alloc: Global, held: &mut PackedBuf) -> Result<Option<Bytes>, Reason> {
+    fn decode_eof(&mut self, alloc: Global, held: &mut PackedBuf) -> Result<Option<Frame>, Reason> {
         let frame = self.take_frame(alloc, held)?;
         if frame.is_none() {
-            self.restart();
+            self.pass_end(held);
         }
         Ok(frame)
+    }
+
+    fn restart(&mut self) {
+        self.ready();
     }
 
     ghost stable = { delimited_stable };
@@ -210,11 +306,16 @@ impl Decoder for Delimited {
     ghost single = { delimited_single };
 
     ghost awaits = { delimited_waits };
+
+    ghost same = { delimited_same };
 }
 
-/// The law of a decoder that is new: its items are the frames of the bytes, as
-/// [`Frames`](crate::frame::Frames) takes them. With `decoder_laws`, so are those of every run.
-#[tactic(auto, using(crate::proofs::DelimitedLemmas::delimited_frames_law))]
+/// The laws of a decoder that is new. Its items are the frames of the bytes, each or that it is
+/// longer than the limit; with those of the end of the stream, all frames. With `decoder_laws`, so
+/// are those of every run. After a call that returned `None` fewer bytes are held than the limit
+/// and the separator have together.
 pub fn delimited_laws()
-    ensures { DelimitedFramesLaw }
+    ensures items { DelimitedFramesLaw }
+    ensures whole { DelimitedWholeLaw }
+    ensures held { DelimitedHeldLaw }
 {}

@@ -1,127 +1,276 @@
 //! Lines as texts.
-ghost use Rattle.std.specs.Prelude.{◌≡◌, [], ◌∷◌, IfOk, IfErr};
+ghost use Rattle.std.specs.Prelude.{◌≡◌, ◌+◌, ◌<◌, ◌≤◌, [], length, take, drop, false, true, Ok, IfErr, IfOk, IsOk, IsTrue, IsUtf8, OnErr, OnOk};
+ghost use Rattle.std.specs.List.{concat};
+ghost use Rattle.std.specs.Str.Lossy.{utf8_lossy};
+ghost use Rattle.bytes_utils.specs.Lines.{IsWithoutReturn};
 ghost use Rattle.bytes_utils_codec.specs.Decoding.{Decodes, decoding};
-ghost use Rattle.bytes_utils_codec.specs.Delimited.{AwaitsSeparator, delimiting, fails_delimited};
-ghost use Rattle.bytes_utils.specs.Lines.{line_feed};
-ghost use Rattle.bytes_utils_codec.specs.TextLines.{TakesLastTextLine, TakesTextLine, TextItemsLaw, WholeTextLaw, fails_text_line, gives_text_line};
-ghost use Rattle.bytes_utils_codec.specs.TextLinesLaws.{text_line_single, text_line_stable, text_line_waits};
+ghost use Rattle.bytes_utils_codec.specs.Delimited.{fails_delimited};
+ghost use Rattle.bytes_utils_codec.specs.LineItems.{AwaitsLine, IsLastOf, IsLineOf, IsTextItem, LineItemsLaw, TakesLast, TakesLineItem, WholeLinesLaw, fails_line, frames_of, gives_line, keeps_line, line_reading, ready_line};
+ghost use Rattle.bytes_utils_codec.specs.StreamLines.{FirstLinesLaw, SameLinesLaw, TextLinesLaw};
+ghost use Rattle.bytes_utils_codec.specs.LineItemsLaws.{line_same, line_single, line_stable, line_waits};
 
-use super::{Decoder, Delimited};
-use crate::frame::lines::drop_return;
+use super::{Decoder, Delimited, FrameTooLong};
 use bytes::{Buf, Bytes};
 use bytes_utils::string::{Str, Utf8Error};
 use bytes_utils_buf::Reason;
 use bytes_utils_buf::segmented::PackedBuf;
 use std::alloc::Global;
+use std::error::Error;
 use std::marker::Model;
+use std::{fmt, str};
 
-/// A line, or the error for one that is not UTF-8, which has its bytes.
-type Line = Result<Str, Utf8Error<Bytes>>;
+/// Why there is no text of a line. The next item is that of the line after it.
+#[derive(Debug, Drop)]
+pub enum LineFault {
+    /// The line is longer than the limit.
+    TooLong,
+    /// The line is not UTF-8. The error holds its bytes.
+    NotUtf8(Utf8Error<Bytes>),
+}
+
+impl From<FrameTooLong> for LineFault {
+    ghost use Rattle.bytes_utils_codec.specs.declared.decode.lines.LineFault.TheVariants.{TooLong};
+
+    ghost from_gives = { λ over fault. fault ≡ TooLong };
+
+    fn from(_over: FrameTooLong) -> LineFault {
+        LineFault::TooLong
+    }
+}
+
+impl From<Utf8Error<Bytes>> for LineFault {
+    ghost use Rattle.bytes_utils_codec.specs.declared.decode.lines.LineFault.TheVariants.{NotUtf8};
+
+    ghost from_gives = { λ error fault. fault ≡ NotUtf8 error };
+
+    fn from(error: Utf8Error<Bytes>) -> LineFault {
+        LineFault::NotUtf8(error)
+    }
+}
+
+/// Writes `the line is too long`, or the text of the UTF-8 error.
+impl fmt::Display for LineFault {
+    ghost use Rattle.std.specs.Prelude.{Some};
+    ghost use Rattle.bytes_utils_codec.specs.LineItems.{line_fault_text};
+
+    ghost output = { λ fault. Some (line_fault_text fault) };
+
+    fn fmt<W: fmt::Write>(&self, f: &mut fmt::Formatter<W>) -> fmt::Result {
+        match self {
+            LineFault::TooLong => write!(f, "the line is too long"),
+            LineFault::NotUtf8(error) => write!(f, "{error}"),
+        }
+    }
+}
+
+impl Error for LineFault {}
+
+/// A line, or why there is no text of it.
+type Line = Result<Str, LineFault>;
 
 /// A decoder of lines as texts. A line is one of `str::lines`: it ends at a line feed, and one
 /// carriage return directly before this is no part of it.
 ///
 /// ```text
-/// let mut lines = Decoded::new(alloc, TextLines::new(alloc)?);
+/// let mut lines = Framed::new(alloc, Lines::with_limit(alloc, 8)?);
 /// lines.push_slice(b"Host: a\r")?;
 /// lines.next_item(alloc)?          // `None`
-/// lines.push_slice(b"\nbody")?;
-/// lines.next_item(alloc)?          // `Host: a`; `body` is left
-/// lines.last_item(alloc)?          // `body`
+/// lines.push_slice(b"\nAccept: */*\nbody")?;
+/// lines.next_item(alloc)?          // `Ok(Host: a)`
+/// lines.next_item(alloc)?          // `Err(TooLong)`; `body` is left
+/// lines.last_item(alloc)?          // `Ok(body)`
 /// ```
 ///
-/// At the end of the stream the bytes that are left are the last line, whole: without a line feed
-/// after it a carriage return is part of it. A line that is not UTF-8 is an item, too, so that the
-/// next one is the line after it. A line over the limit is an error that stays. `OutOfMemory` comes
-/// only for a line within the limit that has come, or at the end of the stream for the last one.
+/// A line over the limit is an item that says so, once, and its bytes are dropped as they come; so
+/// is a line that is not UTF-8, with its bytes. The next item is the line after it. At the end of
+/// the stream the bytes that are left are the last line, whole: without a line feed after it a
+/// carriage return is part of it. Those of a line over the limit are dropped, and no line comes.
 ///
-/// While it waits, bytes are not searched again, and no memory is asked for. A line in one piece of
-/// more than 512 bytes shares it, if its line feed is there, too. [`Lines`](crate::frame::Lines) is a
-/// reader of the same lines (`text_line_laws`).
+/// While it waits, bytes are not searched again, and no memory is asked for. A line that lies in
+/// one segment shares it: a piece of more than 512 bytes, or a block of copied ones. Any other is
+/// copied into one block. `OutOfMemory` comes only for a line within the limit that has come, or at
+/// the end of the stream for the last one.
 #[derive(Debug, Drop)]
-pub struct TextLines {
+pub struct Lines {
     frames: Delimited,
+    lossy: bool,
 }
 
-impl Model for TextLines {
+impl Model for Lines {
     ghost use Rattle.std.specs.Prelude.{◌≡◌, [], ◌∷◌};
-    ghost use Rattle.bytes_utils_codec.specs.Delimited.{Delimiting};
     ghost use Rattle.bytes_utils.specs.Lines.{line_feed};
+    ghost use Rattle.bytes_utils_codec.specs.LineItems.{LineReading};
 
-    ghost Value = { Delimiting };
+    ghost Value = { LineReading };
 
-    ghost view = { λ l. l.frames };
+    ghost view = { λ l. record { frames = l.frames; lossy = l.lossy } };
 
     ghost invariant = { λ l. l.frames.separator ≡ line_feed ∷ [] };
 }
 
-impl TextLines {
+impl Lines {
     /// Makes a decoder of lines of any length. Fails with `OutOfMemory` if memory is refused.
-    pub fn new(alloc: Global) -> Result<TextLines, Reason>
-        ensures ok { IfOk result (λ lines. lines ≡ delimiting (line_feed ∷ []) usize.MAX) }
+    pub fn new(alloc: Global) -> Result<Lines, Reason>
+        ensures ok { IfOk result (λ lines. lines ≡ line_reading usize.MAX) }
         ensures reason { IfErr result (λ reason. reason ≡ Reason.OutOfMemory) }
     {
-        TextLines::with_limit(alloc, usize::MAX)
+        Lines::with_limit(alloc, usize::MAX)
     }
 
     /// Makes a decoder of lines of at most `max_length` bytes, with the carriage return and without
     /// the line feed. Fails with `OutOfMemory` if memory is refused.
-    pub fn with_limit(alloc: Global, max_length: usize) -> Result<TextLines, Reason>
-        ensures ok { IfOk result (λ lines. lines ≡ delimiting (line_feed ∷ []) max_length) }
+    pub fn with_limit(alloc: Global, max_length: usize) -> Result<Lines, Reason>
+        ensures ok { IfOk result (λ lines. lines ≡ line_reading max_length) }
         ensures reason { IfErr result (λ reason. reason ≡ Reason.OutOfMemory) }
     {
-        Ok(TextLines {
+        Ok(Lines {
             frames: Delimited::with_limit(alloc, b"\n", max_length)?,
+            lossy: false,
         })
+    }
+
+    /// Makes it lossy: bytes that are no character become U+FFFD, as `String::from_utf8_lossy`
+    /// makes of a line. Then no line is `NotUtf8`.
+    pub fn lossy(self) -> Lines
+        ensures { result ≡ record self { lossy = true } }
+    {
+        Lines {
+            frames: self.frames,
+            lossy: true,
+        }
     }
 
     /// Takes the next line, if its line feed has come.
     fn take_line(&mut self, alloc: Global, held: &mut PackedBuf) -> Result<Option<Line>, Reason>
-        ensures taken { TakesTextLine (decoding self.old held.old) result (decoding self.new held.new) }
+        ensures step { TakesLineItem (decoding self.old held.old) result
+            (decoding self.new held.new) }
         ensures threshold { held.new.threshold ≡ held.old.threshold }
     {
-        let Some(mut line) = self.frames.take_frame(alloc, held)? else {
-            return Ok(None);
-        };
-        drop_return(&mut line);
-        Ok(Some(Str::from_inner(line)))
+        if self.lossy {
+            self.take_lossy(alloc, held)
+        } else {
+            self.take_strict(alloc, held)
+        }
     }
 
-    /// Takes all bytes as the last line, if there are any.
-    fn take_last(&mut self, alloc: Global, held: &mut PackedBuf) -> Result<Option<Line>, Reason>
-        ensures taken { TakesLastTextLine (decoding self.old held.old) result
+    /// Takes the next line, as its bytes.
+    fn take_strict(&mut self, alloc: Global, held: &mut PackedBuf) -> Result<Option<Line>, Reason>
+        requires { self.old.lossy ≡ false }
+        ensures step { TakesLineItem (decoding self.old held.old) result
             (decoding self.new held.new) }
+        ensures threshold { held.new.threshold ≡ held.old.threshold }
+    {
+        let Some(frame) = self.frames.take_frame(alloc, held)? else {
+            return Ok(None);
+        };
+        Ok(Some(line_of(frame)))
+    }
+
+    /// Takes the next line, with U+FFFD for bytes that are no character.
+    fn take_lossy(&mut self, alloc: Global, held: &mut PackedBuf) -> Result<Option<Line>, Reason>
+        requires { self.old.lossy ≡ true }
+        ensures step { TakesLineItem (decoding self.old held.old) result
+            (decoding self.new held.new) }
+        ensures threshold { held.new.threshold ≡ held.old.threshold }
+    {
+        match self.frames.next_frame(held) {
+            None => Ok(None),
+            Some(Err(_)) => Ok(Some(Err(LineFault::TooLong))),
+            Some(Ok(len)) => Ok(Some(Ok(self.take_text(alloc, held, len)?))),
+        }
+    }
+
+    /// Takes the next frame, of `len` bytes, as a line with U+FFFD for bytes that are no character.
+    /// If there are any, the text is made before they are taken, so that a refused request changes
+    /// nothing.
+    fn take_text(&mut self, alloc: Global, held: &mut PackedBuf, len: usize) -> Result<Str, Reason>
+        requires { len + length self.old.frames.separator ≤ length (concat held.old.held.segments) }
+        ensures text { IfOk result
+            (λ text. IsLineOf true (Ok text) (Ok (take len (concat held.old.held.segments)))) }
+        ensures rest { OnOk result (concat held.new.held.segments
+            ≡ drop (len + length self.old.frames.separator) (concat held.old.held.segments)) }
+        ensures ok { OnOk result (self.new ≡ ready_line self.old) }
+        ensures err { OnErr result (decoding self.new held.new ≡ decoding self.old held.old) }
+        ensures some { OnErr result (0 < len) }
+        ensures reason { IfErr result (λ reason. reason ≡ Reason.OutOfMemory) }
+        ensures threshold { held.new.threshold ≡ held.old.threshold }
+    {
+        if is_text_in_one(held, len) {
+            let mut line = self.frames.take(alloc, held, len)?;
+            drop_return(&mut line);
+            return Ok(Str::from_inner_unchecked(line));
+        }
+        let mut line = held.as_segmented().peek_bytes(alloc, len)?;
+        drop_return(&mut line);
+        let text = lossy_text(alloc, line)?;
+        held.advance(len);
+        self.frames.pass_separator(held);
+        Ok(text)
+    }
+
+    /// Takes all bytes as the last line, if there are any and they are not those of a line that is
+    /// skipped.
+    fn take_last(&mut self, alloc: Global, held: &mut PackedBuf) -> Result<Option<Line>, Reason>
+        ensures taken { TakesLast (decoding self.old held.old) result (decoding self.new held.new) }
+        ensures threshold { held.new.threshold ≡ held.old.threshold }
+    {
+        if self.frames.is_skipping() {
+            self.frames.pass_end(held);
+            return Ok(None);
+        }
+        let line = self.take_rest(alloc, held)?;
+        self.frames.ready();
+        Ok(line)
+    }
+
+    /// Takes all bytes as a line, if there are any.
+    fn take_rest(&self, alloc: Global, held: &mut PackedBuf) -> Result<Option<Line>, Reason>
+        ensures last { IfOk result
+            (λ last. IsLastOf self.now.lossy last (concat held.old.held.segments)) }
+        ensures ok { OnOk result (concat held.new.held.segments ≡ []) }
+        ensures err { OnErr result
+            (concat held.new.held.segments ≡ concat held.old.held.segments) }
+        ensures some { OnErr result (0 < length (concat held.old.held.segments)) }
+        ensures reason { IfErr result (λ reason. reason ≡ Reason.OutOfMemory) }
         ensures threshold { held.new.threshold ≡ held.old.threshold }
     {
         let len = held.remaining();
         if len == 0 {
-            self.frames.restart();
             return Ok(None);
         }
-        let line = held.take_bytes(alloc, len)?;
-        self.frames.restart();
-        Ok(Some(Str::from_inner(line)))
+        if !self.lossy || is_text_in_one(held, len) {
+            return Ok(Some(text_of(held.take_bytes(alloc, len)?)));
+        }
+        let bytes = held.as_segmented().peek_bytes(alloc, len)?;
+        let text = lossy_text(alloc, bytes)?;
+        held.advance(len);
+        Ok(Some(Ok(text)))
     }
 }
 
-impl Decoder for TextLines {
-    type Item = Result<Str, Utf8Error<Bytes>>;
+impl Decoder for Lines {
+    type Item = Result<Str, LineFault>;
 
     type Error = Reason;
 
-    ghost gives = { gives_text_line };
+    ghost gives = { gives_line };
 
-    ghost waits = { AwaitsSeparator };
+    ghost waits = { AwaitsLine };
 
-    ghost fails = { fails_text_line };
+    ghost fails = { fails_line };
+
+    ghost keeps = { keeps_line };
+
+    ghost restarted = { ready_line };
 
     fn decode(&mut self, alloc: Global, held: &mut PackedBuf) -> Result<Option<Line>, Reason>
-        ensures step { Decodes gives_text_line AwaitsSeparator fails_text_line
+        ensures step { Decodes gives_line AwaitsLine fails_line keeps_line
             (decoding self.old held.old) result (decoding self.new held.new) }
         ensures threshold { held.new.threshold ≡ held.old.threshold }
 
         // Before the end of the stream memory is asked for only for a line that has come.
-        ensures before_end { IfErr result (fails_delimited (decoding self.old held.old)) }
+        ensures before_end { IfErr result
+            (fails_delimited (frames_of (decoding self.old held.old))) }
     {
         self.take_line(alloc, held)
     }
@@ -133,17 +282,82 @@ impl Decoder for TextLines {
         self.take_last(alloc, held)
     }
 
-    ghost stable = { text_line_stable };
+    fn restart(&mut self) {
+        self.frames.ready();
+    }
 
-    ghost single = { text_line_single };
+    ghost stable = { line_stable };
 
-    ghost awaits = { text_line_waits };
+    ghost single = { line_single };
+
+    ghost awaits = { line_waits };
+
+    ghost same = { line_same };
 }
 
-/// The laws of a decoder that is new. Its items are the texts of the first lines of the bytes, as
-/// [`Lines`](crate::frame::Lines) takes them; with the last one, of all lines. With `decoder_laws`,
-/// so are those of every run, whatever the pieces are.
-pub fn text_line_laws()
-    ensures items { TextItemsLaw }
-    ensures whole { WholeTextLaw }
+/// The line of a frame.
+fn line_of(frame: Result<Bytes, FrameTooLong>) -> Line
+    ensures { IsLineOf false result frame }
+{
+    let mut line = frame?;
+    drop_return(&mut line);
+    text_of(line)
+}
+
+/// Removes one carriage return from the end, if there is one.
+pub(crate) fn drop_return(line: &mut Bytes)
+    ensures { IsWithoutReturn line.new line.old }
+{
+    if line.as_slice().ends_with(b"\r") {
+        line.truncate(line.len() - 1);
+    }
+}
+
+/// The text of these bytes.
+fn text_of(bytes: Bytes) -> Line
+    ensures { IsTextItem false result bytes }
+{
+    Ok(Str::from_inner(bytes)?)
+}
+
+/// Whether the first `len` bytes are in one segment, and a text.
+fn is_text_in_one(held: &PackedBuf, len: usize) -> bool
+    ensures { IsTrue result → IsUtf8 (take len (concat held.now.held.segments)) }
+{
+    let front = held.chunk();
+    len <= front.len() && str::from_utf8(&front[..len]).is_ok()
+}
+
+/// The text of these bytes, with U+FFFD for those that are no character. Fails with `OutOfMemory`
+/// if memory is refused, never for no bytes.
+fn lossy_text(alloc: Global, bytes: Bytes) -> Result<Str, Reason>
+    ensures ok { IfOk result (λ text. text ≡ utf8_lossy bytes) }
+    ensures none { bytes ≡ [] → IsOk result }
+    ensures reason { IfErr result (λ reason. reason ≡ Reason.OutOfMemory) }
+{
+    match Str::from_inner(bytes) {
+        Ok(text) => Ok(text),
+        Err(fault) => replaced_text(alloc, fault.into_inner().as_slice()),
+    }
+}
+
+/// A copy of these bytes as a text, with U+FFFD for those that are no character.
+fn replaced_text(alloc: Global, bytes: &[u8]) -> Result<Str, Reason>
+    ensures ok { IfOk result (λ text. text ≡ utf8_lossy bytes.now) }
+    ensures reason { IfErr result (λ reason. reason ≡ Reason.OutOfMemory) }
+{
+    let text = String::from_utf8_lossy(alloc, bytes)?;
+    Ok(Str::from_string(alloc, text)?)
+}
+
+/// The laws of a decoder that is new. Its items are those for the first lines of the bytes, each
+/// its text, or why there is none; with the last one, those for all lines. With `decoder_laws`, so
+/// are those of every run, whatever the pieces are. The lines of the bytes of a text are the lines
+/// of the text, and there is one list of them.
+pub fn line_laws()
+    ensures items { LineItemsLaw }
+    ensures whole { WholeLinesLaw }
+    ensures lines { FirstLinesLaw }
+    ensures text { TextLinesLaw }
+    ensures same { SameLinesLaw }
 {}

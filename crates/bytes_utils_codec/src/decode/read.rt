@@ -5,13 +5,15 @@ ghost use Rattle.bytes_utils_codec.specs.Decoding.{Decoding, Item, LacksItem, La
 ghost use Rattle.bytes_utils_codec.specs.ReadItem.{IsItemDue, IsOfDecoder, ReadItemsLaw, ReadSameLaw, ReadWholeLaw, ReadsMore, ReadsNext, TakesHeld, TakesLast, item_back_bytes};
 
 mod error;
+mod piece;
+mod read_error;
 
-use super::{Decoded, Decoder};
-use crate::frame::ReadError;
-use crate::frame::read::{MOST_READS, read_piece};
+use super::{Decoder, Framed};
 use bytes::BytesMut;
 pub use error::ReadItemError;
 use error::push;
+use piece::{MOST_READS, read_piece};
+pub use read_error::ReadError;
 use std::alloc::Global;
 use std::io::Read;
 
@@ -24,7 +26,7 @@ use std::io::Read;
 /// than 512 bytes gave is held without a copy.
 pub fn read_item<R: Read, D: Decoder>(
     input: &mut R,
-    items: &mut Decoded<D>,
+    items: &mut Framed<D>,
     alloc: Global,
 ) -> Result<Option<D::Item>, ReadItemError<D::Error>>
     ensures item { IfOk result (λ next. IfSome next (λ item.
@@ -62,7 +64,7 @@ pub fn read_item<R: Read, D: Decoder>(
 
 /// The next item that the held bytes have.
 fn next_item<D: Decoder>(
-    items: &mut Decoded<D>,
+    items: &mut Framed<D>,
     alloc: Global,
 ) -> Result<Option<D::Item>, ReadItemError<D::Error>>
     ensures { TakesHeld D.gives D.fails items.old result items.new }
@@ -75,7 +77,7 @@ fn next_item<D: Decoder>(
 
 /// The item that the end of the input ends.
 fn last_item<D: Decoder>(
-    items: &mut Decoded<D>,
+    items: &mut Framed<D>,
     alloc: Global,
 ) -> Result<Option<D::Item>, ReadItemError<D::Error>>
     requires { LacksItem D.gives items.old }

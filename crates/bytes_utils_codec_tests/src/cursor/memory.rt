@@ -3,7 +3,7 @@ use crate::fixtures::refusals::{given, report};
 use bytes::Bytes;
 use bytes_utils::{Reason, SegmentedBuf};
 use bytes_utils_codec::cursor::Cursor;
-use bytes_utils_codec::frame::LineError;
+use bytes_utils_codec::line_error::LineError;
 use std::alloc::Global;
 use std::convert::AsSlice;
 use std::io::Print;

@@ -1,14 +1,22 @@
 //! What is between the delimiters of a stream.
-ghost use Rattle.std.specs.Prelude.{◌≡◌, ◌≢◌, ◌↔◌, ◌⊎◌, ◌+◌, ◌^◌, ◌<◌, [], length, IsTrue, OnOk, OnErr, IfErr};
+ghost use Rattle.std.specs.Prelude.{◌≡◌, ◌≢◌, ◌↔◌, ◌⊎◌, ◌+◌, ◌^◌, ◌<◌, ◌≤◌, [], ◌++◌, length, IsOk, IsTrue, OnOk, OnErr, IfOk, IfErr, IfSome, IfNone};
+ghost use Rattle.std.specs.List.{concat};
 ghost use Rattle.bytes_utils.specs.Occurrence.{Occurs};
-ghost use Rattle.bytes_utils_protocols.specs.Multipart.{AfterSearch, IsDivided, SameSections};
+ghost use Rattle.bytes_utils_codec.specs.Frames.{TakesFrame};
+ghost use Rattle.bytes_utils_codec.specs.Pushing.{IsPush};
+ghost use Rattle.bytes_utils_codec.specs.Search.{from_front, searched_all};
+ghost use Rattle.bytes_utils_protocols.specs.Multipart.{AfterSearch, IsDivided, NonePassed, SameSections, waiting_in};
 
 use super::preamble::Preamble;
-use bytes::Bytes;
-use bytes_utils::{Reason, SegmentedBuf};
-use bytes_utils_codec::frame::Frames;
+use bytes::{Buf, Bytes};
+use bytes_utils::segmented::PackedBuf;
+use bytes_utils::{Reason, Refused, SegmentedBuf};
+use bytes_utils_codec::search::Search;
 use std::alloc::Global;
 use std::mem::replace;
+
+/// A piece of at most this many bytes is copied to those before it.
+const SMALL: usize = 512;
 
 /// What has been found of the next part.
 #[derive(Clone, Copy, Debug, Eq, PartialEq)]
@@ -27,20 +35,61 @@ pub(super) enum Stage {
 /// one stays until a part is taken.
 #[derive(Debug, Drop)]
 pub(super) struct Sections {
-    pub(super) frames: Frames,
+    /// The search for the next delimiter in the bytes that wait for it.
+    pub(super) delimiter: Search,
+    pub(super) waiting: PackedBuf,
     pub(super) stage: Stage,
     pub(super) preamble: Preamble,
     pub(super) found: SegmentedBuf<Bytes>,
 }
 
 impl Sections {
+    /// Nothing has come. Requires that `delimiter` is not empty.
+    pub(super) fn new(alloc: Global, delimiter: &[u8]) -> Result<Sections, Reason>
+        requires { 0 < length delimiter.now }
+        ensures delimiter { IfOk result (λ s. s.delimiter.needle ≡ delimiter.now) }
+        ensures waiting { IfOk result (λ s. waiting_in s ≡ []) }
+        ensures stage { IfOk result (λ s. s.stage ≡ Stage.Preamble) }
+        ensures divided { IfOk result IsDivided }
+        ensures reason { IfErr result (λ reason. reason ≡ Reason.OutOfMemory) }
+    {
+        Ok(Sections {
+            delimiter: Search::new(alloc, delimiter)?,
+            waiting: PackedBuf::new(alloc, SMALL),
+            stage: Stage::Preamble,
+            preamble: Preamble::none(alloc),
+            found: SegmentedBuf::new(alloc),
+        })
+    }
+
+    /// Appends a piece to those that wait for a delimiter, as `PackedBuf` does.
+    pub(super) fn push(&mut self, alloc: Global, piece: Bytes) -> Result<(), Refused<Bytes>>
+        ensures pushed { IsPush (waiting_in self.old) piece result
+            (waiting_in self.new ≡ waiting_in self.old ++ piece) (self.new ≡ self.old) }
+        ensures others { self.new ≡ record self.old { waiting = self.new.waiting } }
+    {
+        self.waiting.push(alloc, piece)
+    }
+
+    /// Appends a copy of `piece`, as `PackedBuf` does.
+    pub(super) fn push_slice(&mut self, alloc: Global, piece: &[u8]) -> Result<(), Reason>
+        ensures ok { OnOk result (waiting_in self.new ≡ waiting_in self.old ++ piece.now) }
+        ensures err { OnErr result (self.new ≡ self.old) }
+        ensures too_long { IfErr result (λ reason. (reason ≡ Reason.TooLong)
+            ↔ (2 ^ 64 ≤ length (waiting_in self.old) + length piece.now)) }
+        ensures empty { piece.now ≡ [] → IsOk result }
+        ensures others { self.new ≡ record self.old { waiting = self.new.waiting } }
+    {
+        self.waiting.push_slice(alloc, piece)
+    }
+
     /// Searches for the delimiters before and after the next part, or for the close delimiter.
     pub(super) fn search(&mut self, alloc: Global) -> Result<(), Reason>
         requires { IsDivided self.old }
         ensures divided { IsDivided self.new }
         ensures ok { OnOk result (AfterSearch self.new.stage self.old self.new) }
         ensures err { OnErr result (SameSections self.old self.new) }
-        ensures delimiter { self.new.frames.separator ≡ self.old.frames.separator }
+        ensures delimiter { self.new.delimiter.needle ≡ self.old.delimiter.needle }
         ensures reason { IfErr result (λ reason. reason ≡ Reason.OutOfMemory) }
     {
         self.pass_preamble(alloc)?;
@@ -56,12 +105,12 @@ impl Sections {
         ensures divided { IsDivided self.new }
         ensures same { SameSections self.old self.new }
         ensures waits { OnOk result (self.new.stage ≡ Stage.Preamble
-            → ¬ Occurs self.old.frames.separator self.new.frames.held) }
+            → ¬ Occurs self.old.delimiter.needle (waiting_in self.new)) }
         ensures ended { self.new.stage ≡ Stage.Ended → self.old.stage ≡ Stage.Ended }
         ensures reason { IfErr result (λ reason. reason ≡ Reason.OutOfMemory) }
     {
         if self.stage == Stage::Preamble
-            && let Some(preamble) = self.frames.next_frame_segments(alloc)?
+            && let Some(preamble) = self.next_section(alloc)?
         {
             self.preamble = Preamble::of(&preamble);
             self.stage = Stage::Waiting;
@@ -77,53 +126,79 @@ impl Sections {
         ensures divided { IsDivided self.new }
         ensures ok { OnOk result (AfterSearch self.new.stage self.old self.new) }
         ensures err { OnErr result (SameSections self.old self.new) }
-        ensures delimiter { self.new.frames.separator ≡ self.old.frames.separator }
+        ensures delimiter { self.new.delimiter.needle ≡ self.old.delimiter.needle }
         ensures reason { IfErr result (λ reason. reason ≡ Reason.OutOfMemory) }
     {
-        if self.frames.starts_with(b"--") {
-            return self.end(alloc);
+        if self.waiting.as_segmented().starts_with(b"--") {
+            self.end(alloc);
+            return Ok(());
         }
-        if let Some(found) = self.frames.next_frame_segments(alloc)? {
+        if let Some(found) = self.next_section(alloc)? {
             self.found = found;
             self.stage = Stage::Found;
         }
         Ok(())
     }
 
-    /// Ends, and lets go of all that is held.
-    fn end(&mut self, alloc: Global) -> Result<(), Reason>
-        ensures ok { OnOk result (self.new.stage ≡ Stage.Ended) }
-        ensures preamble { OnOk result (self.new.preamble ≡ []) }
-        ensures waiting { OnOk result (self.new.frames.held ≡ []) }
+    /// Takes the bytes before the next delimiter, and drops that, or returns `None` if it has not
+    /// come.
+    fn next_section(&mut self, alloc: Global) -> Result<Option<SegmentedBuf<Bytes>>, Reason>
+        requires { NonePassed self.old }
+        ensures section { IfOk result (λ next. IfSome next (λ section. TakesFrame
+            self.old.delimiter.needle (waiting_in self.old)
+            (concat section.segments) (waiting_in self.new))) }
+        ensures some { IfOk result (λ next. IfSome next (λ _. self.new ≡ record self.old {
+          delimiter = from_front self.old.delimiter;
+          waiting = self.new.waiting;
+        })) }
+        ensures lacks { IfOk result
+            (λ next. IfNone next (¬ Occurs self.old.delimiter.needle (waiting_in self.old))) }
+        ensures none { IfOk result (λ next. IfNone next (self.new ≡ record self.old {
+          delimiter = searched_all self.old.delimiter (waiting_in self.old);
+        })) }
+        ensures passed { NonePassed self.new }
         ensures err { OnErr result (self.new ≡ self.old) }
-        ensures delimiter { self.new.frames.separator ≡ self.old.frames.separator }
         ensures reason { IfErr result (λ reason. reason ≡ Reason.OutOfMemory) }
     {
-        if self.frames.remaining() > 0 {
-            self.frames = Frames::new(alloc, self.frames.separator())?;
-        }
+        let Some(len) = self.delimiter.find(self.waiting.as_segmented()) else {
+            return Ok(None);
+        };
+        let section = self.waiting.split_to(alloc, len)?;
+        self.waiting.advance(self.delimiter.needle().len());
+        self.delimiter.restart();
+        Ok(Some(section))
+    }
+
+    /// Ends, and lets go of all that is held.
+    fn end(&mut self, alloc: Global)
+        ensures divided { IsDivided self.new }
+        ensures stage { self.new.stage ≡ Stage.Ended }
+        ensures delimiter { self.new.delimiter.needle ≡ self.old.delimiter.needle }
+    {
+        self.waiting = PackedBuf::new(alloc, SMALL);
+        self.delimiter.restart();
         self.preamble = Preamble::none(alloc);
         self.stage = Stage::Ended;
-        Ok(())
     }
 
     /// Whether more bytes than these are before the first delimiter, or wait for a delimiter, without
     /// the bytes of one.
     pub(super) fn is_over(&self, most: usize) -> bool
         ensures over { IsTrue result ↔ ((most < length self.now.preamble) ⊎ ((self.now.stage ≢ Stage.Found)
-            × (most + length self.now.frames.separator < length self.now.frames.held))) }
+            × (most + length self.now.delimiter.needle < length (waiting_in self.now)))) }
         ensures short { length self.now.preamble < 2 ^ 64 }
-        ensures fits { length self.now.frames.held < 2 ^ 64 }
+        ensures fits { length (waiting_in self.now) < 2 ^ 64 }
     {
-        let separator = self.frames.separator().len();
-        let waiting = self.frames.remaining().saturating_sub(separator);
+        let delimiter = self.delimiter.needle().len();
+        let waiting = self.waiting.remaining().saturating_sub(delimiter);
         self.preamble.len() > most || (self.stage != Stage::Found && waiting > most)
     }
 
     /// Removes what was found, up to the delimiter after it, and returns it.
     pub(super) fn take(&mut self, alloc: Global) -> SegmentedBuf<Bytes>
         ensures found { result ≡ self.old.found }
-        ensures frames { self.new.frames ≡ self.old.frames }
+        ensures delimiter { self.new.delimiter ≡ self.old.delimiter }
+        ensures waiting { self.new.waiting ≡ self.old.waiting }
         ensures stage { self.new.stage ≡ Stage.Waiting }
         ensures preamble { self.new.preamble ≡ [] }
     {

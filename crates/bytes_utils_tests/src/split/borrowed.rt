@@ -14,8 +14,11 @@ const TEXTS: &str =
 /// The separators that texts are split by, with a bar between them. The first is empty.
 pub(super) const SEPARATORS: &str = "|a|aa|aba|,|β";
 
+/// The number of all texts of at most three of the letters.
+const TEXTS_OF_THREE: u32 = 585;
+
 /// The number of all texts of at most four of the letters.
-const COUNTED_TEXTS: u32 = 4_681;
+const TEXTS_OF_FOUR: u32 = 4_681;
 
 /// Separators, line ends, white space, and characters of one to four bytes.
 fn letter(number: u32) -> char {
@@ -81,20 +84,33 @@ fn assert_each<W: StrWay>(
     }
 }
 
-/// Asserts this of each text of the worked cases, and of all counted ones.
-pub(super) fn assert_as_str<W: StrWay>(
+/// Asserts this of each text of the worked cases, and of this number of counted ones.
+fn assert_of_all<W: StrWay>(
     rt: &impl Abort,
     alloc: Global,
+    count: u32,
     most: usize,
     separators: &str,
 ) {
     for text in TEXTS.split('|') {
         assert_each::<W>(rt, alloc, text, most, separators);
     }
-    for number in 0..COUNTED_TEXTS {
+    for number in 0..count {
         match counted(alloc, number) {
             Ok(text) => assert_each::<W>(rt, alloc, text.as_str(), most, separators),
             Err(_) => assert!(rt; false, "out of memory"),
         }
+    }
+}
+
+/// Asserts it of a way without a limit, and of all texts of at most four of the letters.
+pub(super) fn assert_as_str<W: StrWay>(rt: &impl Abort, alloc: Global, separators: &str) {
+    assert_of_all::<W>(rt, alloc, TEXTS_OF_FOUR, 0, separators);
+}
+
+/// Asserts it of a way with a limit of up to four parts, as many as a text of three letters may have.
+pub(super) fn assert_limited<W: StrWay>(rt: &impl Abort, alloc: Global, separators: &str) {
+    for most in 0..5 {
+        assert_of_all::<W>(rt, alloc, TEXTS_OF_THREE, most, separators);
     }
 }

@@ -4,5 +4,5 @@ use crate::split::ways::SplitInclusive;
 
 #[test]
 fn split_inclusive(rt: HostRuntime) {
-    assert_as_str::<SplitInclusive>(&rt, rt.alloc(), 0, "a|aa|aba|,|β");
+    assert_as_str::<SplitInclusive>(&rt, rt.alloc(), "a|aa|aba|,|β");
 }

@@ -6,5 +6,5 @@ use bytes_utils::split::line_place;
 #[test]
 fn lines(rt: HostRuntime) {
     assert!(rt; line_place("αb\r\n\nc") == Some((3, 5)) && line_place("a\rb").is_none());
-    assert_as_str::<Lines>(&rt, rt.alloc(), 0, "");
+    assert_as_str::<Lines>(&rt, rt.alloc(), "");
 }

@@ -1,5 +1,5 @@
 //! A text's parts by a separator, from either end, with or without a limit.
-use crate::split::borrowed::{SEPARATORS, assert_as_str};
+use crate::split::borrowed::{SEPARATORS, assert_as_str, assert_limited};
 use crate::split::ways::{RSplit, RSplitN, Split, SplitN};
 use bytes_utils::split::boundaries;
 
@@ -7,20 +7,16 @@ use bytes_utils::split::boundaries;
 #[test]
 fn split(rt: HostRuntime) {
     boundaries();
-    assert_as_str::<Split>(&rt, rt.alloc(), 0, SEPARATORS);
-    assert_as_str::<RSplit>(&rt, rt.alloc(), 0, SEPARATORS);
+    assert_as_str::<Split>(&rt, rt.alloc(), SEPARATORS);
+    assert_as_str::<RSplit>(&rt, rt.alloc(), SEPARATORS);
 }
 
 #[test]
 fn splitn(rt: HostRuntime) {
-    for most in 0..5 {
-        assert_as_str::<SplitN>(&rt, rt.alloc(), most, SEPARATORS);
-    }
+    assert_limited::<SplitN>(&rt, rt.alloc(), SEPARATORS);
 }
 
 #[test]
 fn rsplitn(rt: HostRuntime) {
-    for most in 0..5 {
-        assert_as_str::<RSplitN>(&rt, rt.alloc(), most, SEPARATORS);
-    }
+    assert_limited::<RSplitN>(&rt, rt.alloc(), SEPARATORS);
 }

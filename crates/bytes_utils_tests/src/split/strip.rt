@@ -7,8 +7,8 @@ use std::test::Fail;
 
 #[test]
 fn strip(rt: HostRuntime) {
-    assert_as_str::<StripPrefix>(&rt, rt.alloc(), 0, SEPARATORS);
-    assert_as_str::<StripSuffix>(&rt, rt.alloc(), 0, SEPARATORS);
+    assert_as_str::<StripPrefix>(&rt, rt.alloc(), SEPARATORS);
+    assert_as_str::<StripSuffix>(&rt, rt.alloc(), SEPARATORS);
 }
 
 /// The text without the prefix `αβ` and the suffix `β😈`. Neither is one part of a character.

@@ -8,9 +8,9 @@ use std::test::Fail;
 
 #[test]
 fn trim(rt: HostRuntime) {
-    assert_as_str::<Trim>(&rt, rt.alloc(), 0, "");
-    assert_as_str::<TrimStart>(&rt, rt.alloc(), 0, "");
-    assert_as_str::<TrimEnd>(&rt, rt.alloc(), 0, "");
+    assert_as_str::<Trim>(&rt, rt.alloc(), "");
+    assert_as_str::<TrimStart>(&rt, rt.alloc(), "");
+    assert_as_str::<TrimEnd>(&rt, rt.alloc(), "");
 }
 
 /// Whether a text between two of these characters is trimmed as its `str`.

@@ -28,6 +28,6 @@ fn words_at_each_white_space(rt: HostRuntime) -> Result<(), Fail> {
 
 #[test]
 fn words(rt: HostRuntime) {
-    assert_as_str::<SplitWhitespace>(&rt, rt.alloc(), 0, "");
-    assert_as_str::<SplitAsciiWhitespace>(&rt, rt.alloc(), 0, "");
+    assert_as_str::<SplitWhitespace>(&rt, rt.alloc(), "");
+    assert_as_str::<SplitAsciiWhitespace>(&rt, rt.alloc(), "");
 }

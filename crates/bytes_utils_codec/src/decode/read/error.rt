@@ -1,12 +1,12 @@
 //! Why no item was read.
 ghost use Rattle.std.specs.Prelude.{◌≡◌, [], IfErr, IsOk, OnErr, OnOk};
 ghost use Rattle.bytes_utils_codec.specs.Decoding.{fed};
-ghost use Rattle.bytes_utils_codec.specs.ReadError.{back_bytes};
-ghost use Rattle.bytes_utils_codec.specs.ReadItem.{IsReadDue, item_back_bytes};
+ghost use Rattle.bytes_utils_codec.specs.ReadError.{IsReadDue, back_bytes};
+ghost use Rattle.bytes_utils_codec.specs.ReadItem.{item_back_bytes};
 ghost use Rattle.bytes_utils_codec.specs.declared.decode.read.error.ReadItemError.TheVariants.{Read as ReadFault};
 
-use crate::decode::{Decoded, Decoder};
-use crate::frame::ReadError;
+use super::ReadError;
+use crate::decode::{Decoder, Framed};
 use bytes::Bytes;
 use std::error::Error;
 use std::fmt;
@@ -23,7 +23,7 @@ pub enum ReadItemError<E> {
 impl<E: Drop> ReadItemError<E> {
     /// Pushes the bytes in the error into `items`, so that an item can be read again. Fails if they
     /// are refused; then `items` has not changed, and they are in the new error.
-    pub fn put_back<D: Decoder>(self, items: &mut Decoded<D>) -> Result<(), ReadError>
+    pub fn put_back<D: Decoder>(self, items: &mut Framed<D>) -> Result<(), ReadError>
         ensures ok { OnOk result (items.new ≡ fed items.old (item_back_bytes self)) }
         ensures err { OnErr result (items.new ≡ items.old) }
         ensures back { IfErr result (λ e. back_bytes e ≡ item_back_bytes self) }
@@ -38,7 +38,7 @@ impl<E: Drop> ReadItemError<E> {
 }
 
 /// Pushes a piece that was read.
-pub(super) fn push<D: Decoder>(items: &mut Decoded<D>, piece: Bytes) -> Result<(), ReadError>
+pub(super) fn push<D: Decoder>(items: &mut Framed<D>, piece: Bytes) -> Result<(), ReadError>
     ensures ok { OnOk result (items.new ≡ fed items.old piece) }
     ensures err { OnErr result (items.new ≡ items.old) }
     ensures back { IfErr result (λ e. back_bytes e ≡ piece) }

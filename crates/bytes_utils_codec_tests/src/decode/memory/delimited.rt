@@ -1,7 +1,7 @@
-//! Frames that a separator ends, and lines.
-use crate::fixtures::refusals::{given, report, without_back};
-use bytes::Bytes;
-use bytes_utils_codec::decode::{Decoded, Delimited, TextLines};
+//! Frames that a separator ends.
+use super::{are_copied, assert_item, is_held};
+use crate::fixtures::refusals::given;
+use bytes_utils_codec::decode::{Delimited, Framed};
 use std::alloc::Global;
 use std::io::Print;
 use std::process::Abort;
@@ -9,69 +9,42 @@ use std::process::Abort;
 /// A separator for which a search that keeps no window asks for memory.
 const LONG: &[u8] = b"0123456789abcdef-";
 
-/// Asserts the frame `a`, unless it was refused, which is reported: then all bytes are still held.
-fn assert_frame<R: Abort + Print>(rt: &R, alloc: Global, reader: &mut Decoded<Delimited>) {
-    match reader.next_item(alloc) {
-        Ok(Some(frame)) => {
-            assert!(rt; frame.as_slice() == "a".as_bytes() && reader.remaining() == 0);
-        }
-        Ok(None) => assert!(rt; false, "no frame has come"),
-        Err(reason) => {
-            assert!(rt; reader.remaining() == 18);
-            report(rt, "Delimited at next_item", reason);
-        }
+/// Asserts a frame in two pieces, of which the first is held as it came, and an empty one after it,
+/// unless a piece is refused.
+fn assert_frames<R: Abort + Print>(rt: &R, alloc: Global, reader: &mut Framed<Delimited>) {
+    if is_held(rt, reader, &[b'a'; 600])
+        && are_copied(rt, reader, "a0123456|789abcdef-0123456789abcdef-")
+    {
+        assert_item(rt, alloc, reader, ("Delimited at next_item", &[b'a'; 601]));
+        assert_item(rt, alloc, reader, ("Delimited at last_item", b""));
     }
 }
 
 #[test]
 fn delimited(rt: HostRuntime) {
     if let Some(decoder) = given(&rt, "Delimited::new", Delimited::new(rt.alloc(), LONG)) {
-        let mut reader = Decoded::new(rt.alloc(), decoder);
-        let pushed = reader.push_slice(b"a0123456789abcdef-");
-        if given(&rt, "Decoded::push_slice", pushed).is_some() {
-            assert_frame(&rt, rt.alloc(), &mut reader);
+        assert_frames(&rt, rt.alloc(), &mut Framed::new(rt.alloc(), decoder));
+    }
+}
+
+/// Asserts that no frame has come while two pieces are pushed, unless one of these is refused.
+fn assert_waits<R: Abort + Print>(rt: &R, alloc: Global, reader: &mut Framed<Delimited>) {
+    if is_held(rt, reader, &[b'0'; 600]) {
+        for piece in ["1234", "5678"] {
+            assert!(rt; matches!(reader.next_item(alloc), Ok(None)));
+            if !are_copied(rt, reader, piece) {
+                return;
+            }
         }
+        assert!(rt; matches!(reader.next_item(alloc), Ok(None)));
     }
 }
 
 // Its pieces are in two segments. Only these and the decoder take memory.
 #[test]
 fn no_memory_needed_while_it_waits(rt: HostRuntime) {
-    let Some(decoder) = given(&rt, "Delimited::new", Delimited::new(rt.alloc(), LONG)) else {
-        return;
-    };
-    let mut reader = Decoded::new(rt.alloc(), decoder);
-    let pushed = without_back(reader.push(Bytes::from_static(&[b'0'; 600])));
-    if given(&rt, "Decoded::push", pushed).is_none() {
-        return;
-    }
-    for piece in [b"1234", b"5678"] {
-        assert!(rt; matches!(reader.next_item(rt.alloc()), Ok(None)));
-        if given(&rt, "Decoded::push_slice", reader.push_slice(piece)).is_none() {
-            return;
-        }
-    }
-    assert!(rt; matches!(reader.next_item(rt.alloc()), Ok(None)));
-}
-
-/// Asserts the last line `a`, unless it was refused, which is reported: then it is still held.
-fn assert_last<R: Abort + Print>(rt: &R, alloc: Global, reader: &mut Decoded<TextLines>) {
-    match reader.last_item(alloc) {
-        Ok(Some(Ok(line))) => assert!(rt; line.as_str() == "a" && reader.remaining() == 0),
-        Ok(_) => assert!(rt; false, "no line"),
-        Err(reason) => {
-            assert!(rt; reader.remaining() == 1);
-            report(rt, "TextLines at last_item", reason);
-        }
-    }
-}
-
-#[test]
-fn lines(rt: HostRuntime) {
-    if let Some(decoder) = given(&rt, "TextLines::new", TextLines::new(rt.alloc())) {
-        let mut reader = Decoded::new(rt.alloc(), decoder);
-        if given(&rt, "Decoded::push_slice", reader.push_slice(b"a")).is_some() {
-            assert_last(&rt, rt.alloc(), &mut reader);
-        }
+    let made = Delimited::with_limit(rt.alloc(), LONG, 700);
+    if let Some(decoder) = given(&rt, "Delimited::with_limit", made) {
+        assert_waits(&rt, rt.alloc(), &mut Framed::new(rt.alloc(), decoder));
     }
 }

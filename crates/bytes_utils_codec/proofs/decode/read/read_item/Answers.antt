@@ -1,9 +1,9 @@
-use Rattle.std.proofs.Common.{rules, [], inl}
+use Rattle.std.proofs.Common.{rules, inl}
 use Rattle.bytes_utils_codec.specs.Decoding.{Item}
 use Rattle.bytes_utils_codec.specs.ReadError.{back_bytes}
 use Rattle.bytes_utils_codec.specs.ReadItem.{IsItemDue}
 use Rattle.bytes_utils_codec.specs.declared.decode.read.error.ReadItemError.TheVariants.{Read}
-use Rattle.bytes_utils_codec.proofs.ReadItemLemmas.{ReadsMore-none, ReadsMore-pushed, ReadsMore-same, ReadsNext-taken, LacksItem-same, read_pushed, read_unpushed, read_due, held_lost, held_due, read_lost, last_some, last_none, last_due}
+use Rattle.bytes_utils_codec.proofs.ReadItemLemmas.{ReadsMore-none, ReadsMore-pushed, ReadsMore-same, ReadsNext-taken, LacksItem-same, read_pushed, read_unpushed, held_lost, held_due, read_lost, last_some, last_none, last_due}
 use Rattle.bytes_utils_codec.proofs.decode.read.read_item.Goals as goal
 
 pub returns-in_err-held-clause-none_lost : goal.returns-in_err-held-clause-none_lost
@@ -34,7 +34,7 @@ pub returns-in_err-piece-clause-due : goal.returns-in_err-piece-clause-due
 returns-in_err-piece-clause-due g c =
     let error = c.in_err-piece.field-0.0 in
     let due : IsItemDue g.D.Decoder.gives g.D.Decoder.fails c.loop.items (Read error) =
-    (c.loop.invariant.lacks, read_due [] c.loop.items.held error (c.in_err-piece.ensures.due [] c.loop.items.held)) in
+    (c.loop.invariant.lacks, c.in_err-piece.ensures.due c.loop.items.held) in
     search rules
 
 pub returns-in_default-2-clause-item : goal.returns-in_default-2-clause-item

@@ -1,7 +1,7 @@
 use Rattle.std.proofs.Common.{arith, ◌≡◌, ◌≢◌, ◌⊎◌, ◌<◌, ◌≤◌, ◌+◌, ◌∙◌, inl, inr, sym, refl, subst, length, true}
 use Rattle.std.proofs.lemmas.Bool.{false≢true}
 use Rattle.std.proofs.lemmas.Result.{err_from_is_err_and}
-use Rattle.bytes_utils_protocols.specs.Multipart.{AfterSearch}
+use Rattle.bytes_utils_protocols.specs.Multipart.{AfterSearch, waiting_in}
 use Rattle.bytes_utils_protocols.specs.declared.multipart.sections.Stage.TheVariants.{Found}
 use Rattle.bytes_utils_protocols.proofs.MultipartLemmas.{few_wait, idle_after, none_after, none_of_same, over_limits}
 use Rattle.bytes_utils_protocols.proofs.multipart.PartReader.next_part.Goals as goal
@@ -10,12 +10,12 @@ pub returns-then-is_over-clause-too_large : goal.returns-then-is_over-clause-too
 returns-then-is_over-clause-too_large c _ =
     let new = c.search.new.self in
     let limits = c.self.inside.limits in
-    let over : (limits.head + limits.body < length new.preamble) ⊎ ((new.stage ≢ Found) × (limits.head + limits.body + length new.frames.separator < length new.frames.held)) =
+    let over : (limits.head + limits.body < length new.preamble) ⊎ ((new.stage ≢ Found) × (limits.head + limits.body + length new.delimiter.needle < length (waiting_in new))) =
     elim (c.is_over.ensures.over.0 c.if-is_over.true) [
       | inl much ↦ inl (omega (arith, much, c.is_over.ensures.short, c.most.ensures))
       | inr waits ↦ inr (waits.0, omega (arith, waits.1, c.is_over.ensures.fits, c.most.ensures))
     ] in
-    rw (← c.self.view_is) (λ more. over_limits limits c.self.inside.sections new more new.stage refl c.in_ok-search.ensures.ok c.search.ensures.divided over)
+    rw (← c.self.view_is) (λ more. over_limits limits c.self.inside.sections new more new.stage refl c.in_ok-search.ensures.ok c.search.ensures.divided.0 over)
 
 pub returns-in_err-take_part-in-Found-clause-malformed : goal.returns-in_err-take_part-in-Found-clause-malformed
 returns-in_err-take_part-in-Found-clause-malformed c =
@@ -48,8 +48,8 @@ returns-in_default-clause-few c =
     let limits = c.self.inside.limits in
     let is_not : c.is_over.result ≡ true → ⊥ = λ is. false≢true (sym c.if-is_over.false ∙ is) in
     let not_much : c.most.result < length new.preamble → ⊥ = λ much. is_not (c.is_over.ensures.over.1 (inl much)) in
-    let not_long : c.most.result + length new.frames.separator < length new.frames.held → ⊥ =
+    let not_long : c.most.result + length new.delimiter.needle < length (waiting_in new) → ⊥ =
     λ long. is_not (c.is_over.ensures.over.1 (inr (c.in_default.not-Found, long))) in
     let short : length new.preamble ≤ limits.head + limits.body = omega (arith, not_much, c.most.ensures) in
-    let few : length new.frames.held ≤ limits.head + limits.body + length new.frames.separator = omega (arith, not_long, c.most.ensures) in
-    few_wait limits c.self.inside.sections new short few new.stage c.in_ok-search.ensures.ok c.in_default.not-Found c.search.ensures.divided
+    let few : length (waiting_in new) ≤ limits.head + limits.body + length new.delimiter.needle = omega (arith, not_long, c.most.ensures) in
+    few_wait limits c.self.inside.sections new short few new.stage c.in_ok-search.ensures.ok c.in_default.not-Found c.search.ensures.divided.0

@@ -1,43 +1,49 @@
-use Rattle.std.proofs.Common.{◌≡◌, ap, refl, rules}
+use Rattle.std.proofs.Common.{◌∙◌, ap, sym, arith, ℕ, ◌+◌, ◌<◌, ◌≤◌, Bool, List, length, ⊎_elim}
+use Rattle.std.proofs.lemmas.Bool.{cases_lt, false≢true}
 use Rattle.std.specs.List.{concat}
+use Rattle.bytes_utils_codec.specs.Decoding.{Decoding}
 use Rattle.bytes_utils_codec.specs.Delimited.{Delimiting}
-use Rattle.bytes_utils_codec.proofs.DelimitedLemmas.{found_from, over_when_found_at, waits_when_missed, over_when_missed, on_when_missed}
+use Rattle.bytes_utils_codec.specs.Search.{Searching}
+use Rattle.bytes_utils_codec.proofs.DelimitedLemmas.{found_from, awaits_missed, over_missed, over_found}
 use Rattle.bytes_utils_codec.proofs.decode.delimited.Delimited.next_len.Goals as goal
+use Rattle.bytes_utils_codec.proofs.decode.delimited.Delimited.next_len.Goals.{in_default-via-in-Some+else-len-self, in_default-via-in-None+else-not-is_overlong}
+
+-- a decoder, and what is held
+abbrev state : Searching → ℕ → Bool → List ℕ → Decoding Delimiting
+state search limit skipping held =
+    record { decoder = record { separator = search.needle; max_length = limit; searched = search.searched; skipping = skipping }; held = held }
 
 pub returns-in-Some-clause-frame : goal.returns-in-Some-clause-frame
 returns-in-Some-clause-frame c =
-    let d = c.args.self.now in
-    found_from d.separator (concat c.args.held.now.held.segments) d.searched c.in-Some.ensures.some c.in-Some.len c.in-Some.ensures.found
+    let q = c.self.inside.search in
+    let found = rw c.as_segmented.ensures at c.in-Some.ensures.found in
+    rw (← c.self.view_is) (found_from q.needle (concat c.args.held.now.held.segments) q.searched c.in-Some.ensures.needle c.in-Some.len found)
 
-pub returns-in-Some-2-clause-fails : goal.returns-in-Some-2-clause-fails
-returns-in-Some-2-clause-fails c =
-    let limit : c.find.new.self.max_length ≡ c.args.self.now.max_length = ap (λ (d : Delimiting). d.max_length) c.in-Some.ensures.same in
-    (refl, over_when_found_at c.args.self.now (concat c.args.held.now.held.segments) c.in-Some.ensures.some c.in-Some.len c.in-Some.ensures.found (let over = c.if-len-self.false in search rules))
+pub returns-in-None-clause-waits : goal.returns-in-None-clause-waits
+returns-in-None-clause-waits c =
+    let q = c.self.inside in
+    let held = concat c.args.held.now.held.segments in
+    let missed = rw c.as_segmented.ensures at c.in-None.ensures.found in
+    let same = ap (λ (s : Searching). length s.needle) c.in-None.ensures.none in
+    let few : length held < q.max_length + length q.search.needle =
+    ⊎_elim (λ below. below)
+    (λ many. absurd (false≢true (sym c.if-not-is_overlong.true ∙ c.is_overlong.ensures.1 (omega (arith, many, same, c.remaining.ensures)))))
+    (cases_lt (length held) (q.max_length + length q.search.needle)) in
+    rw (← c.self.view_is) (awaits_missed (state q.search q.max_length q.skipping held) c.in-None.ensures.needle missed few)
 
-pub returns-then-self-clause-on : goal.returns-then-self-clause-on
-returns-then-self-clause-on c =
-    let passed = rw c.in-None.ensures.same at c.pass.ensures in
-    on_when_missed c.args.self.now (concat c.args.held.now.held.segments) c.in-None.ensures.some c.in-None.ensures.found
-    c.remaining.result c.remaining.ensures c.pass.new.self passed
-
-pub returns-else-self-clause-on : goal.returns-else-self-clause-on
-returns-else-self-clause-on c =
-    let passed = rw c.in-None.ensures.same at c.pass.ensures in
-    on_when_missed c.args.self.now (concat c.args.held.now.held.segments) c.in-None.ensures.some c.in-None.ensures.found
-    c.remaining.result c.remaining.ensures c.pass.new.self passed
-
-pub returns-then-self-clause-fails : goal.returns-then-self-clause-fails
-returns-then-self-clause-fails c =
-    let passed = rw c.in-None.ensures.same at c.pass.ensures in
-    let limit = ap (λ (d : Delimiting). d.max_length) passed in (
-      refl,
-      over_when_missed c.args.self.now (concat c.args.held.now.held.segments) c.in-None.ensures.some c.in-None.ensures.found
-          c.remaining.result c.remaining.ensures c.pass.new.self passed (let over = c.if-self.true in search rules),
-    )
-
-pub returns-else-self-clause-waits : goal.returns-else-self-clause-waits
-returns-else-self-clause-waits c =
-    let passed = rw c.in-None.ensures.same at c.pass.ensures in
-    let limit = ap (λ (d : Delimiting). d.max_length) passed in
-    waits_when_missed c.args.self.now (concat c.args.held.now.held.segments) c.in-None.ensures.some c.in-None.ensures.found
-    c.remaining.result c.remaining.ensures c.pass.new.self passed (let within = c.if-self.false in search rules)
+pub returns-in_default-clause-over : goal.returns-in_default-clause-over
+returns-in_default-clause-over c =
+    let q = c.self.inside in
+    let held = concat c.args.held.now.held.segments in
+    let s = state q.search q.max_length q.skipping held in
+    rw (← c.self.view_is) (elim c.in_default.branch [
+      | in_default-via-in-Some+else-len-self w ↦
+          let found = rw c.as_segmented.ensures at w.in-Some.ensures.found in
+          over_found s w.in-Some.ensures.needle w.in-Some.len found w.if-len-self.false
+      | in_default-via-in-None+else-not-is_overlong w ↦
+          let missed = rw c.as_segmented.ensures at w.in-None.ensures.found in
+          let same = ap (λ (s : Searching). length s.needle) w.in-None.ensures.none in
+          let many : q.max_length + length q.search.needle ≤ length held =
+          omega (arith, same, w.remaining.ensures, w.is_overlong.ensures.0 w.if-not-is_overlong.false) in
+          over_missed s w.in-None.ensures.needle missed many
+    ])
