@@ -1,4 +1,3 @@
-pub mod Pieces
 pub mod FindLemmas
 pub mod FoundLemmas
 pub mod SearchLemmas
@@ -7,10 +6,11 @@ pub mod FramesLemmas
 pub mod DecodingLemmas
 pub mod DelimitedLemmas
 pub mod LineItemsLemmas
+pub mod FindEndLemmas
+pub mod UniversalItemsLemmas
 pub mod ReadItemLemmas
 pub mod StreamLinesLemmas
 pub mod CursorLemmas
-pub mod EndSearchLemmas
 pub mod UniversalLinesLemmas
 pub mod ValidLen
 pub mod CharacterBegins

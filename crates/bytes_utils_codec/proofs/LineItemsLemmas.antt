@@ -263,7 +263,7 @@ line_items_law lossy limit bytes items end are =
 
 -- ---- with the last one
 
-items_append : (lossy : Bool) (limit : ℕ) (a b : List LineItem) (l m f g : List (List ℕ)) → AreItemsOf lossy limit a l f → AreItemsOf lossy limit b m g
+pub items_append : (lossy : Bool) (limit : ℕ) (a b : List LineItem) (l m f g : List (List ℕ)) → AreItemsOf lossy limit a l f → AreItemsOf lossy limit b m g
     → AreItemsOf lossy limit (a ++ b) (l ++ m) (f ++ g)
 items_append lossy limit [] b [] m [] g one two = two
 items_append lossy limit (item ∷ a) b (line ∷ l) m (frame ∷ f) g one two = (one.0, items_append lossy limit a b l m f g one.1 two)
@@ -293,7 +293,7 @@ few_left s mid limit is (inr awaits) =
     omega (arith, awaits.2.few, most, one, held)
 
 module _ (lossy : Bool) (limit : ℕ) where
-  last_items : (over : Bool) (last : Option LineItem) (rest : List ℕ) → IsLastOf lossy last (left_of over rest) → OnTrue over (limit < length rest)
+  pub last_items : (over : Bool) (last : Option LineItem) (rest : List ℕ) → IsLastOf lossy last (left_of over rest) → OnTrue over (limit < length rest)
       → length (left_of over rest) ≤ limit → AreItemsOf lossy limit (begun_line over ++ option_to_list last) (last_line rest) (last_line rest)
   last_items true None [] is many few = absurd (omega (arith, many))
   last_items true None (c ∷ rest) is many few = (record { within = λ fits. absurd (omega (arith, many, fits)); over = λ long. refl }, tt)

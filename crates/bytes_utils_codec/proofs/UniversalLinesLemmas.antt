@@ -1,135 +1,13 @@
 -- Lines that end with a line feed, a carriage return, or both.
-use Rattle.std.proofs.Common.{◌≡◌, ◌≢◌, ◌==◌, ℕ, ◌<◌, List, [], ◌∷◌, ◌++◌, inl, inr, Bool, true, false, length, drop, get_or, ap, ◌∙◌, sym, refl, subst, arith, append_assoc, append-nil, if◌then◌else◌, IsUtf8, length-append}
-use Rattle.std.proofs.lemmas.Bool.{cases_eq, cases_Bool, ne_eqb, and_left, false≢true}
+use Rattle.std.proofs.Common.{◌≡◌, ◌≢◌, ◌==◌, ℕ, List, [], ◌∷◌, ◌++◌, inl, inr, true, drop, get_or, ap, ◌∙◌, sym, refl, subst, arith, IsUtf8}
+use Rattle.std.proofs.lemmas.Bool.{ne_eqb, and_left}
 use Rattle.std.proofs.lemmas.List.{append_cancel_left}
 use Rattle.std.proofs.lemmas.List.Elements.{All-nil, All-cons, All-head, All-tail}
 use Rattle.bytes_utils.specs.Lines.{line_feed, carriage_return, first_led_by}
 use Rattle.bytes_utils_codec.specs.StreamLines.{last_line}
-use Rattle.bytes_utils_codec.specs.StreamRuns.{StreamEvent, Pushed, Taken, pushed_by, given_by}
-use Rattle.bytes_utils_codec.specs.UniversalLines.{universal_lines, IsInLine, LacksEnds, IsUniversalEnd, EndsLine, IsFirstLine, LineReading, nothing_read, without_feed, after_push, TakesUniversalLine, IsUniversalRun, AreFirstUniversal, UniversalRunLaw, AllUniversalLaw, TextUniversalLaw, SameUniversalLaw}
+use Rattle.bytes_utils_codec.specs.UniversalLines.{universal_lines, IsInLine, LacksEnds, IsUniversalEnd, IsFirstLine, AreFirstUniversal, AllUniversalLaw, TextUniversalLaw, SameUniversalLaw}
 use Rattle.bytes_utils_codec.proofs.StreamLinesLemmas.{before_utf8, after_utf8}
-use Rattle.bytes_utils_codec.proofs.StreamRunsLemmas.{AreFirst-next, same_first_law}
-
--- ---- pieces that are pushed
-
--- a line feed at the start of joined bytes
-without_feed-append : (c : ℕ) (t more : List ℕ) → without_feed (c ∷ t) ++ more ≡ without_feed (c ∷ t ++ more)
-without_feed-append c t more = elim (cases_eq c 10) [
-  | inl e ↦ rw e refl
-  | inr other ↦ rw (ne_eqb c 10 other) refl
-]
-
--- two pieces that follow each other are one
-after_push-twice : (reading : LineReading) (a b : List ℕ) → (after_push (after_push reading a) b).held ≡ (after_push reading (a ++ b)).held
-after_push-twice reading [] b = refl
-after_push-twice reading (c ∷ t) [] = rw (append-nil t) refl
-after_push-twice reading (c ∷ t) (d ∷ u) = by reading.after_return
-  where
-    by : (follows : Bool) → (reading.held ++ (if follows then without_feed (c ∷ t) else c ∷ t)) ++ (d ∷ u) ≡ reading.held ++ (if follows then without_feed (c ∷ t ++ d ∷ u) else c ∷ t ++ d ∷ u)
-    by true = append_assoc reading.held (without_feed (c ∷ t)) (d ∷ u) ∙ ap (λ l. reading.held ++ l) (without_feed-append c t (d ∷ u))
-    by false = append_assoc reading.held (c ∷ t) (d ∷ u)
-
--- ---- a line is taken
-
--- after a line feed or a carriage return at the start, a rest stays one that a line feed doesn't begin
-no_feed-append : (d : ℕ) (r more : List ℕ) → ((t : List ℕ) → d ∷ r ≢ line_feed ∷ t) → (t : List ℕ) → d ∷ r ++ more ≢ line_feed ∷ t
-no_feed-append d r more other t e = other r (ap (λ l. get_or l 0 0 ∷ r) e)
-
--- a line that more bytes follow, which don't come directly after a carriage return
-more_after : (bytes line end rest more : List ℕ) → EndsLine bytes line end rest → (end ≡ carriage_return ∷ [] → rest ≢ []) → EndsLine (bytes ++ more) line end (rest ++ more)
-more_after bytes line end rest more ended some =
-    record {
-      whole = ap (λ l. l ++ more) ended.whole ∙ append_assoc line (end ++ rest) more ∙ ap (λ l. line ++ l) (append_assoc end rest more);
-      ends = by rest ended.ends some;
-      lacks = ended.lacks;
-    }
-  where
-    by : (rest : List ℕ) → IsUniversalEnd end rest → (end ≡ carriage_return ∷ [] → rest ≢ []) → IsUniversalEnd end (rest ++ more)
-    by rest (inl fed) some = inl fed
-    by rest (inr (inl both)) some = inr (inl both)
-    by [] (inr (inr returned)) some = absurd (some returned.0 refl)
-    by (d ∷ r) (inr (inr returned)) some = inr (inr (returned.0, no_feed-append d r more returned.1))
-
--- a carriage return with which the bytes end, and a line feed or another byte that comes next
-returned_then : (bytes line : List ℕ) (c : ℕ) (t : List ℕ) → bytes ≡ line ++ carriage_return ∷ [] → LacksEnds line → IsFirstLine (bytes ++ c ∷ t) line (without_feed (c ∷ t))
-returned_then bytes line c t whole lacks =
-    let joined : bytes ++ c ∷ t ≡ line ++ carriage_return ∷ c ∷ t = ap (λ l. l ++ c ∷ t) whole ∙ append_assoc line (carriage_return ∷ []) (c ∷ t) in
-    elim (cases_eq c 10) [
-      | inl e ↦ (carriage_return ∷ line_feed ∷ [], record { whole = joined ∙ rw e refl; ends = inr (inl refl); lacks = lacks })
-      | inr other ↦ (
-        carriage_return ∷ [],
-        record { whole = joined ∙ rw (ne_eqb c 10 other) refl; ends = inr (inr (refl, rw (ne_eqb c 10 other) (λ u e. other (ap (λ l. get_or l 0 0) e)))); lacks = lacks },
-      )
-    ]
-
--- fewer bytes are held after a line
-pub line_shortens : (old : LineReading) (line : List ℕ) (new : LineReading) → TakesUniversalLine old line new → length new.held < length old.held
-line_shortens old line new takes =
-    omega (arith, ap length takes.ended.whole, length-append line (takes.end ++ new.held), length-append takes.end new.held, some takes.end takes.ended.ends)
-  where
-    some : (end : List ℕ) → IsUniversalEnd end new.held → 0 < length end
-    some end (inl fed) = omega (arith, ap length fed)
-    some end (inr (inl both)) = omega (arith, ap length both)
-    some end (inr (inr returned)) = omega (arith, ap length returned.0)
-
--- A line that is taken is the first one, whatever comes next.
-module _ (old : LineReading) (line : List ℕ) (new : LineReading) (closed : old.after_return ≡ true → old.held ≡ []) (takes : TakesUniversalLine old line new) where
-  open_after : new.after_return ≡ true → new.held ≡ []
-  open_after is = (takes.after_return.0 is).1
-
-  held_some : old.held ≢ []
-  held_some none = omega (arith, line_shortens old line new takes, ap length none)
-
-  not_open : old.after_return ≡ false
-  not_open = elim (cases_Bool old.after_return) [ inl is ↦ absurd (held_some (closed is)) | inr is_not ↦ is_not ]
-
-  first_before : (piece : List ℕ) → IsFirstLine (after_push old piece).held line (after_push new piece).held
-  first_before [] = (takes.end, takes.ended)
-  first_before (c ∷ t) =
-      let pushed : (after_push old (c ∷ t)).held ≡ old.held ++ c ∷ t = rw not_open refl in
-      subst (λ l. IsFirstLine l line (after_push new (c ∷ t)).held) (sym pushed) (elim (cases_Bool new.after_return) [
-        | inl is ↦
-            let parts = takes.after_return.0 is in
-            let held : old.held ≡ line ++ carriage_return ∷ [] = takes.ended.whole ∙ rw (parts.0, parts.1) refl in
-            rw (is, parts.1) (returned_then old.held line c t held takes.ended.lacks)
-        | inr is_not ↦
-            rw is_not (takes.end, more_after old.held line takes.end new.held (c ∷ t) takes.ended (λ end none. false≢true (sym is_not ∙ takes.after_return.1 (end, none))))
-      ])
-
--- ---- runs
-
--- whatever piece comes next, these are the first lines of the bytes with it
-record Leads (bytes : List ℕ) (items : List (List ℕ)) (reading : LineReading) : Type 0 where
-  closed : reading.after_return ≡ true → reading.held ≡ []
-  first : (piece : List ℕ) → AreFirstUniversal (bytes ++ piece) items (after_push reading piece).held
-
-closed-push : (reading : LineReading) (piece : List ℕ) → (reading.after_return ≡ true → reading.held ≡ []) → (after_push reading piece).after_return ≡ true → (after_push reading piece).held ≡ []
-closed-push reading [] closed is = closed is
-closed-push reading (c ∷ t) closed is = absurd (false≢true is)
-
-run_leads : (bytes : List ℕ) (items : List (List ℕ)) (reading : LineReading) (events : List (StreamEvent (List ℕ))) (end : LineReading) → Leads bytes items reading
-    → IsUniversalRun reading events end → AreFirstUniversal (bytes ++ pushed_by events) (items ++ given_by events) end.held
-run_leads bytes items reading [] end leads run = rw (append-nil items) (subst (λ r. AreFirstUniversal (bytes ++ []) items r.held) (sym run) (leads.first []))
-run_leads bytes items reading (Pushed piece ∷ events) end leads run =
-    rw (← append_assoc bytes piece (pushed_by events)) (run_leads (bytes ++ piece) items (after_push reading piece) events end (record {
-      closed = closed-push reading piece leads.closed;
-      first = λ next. rw (append_assoc bytes piece next, after_push-twice reading piece next) (leads.first (piece ++ next));
-    }) run)
-run_leads bytes items reading (Taken line ∷ events) end leads run =
-    let next = run.0 in
-    rw (append_assoc items (line ∷ []) (given_by events)) at (run_leads bytes (items ++ line ∷ []) next events end (record {
-      closed = open_after reading line next leads.closed run.1;
-      first = λ piece. AreFirst-next IsFirstLine (bytes ++ piece) items (after_push reading piece).held line (after_push next piece).held (leads.first piece)
-          (first_before reading line next leads.closed run.1 piece);
-    }) run.2)
-
-pub universal_run_law : UniversalRunLaw
-universal_run_law events end run =
-    run_leads [] [] nothing_read events end (record { closed = λ is. refl; first = λ piece. by piece }) run
-  where
-    by : (piece : List ℕ) → piece ≡ (after_push nothing_read piece).held
-    by [] = refl
-    by (c ∷ t) = refl
+use Rattle.bytes_utils_codec.proofs.StreamRunsLemmas.{same_first_law}
 
 -- ---- the lines of the bytes
 
@@ -213,5 +91,3 @@ text_universal_law text (line ∷ given) rest is are =
     text_line line end rest (inr (inr returned)) is =
         let whole : IsUtf8 (line ++ 13 ∷ rest) = rw returned.0 at is in
         (before_utf8 line 13 rest (omega arith) whole, after_utf8 line 13 rest (omega arith) whole)
-
-pub ruleset universal_line_laws = (universal_run_law, all_universal_law, text_universal_law, same_universal_law)

@@ -4,7 +4,6 @@ pub mod Search
 pub mod StreamLines
 pub mod Cursor
 pub mod UniversalLines
-pub mod EndSearch
 pub mod StreamTexts
 pub mod LossyTexts
 pub mod Pushing
@@ -17,4 +16,6 @@ pub mod Delimited
 pub mod DelimitedLaws
 pub mod LineItems
 pub mod LineItemsLaws
+pub mod UniversalItems
+pub mod UniversalItemsLaws
 pub mod ReadItem

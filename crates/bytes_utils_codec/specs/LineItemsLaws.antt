@@ -14,7 +14,7 @@ use Rattle.bytes_utils_codec.specs.declared.decode.lines.LineFault.TheVariants.{
 
 -- ---- one item for the same bytes
 
-IsTextItem-same : (lossy : Bool) (x y : LineItem) (bytes : List ℕ) → IsTextItem lossy x bytes → IsTextItem lossy y bytes → x ≡ y
+pub IsTextItem-same : (lossy : Bool) (x y : LineItem) (bytes : List ℕ) → IsTextItem lossy x bytes → IsTextItem lossy y bytes → x ≡ y
 IsTextItem-same true (Ok a) (Ok b) bytes s t = ap Ok (s ∙ sym t)
 IsTextItem-same true (Ok a) (Err f) bytes s t = absurd t
 IsTextItem-same true (Err e) y bytes s t = absurd s
@@ -42,7 +42,7 @@ IsLineOf-same lossy x y (Ok frame) s t =
     IsTextItem-same lossy x y t.0 (subst (IsTextItem lossy x) lines s.2) t.2
 IsLineOf-same lossy x y (Err over) s t = s ∙ sym t
 
-IsLastOf-same : (lossy : Bool) (x y : Option LineItem) (bytes : List ℕ) → IsLastOf lossy x bytes → IsLastOf lossy y bytes → x ≡ y
+pub IsLastOf-same : (lossy : Bool) (x y : Option LineItem) (bytes : List ℕ) → IsLastOf lossy x bytes → IsLastOf lossy y bytes → x ≡ y
 IsLastOf-same lossy None None bytes s t = refl
 IsLastOf-same lossy None (Some y) bytes s t = absurd (omega (arith, ap length s, t.0))
 IsLastOf-same lossy (Some x) None bytes s t = absurd (omega (arith, ap length t, s.0))

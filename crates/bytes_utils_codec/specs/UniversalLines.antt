@@ -1,9 +1,10 @@
 -- Lines of a stream of bytes that comes in pieces. Each is ended by a line feed, by a carriage return, or by a carriage return and a line feed.
-use Rattle.std.specs.Prelude.{◌≡◌, ◌≢◌, ◌↔◌, ◌⊎◌, ℕ, Bool, true, false, List, [], ◌∷◌, ◌++◌, ◌==◌, if◌then◌else◌, nat_eq, All, IsUtf8}
+use Rattle.std.specs.Prelude.{◌≡◌, ◌≢◌, ◌⊎◌, ℕ, List, [], ◌∷◌, ◌++◌, ◌==◌, if◌then◌else◌, nat_eq, All, IsUtf8, Option, length, slice_index}
 use Rattle.std.specs.List.{starts_with}
+use Rattle.memchr.specs.Find.{IsFirst}
 use Rattle.bytes_utils.specs.Lines.{line_feed, carriage_return, first_led_by}
 use Rattle.bytes_utils_codec.specs.StreamLines.{last_line}
-use Rattle.bytes_utils_codec.specs.StreamRuns.{StreamEvent, IsRunOver, pushed_by, given_by, AreFirst, SameFirstLaw}
+use Rattle.bytes_utils_codec.specs.StreamRuns.{AreFirst, SameFirstLaw}
 
 -- The lines of the bytes, with the last one, if it has no end and isn't empty. A carriage return before a line feed is a part of the end that this makes.
 abbrev pub universal_lines : List ℕ → List (List ℕ)
@@ -36,46 +37,17 @@ pub record EndsLine (bytes line end rest : List ℕ) : Type 0 where
 abbrev pub IsFirstLine : List ℕ → List ℕ → List ℕ → Type 0
 IsFirstLine bytes line rest = (end : List ℕ) × EndsLine bytes line end rest
 
--- What clauses see of a `UniversalLines`: the held bytes, and whether the last line was ended by a carriage return after which no byte has come. Then
--- a line feed that comes next belongs to that end.
-pub record LineReading : Type 0 where
-  pub held : List ℕ
-  pub after_return : Bool
+-- a line feed or a carriage return is at this place
+abbrev pub IsEndAt : List ℕ → ℕ → Type 0
+IsEndAt bytes k = (slice_index bytes k ≡ line_feed) ⊎ (slice_index bytes k ≡ carriage_return)
 
--- before any byte
-abbrev pub nothing_read : LineReading
-nothing_read = record { held = []; after_return = false }
-
--- the bytes without one line feed at their start, if they have one there
-abbrev pub without_feed : List ℕ → List ℕ
-without_feed [] = []
-without_feed (c ∷ t) = if c == line_feed then t else c ∷ t
-
--- The bytes of a piece are held after the others. A line feed at its start isn't, if it belongs to the end of the last line.
-abbrev pub after_push : LineReading → List ℕ → LineReading
-after_push reading [] = reading
-after_push reading (c ∷ t) =
-    record { held = reading.held ++ (if reading.after_return then without_feed (c ∷ t) else c ∷ t); after_return = false }
-
--- the first of the held bytes are the line and its end
-pub record TakesUniversalLine (old : LineReading) (line : List ℕ) (new : LineReading) : Type 0 where
-  pub end : List ℕ
-  pub ended : EndsLine old.held line end new.held
-  pub after_return : (new.after_return ≡ true) ↔ ((end ≡ carriage_return ∷ []) × (new.held ≡ []))
-
--- these events lead from one state to the one at the end
-abbrev pub IsUniversalRun : LineReading → List (StreamEvent (List ℕ)) → LineReading → Type 0
-IsUniversalRun reading events end = IsRunOver after_push TakesUniversalLine reading events end
+-- the first place from `from` on at which one is, if there is one
+abbrev pub FindsEnd : List ℕ → ℕ → Option ℕ → Type 0
+FindsEnd bytes from at = IsFirst (IsEndAt bytes) from (length bytes) at
 
 -- these are the first lines of the bytes, in order, and the bytes after them
 abbrev pub AreFirstUniversal : List ℕ → List (List ℕ) → List ℕ → Type 0
 AreFirstUniversal bytes lines rest = AreFirst IsFirstLine bytes lines rest
-
--- Whatever the pieces are, also if a carriage return is in one and its line feed in the next, and whenever lines are asked for, a run gives the first
--- lines of the joined pieces, and holds the bytes after them.
-abbrev pub UniversalRunLaw : Type 0
-UniversalRunLaw = (events : List (StreamEvent (List ℕ))) (end : LineReading) → IsUniversalRun nothing_read events end
-    → AreFirstUniversal (pushed_by events) (given_by events) end.held
 
 -- Together with the lines of the bytes after them they are the lines of all bytes. If no line ends in the bytes after them, these are the last line.
 pub record AreAllLines (bytes : List ℕ) (given : List (List ℕ)) (rest : List ℕ) : Type 0 where

@@ -9,6 +9,7 @@ mod length_prefixed;
 pub(crate) mod lines;
 mod read;
 mod too_long;
+mod universal_lines;
 
 use bytes_utils_buf::Reason;
 use bytes_utils_buf::segmented::PackedBuf;
@@ -20,6 +21,7 @@ pub use lines::{LineFault, Lines, line_laws};
 pub use read::{ReadError, ReadItemError, read_item, read_item_laws};
 use std::alloc::Global;
 pub use too_long::FrameTooLong;
+pub use universal_lines::{UniversalLines, universal_line_laws};
 
 /// A way to take items off the front of the bytes of a stream, such as frames of a protocol. Write
 /// `decode` over the bytes that have come. [`Framed`] holds these, and makes a reader of it, whose

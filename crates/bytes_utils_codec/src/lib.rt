@@ -1,8 +1,8 @@
 //! Streams that come in pieces, read by decoders, or as text; a search, and a cursor, over the bytes
 //! of many segments.
 //!
-//! - `decode` takes frames, lines, or what a decoder of yours takes, off a stream; `texts` the text of
-//!   it, and `universal_lines` lines with any of three ends.
+//! - `decode` takes frames, lines, or what a decoder of yours takes, off a stream, and `texts` the text
+//!   of it.
 //! - `find` searches the bytes of many segments, `search` goes on where it stopped, and `cursor` reads
 //!   parts off them.
 #![tactic(auto)]
@@ -10,7 +10,7 @@
 pub mod cursor;
 pub mod decode;
 pub mod find;
+mod find_end;
 pub mod line_error;
 pub mod search;
 pub mod texts;
-pub mod universal_lines;

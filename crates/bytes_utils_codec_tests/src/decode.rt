@@ -7,6 +7,7 @@ mod prefixed;
 mod read;
 mod rows;
 mod stream_lines;
+mod universal_lines;
 
 use bytes::Bytes;
 use bytes_utils::{Reason, Str};

@@ -18,5 +18,3 @@ mod readme;
 mod search;
 #[cfg(test)]
 mod texts;
-#[cfg(test)]
-mod universal_lines;

@@ -1,5 +1,5 @@
 -- Event streams.
-use Rattle.std.proofs.Common.{◌≡◌, ◌≢◌, ℕ, ◌+◌, ◌-◌, ◌==◌, ◌<◌, ◌≤◌, List, [], ◌∷◌, ◌++◌, inl, inr, Bool, true, false, length, take, drop, get_or, Option, None, Some, ap, ◌∙◌, sym, refl, subst, arith, append_assoc, append-nil, length-append, if◌then◌else◌, IsUtf8, unwrap_or}
+use Rattle.std.proofs.Common.{◌≡◌, ◌≢◌, ℕ, ◌+◌, ◌-◌, ◌==◌, ◌<◌, ◌≤◌, List, [], ◌∷◌, ◌++◌, inl, inr, Bool, true, false, length, take, drop, get_or, Option, None, Some, Ok, Err, ap, ◌∙◌, sym, refl, subst, arith, append_assoc, append-nil, length-append, if◌then◌else◌, IsUtf8, unwrap_or}
 use Rattle.std.specs.Prelude.{IfNone, MatchOption, nat_eq, nat_lt, ◌^◌, ◌&&◌}
 use Rattle.std.specs.Char.{digit_value}
 use Rattle.std.specs.List.{after_first, list_all, position_or_len, starts_with}
@@ -11,15 +11,19 @@ use Rattle.std.proofs.lemmas.List.{take-append-drop}
 use Rattle.std.proofs.lemmas.List.Elements.{All-head, All-tail}
 use Rattle.std.proofs.lemmas.Str.{IsCharBoundary-at_seam}
 use denote.Ref.{Bor}
-use Rattle.bytes_utils.specs.Lines.{line_feed, carriage_return}
+use Rattle.bytes_utils.specs.Lines.{line_feed}
 use Rattle.bytes_utils_codec.specs.StreamRuns.{AreFirst}
-use Rattle.bytes_utils_codec.specs.UniversalLines.{IsInLine, IsUniversalEnd, LacksEnds, LineReading, TakesUniversalLine, after_push}
+use Rattle.bytes_utils_codec.specs.Decoding.{Item}
+use Rattle.bytes_utils_codec.specs.LineItems.{LineItem}
+use Rattle.bytes_utils_codec.specs.UniversalItems.{gives_universal, keeps_universal}
+use Rattle.bytes_utils_codec.specs.UniversalItemsLaws.{universal_same, universal_shortens}
+use Rattle.bytes_utils_codec.specs.declared.decode.lines.LineFault.{LineFault}
+use Rattle.bytes_utils_codec.specs.declared.decode.lines.LineFault.TheVariants.{NotUtf8 as NotText, TooLong}
 use Rattle.bytes_utils_codec.proofs.StreamRunsLemmas.{AreFirst-next}
-use Rattle.bytes_utils_codec.proofs.UniversalLinesLemmas.{line_shortens}
-use Rattle.bytes_utils_protocols.specs.Events.{DoesLine, Eventing, Gives, IsEndOf, PassesFault, left_to_read, waiting_count, NextIsTooLarge, IsTooLarge, LosesNothing, MayWait, Reads, ReadsLine, ReadsNone, TakesFault, TakesNext, Telling, after_field, after_line, byte_order_mark, content, field_name, field_value, is_colon, is_number, number_of, text_len, without_space}
+use Rattle.bytes_utils_protocols.specs.Events.{DoesLine, Eventing, Gives, IsEndOf, IsTooLarge, Keeps, LosesNothing, PassesFault, Reads, ReadsLine, TakesNext, Telling, WaitsTooLarge, error_of, left_to_read, waiting_count, after_field, after_line, byte_order_mark, content, field_name, field_value, is_colon, is_number, number_of, text_len, without_space}
 use Rattle.bytes_utils_protocols.specs.Digits.{WriteNumber}
 use Rattle.bytes_utils_protocols.specs.declared.events.Event.{Event}
-use Rattle.bytes_utils_protocols.specs.declared.events.Limits.{Limits}
+use Rattle.bytes_utils_protocols.specs.declared.events.EventError.TheVariants.{NotUtf8}
 
 -- one more line is read
 pub reads_more : (start old taken new : Eventing) (line : List ℕ) → Reads start old → TakesNext old line taken → DoesLine taken line new → Reads start new
@@ -33,11 +37,10 @@ if_none None is so = so is
 if_none (Some x) is so = is
 
 -- an empty line where there is no data
-pub does_empty : (old mid : Eventing) (line : List ℕ) → IsUtf8 line → length line ≤ old.limits.line → content old.at_start line ≡ [] → old.told.text ≡ None
+pub does_empty : (old mid : Eventing) (line : List ℕ) → IsUtf8 line → content old.at_start line ≡ [] → old.told.text ≡ None
     → mid ≡ record old { told = record old.told { name = None } } → DoesLine old line (record mid { at_start = false })
-does_empty old mid line utf8 short empty none is = record {
+does_empty old mid line utf8 empty none is = record {
   utf8 = utf8;
-  short = short;
   ends_none = λ _. none;
   after = rw (is, empty) refl;
   small = rw (is, none) (omega arith);
@@ -49,24 +52,23 @@ field_told told (c ∷ t) some = refl
 
 -- a field with which the data would be too large
 pub field_too_large : (old : Eventing) (line text : List ℕ) → text ≡ content old.at_start line → text ≢ []
-    → old.limits.data < text_len (after_field old.told (field_name text) (field_value text)).text → IsTooLarge old line
+    → old.max_data < text_len (after_field old.told (field_name text) (field_value text)).text → IsTooLarge old line
 field_too_large old line text is some large =
-    let told : old.limits.data < text_len (after_line old.told text).text = subst (λ (t : Telling). old.limits.data < text_len t.text) (sym (field_told old.told text some)) large in
-    inr ((λ e. some (is ∙ e)), subst (λ t. old.limits.data < text_len (after_line old.told t).text) is told)
+    let told : old.max_data < text_len (after_line old.told text).text = subst (λ (t : Telling). old.max_data < text_len t.text) (sym (field_told old.told text some)) large in
+    ((λ e. some (is ∙ e)), subst (λ t. old.max_data < text_len (after_line old.told t).text) is told)
 
 -- a field
-pub does_field : (old mid : Eventing) (line : List ℕ) → IsUtf8 line → length line ≤ old.limits.line → content old.at_start line ≢ []
+pub does_field : (old mid : Eventing) (line : List ℕ) → IsUtf8 line → content old.at_start line ≢ []
     → mid ≡ record old { told = after_field old.told (field_name (content old.at_start line)) (field_value (content old.at_start line)) }
-    → text_len mid.told.text ≤ mid.limits.data → DoesLine old line (record mid { at_start = false })
-does_field old mid line utf8 short some is small =
+    → text_len mid.told.text ≤ mid.max_data → DoesLine old line (record mid { at_start = false })
+does_field old mid line utf8 some is small =
     let told = field_told old.told (content old.at_start line) some in
-    let limits : mid.limits ≡ old.limits = ap (λ (r : Eventing). r.limits) is in
+    let limits : mid.max_data ≡ old.max_data = ap (λ (r : Eventing). r.max_data) is in
     record {
       utf8 = utf8;
-      short = short;
       ends_none = λ empty. absurd (some empty);
       after = ap (λ (r : Eventing). record r { at_start = false }) (is ∙ ap (λ t. record old { told = t }) (sym told));
-      small = subst (λ (l : Limits). text_len mid.told.text ≤ l.data) limits small;
+      small = subst (λ l. text_len mid.told.text ≤ l) limits small;
     }
 
 -- ---- less is left to read
@@ -79,9 +81,9 @@ taken_less old taken line takes =
     none : taken.waiting ≡ None
     none = ap (λ (r : Eventing). r.waiting) takes.others
 
-    by : (waiting : Option (List ℕ)) → MatchOption waiting (TakesUniversalLine old.lines line taken.lines) (λ w. (line ≡ w) × (taken.lines ≡ old.lines))
+    by : (waiting : Option (List ℕ)) → MatchOption waiting (gives_universal old.lines (Item (Ok line)) taken.lines) (λ w. (line ≡ w) × (taken.lines ≡ old.lines))
         → left_to_read taken < length old.lines.held + waiting_count waiting
-    by None next = rw none (omega (arith, line_shortens old.lines line taken.lines next))
+    by None next = rw none (omega (arith, universal_shortens old.lines (Ok line) taken.lines next (λ e. absurd cc)))
     by (Some w) next = rw (none, next.1) (omega arith)
 
 same_left : (old new : Eventing) → new.lines ≡ old.lines → new.waiting ≡ old.waiting → left_to_read new ≡ left_to_read old
@@ -102,107 +104,32 @@ gives_less old event new gives =
     let same = same_left gives.taken new (ap (λ (r : Eventing). r.lines) gives.ends.after) (ap (λ (r : Eventing). r.waiting) gives.ends.after) in
     omega (arith, same, taken_less gives.before gives.taken gives.line gives.takes, reads_no_more gives.reads.0 old gives.before gives.reads.1)
 
-pub fault_less : (old new : Eventing) → PassesFault old new → left_to_read new < left_to_read old
+not_long : (fault : LineFault) (item : LineItem) → item ≡ Err fault → NotUtf8 ≡ error_of fault → item ≡ Err TooLong → ⊥
+not_long TooLong item one is e = absurd cc
+not_long (NotText fault) item one is e = absurd cc
+
+-- a line that isn't UTF-8 is passed over
+pub fault_less : (old new : Eventing) → PassesFault old NotUtf8 new → left_to_read new < left_to_read old
 fault_less old new passes =
     let mid = passes.0 in
     let fault = passes.2 in
     let waiting : new.waiting ≡ mid.waiting = ap (λ (r : Eventing). r.waiting) fault.others in
-    omega (arith, ap waiting_count waiting, line_shortens mid.lines fault.line new.lines fault.takes, reads_no_more passes.1.0 old mid passes.1.1)
+    let less = universal_shortens mid.lines (Err fault.fault) new.lines fault.gives (not_long fault.fault (Err fault.fault) refl fault.is) in
+    omega (arith, ap waiting_count waiting, less, reads_no_more passes.1.0 old mid passes.1.1)
 
--- ---- lines that can't be read
+-- ---- what a call of the decoder did
 
--- what a piece makes of the held bytes begins with them
-held_first : (reading : LineReading) (more : List ℕ) → (rest : List ℕ) × ((after_push reading more).held ≡ reading.held ++ rest)
-held_first reading [] = ([], sym (append-nil reading.held))
-held_first reading (c ∷ t) = (_, refl)
-
--- the first byte of an end is in no line
-pub end_first : (end rest : List ℕ) → IsUniversalEnd end rest → (c : ℕ) × (t : List ℕ) × (end ≡ c ∷ t) × (IsInLine c → ⊥)
-end_first end rest (inl fed) = (line_feed, [], fed, λ inside. inside.0 refl)
-end_first end rest (inr (inl both)) = (carriage_return, line_feed ∷ [], both, λ inside. inside.1 refl)
-end_first end rest (inr (inr returned)) = (carriage_return, [], returned.0, λ inside. inside.1 refl)
-
--- bytes in which no line ends are the first of a line, if they are the first of the bytes
-lacks_first : (held rest line : List ℕ) (c : ℕ) (t : List ℕ) → LacksEnds held → held ++ rest ≡ line ++ (c ∷ t) → (IsInLine c → ⊥) → length held ≤ length line
-lacks_first [] rest line c t lacks whole out = omega arith
-lacks_first (h ∷ held) rest [] c t lacks whole out = absurd (out (subst IsInLine (ap (λ l. get_or l 0 0) whole) (All-head IsInLine h held lacks)))
-lacks_first (h ∷ held) rest (b ∷ line) c t lacks whole out =
-    let less = lacks_first held rest line c t (All-tail IsInLine h held lacks) (ap (drop 1) whole) out in
-    omega arith
-
--- the held bytes are more than a line may have
-pub over_long : (reading : Eventing) → reading.waiting ≡ None → LacksEnds reading.lines.held → reading.limits.line < length reading.lines.held → NextIsTooLarge reading
-over_long reading none lacks long more line taken takes =
-    let next : TakesUniversalLine (after_push reading.lines more) line taken.lines =
-    subst (λ w. MatchOption w (TakesUniversalLine (after_push reading.lines more) line taken.lines)
-    (λ waiting. (line ≡ waiting) × (taken.lines ≡ after_push reading.lines more))) none takes.next in
-    let held = held_first reading.lines more in
-    let ended = next.ended in
-    let first = end_first next.end taken.lines.held ended.ends in
-    let whole : reading.lines.held ++ held.0 ≡ line ++ (first.0 ∷ first.1 ++ taken.lines.held) =
-    sym held.1 ∙ ended.whole ∙ ap (λ l. line ++ (l ++ taken.lines.held)) first.2 in
-    let less = lacks_first reading.lines.held held.0 line first.0 (first.1 ++ taken.lines.held) lacks whole first.3 in
-    let same : taken.limits.line ≡ reading.limits.line = ap (λ (r : Eventing). r.limits.line) takes.others in
-    inl (omega arith)
-
--- a line that can't be read waits
-pub over_waiting : (taken : Eventing) (line : List ℕ) → IsTooLarge taken line → NextIsTooLarge (record taken { waiting = Some line })
-over_waiting taken line large more next after takes =
-    let same : next ≡ line = takes.next.0 in
-    let limits : after.limits ≡ taken.limits = ap (λ (r : Eventing). r.limits) takes.others in
-    let start : after.at_start ≡ taken.at_start = ap (λ (r : Eventing). r.at_start) takes.others in
-    let told : after.told ≡ taken.told = ap (λ (r : Eventing). r.told) takes.others in
-    subst (λ l. IsTooLarge after l) (sym same) (rw (limits, start, told) large)
+-- with no line
+pub keeps_none : (old new : Eventing) → old.waiting ≡ None → keeps_universal old.lines new.lines → new ≡ record old { lines = new.lines } → Keeps old new
+keeps_none old new none keeps is = record { none = none; same = universal_same old.lines new.lines keeps; others = is }
 
 -- a line that can't be read is kept
-pub over_kept : (old mid taken new : Eventing) (line kept : List ℕ) → Reads old mid → TakesNext mid line taken → IsUtf8 kept → kept ≡ line → new ≡ record taken { waiting = Some kept }
-    → IsTooLarge taken line → LosesNothing old new × NextIsTooLarge new
-over_kept old mid taken new line kept reads takes utf8 same is large =
-    let waits : new ≡ record taken { waiting = Some line } = is ∙ ap (λ l. record taken { waiting = Some l }) same in (
-      (mid, reads, inr (record { line = line; taken = taken; takes = takes; may = inl (subst IsUtf8 same utf8); waits = waits })),
-      subst NextIsTooLarge (sym waits) (over_waiting taken line large),
-    )
-
--- a line that isn't UTF-8 passes the limit, and waits
-pub long_fault : (old taken new : Eventing) (line : List ℕ) → TakesNext old line taken → new ≡ record taken { waiting = Some line } → taken.limits.line < length line → ReadsNone old new × NextIsTooLarge new
-long_fault old taken new line takes waits long =
-    let limits : new.limits ≡ taken.limits = ap (λ (r : Eventing). r.limits) waits in (
-      inr (record { line = line; taken = taken; takes = takes; may = inr (subst (λ (l : Limits). l.line < length line) (sym limits) long); waits = waits }),
-      subst NextIsTooLarge (sym waits) (over_waiting taken line (inl long)),
-    )
-
--- the line that was taken off the held bytes isn't UTF-8
-module _ (old mid new : Eventing) (fault line : List ℕ) (none : old.waiting ≡ None) (takes : TakesUniversalLine old.lines fault mid.lines) (is : mid ≡ record old { lines = mid.lines })
-    (same : line ≡ fault) where
-  -- it is within the limit, and passed over
-  pub fault_passed : (¬ IsUtf8 fault) → length line ≤ mid.limits.line → new ≡ record mid { at_start = false } → TakesFault old new
-  fault_passed not_utf8 within after =
-      let lines : new.lines ≡ mid.lines = ap (λ (r : Eventing). r.lines) after in
-      let limits : mid.limits.line ≡ old.limits.line = ap (λ (r : Eventing). r.limits.line) is in
-      record {
-        none = none;
-        line = fault;
-        takes = subst (TakesUniversalLine old.lines fault) (sym lines) takes;
-        short = omega (arith, within, limits, ap length same);
-        fault = not_utf8;
-        others = after ∙ ap (λ (r : Eventing). record r { at_start = false }) is ∙ ap (λ l. record old { lines = l; at_start = false }) (sym lines);
-      }
-
-  -- it passes the limit, and waits
-  pub fault_waits : mid.limits.line < length line → new ≡ record mid { waiting = Some line } → ReadsNone old new × NextIsTooLarge new
-  fault_waits long after =
-      let next : TakesNext old line mid = record {
-        next =
-            subst (λ w. MatchOption w (TakesUniversalLine old.lines line mid.lines) (λ waiting. (line ≡ waiting) × (mid.lines ≡ old.lines))) (sym none)
-            (subst (λ l. TakesUniversalLine old.lines l mid.lines) (sym same) takes);
-        others = is ∙ ap (λ w. record old { lines = mid.lines; waiting = w }) none;
-      } in
-      long_fault old mid new line next after long
-
--- a line that waits and isn't UTF-8 passes the limit
-pub waits_long : (limits : Limits) (line : List ℕ) → MayWait limits line → (¬ IsUtf8 line) → limits.line < length line
-waits_long limits line (inl utf8) fault = absurd (fault utf8)
-waits_long limits line (inr long) fault = long
+pub over_kept : (old mid taken new : Eventing) (line : List ℕ) → Reads old mid → TakesNext mid line taken → IsUtf8 line → new ≡ record taken { waiting = Some line }
+    → IsTooLarge taken line → LosesNothing old new × WaitsTooLarge new
+over_kept old mid taken new line reads takes utf8 waits large = (
+  (mid, reads, inr (record { line = line; taken = taken; takes = takes; utf8 = utf8; waits = waits })),
+  (line, ap (λ (r : Eventing). r.waiting) waits, subst (λ r. IsTooLarge r line) (sym waits) large),
+)
 
 -- ---- the ends of a line
 

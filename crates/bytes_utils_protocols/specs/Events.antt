@@ -1,15 +1,19 @@
 -- Event streams, as the HTML standard defines them (sections 9.2.5 and 9.2.6, https://html.spec.whatwg.org/multipage/server-sent-events.html).
-use Rattle.std.specs.Prelude.{◌≡◌, ◌≢◌, ℕ, ◌+◌, Bool, false, ◌<◌, ◌≤◌, ◌⊎◌, ◌==◌, ◌&&◌, not, if◌then◌else◌, nat_eq, nat_lt, ◌^◌, List, [], ◌∷◌, ◌++◌, length, drop, codes, Option, None, Some, MatchOption, IsUtf8}
+use Rattle.std.specs.Prelude.{◌≡◌, ◌≢◌, ℕ, ◌+◌, Bool, false, ◌<◌, ◌≤◌, ◌⊎◌, ◌==◌, ◌&&◌, not, if◌then◌else◌, nat_eq, nat_lt, ◌^◌, List, [], ◌∷◌, ◌++◌, length, drop, codes, Option, None, Some, MatchOption, Result, Ok, Err, IsUtf8}
 use Rattle.std.specs.Cmp.Lexicographic.{pointwise}
 use Rattle.std.specs.Char.{digit_value}
 use Rattle.std.specs.List.{after_first, before_first, list_all, list_any, starts_with}
 use Rattle.std.specs.Option.{option_or}
 use Rattle.std.specs.Str.Parse.{digits_value}
 use Rattle.bytes_utils.specs.Lines.{line_feed}
+use Rattle.bytes_utils_codec.specs.Decoding.{Decoding, HasSameNext, Item, fed}
 use Rattle.bytes_utils_codec.specs.StreamRuns.{AreFirst}
-use Rattle.bytes_utils_codec.specs.UniversalLines.{LacksEnds, LineReading, TakesUniversalLine, after_push}
+use Rattle.bytes_utils_codec.specs.UniversalItems.{AwaitsUniversal, UniversalReading, gives_universal}
+use Rattle.bytes_utils_codec.specs.declared.decode.lines.LineFault.{LineFault}
+use Rattle.bytes_utils_codec.specs.declared.decode.lines.LineFault.TheVariants.{NotUtf8 as NotText, TooLong}
 use Rattle.bytes_utils_protocols.specs.declared.events.Event.{Event}
-use Rattle.bytes_utils_protocols.specs.declared.events.Limits.{Limits}
+use Rattle.bytes_utils_protocols.specs.declared.events.EventError.{EventError}
+use Rattle.bytes_utils_protocols.specs.declared.events.EventError.TheVariants.{NotUtf8, TooLarge}
 
 -- What the lines since the last event said of the next one: its name, and its text, which is the lines of data, joined. The identifier and the time
 -- to wait before connecting again, in milliseconds, are the last ones of the stream.
@@ -19,21 +23,21 @@ pub record Telling : Type 0 where
   pub id : Option (List ℕ)
   pub retry : Option ℕ
 
--- What clauses see of an `EventReader`: the bytes that no line was taken off, a line that was taken and not read, if there is one, whether no line
--- was read, and what the lines that were read said.
+-- What clauses see of an `EventReader`: the decoder of lines and the bytes that no line was taken off, a line that was taken and not read, if there is
+-- one, whether no line was read, what the lines that were read said, and the most bytes of the data of an event.
 pub record Eventing : Type 0 where
-  pub lines : LineReading
+  pub lines : Decoding UniversalReading
   pub waiting : Option (List ℕ)
   pub at_start : Bool
   pub told : Telling
-  pub limits : Limits
+  pub max_data : ℕ
 
 abbrev pub nothing_told : Telling
 nothing_told = record { name = None; text = None; id = None; retry = None }
 
 -- a piece came
 abbrev pub pushed : Eventing → List ℕ → Eventing
-pushed old piece = record old { lines = after_push old.lines piece }
+pushed old piece = record old { lines = fed old.lines piece }
 
 -- how much is to be read: the held bytes, and one more for a line that waits
 abbrev pub waiting_count : Option (List ℕ) → ℕ
@@ -107,22 +111,20 @@ text_len (Some text) = length text
 
 -- ---- lines that are read
 
--- this is the next line: the one that waits, or the first of the held bytes
+-- this is the next line: the one that waits, or the next of the stream
 pub record TakesNext (old : Eventing) (line : List ℕ) (new : Eventing) : Type 0 where
-  pub next : MatchOption old.waiting (TakesUniversalLine old.lines line new.lines) (λ waiting. (line ≡ waiting) × (new.lines ≡ old.lines))
+  pub next : MatchOption old.waiting (gives_universal old.lines (Item (Ok line)) new.lines) (λ waiting. (line ≡ waiting) × (new.lines ≡ old.lines))
   pub others : new ≡ record old { lines = new.lines; waiting = None }
 
--- The line, which was taken and is a text, does what it says, within the limits. It ends no event: it is not empty, or there is no data.
+-- The line, which was taken and is a text, does what it says, within the limit of the data. It ends no event: it is not empty, or there is no data.
 pub record DoesLine (old : Eventing) (line : List ℕ) (new : Eventing) : Type 0 where
   pub utf8 : IsUtf8 line
-  pub short : length line ≤ old.limits.line
   pub ends_none : content old.at_start line ≡ [] → old.told.text ≡ None
   pub after : new ≡ record old { at_start = false; told = after_line old.told (content old.at_start line) }
-  pub small : text_len new.told.text ≤ old.limits.data
+  pub small : text_len new.told.text ≤ old.max_data
 
 -- the line, which was taken, is empty and ends this event
 pub record EndsEvent (old : Eventing) (line : List ℕ) (event : Event) (new : Eventing) : Type 0 where
-  pub short : length line ≤ old.limits.line
   pub empty : content old.at_start line ≡ []
   pub text : old.told.text ≡ Some event.data
   pub name : event.name ≡ old.told.name
@@ -150,53 +152,61 @@ pub record Gives (old : Eventing) (event : Event) (new : Eventing) : Type 0 wher
 
 -- ---- calls that give no event
 
--- the line is a text, or passes the limit
-abbrev pub MayWait : Limits → List ℕ → Type 0
-MayWait limits line = IsUtf8 line ⊎ (limits.line < length line)
+-- no line waits and none is read, and the same lines come next
+pub record Keeps (old new : Eventing) : Type 0 where
+  pub none : old.waiting ≡ None
+  pub same : HasSameNext gives_universal old.lines new.lines
+  pub others : new ≡ record old { lines = new.lines }
 
 -- the next line is taken, and waits
 pub record Awaits (old new : Eventing) : Type 0 where
   pub line : List ℕ
   pub taken : Eventing
   pub takes : TakesNext old line taken
-  pub may : MayWait new.limits line
+  pub utf8 : IsUtf8 line
   pub waits : new ≡ record taken { waiting = Some line }
 
 -- no line is read; the next one may have been taken, and waits
 abbrev pub ReadsNone : Eventing → Eventing → Type 0
-ReadsNone old new = (new ≡ old) ⊎ Awaits old new
+ReadsNone old new = Keeps old new ⊎ Awaits old new
 
 -- Nothing is lost: some lines are read, none of which ends an event. The line after them may have been taken, and waits.
 abbrev pub LosesNothing : Eventing → Eventing → Type 0
 LosesNothing old new = (mid : Eventing) × Reads old mid × ReadsNone mid new
 
--- the first of the held bytes are a line within the limit that isn't UTF-8, and it is passed over
-pub record TakesFault (old new : Eventing) : Type 0 where
+-- some lines are read, none of which ends an event, and the end of the next one has not come
+abbrev pub Waits : Eventing → Eventing → Type 0
+Waits old new = (mid : Eventing) × Reads old mid × AwaitsUniversal mid.lines × Keeps mid new
+
+-- why a line isn't read
+abbrev pub error_of : LineFault → EventError
+error_of TooLong = TooLarge
+error_of (NotText fault) = NotUtf8
+
+-- the next line of the stream is passed over, for this error: it passes its limit, or is within it and not UTF-8
+pub record TakesFault (old : Eventing) (error : EventError) (new : Eventing) : Type 0 where
   pub none : old.waiting ≡ None
-  pub line : List ℕ
-  pub takes : TakesUniversalLine old.lines line new.lines
-  pub short : length line ≤ old.limits.line
-  pub fault : ¬ IsUtf8 line
+  pub fault : LineFault
+  pub gives : gives_universal old.lines (Item (Err fault)) new.lines
+  pub is : error ≡ error_of fault
   pub others : new ≡ record old { lines = new.lines; at_start = false }
 
--- some lines are read, none of which ends an event, and then a line within the limit that isn't UTF-8 is passed over
-abbrev pub PassesFault : Eventing → Eventing → Type 0
-PassesFault old new = (mid : Eventing) × Reads old mid × TakesFault mid new
+-- some lines are read, none of which ends an event, and then a line is passed over
+abbrev pub PassesFault : Eventing → EventError → Eventing → Type 0
+PassesFault old error new = (mid : Eventing) × Reads old mid × TakesFault mid error new
 
--- no line waits, none ends in the held bytes, and they are within the limit
-pub record IsIdle (reading : Eventing) : Type 0 where
-  pub none : reading.waiting ≡ None
-  pub lacks : LacksEnds reading.lines.held
-  pub short : length reading.lines.held ≤ reading.limits.line
+-- the next event, or the next line that is passed over
+abbrev pub GivesItem : Eventing → Result Event EventError → Eventing → Type 0
+GivesItem old (Ok event) new = Gives old event new
+GivesItem old (Err error) new = PassesFault old error new
 
--- the line, or the data with it, passes its limit
+-- the line is not empty, and the data with it passes its limit
 abbrev pub IsTooLarge : Eventing → List ℕ → Type 0
-IsTooLarge old line = (old.limits.line < length line)
-    ⊎ ((content old.at_start line ≢ []) × (old.limits.data < text_len (after_line old.told (content old.at_start line)).text))
+IsTooLarge old line = (content old.at_start line ≢ []) × (old.max_data < text_len (after_line old.told (content old.at_start line)).text)
 
--- whatever comes next, the next line is one of those that can't be read, whether it is UTF-8 or not
-abbrev pub NextIsTooLarge : Eventing → Type 0
-NextIsTooLarge reading = (more line : List ℕ) (taken : Eventing) → TakesNext (pushed reading more) line taken → IsTooLarge taken line
+-- a line waits that can't be read, whatever comes after it
+abbrev pub WaitsTooLarge : Eventing → Type 0
+WaitsTooLarge reading = (line : List ℕ) × (reading.waiting ≡ Some line) × IsTooLarge reading line
 
 -- ---- what the code takes of a line
 

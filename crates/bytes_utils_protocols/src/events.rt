@@ -1,18 +1,17 @@
 //! Server-sent events, of a stream that comes in pieces.
-ghost use Rattle.std.specs.Prelude.{◌≡◌, ◌≢◌, ◌+◌, ◌^◌, ◌<◌, ◌≤◌, ◌↔◌, [], ◌++◌, ◌∷◌, true, false, length, string_bytes, IfOk, IfErr, IfSome, IfNone, IsOk, IsTrue, IsUtf8, None, OnOk, OnErr, Some};
+ghost use Rattle.std.specs.Prelude.{◌≡◌, ◌≢◌, ◌+◌, ◌^◌, ◌<◌, ◌≤◌, ◌⊎◌, ◌↔◌, [], ◌++◌, ◌∷◌, true, false, length, string_bytes, IfOk, IfErr, IfSome, IfNone, IsOk, IsTrue, IsUtf8, None, OnOk, OnErr, Some};
 ghost use Rattle.std.specs.Option.{option_or};
 ghost use Rattle.bytes_utils.specs.Lines.{line_feed};
 ghost use Rattle.bytes_utils_codec.specs.Pushing.{IsPush};
-ghost use Rattle.bytes_utils_codec.specs.UniversalLines.{nothing_read};
+ghost use Rattle.bytes_utils_codec.specs.UniversalItems.{AwaitsUniversal, universal_reading};
 ghost use Rattle.bytes_utils_protocols.specs.EventData.{text_if_any, text_of};
-ghost use Rattle.bytes_utils_protocols.specs.EventRuns.{EventRunLaw, NoEventLaw, SameEventLaw};
-ghost use Rattle.bytes_utils_protocols.specs.Events.{DoesLine, EndsEvent, Gives, IsEndOf, IsIdle, NextIsTooLarge, IsTooLarge, LosesNothing, PassesFault, Reads, ReadsNone, TakesFault, TakesNext, after_field, content, text_len, field_name, field_value, left_to_read, nothing_told, number_of, pushed, some_name, with_line, without_space};
+ghost use Rattle.bytes_utils_protocols.specs.EventRuns.{EventRunLaw, LargeEventLaw, NoEventLaw, SameEventLaw};
+ghost use Rattle.bytes_utils_protocols.specs.Events.{DoesLine, EndsEvent, Gives, IsEndOf, IsTooLarge, Keeps, LosesNothing, PassesFault, TakesFault, TakesNext, Waits, WaitsTooLarge, after_field, content, text_len, field_name, field_value, left_to_read, nothing_told, number_of, pushed, some_name, with_line, without_space};
 
 use crate::number::number;
 use bytes::Bytes;
 use bytes_utils::{Reason, Refused, Str};
-use bytes_utils_codec::line_error::LineError;
-use bytes_utils_codec::universal_lines::UniversalLines;
+use bytes_utils_codec::decode::{Framed, LineFault, UniversalLines};
 use std::alloc::Global;
 use std::marker::Model;
 
@@ -47,8 +46,21 @@ pub enum EventError {
     Refused(Reason),
     /// A line within its limit isn't UTF-8.
     NotUtf8,
-    /// The next line, or the data with it, passes its limit.
+    /// A line, or the data with it, passes its limit.
     TooLarge,
+}
+
+impl From<LineFault> for EventError {
+    ghost use Rattle.bytes_utils_protocols.specs.Events.{error_of};
+
+    ghost from_gives = { λ fault error. error ≡ error_of fault };
+
+    fn from(fault: LineFault) -> EventError {
+        match fault {
+            LineFault::TooLong => EventError::TooLarge,
+            LineFault::NotUtf8(_) => EventError::NotUtf8,
+        }
+    }
 }
 
 impl From<Reason> for EventError {
@@ -86,20 +98,20 @@ enum Data {
 /// of one line share the bytes of their lines, and several lines of data are copied into one text.
 #[derive(Drop)]
 pub struct EventReader {
-    lines: UniversalLines,
-    waiting: Option<Bytes>,
+    lines: Framed<UniversalLines>,
+    waiting: Option<Str>,
     at_start: bool,
     name: Option<Str>,
     text: Option<Data>,
     id: Option<Str>,
     retry: Option<u64>,
-    limits: Limits,
+    max_data: usize,
 }
 
 impl Model for EventReader {
-    ghost use Rattle.std.specs.Prelude.{◌≤◌, IfSome};
+    ghost use Rattle.std.specs.Prelude.{◌≤◌};
     ghost use Rattle.bytes_utils_protocols.specs.EventData.{text_if_any};
-    ghost use Rattle.bytes_utils_protocols.specs.Events.{Eventing, MayWait, text_len};
+    ghost use Rattle.bytes_utils_protocols.specs.Events.{Eventing, text_len};
 
     ghost Value = { Eventing };
 
@@ -108,33 +120,32 @@ impl Model for EventReader {
       waiting = r.waiting;
       at_start = r.at_start;
       told = record { name = r.name; text = text_if_any r.text; id = r.id; retry = r.retry };
-      limits = r.limits;
+      max_data = r.max_data;
     } };
 
-    ghost invariant = { λ r. (text_len (text_if_any r.text) ≤ r.limits.data)
-        × IfSome r.waiting (MayWait r.limits) };
+    ghost invariant = { λ r. text_len (text_if_any r.text) ≤ r.max_data };
 }
 
 impl EventReader {
     /// Makes a reader that holds no bytes.
     pub fn new(alloc: Global, limits: Limits) -> EventReader
         ensures { result ≡ record {
-          lines = nothing_read;
+          lines = record { decoder = universal_reading limits.line; held = [] };
           waiting = None;
           at_start = true;
           told = nothing_told;
-          limits = limits;
+          max_data = limits.data;
         } }
     {
         EventReader {
-            lines: UniversalLines::new(alloc),
+            lines: Framed::new(alloc, UniversalLines::with_limit(limits.line)),
             waiting: None,
             at_start: true,
             name: None,
             text: None,
             id: None,
             retry: None,
-            limits,
+            max_data: limits.data,
         }
     }
 
@@ -162,35 +173,40 @@ impl EventReader {
 
     /// Returns the next event, or `None` if the empty line that ends it has not come yet. Fails with
     /// `Refused` if memory is refused; then nothing is lost, and the same call can be made again.
-    /// Fails with `NotUtf8` if a line within its limit is not UTF-8; then that line is passed over,
-    /// and the next call continues after it. (A browser puts U+FFFD for the bytes that are no
-    /// character, and reads the line.) Fails with `TooLarge` if the next line, or the data with it,
-    /// passes its limit, whether the line is UTF-8 or not; then nothing is lost, but that line can't
-    /// be read, whatever comes next.
+    /// Fails with `NotUtf8` if a line within its limit is not UTF-8, and with `TooLarge` if a line
+    /// passes its limit, whether it is UTF-8 or not; then that line is passed over, and the next call
+    /// continues after it. (A browser puts U+FFFD for the bytes that are no character, and reads the
+    /// line.) Each comes once, in its place, wherever the stream was cut. Fails with `TooLarge` also
+    /// if the data with the next line passes its limit; then nothing is lost, but that line can't be
+    /// read, whatever comes next.
     pub fn next_event(&mut self, alloc: Global) -> Result<Option<Event>, EventError>
         ensures event { IfOk result
             (λ next. IfSome next (λ event. Gives self.old event self.new)) }
         ensures less { IfOk result
             (λ next. IfSome next (λ _. left_to_read self.new < left_to_read self.old)) }
-        ensures waits { IfOk result (λ next. IfNone next (Reads self.old self.new × IsIdle self.new)) }
+        ensures waits { IfOk result (λ next. IfNone next (Waits self.old self.new)) }
+
+        // Then no more bytes are held than a line may have.
+        ensures short { IfOk result (λ next. IfNone next
+            (length self.new.lines.held ≤ self.new.lines.decoder.max_length)) }
         ensures refused { IfErr result (λ e. (reason : _) → e ≡ EventError.Refused reason
             → LosesNothing self.old self.new) }
-        ensures text { IfErr result (λ e. (reason : _) → e ≡ EventError.Refused reason
-            → IfSome self.new.waiting IsUtf8) }
         ensures reason { IfErr result (λ e. (reason : _) → e ≡ EventError.Refused reason
             → reason ≡ Reason.OutOfMemory) }
-        ensures not_utf8 { IfErr result (λ e. e ≡ EventError.NotUtf8 → PassesFault self.old self.new) }
+        ensures not_utf8 { IfErr result (λ e. e ≡ EventError.NotUtf8
+            → PassesFault self.old EventError.NotUtf8 self.new) }
         ensures less_by_fault { IfErr result (λ e. e ≡ EventError.NotUtf8
             → left_to_read self.new < left_to_read self.old) }
         ensures too_large { IfErr result (λ e. e ≡ EventError.TooLarge
-            → LosesNothing self.old self.new × NextIsTooLarge self.new) }
+            → PassesFault self.old EventError.TooLarge self.new
+            ⊎ (LosesNothing self.old self.new × WaitsTooLarge self.new)) }
     {
         while let Some(line) = self.next_line(alloc)? {
             match self.read(alloc, &line) {
                 Ok(None) => {}
                 Ok(Some(event)) => return Ok(Some(event)),
                 Err(error) => {
-                    self.waiting = Some(line.into_inner());
+                    self.waiting = Some(line);
                     return Err(error);
                 }
             }
@@ -211,57 +227,41 @@ impl EventReader {
         ensures value { result ≡ length self.now.lines.held }
 
         // True of every value, after any calls.
-        ensures small { text_len self.now.told.text ≤ self.now.limits.data }
+        ensures small { text_len self.now.told.text ≤ self.now.max_data }
     {
         self.lines.remaining()
     }
 
-    /// Takes the next line: the one that waits, or the next of the stream.
+    /// Takes the next line: the one that waits, or the next of the stream. A line for which there is
+    /// an error is passed over.
     fn next_line(&mut self, alloc: Global) -> Result<Option<Str>, EventError>
         ensures line { IfOk result
             (λ next. IfSome next (λ line. TakesNext self.old line self.new)) }
-        ensures waits { IfOk result (λ next. IfNone next ((self.new ≡ self.old) × IsIdle self.new)) }
+        ensures utf8 { IfOk result (λ next. IfSome next IsUtf8) }
+        ensures waits { IfOk result
+            (λ next. IfNone next (AwaitsUniversal self.old.lines × Keeps self.old self.new)) }
+        ensures short { IfOk result (λ next. IfNone next
+            (length self.new.lines.held ≤ self.new.lines.decoder.max_length)) }
         ensures refused { IfErr result
-            (λ e. (reason : _) → e ≡ EventError.Refused reason → self.new ≡ self.old) }
-        ensures none { IfErr result
-            (λ e. (reason : _) → e ≡ EventError.Refused reason → self.new.waiting ≡ None) }
+            (λ e. (reason : _) → e ≡ EventError.Refused reason → Keeps self.old self.new) }
         ensures reason { IfErr result (λ e. (reason : _) → e ≡ EventError.Refused reason
             → reason ≡ Reason.OutOfMemory) }
         ensures not_utf8 { IfErr result (λ e. e ≡ EventError.NotUtf8
-            → TakesFault self.old self.new) }
+            → TakesFault self.old EventError.NotUtf8 self.new) }
         ensures too_large { IfErr result (λ e. e ≡ EventError.TooLarge
-            → ReadsNone self.old self.new × NextIsTooLarge self.new) }
+            → TakesFault self.old EventError.TooLarge self.new) }
     {
         if let Some(line) = self.waiting.take() {
-            return match Str::from_inner(line) {
-                Ok(line) => Ok(Some(line)),
-                Err(fault) => Err(self.after_fault(fault.into_inner())),
-            };
+            return Ok(Some(line));
         }
-        match self.lines.next_line(alloc) {
-            Ok(Some(line)) => Ok(Some(line)),
-            Ok(None) if self.lines.remaining() > self.limits.line => Err(EventError::TooLarge),
-            Ok(None) => Ok(None),
-            Err(LineError::Refused(reason)) => Err(EventError::Refused(reason)),
-            Err(LineError::NotUtf8(fault)) => Err(self.after_fault(fault.into_inner())),
+        match self.lines.next_item(alloc)? {
+            None => Ok(None),
+            Some(Ok(line)) => Ok(Some(line)),
+            Some(Err(fault)) => {
+                self.at_start = false;
+                Err(fault.into())
+            }
         }
-    }
-
-    /// The error for a line that was taken and isn't UTF-8. If it passes its limit, it waits; if not,
-    /// it is passed over.
-    fn after_fault(&mut self, line: Bytes) -> EventError
-        ensures over { result ≡ EventError.TooLarge → (self.old.limits.line < length line)
-            × (self.new ≡ record self.old { waiting = Some line }) }
-        ensures within { result ≡ EventError.NotUtf8 → (length line ≤ self.old.limits.line)
-            × (self.new ≡ record self.old { at_start = false }) }
-        ensures reason { (reason : _) → result ≢ EventError.Refused reason }
-    {
-        if line.len() <= self.limits.line {
-            self.at_start = false;
-            return EventError::NotUtf8;
-        }
-        self.waiting = Some(line);
-        EventError::TooLarge
     }
 
     /// Does what a line says. If it ends an event, that is returned.
@@ -276,9 +276,6 @@ impl EventReader {
         ensures reason { IfErr result (λ e. (reason : _) → e ≡ EventError.Refused reason
             → reason ≡ Reason.OutOfMemory) }
     {
-        if line.len() > self.limits.line {
-            return Err(EventError::TooLarge);
-        }
         let text = content(self.at_start, line.as_str());
         let event = if text.is_empty() {
             self.end_event(alloc)?
@@ -328,7 +325,7 @@ impl EventReader {
               (field_name text.now) (field_value text.now);
         }) }
         ensures err { OnErr result (self.new ≡ self.old) }
-        ensures too_large { IfErr result (λ e. e ≡ EventError.TooLarge → self.old.limits.data
+        ensures too_large { IfErr result (λ e. e ≡ EventError.TooLarge → self.old.max_data
             < text_len (after_field self.old.told (field_name text.now) (field_value text.now)).text) }
         ensures utf8 { IfErr result (λ e. e ≢ EventError.NotUtf8) }
         ensures reason { IfErr result (λ e. (reason : _) → e ≡ EventError.Refused reason
@@ -358,12 +355,12 @@ impl EventReader {
         }) }
         ensures err { OnErr result (self.new ≡ self.old) }
         ensures too_large { IfErr result (λ e. e ≡ EventError.TooLarge
-            → self.old.limits.data < length (with_line self.old.told.text value.now)) }
+            → self.old.max_data < length (with_line self.old.told.text value.now)) }
         ensures utf8 { IfErr result (λ e. e ≢ EventError.NotUtf8) }
         ensures reason { IfErr result (λ e. (reason : _) → e ≡ EventError.Refused reason
             → reason ≡ Reason.OutOfMemory) }
     {
-        if !has_room(&self.text, value, self.limits.data) {
+        if !has_room(&self.text, value, self.max_data) {
             return Err(EventError::TooLarge);
         }
         add_line(alloc, &mut self.text, line, value)?;
@@ -371,14 +368,17 @@ impl EventReader {
     }
 }
 
-/// The laws of a run of calls. It gives the first events of the joined pieces, wherever these are cut,
-/// whenever events are asked for, and whichever calls are refused memory. These are the same for
-/// every run over the same bytes. If a call gave none, and was not refused, no event was there.
+/// The laws of a run of calls. It gives the first events of the joined pieces, and the errors of lines
+/// that are passed over, each in its place, wherever the pieces are cut, whenever events are asked
+/// for, and whichever calls are refused memory. These are the same for every run over the same bytes.
+/// If a call gave none, and was not refused, none was there; nor is one there if the data would pass
+/// its limit.
 #[tactic(auto, using(crate::proofs::EventRunsLemmas::event_laws))]
 pub fn event_laws()
     ensures run { EventRunLaw }
     ensures same { SameEventLaw }
     ensures none { NoEventLaw }
+    ensures large { LargeEventLaw }
 {}
 
 /// Whether the data may have one more line.

@@ -3,7 +3,7 @@ ghost use Rattle.std.specs.Prelude.{◌<◌};
 
 use crate::fixtures::{after_text, after_text_or_dash, debugs_as, filled};
 use bytes::Bytes;
-use bytes_utils_protocols::events::{Event, EventReader, Limits};
+use bytes_utils_protocols::events::{Event, EventError, EventReader, Limits};
 use std::alloc::Global;
 use std::test::Fail;
 
@@ -141,12 +141,8 @@ fn streams_in_slices(rt: HostRuntime) {
     }
 }
 
-/// What passes a limit: a line with and without its end, a line of data, and lines of data together.
-const LARGE: &str = ":45678901234567890123456|: 3456789012345678901234\n|data: 123456789012345\n|\
-    data: 123456\ndata: 12345678\n";
-
-/// A line that passes the limit and isn't UTF-8.
-const LARGE_FAULT: &[u8] = b": 345678901234567890123\xff\n";
+/// Data that passes its limit: one line of it, and two together.
+const LARGE: &str = "data: 123456789012345\n|data: 123456\ndata: 12345678\n";
 
 /// Whether the next call returns what `Debug` writes so.
 fn gives_event(alloc: Global, events: &mut EventReader, wanted: &str) -> bool {
@@ -175,25 +171,101 @@ fn passes_limit(alloc: Global, stream: &[u8]) -> bool {
 }
 
 #[test]
-fn large_lines(rt: HostRuntime) {
+fn large_data(rt: HostRuntime) {
     for stream in LARGE.split('|') {
         assert!(rt; passes_limit(rt.alloc(), stream.as_bytes()), "{stream}");
     }
-    assert!(rt; passes_limit(rt.alloc(), LARGE_FAULT));
 }
 
-/// Whether a line that isn't UTF-8 is an error, and the event after it comes.
-fn passes_over_a_fault(alloc: Global, events: &mut EventReader) -> bool {
-    events
-        .push(Bytes::from_static(b"data: \xff\ndata: a\n\n"))
-        .is_ok()
-        && gives_event(alloc, events, "Err(NotUtf8)")
-        && after_events(alloc, events, "-|-|a|") == Some("")
+/// Streams of a line that is passed over, and of the event `a`; and why that line is. It passes its
+/// limit, as a text and as bytes that are none, with each end; or it is within the limit, and not
+/// UTF-8.
+const FAULTS: [(&[u8], EventError); 5] = [
+    (
+        b": 3456789012345678901234\ndata: a\n\n",
+        EventError::TooLarge,
+    ),
+    (
+        b": 34567890123456789012\xff\xff\r\ndata: a\r\n\r\n",
+        EventError::TooLarge,
+    ),
+    (
+        b"\xff3456789012345678901234567890123456789012345678901\rdata: a\r\r",
+        EventError::TooLarge,
+    ),
+    (
+        b": 34567890123456789012\xff\ndata: a\n\n",
+        EventError::NotUtf8,
+    ),
+    (b"\xff\r\ndata: a\r\n\r\n", EventError::NotUtf8),
+];
+
+/// What is left to come after what a call returned: whether the error is, and the events. The error
+/// comes once, before all events.
+fn left_after<'w>(
+    returned: Result<Option<Event>, EventError>,
+    fault: EventError,
+    left: (bool, &'w str),
+) -> Option<(bool, &'w str)> {
+    match returned {
+        Ok(None) => Some(left),
+        Ok(Some(event)) if !left.0 => Some((false, after_event(&event, left.1)?)),
+        Err(error) if left.0 && error == fault => Some((false, left.1)),
+        _ => None,
+    }
 }
 
+/// What is left to come after the calls for this piece.
+fn left_after_piece<'w>(
+    alloc: Global,
+    events: &mut EventReader,
+    piece: &[u8],
+    fault: EventError,
+    left: (bool, &'w str),
+) -> Option<(bool, &'w str)> {
+    events.push_slice(piece).ok()?;
+    let mut left = left;
+    for _ in 0..3 {
+        left = left_after(events.next_event(alloc), fault, left)?;
+    }
+    Some(left)
+}
+
+/// Whether this error and then the event `a` come of a stream in pieces of this length. The reader
+/// is asked for events after each.
+fn passes_over_in(
+    alloc: Global,
+    events: &mut EventReader,
+    row: (&[u8], EventError),
+    len: usize,
+) -> bool
+    requires { 0 < len }
+{
+    let (stream, fault) = row;
+    let mut left = (true, "-|-|a|");
+    for piece in stream.chunks(len) {
+        match left_after_piece(alloc, events, piece, fault, left) {
+            Some(next) => left = next,
+            None => return false,
+        }
+    }
+    left == (false, "")
+}
+
+/// Whether they come of a stream in pieces of one byte, of twelve, and whole.
+fn passes_over(alloc: Global, row: (&[u8], EventError)) -> bool {
+    passes_over_in(alloc, &mut event_reader(alloc), row, 1)
+        && passes_over_in(alloc, &mut event_reader(alloc), row, 12)
+        && passes_over_in(alloc, &mut event_reader(alloc), row, 99)
+}
+
+/// A line over its limit is an error once, in its place, wherever the stream is cut, and so is one
+/// that is not UTF-8.
 #[test]
-fn a_line_that_is_not_utf8(rt: HostRuntime) {
-    assert!(rt; passes_over_a_fault(rt.alloc(), &mut event_reader(rt.alloc())));
+fn lines_that_are_passed_over(rt: HostRuntime) {
+    for row in FAULTS {
+        assert!(rt; passes_over(rt.alloc(), row));
+    }
 }
 
 /// The event of a piece, if there is one.

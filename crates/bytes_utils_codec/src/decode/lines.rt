@@ -66,7 +66,7 @@ impl fmt::Display for LineFault {
 impl Error for LineFault {}
 
 /// A line, or why there is no text of it.
-type Line = Result<Str, LineFault>;
+pub(super) type Line = Result<Str, LineFault>;
 
 /// A decoder of lines as texts. A line is one of `str::lines`: it ends at a line feed, and one
 /// carriage return directly before this is no part of it.
@@ -218,33 +218,9 @@ impl Lines {
             self.frames.pass_end(held);
             return Ok(None);
         }
-        let line = self.take_rest(alloc, held)?;
+        let line = take_rest(alloc, held, self.lossy)?;
         self.frames.ready();
         Ok(line)
-    }
-
-    /// Takes all bytes as a line, if there are any.
-    fn take_rest(&self, alloc: Global, held: &mut PackedBuf) -> Result<Option<Line>, Reason>
-        ensures last { IfOk result
-            (λ last. IsLastOf self.now.lossy last (concat held.old.held.segments)) }
-        ensures ok { OnOk result (concat held.new.held.segments ≡ []) }
-        ensures err { OnErr result
-            (concat held.new.held.segments ≡ concat held.old.held.segments) }
-        ensures some { OnErr result (0 < length (concat held.old.held.segments)) }
-        ensures reason { IfErr result (λ reason. reason ≡ Reason.OutOfMemory) }
-        ensures threshold { held.new.threshold ≡ held.old.threshold }
-    {
-        let len = held.remaining();
-        if len == 0 {
-            return Ok(None);
-        }
-        if !self.lossy || is_text_in_one(held, len) {
-            return Ok(Some(text_of(held.take_bytes(alloc, len)?)));
-        }
-        let bytes = held.as_segmented().peek_bytes(alloc, len)?;
-        let text = lossy_text(alloc, bytes)?;
-        held.advance(len);
-        Ok(Some(Ok(text)))
     }
 }
 
@@ -311,6 +287,55 @@ pub(crate) fn drop_return(line: &mut Bytes)
     if line.as_slice().ends_with(b"\r") {
         line.truncate(line.len() - 1);
     }
+}
+
+/// Takes all bytes as the last line, if there are any.
+pub(super) fn take_rest(
+    alloc: Global,
+    held: &mut PackedBuf,
+    lossy: bool,
+) -> Result<Option<Line>, Reason>
+    ensures last { IfOk result (λ last. IsLastOf lossy last (concat held.old.held.segments)) }
+    ensures ok { OnOk result (concat held.new.held.segments ≡ []) }
+    ensures err { OnErr result
+        (concat held.new.held.segments ≡ concat held.old.held.segments) }
+    ensures some { OnErr result (0 < length (concat held.old.held.segments)) }
+    ensures reason { IfErr result (λ reason. reason ≡ Reason.OutOfMemory) }
+    ensures threshold { held.new.threshold ≡ held.old.threshold }
+{
+    let len = held.remaining();
+    if len == 0 {
+        return Ok(None);
+    }
+    Ok(Some(take_line(alloc, held, len, lossy)?))
+}
+
+/// Takes the first `len` bytes as a line. If it is lossy, and they have bytes that are no character,
+/// the text is made before they are taken, so that a refused request changes nothing.
+pub(super) fn take_line(
+    alloc: Global,
+    held: &mut PackedBuf,
+    len: usize,
+    lossy: bool,
+) -> Result<Line, Reason>
+    requires { len ≤ length (concat held.old.held.segments) }
+    ensures line { IfOk result
+        (λ line. IsTextItem lossy line (take len (concat held.old.held.segments))) }
+    ensures ok { OnOk result
+        (concat held.new.held.segments ≡ drop len (concat held.old.held.segments)) }
+    ensures err { OnErr result
+        (concat held.new.held.segments ≡ concat held.old.held.segments) }
+    ensures some { OnErr result (0 < len) }
+    ensures reason { IfErr result (λ reason. reason ≡ Reason.OutOfMemory) }
+    ensures threshold { held.new.threshold ≡ held.old.threshold }
+{
+    if !lossy || is_text_in_one(held, len) {
+        return Ok(text_of(held.take_bytes(alloc, len)?));
+    }
+    let bytes = held.as_segmented().peek_bytes(alloc, len)?;
+    let text = lossy_text(alloc, bytes)?;
+    held.advance(len);
+    Ok(Ok(text))
 }
 
 /// The text of these bytes.

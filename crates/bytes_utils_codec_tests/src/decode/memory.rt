@@ -5,6 +5,7 @@ mod framed;
 mod lines;
 mod prefixed;
 mod read;
+mod universal_lines;
 
 use super::{Frame, bytes_of};
 use crate::fixtures::refusals::{given, report, without_back};

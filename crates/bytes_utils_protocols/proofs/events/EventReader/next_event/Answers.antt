@@ -1,6 +1,6 @@
-use Rattle.std.proofs.Common.{Some, ap, ◌∙◌, sym}
+use Rattle.std.proofs.Common.{Some, inr, ap, ◌∙◌, sym}
 use Rattle.std.proofs.lemmas.Result.{err_from_is_err_and}
-use Rattle.bytes_utils_protocols.proofs.EventsLemmas.{fault_less, gives_less, over_kept, reads_more}
+use Rattle.bytes_utils_protocols.proofs.EventsLemmas.{fault_less, gives_less, over_kept, reads_less, reads_more}
 use Rattle.bytes_utils_protocols.specs.Events.{Eventing}
 use Rattle.bytes_utils_protocols.proofs.events.EventReader.next_event.Goals as goal
 
@@ -12,6 +12,16 @@ loop-line-preserved-in-Ok-None c =
 pub loop-line-preserved : goal.loop-line-preserved
 loop-line-preserved c =
     reads_more c.args.self.now c.loop-line.self c.next_line.new.self c.read.new.self c.in-Some.line c.loop-line.invariant
+    (rw c.in-Some.is at c.in_ok-line.ensures.line) (rw c.in-Ok-None.field-0-is at c.in-Ok-None.ensures.none)
+
+pub loop-line-smaller-in-Ok-None : goal.loop-line-smaller-in-Ok-None
+loop-line-smaller-in-Ok-None c =
+    reads_less c.loop-line.self c.next_line.new.self c.read.new.self c.in-Some.line
+    (rw c.in-Some.is at c.in_ok-line.ensures.line) (rw c.in-Ok-None.field-0-is at c.in-Ok-None.ensures.none)
+
+pub loop-line-smaller : goal.loop-line-smaller
+loop-line-smaller c =
+    reads_less c.loop-line.self c.next_line.new.self c.read.new.self c.in-Some.line
     (rw c.in-Some.is at c.in_ok-line.ensures.line) (rw c.in-Ok-None.field-0-is at c.in-Ok-None.ensures.none)
 
 pub returns-in_err-line-clause-less_by_fault : goal.returns-in_err-line-clause-less_by_fault
@@ -32,5 +42,5 @@ returns-in-Ok-Some-clause-less c = gives_less c.args.self.now c.in-Ok-Some.event
 
 pub returns-in-Err-clause-too_large : goal.returns-in-Err-clause-too_large
 returns-in-Err-clause-too_large c is =
-    over_kept c.args.self.now c.loop-line.self c.next_line.new.self _ c.in-Some.line c.into_inner.result c.loop-line.invariant (rw c.in-Some.is at c.in_ok-line.ensures.line) c.into_inner.ensures.utf8
-    c.into_inner.ensures.value (ap (λ (r : Eventing). record r { waiting = Some c.into_inner.result }) (c.self.view_is ∙ c.in-Err.ensures.err)) (c.in-Err.ensures.too_large is)
+    inr (over_kept c.args.self.now c.loop-line.self c.next_line.new.self _ c.in-Some.line c.loop-line.invariant (rw c.in-Some.is at c.in_ok-line.ensures.line) (rw c.in-Some.is at c.in_ok-line.ensures.utf8)
+    (ap (λ (r : Eventing). record r { waiting = Some c.in-Some.line }) (c.self.view_is ∙ c.in-Err.ensures.err)) (c.in-Err.ensures.too_large is))

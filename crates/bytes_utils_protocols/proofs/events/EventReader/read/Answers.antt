@@ -1,4 +1,4 @@
-use Rattle.std.proofs.Common.{IsUtf8, ◌≡◌, ◌≢◌, ◌==◌, ◌≤◌, [], ap, arith, length, rules, subst, sym, tests, ◌∙◌}
+use Rattle.std.proofs.Common.{IsUtf8, ◌≡◌, ◌≢◌, ◌==◌, [], ap, length, rules, subst, sym, tests, ◌∙◌}
 use Rattle.std.proofs.lemmas.Bool.{false≢true}
 use Rattle.std.proofs.lemmas.List.{nil_from_length}
 use Rattle.std.proofs.lemmas.Result.{err_from_is_err_and}
@@ -18,19 +18,17 @@ returns-clause-none c =
     let line = c.args.line.now in
     let is_content : c.content-text.result.now ≡ content old.at_start line =
     c.content-text.ensures ∙ ap (content c.self.inside.at_start) c.as_str.ensures.value ∙ ap (λ (r : Eventing). content r.at_start line) c.self.view_is in
-    let limit : c.self.inside.limits.line ≡ old.limits.line = ap (λ (r : Eventing). r.limits.line) c.self.view_is in
-    let short : length line ≤ old.limits.line = omega (arith, limit, c.if-len-self.false, c.len.ensures) in
     elim c.if-is_empty.branch [
       | then-is_empty+in_ok-event w ↦
           let zero : length c.content-text.result.now ≡ 0 = search (rules, tests) in
           let empty : content old.at_start line ≡ [] = sym is_content ∙ nil_from_length _ zero in
           rw w.event-is (if_none w.in_ok-event.event w.in_ok-event.ensures.none
-          (λ is. does_empty old _ line (subst IsUtf8 c.as_str.ensures.value c.as_str.ensures.utf8) short empty is.0 (c.self-2.view_is ∙ w.self-is ∙ is.1)))
+          (λ is. does_empty old _ line (subst IsUtf8 c.as_str.ensures.value c.as_str.ensures.utf8) empty is.0 (c.self-2.view_is ∙ w.self-is ∙ is.1)))
       | else-is_empty+in_ok-read_field w ↦
           let some : content old.at_start line ≢ [] =
           λ empty. false≢true (sym w.if-is_empty.false ∙ c.is_empty.ensures ∙ ap (λ l. length l == 0) (is_content ∙ empty)) in
           let is = c.self-2.view_is ∙ w.self-is ∙ w.in_ok-read_field.ensures.ok in
-          rw w.event-is (does_field old _ line (subst IsUtf8 c.as_str.ensures.value c.as_str.ensures.utf8) short some (rw is_content at is) c.self-2.invariant.0)
+          rw w.event-is (does_field old _ line (subst IsUtf8 c.as_str.ensures.value c.as_str.ensures.utf8) some (rw is_content at is) c.self-2.invariant)
     ]
 
 pub returns-in_err-read_field-clause-too_large : goal.returns-in_err-read_field-clause-too_large
