@@ -7,4 +7,5 @@ mod Queues
 pub mod SlicesLemmas
 pub mod LentLemmas
 pub mod Results
+pub mod ReadingLemmas
 mod WriteLemmas

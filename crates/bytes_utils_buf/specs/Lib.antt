@@ -9,3 +9,4 @@ pub mod Either
 pub mod Chunks
 pub mod Write
 pub mod Packing
+pub mod Reading

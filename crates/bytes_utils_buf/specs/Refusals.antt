@@ -1,5 +1,7 @@
 -- What errors print.
 use Rattle.std.specs.Prelude.{ℕ, List, ◌++◌, codes, decimal}
+use Rattle.std.specs.declared.io.ErrorKind.{ErrorKind}
+use Rattle.std.specs.declared.io.ErrorKind.TheVariants.{OutOfMemory as KindOutOfMemory, FileTooLarge}
 use Rattle.bytes_utils_buf.specs.declared.refused.Reason.{Reason}
 use Rattle.bytes_utils_buf.specs.declared.refused.Reason.TheVariants.{OutOfMemory, TooLong}
 
@@ -7,6 +9,11 @@ use Rattle.bytes_utils_buf.specs.declared.refused.Reason.TheVariants.{OutOfMemor
 abbrev pub reason_text : Reason → List ℕ
 reason_text OutOfMemory = codes "out of memory"
 reason_text TooLong = codes "too long"
+
+-- the kind of an `io::Error` that is made of the reason
+abbrev pub reason_kind : Reason → ErrorKind
+reason_kind OutOfMemory = KindOutOfMemory
+reason_kind TooLong = FileTooLarge
 
 -- the number of bytes lost by a copy for which memory was refused
 abbrev pub copy_refused_text : ℕ → List ℕ

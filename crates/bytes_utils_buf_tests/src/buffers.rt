@@ -1,14 +1,17 @@
 //! The buffers of the kit's `bytes` share what is taken out of them.
 mod memory;
 
-use crate::fixtures::{JOINED, copies_long, long, shares, shares_taken, take_out};
+use crate::fixtures::{
+    JOINED, assert_some, assert_that, copies_long, copies_long_of, long, shares, shares_all,
+    shares_hello, shares_taken, take_out,
+};
+use bytes::buf::Take;
 use bytes::{Buf, Bytes, BytesMut, BytesQueue};
 use bytes_utils_buf::EitherBuf;
 use bytes_utils_buf::parts::BufParts;
 use std::alloc::Global;
 use std::collections::VecDeque;
 use std::io::Cursor;
-use std::process::Abort;
 
 fn shared(alloc: Global) -> Option<Bytes> {
     Bytes::copy_from_slice(alloc, JOINED.as_bytes()).ok()
@@ -22,23 +25,23 @@ fn borrowed_shares(alloc: Global) -> Option<bool> {
     Some(shares_borrowed(alloc, &mut shared(alloc)?))
 }
 
-fn boxed_shares(alloc: Global) -> Option<bool> {
-    Some(shares(alloc, &mut Box::new(alloc, shared(alloc)?).ok()?))
+fn boxed(alloc: Global) -> Option<Box<Bytes>> {
+    Box::new(alloc, shared(alloc)?).ok()
 }
 
 #[test]
 fn boxes_and_borrowed_ones_share(rt: HostRuntime) {
-    assert!(rt; borrowed_shares(rt.alloc()) == Some(true));
-    assert!(rt; boxed_shares(rt.alloc()) == Some(true));
+    assert_some(&rt, borrowed_shares(rt.alloc()));
+    assert_that(&rt, shares_all(rt.alloc(), boxed(rt.alloc())));
 }
 
-fn limited_shares(alloc: Global) -> Option<bool> {
-    Some(shares(alloc, &mut shared(alloc)?.take(11)))
+fn limited(alloc: Global) -> Option<Take<Bytes>> {
+    Some(shared(alloc)?.take(11))
 }
 
 #[test]
 fn limited_ones_share(rt: HostRuntime) {
-    assert!(rt; limited_shares(rt.alloc()) == Some(true));
+    assert_that(&rt, shares_all(rt.alloc(), limited(rt.alloc())));
 }
 
 /// Takes the next bytes out, and returns whether they are a copy.
@@ -59,12 +62,11 @@ fn chain_shares(alloc: Global) -> Option<bool> {
 
 #[test]
 fn chains_share(rt: HostRuntime) {
-    assert!(rt; chain_shares(rt.alloc()) == Some(true));
+    assert_some(&rt, chain_shares(rt.alloc()));
 }
 
-fn grown_shares(alloc: Global) -> Option<bool> {
-    let mut grown = BytesMut::copy_from_slice(alloc, JOINED.as_bytes()).ok()?;
-    Some(shares_taken(alloc, &mut grown, "Hello"))
+fn grown(alloc: Global, bytes: &[u8]) -> Option<BytesMut> {
+    BytesMut::copy_from_slice(alloc, bytes).ok()
 }
 
 fn queue(alloc: Global, bytes: &[u8]) -> Option<BytesQueue> {
@@ -75,46 +77,32 @@ fn queue(alloc: Global, bytes: &[u8]) -> Option<BytesQueue> {
     Some(queue)
 }
 
-fn queue_shares(alloc: Global) -> Option<bool> {
-    Some(shares_taken(alloc, &mut queue(alloc, JOINED.as_bytes())?, "Hello"))
-}
-
 #[test]
 fn grown_ones_and_queues_share(rt: HostRuntime) {
-    assert!(rt; grown_shares(rt.alloc()) == Some(true));
-    assert!(rt; queue_shares(rt.alloc()) == Some(true));
+    let (alloc, bytes) = (rt.alloc(), JOINED.as_bytes());
+    assert_that(&rt, shares_hello(alloc, grown(alloc, bytes)));
+    assert_that(&rt, shares_hello(alloc, queue(alloc, bytes)));
 }
 
 // No copy of many bytes is refused while there is memory.
 #[test]
 fn long_copies_of_borrowed_ones(rt: HostRuntime) {
     let (alloc, bytes) = (rt.alloc(), long());
-    let mut either: EitherBuf<&[u8], Bytes> = EitherBuf::Left(bytes);
-    assert!(rt;
-        copies_long(alloc, &mut Cursor::new(bytes))
-            && copies_long(alloc, &mut bytes.take(100_000))
-            && copies_long(alloc, &mut b"x".as_slice().chain(bytes))
-            && copies_long(alloc, &mut either)
-    );
+    let either: EitherBuf<&[u8], Bytes> = EitherBuf::Left(bytes);
+    assert_that(&rt, copies_long_of(alloc, Some(either)));
+    assert_that(&rt, copies_long(alloc, &mut Cursor::new(bytes)));
+    assert_that(&rt, copies_long(alloc, &mut bytes.take(100_000)));
+    assert_that(&rt, copies_long(alloc, &mut b"x".as_slice().chain(bytes)));
 }
 
-fn grown_is_copied(alloc: Global) -> Option<bool> {
-    let mut grown = BytesMut::copy_from_slice(alloc, long()).ok()?;
-    Some(copies_long(alloc, &mut grown))
-}
-
-fn queue_is_copied(alloc: Global) -> Option<bool> {
-    Some(copies_long(alloc, &mut queue(alloc, long())?))
-}
-
-fn deque_is_copied(alloc: Global) -> Option<bool> {
-    let mut deque = VecDeque::from_vec(long().to_vec(alloc).ok()?);
-    Some(copies_long(alloc, &mut deque))
+fn deque(alloc: Global, bytes: &[u8]) -> Option<VecDeque<u8>> {
+    bytes.to_vec(alloc).ok().map(VecDeque::from_vec)
 }
 
 #[test]
 fn long_copies_of_grown_ones(rt: HostRuntime) {
-    assert!(rt; grown_is_copied(rt.alloc()) == Some(true));
-    assert!(rt; queue_is_copied(rt.alloc()) == Some(true));
-    assert!(rt; deque_is_copied(rt.alloc()) == Some(true));
+    let (alloc, bytes) = (rt.alloc(), long());
+    assert_that(&rt, copies_long_of(alloc, grown(alloc, bytes)));
+    assert_that(&rt, copies_long_of(alloc, queue(alloc, bytes)));
+    assert_that(&rt, copies_long_of(alloc, deque(alloc, bytes)));
 }

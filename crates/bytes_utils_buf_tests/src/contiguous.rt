@@ -1,7 +1,7 @@
 //! What no clause says: that long parts are not refused, and what is left after memory is refused.
 mod memory;
 
-use crate::fixtures::long;
+use crate::fixtures::{assert_that, long};
 use bytes_utils_buf::contiguous::ContiguousBuf;
 use std::alloc::Global;
 use std::process::Abort;
@@ -16,5 +16,5 @@ fn gives_long<B: ContiguousBuf>(alloc: Global, buf: &B) -> bool {
 // No copy of many bytes is refused while there is memory.
 #[test]
 fn long_first_and_part_of_slices(rt: HostRuntime) {
-    assert!(rt; gives_long(rt.alloc(), &long()));
+    assert_that(&rt, gives_long(rt.alloc(), &long()));
 }

@@ -12,6 +12,7 @@ use std::alloc::{AllocError, Global};
 use std::fmt;
 use std::io::Read;
 use std::process::Abort;
+use std::str::Split;
 
 /// The texts of four buffers, one of them empty.
 pub(crate) const FOUR: &str = "Hello| ||World";
@@ -21,6 +22,21 @@ pub(crate) const FIVE: &str = "Hello|| ||World";
 
 /// The bytes of `FOUR` and `FIVE`, joined.
 pub(crate) const JOINED: &str = "Hello World";
+
+/// Fails the test unless this holds. A test that calls it has no path of its own to a failure.
+pub(crate) fn assert_that(rt: &impl Abort, holds: bool) {
+    assert!(rt; holds);
+}
+
+/// The same of what a helper returns, if there was memory for its buffers.
+pub(crate) fn assert_some(rt: &impl Abort, holds: Option<bool>) {
+    assert!(rt; holds == Some(true));
+}
+
+/// The same of a row of a table.
+pub(crate) fn assert_row(rt: &impl Abort, row: &str, holds: Option<bool>) {
+    assert!(rt; holds == Some(true), "{row}");
+}
 
 /// Buffers of these texts, in room for all.
 pub(crate) fn bytes_of(alloc: Global, texts: &'static str) -> Result<Vec<Bytes>, AllocError> {
@@ -78,8 +94,7 @@ pub(crate) fn held_slices(
 /// Holds a buffer of any type alone.
 pub(crate) fn hold<B: Buf + Drop>(alloc: Global, buf: B) -> Option<SegmentedBuf<B>> {
     let mut held = SegmentedBuf::new(alloc);
-    held.try_push(buf).ok()?;
-    Some(held)
+    held.try_push(buf).is_ok().then_some(held)
 }
 
 /// Appends one more buffer, and returns whether it was accepted.
@@ -141,6 +156,14 @@ pub(crate) fn copies_long<B: BufParts>(alloc: Global, buf: &mut B) -> bool {
     matches!(&take_out(alloc, buf, 100_000), Some(copy) if copy.len() == 100_000)
 }
 
+/// The same of a buffer, if it was made.
+pub(crate) fn copies_long_of<B: BufParts + Drop>(alloc: Global, made: Option<B>) -> bool {
+    match made {
+        Some(mut buf) => copies_long(alloc, &mut buf),
+        None => false,
+    }
+}
+
 /// Whether the block of `other`, which was taken out whole, has one more owner and no third one. A
 /// copy of it would be a block of its own.
 pub(crate) fn is_moved(front: Bytes, other: &Bytes) -> bool {
@@ -185,6 +208,11 @@ pub(crate) fn fills<B: BufParts>(buf: &B, places: usize, texts: &str) -> bool {
     are_texts(&table[..filled], texts)
 }
 
+/// Whether the next of the wanted texts has these bytes.
+pub(crate) fn is_next(wanted: &mut Split<'_, char>, bytes: &[u8]) -> bool {
+    wanted.next().map(str::as_bytes) == Some(bytes)
+}
+
 fn are_texts(slices: &[&[u8]], texts: &str) -> bool {
     let mut wanted = texts.split('|');
     for slice in slices {
@@ -209,6 +237,25 @@ pub(crate) fn shares<B: BufParts + ContiguousBuf>(alloc: Global, buf: &mut B) ->
         && shares_taken(alloc, buf, "Hello")
         && skip(buf, 1)
         && reads(buf, 5, "World")
+}
+
+/// The same of a buffer, if it was made.
+pub(crate) fn shares_all<B: BufParts + ContiguousBuf + Drop>(
+    alloc: Global,
+    made: Option<B>,
+) -> bool {
+    match made {
+        Some(mut buf) => shares(alloc, &mut buf),
+        None => false,
+    }
+}
+
+/// Whether the first bytes of a buffer of `JOINED`, if it was made, share a block.
+pub(crate) fn shares_hello<B: BufParts + Drop>(alloc: Global, made: Option<B>) -> bool {
+    match made {
+        Some(mut buf) => shares_taken(alloc, &mut buf, "Hello"),
+        None => false,
+    }
 }
 
 fn shares_parts<B: ContiguousBuf>(alloc: Global, buf: &B) -> bool {

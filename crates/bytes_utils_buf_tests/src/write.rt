@@ -1,4 +1,5 @@
 //! Borrowed buffers, written as a whole and in part, and the number of calls.
+use crate::fixtures::assert_row;
 use crate::fixtures::slow_writer::SlowWriter;
 use bytes::Buf;
 use bytes_utils_buf::segmented::SegmentedSlice;
@@ -128,7 +129,7 @@ fn is_right(alloc: Global, row: &str) -> Option<bool> {
 
 fn assert_writes(rt: &impl Abort, alloc: Global, rows: &'static str) {
     for row in rows.split('|') {
-        assert!(rt; is_right(alloc, row) == Some(true), "{row}");
+        assert_row(rt, row, is_right(alloc, row));
     }
 }
 

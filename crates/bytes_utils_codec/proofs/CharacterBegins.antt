@@ -10,6 +10,7 @@ use Rattle.std.specs.Str.Lossy.{utf8_valid_len, utf8_error_len}
 use lib.Dec.{ltb}
 use lib.Utf8.{scalar, scalars, scalar_cases}
 use Rattle.bytes_utils_codec.specs.StreamTexts.{IsFaulty}
+use Rattle.bytes_utils_codec.proofs.CharacterEnds.{nothing}
 use Rattle.bytes_utils_codec.proofs.ValidLen.{no_front}
 
 -- the first bytes of a character, but not all, are no fault
@@ -38,29 +39,16 @@ module _ (c : ℕ) where
   unfolding utf8_error_len
   three_of_four low high = grind (arith, nat_tests)
 
--- the fronts of a list of two, three or four, that are neither empty nor whole
-module _ (P : List ℕ → Type 0) (x y : ℕ) (one : P (x ∷ [])) where
-  front_of_two : (n : ℕ) → 0 < n → n < 2 → P (take n (x ∷ y ∷ []))
-  front_of_two zero some less = absurd (omega arith)
-  front_of_two (suc zero) some less = one
-  front_of_two (suc (suc n)) some less = absurd (omega arith)
-
-  module _ (z : ℕ) (two : P (x ∷ y ∷ [])) where
-    front_of_three : (n : ℕ) → 0 < n → n < 3 → P (take n (x ∷ y ∷ z ∷ []))
-    front_of_three zero some less = absurd (omega arith)
-    front_of_three (suc zero) some less = one
-    front_of_three (suc (suc zero)) some less = two
-    front_of_three (suc (suc (suc n))) some less = absurd (omega arith)
-
-    front_of_four : (w : ℕ) → P (x ∷ y ∷ z ∷ []) → (n : ℕ) → 0 < n → n < 4 → P (take n (x ∷ y ∷ z ∷ w ∷ []))
-    front_of_four w three zero some less = absurd (omega arith)
-    front_of_four w three (suc zero) some less = one
-    front_of_four w three (suc (suc zero)) some less = two
-    front_of_four w three (suc (suc (suc zero))) some less = three
-    front_of_four w three (suc (suc (suc (suc n)))) some less = absurd (omega arith)
+-- the fronts of at most four bytes that are neither empty nor whole
+fronts : (P : List ℕ → Type 0) (l : List ℕ) (n : ℕ) → 0 < n → n < length l → length l ≤ 4 → P (take 1 l) → (2 < length l → P (take 2 l))
+    → (3 < length l → P (take 3 l)) → P (take n l)
+fronts P l (suc zero) some less few one two three = one
+fronts P l (suc (suc zero)) some less few one two three = two less
+fronts P l (suc (suc (suc zero))) some less few one two three = three less
+fronts P l n some less few one two three = absurd (omega arith)
 
 -- a term of the type given
-abbrev by : (A : Type 0) → A → A
+abbrev pub by : (A : Type 0) → A → A
 by A a = a
 
 abbrev Open : List ℕ → Type 0
@@ -79,7 +67,9 @@ begins_open c n is some less =
     ⊎_elim
     (λ two.
     let e : encode_utf8 c ≡ (192 + c / 64) ∷ (128 + c % 64) ∷ [] = cond-false _ _ _ not_one ∙ cond-true _ _ _ (by (ltb c 2048 ≡ true) (grind (arith, nat_tests))) in
-    subst (λ l. Open (take n l)) (sym e) (front_of_two Open _ _ (of_two c more two) n some (omega (arith, less, ap length e))))
+    subst (λ l. Open (take n l)) (sym e)
+    (fronts Open _ n some (omega (arith, less, ap length e)) (omega arith)
+    (of_two c more two) (λ long. absurd (omega (arith, long))) (λ long. absurd (omega (arith, long)))))
     (λ wide.
     let not_two : ltb c 2048 ≡ false = grind (arith, nat_tests) in
     ⊎_elim
@@ -88,21 +78,19 @@ begins_open c n is some less =
     cond-false _ _ _ not_one ∙ cond-false _ _ _ not_two ∙ cond-true _ _ _ (by (ltb c 65536 ≡ true) (grind (arith, nat_tests))) in
     let apart : (c < 55296) ⊎ (57344 ≤ c) = ⊎_elim (λ low. inl low) (λ high. inr high.0) range in
     subst (λ l. Open (take n l)) (sym e)
-    (front_of_three Open _ _ (one_of_three c wide three) _ (two_of_three c wide three apart) n some (omega (arith, less, ap length e))))
+    (fronts Open _ n some (omega (arith, less, ap length e)) (omega arith) (one_of_three c wide three) (λ _. two_of_three c wide three apart)
+    (λ long. absurd (omega (arith, long)))))
     (λ four.
     let not_three : ltb c 65536 ≡ false = grind (arith, nat_tests) in
     let e : encode_utf8 c ≡ (240 + c / 262144) ∷ (128 + (c / 4096) % 64) ∷ (128 + (c / 64) % 64) ∷ (128 + c % 64) ∷ [] =
     cond-false _ _ _ not_one ∙ cond-false _ _ _ not_two ∙ cond-false _ _ _ not_three in
     let top : c < 1114112 = ⊎_elim (λ low. omega arith) (λ high. high.1) range in
     subst (λ l. Open (take n l)) (sym e)
-    (front_of_four Open _ _ (one_of_four c four top) _ (two_of_four c four top) _ (three_of_four c four top) n some (omega (arith, less, ap length e))))
+    (fronts Open _ n some (omega (arith, less, ap length e)) (omega arith) (one_of_four c four top) (λ _. two_of_four c four top)
+    (λ _. three_of_four c four top)))
     (cases_lt c 65536))
     (cases_lt c 2048))
     (cases_lt c 128)
-
-nothing : utf8_error_len [] ≡ None
-unfolding utf8_error_len
-nothing = refl
 
 no_fault : (bs cs following : List ℕ) → utf8_valid_len bs ≡ 0 → scalars cs ≡ true → encode_utf8_all cs ≡ bs ++ following → Open (take 4 bs)
 no_fault [] cs following none all e = nothing

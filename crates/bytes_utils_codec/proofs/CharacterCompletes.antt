@@ -8,12 +8,9 @@ use Rattle.std.specs.Int.{is_in_range}
 use Rattle.std.specs.Str.Lossy.{utf8_valid_len, utf8_error_len, error_len_after_one, error_len_after_two, second_byte_min, second_byte_max}
 use mathlib.Core.Bool.{cond}
 use lib.Dec.{ltb}
+use Rattle.bytes_utils_codec.proofs.CharacterBegins.{by}
 use Rattle.bytes_utils_codec.proofs.CharacterEnds.{some_is, few}
 use Rattle.bytes_utils_codec.proofs.ValidLen.{no_front}
-
--- a term of the type given
-abbrev by : (A : Type 0) → A → A
-by A a = a
 
 -- the byte d may follow the first byte b (Unicode, table 3-7)
 record IsSecond (b d : ℕ) : Type 0 where

@@ -44,7 +44,7 @@ few bs none = ⊎_elim
     (λ (many : 4 ≤ length bs). absurd (true≢false (sym (subst IsSome none (long bs many)))))
     (cases_lt (length bs) 4)
 
-nothing : utf8_error_len [] ≡ None
+pub nothing : utf8_error_len [] ≡ None
 unfolding utf8_error_len
 nothing = refl
 

@@ -1,14 +1,20 @@
 -- Reading on in held bytes.
-use Rattle.std.proofs.Common.{◌≡◌, ◌≢◌, ◌⊎◌, ℕ, ◌+◌, ◌-◌, ◌<◌, ◌≤◌, List, [], ◌∷◌, ◌++◌, length, take, drop, slice_range, Option, None, Some, leb, ap, ◌∙◌, sym, refl, subst, arith, append_assoc, append-nil, length-drop, take-append-drop, take_all, drop-drop, ⊎_elim}
+use Rattle.std.proofs.Common.{◌≡◌, ℕ, ◌+◌, ◌-◌, ◌<◌, ◌≤◌, List, [], ◌∷◌, ◌++◌, length, take, drop, slice_get, slice_range, Option, None, Some, leb, ap, ◌∙◌, sym, refl, subst, arith, append_assoc, append-nil, length-append, length-drop, take-append-drop, take_all, drop-drop, ⊎_elim}
 use Rattle.std.proofs.lemmas.Bool.{cases_lt, le-leb, lt-leb}
-use Rattle.std.proofs.lemmas.List.{append_cancel_left, length-take-le, take-append-le}
+use Rattle.std.proofs.lemmas.List.{append_cancel_left, drop-append-le, length-take-le}
+use Rattle.std.proofs.lemmas.Option.{get_or_from_slice_get, slice_get_within}
+use Rattle.std.proofs.Math.Seq.{take-append_seam}
 use Rattle.std.specs.Bool.{then_some}
+use Rattle.std.specs.List.{concat}
+use Rattle.bytes.specs.Unread.{IsChunkOf}
+use Rattle.bytes_utils_buf.specs.Segments.{IsPlace}
 use Rattle.memchr.specs.Find.{FindsNeedle}
 use Rattle.memchr.proofs.lemmas.MatchLemmas.{OccursAt-part, OccursAt-from_part}
 use Rattle.bytes_utils.specs.Occurrence.{Occurs, OccursAt, OccursFirstAt}
 use Rattle.bytes_utils_codec.specs.Frames.{TakesFrame, HasFrame, HasFrameWithin}
-use Rattle.bytes_utils_codec.specs.Cursor.{Reading, unread, passed_on, Wanted, Tag, First, Until, UpTo, Line, Reads, AreRead, TakesFirst, TakesUpTo, IsBegun, IsFirstWithin, NeverBegins, NeverEndsWithin, SameReadLaw, StaysReadLaw, StaysWrongLaw, OneReplyLaw}
+use Rattle.bytes_utils_codec.specs.Cursor.{Reading, unread, passed_on, Wanted, Tag, First, Until, UpTo, Line, Reads, AreRead, TakesFirst, TakesUpTo, IsBegun, IsFirstWithin, NeverEndsWithin, SameReadLaw, StaysReadLaw, StaysWrongLaw, OneReplyLaw}
 use Rattle.bytes_utils.proofs.Boundaries.{OccursAt-fits}
+use Rattle.bytes_utils_codec.proofs.FindLemmas.{has_read}
 use Rattle.bytes_utils_codec.proofs.FramesLemmas.{HasFrame-taken, HasFrameWithin-taken, TakesFrame-more, TakesFrame-same, first_more}
 use Rattle.bytes_utils.proofs.Joins.{append_same}
 use Rattle.bytes_utils.proofs.OccurrenceLemmas.{OccursAt-front, cut_whole, first_places_same}
@@ -40,9 +46,6 @@ module _ (p all : List ℕ) (start place : ℕ) (found : FindsNeedle all p start
             (OccursAt-from_part all p (start + j) (omega (arith, below, low, found.1.fits)) (in_whole p all start j there))))
             (λ from. from) (cases_lt j (place - start));
       }
-
-  pub found_fits : (place - start) + length p ≤ length (drop start all)
-  found_fits = omega (arith, found.0.low, found.1.fits, length-drop start all)
 
 -- ---- a limit
 
@@ -89,37 +92,46 @@ module _ (p all : List ℕ) (at n : ℕ) where
 
 -- the first place of the needle, within the limit
 module _ (p old : List ℕ) (most place : ℕ) where
-  pub IsFirstWithin-here : OccursAt p old place → ((k : ℕ) → k < place → ¬ OccursAt p old k) → place ≤ most → IsFirstWithin most p old (Some place)
-  IsFirstWithin-here here none within = (
-    record { here = here; none_before = λ j there. ⊎_elim (λ below. absurd (none j below there)) (λ from. from) (cases_lt j place) },
-    within,
-  )
-
-  pub IsFirstWithin-none : ((k : ℕ) → k < place → ¬ OccursAt p old k) → (most < place) ⊎ (length old ≤ place) → 0 < length p → IsFirstWithin most p old None
-  IsFirstWithin-none none past some n there = ⊎_elim
-      (λ below. absurd (none n below there))
-      (λ from. ⊎_elim (λ after. omega (arith, from, after)) (λ all. absurd (omega (arith, from, all, some, OccursAt-fits p old n some there))) past)
-      (cases_lt n place)
-
   pub IsFirstWithin-kept : (r : Option ℕ) → OccursFirstAt p old place → r ≡ then_some (leb place most) place → IsFirstWithin most p old r
   IsFirstWithin-kept r first is = ⊎_elim
       (λ past. subst (IsFirstWithin most p old) (sym (is ∙ ap (λ b. then_some b place) (lt-leb place most past))) (λ n there. omega (arith, past, first.none_before n there)))
       (λ within. subst (IsFirstWithin most p old) (sym (is ∙ ap (λ b. then_some b place) (le-leb place most within))) (first, within))
       (cases_lt most place)
 
+-- the bytes of a segment from a place on are the next ones
+pub IsChunkOf-segment : (xs : List (List ℕ)) (segment : List ℕ) (place index offset : ℕ) → IsPlace place index offset xs
+    → Some segment ≡ slice_get xs index → IsChunkOf (take (length segment - offset) (drop offset segment)) (drop place (concat xs))
+IsChunkOf-segment xs segment place index offset at found =
+    let read = has_read xs index found refl in
+    let within = slice_get_within xs index segment (sym found) in
+    let is = get_or_from_slice_get xs index segment [] (sym found) in
+    let inside : offset < length segment = omega (arith, at.inside within, ap length is) in
+    let chunk = drop offset segment in
+    let all : take (length segment - offset) chunk ≡ chunk = take_all _ chunk (omega (arith, length-drop offset segment)) in
+    let later = concat (drop (index + 1) xs) in
+    let next : drop place (concat xs) ≡ chunk ++ later =
+    ap (λ n. drop n (concat xs)) (sym at.before) ∙ sym (drop-drop offset _ (concat xs)) ∙ ap (drop offset) read.bytes
+    ∙ drop-append-le offset segment later (omega (arith, inside)) in
+    subst (λ l. IsChunkOf l (drop place (concat xs))) (sym all) (record {
+      front = ap (take (length chunk)) next ∙ take-append_seam chunk later;
+      fits = omega (arith, ap length next, length-append chunk later);
+      some = λ _. omega (arith, length-drop offset segment, inside);
+    })
+
 -- ---- a tag
 
 module _ (wanted bytes : List ℕ) (n : ℕ) where
-  pub never_begins : n ≤ length wanted → n ≤ length bytes → take n bytes ≢ take n wanted → NeverBegins wanted bytes
-  never_begins few some other more rest same =
-      other (sym (take-append-le n bytes more some) ∙ ap (take n) same ∙ take-append-le n wanted rest few)
+  -- as many bytes were compared as this front of the wanted ones has
+  compared : n ≤ length wanted → take (length (take n wanted)) bytes ≡ take n wanted → take n bytes ≡ take n wanted
+  compared few held = ap (λ k. take k bytes) (sym (length-take-le n wanted few)) ∙ held
 
-  pub begun : n ≡ length bytes → n < length wanted → take n bytes ≡ take n wanted → IsBegun wanted bytes
-  begun size less same = (
-    drop n wanted,
-    sym (take-append-drop n wanted) ∙ ap (λ l. l ++ drop n wanted) (sym same ∙ take_all n bytes (omega (arith, size))),
-    omega (arith, less, length-drop n wanted),
-  )
+  pub begun : n ≡ length bytes → n < length wanted → take (length (take n wanted)) bytes ≡ take n wanted → IsBegun wanted bytes
+  begun size less held =
+      let same = compared (omega (arith, less)) held in (
+        drop n wanted,
+        sym (take-append-drop n wanted) ∙ ap (λ l. l ++ drop n wanted) (sym same ∙ take_all n bytes (omega (arith, size))),
+        omega (arith, less, length-drop n wanted),
+      )
 
 -- ---- bytes that are passed
 
@@ -143,8 +155,11 @@ module _ (r : Reading) (n : ℕ) where
         first = subst (OccursFirstAt p (unread r)) (sym (length-take-le n (unread r) some)) first;
       }
 
-  pub passed_tag : (wanted : List ℕ) → take n (unread r) ≡ wanted → unread r ≡ wanted ++ unread (passed_on n r)
-  passed_tag wanted same = around ∙ ap (λ l. l ++ unread (passed_on n r)) same
+  pub passed_tag : (wanted : List ℕ) → n ≡ length wanted → take (length (take n wanted)) (unread r) ≡ take n wanted
+      → unread r ≡ wanted ++ unread (passed_on n r)
+  passed_tag wanted size held =
+      let same = compared wanted (unread r) n (omega (arith, size)) held ∙ take_all n wanted (omega (arith, size)) in
+      around ∙ ap (λ l. l ++ unread (passed_on n r)) same
 
 -- ---- the laws
 

@@ -1,5 +1,5 @@
 -- Runs of any decoder.
-use Rattle.std.proofs.Common.{◌≡◌, ◌↔◌, ℕ, List, [], ◌∷◌, ◌++◌, Option, None, Some, Result, Ok, Err, ap, subst, append_assoc, append-nil}
+use Rattle.std.proofs.Common.{◌≡◌, ◌↔◌, ℕ, List, [], ◌∷◌, ◌++◌, Option, None, Some, Result, Ok, ap, subst, append_assoc, append-nil}
 use Rattle.std.proofs.lemmas.Grind.{flat_map-append}
 use Rattle.std.specs.Prelude.{⊤}
 use Rattle.std.specs.List.{flat_map}
@@ -66,9 +66,7 @@ module _ {D A : Type 0} (gives : Gives D A) (s : Decoding D) where
     are = AreFirst-next (λ old item new. gives old (Item item) new) s items a.rest item next a.are ((SameNext-now gives a.rest t a.same (Item item) next).1 step);
     same = SameNext-refl gives next;
   }
-  items_next waits fails keeps same_after items t (Ok None) next a step =
-      rw (append-nil items) (record { rest = a.rest; are = a.are; same = SameNext-trans gives a.rest t next a.same (same_after t next step.1) })
-  items_next waits fails keeps same_after items t (Err error) next a step =
+  items_next waits fails keeps same_after items t result next a step =
       rw (append-nil items) (record { rest = a.rest; are = a.are; same = SameNext-trans gives a.rest t next a.same (same_after t next step.1) })
 
 module _ {D A : Type 0} (gives : Gives D A) where

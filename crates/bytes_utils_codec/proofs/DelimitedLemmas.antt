@@ -11,8 +11,8 @@ use Rattle.bytes_utils.proofs.Boundaries.{HasNeedleAt-from_occurs, OccursAt-fits
 use Rattle.bytes_utils_codec.specs.StreamRuns.{Pushed, Taken, AreFirst, IsRunOver}
 use Rattle.bytes_utils_codec.specs.Frames.{AreFrames, TakesFrame}
 use Rattle.bytes_utils_codec.specs.Search.{NoneBegins}
-use Rattle.bytes_utils_codec.specs.Decoding.{Decoding, Item, Last, fed}
-use Rattle.bytes_utils_codec.specs.Delimited.{Delimiting, delimiting, ready, TakesFrameFrom, Takes, LacksSeparator, PassesSkipped, Passes, AwaitsSeparator, IsOverLimit, skipping_from, DropsSkipped, AwaitsFrame, all_searched, gives_delimited, keeps_delimited, within, begun, AreReports, left_of, DelimitedFramesLaw, DelimitedWholeLaw, DelimitedEvent, IsDelimitedCall, DelimitedHeldLaw}
+use Rattle.bytes_utils_codec.specs.Decoding.{AreItems, Decoding, Item, Last, fed}
+use Rattle.bytes_utils_codec.specs.Delimited.{Delimiting, GivesFrame, delimiting, ready, TakesFrameFrom, LacksSeparator, PassesSkipped, Passes, AwaitsSeparator, IsOverLimit, skipping_from, DropsSkipped, AwaitsFrame, gives_delimited, keeps_delimited, within, begun, AreReports, left_of, DelimitedFramesLaw, DelimitedWholeLaw, DelimitedEvent, IsDelimitedCall, DelimitedHeldLaw}
 use Rattle.bytes_utils_codec.specs.DelimitedLaws.{occurs_in_front, occurs_after, IsOverLimit-more, Passes-same, SkipsOn-passes}
 use Rattle.bytes_utils_codec.specs.declared.decode.too_long.FrameTooLong.{FrameTooLong}
 use Rattle.bytes_utils_codec.proofs.DecodingLemmas.{SameNext-now}
@@ -106,10 +106,12 @@ Gives old item new = gives_delimited old (Item item) new
 abbrev Reaches : List ℕ → ℕ → List ℕ → List (Result (List ℕ) FrameTooLong) → Decoding Delimiting → Type 0
 Reaches p limit bytes items end = (reports : AreReports p limit bytes items) × (end ≡ front p limit reports.over reports.rest)
 
--- this is reported of the bytes, and what is left then has no separator
-abbrev Ends : List ℕ → ℕ → List ℕ → List (Result (List ℕ) FrameTooLong) → Decoding Delimiting → Type 0
-Ends p limit bytes items after =
-    (reports : AreReports p limit bytes items) × (¬ Occurs p reports.rest) × (after.held ≡ left_of reports.over reports.rest)
+-- this is reported of the bytes, and what is left then has no separator, and is not over the limit
+pub record Ends (p : List ℕ) (limit : ℕ) (bytes : List ℕ) (items : List (Result (List ℕ) FrameTooLong)) (after : Decoding Delimiting) : Type 0 where
+  pub reports : AreReports p limit bytes items
+  pub lacks : ¬ Occurs p reports.rest
+  pub left : after.held ≡ left_of reports.over reports.rest
+  pub few : length after.held ≤ limit + (length p - 1)
 
 within-short : (limit : ℕ) (frame : List ℕ) → length frame ≤ limit → within limit frame ≡ Ok frame
 within-short limit frame le = cond-true _ _ _ (le-leb (length frame) limit le)
@@ -118,12 +120,6 @@ within-long : (limit : ℕ) (frame : List ℕ) → limit < length frame → with
 within-long limit frame lt = cond-false _ _ _ (lt-leb (length frame) limit lt)
 
 module _ (p : List ℕ) where
-  takes_first : (bytes frame rest : List ℕ) → TakesFrameFrom p 0 bytes frame rest → TakesFrame p bytes frame rest
-  takes_first bytes frame rest takes = record {
-    bytes = takes.bytes;
-    first = record { here = occurs_after p 0 bytes frame rest takes; none_before = λ j there. takes.first j (omega arith) there };
-  }
-
   begins_past : (bytes : List ℕ) (n k : ℕ) → NoneBegins p bytes n → OccursAt p bytes k → n ≤ k
   begins_past bytes n k none here = none [] k (subst (λ l. OccursAt p l k) (sym (append-nil bytes)) here)
 
@@ -135,6 +131,9 @@ module _ (p : List ℕ) where
       none_before = λ j there. takes.first j (begins_past bytes n j none there) there;
     };
   }
+
+  takes_first : (bytes frame rest : List ℕ) → TakesFrameFrom p 0 bytes frame rest → TakesFrame p bytes frame rest
+  takes_first bytes frame rest takes = takes_long bytes 0 frame rest (λ more k here. omega arith) takes
 
 module _ (p : List ℕ) (limit : ℕ) where
   none_begins : (bytes : List ℕ) → IsOverLimit (front p limit false bytes) → NoneBegins p bytes (suc limit)
@@ -156,146 +155,158 @@ module _ (p : List ℕ) (limit : ℕ) where
     there,
   )
 
-  mid_is : (bytes : List ℕ) (mid : Decoding Delimiting) → mid.decoder ≡ delimiting p limit → mid ≡ front p limit false mid.held
-  mid_is bytes mid is = (λ i. record { decoder = is i; held = mid.held })
+  mid_is : (mid : Decoding Delimiting) → mid.decoder ≡ delimiting p limit → mid ≡ front p limit false mid.held
+  mid_is mid is = (λ i. record { decoder = is i; held = mid.held })
 
-  skipping_is : (bytes : List ℕ) (mid next : Decoding Delimiting) → next ≡ record mid { decoder = skipping_from mid.decoder } → mid ≡ front p limit false bytes
-      → next ≡ front p limit true bytes
-  skipping_is bytes mid next is there = is ∙ ap (λ (s : Decoding Delimiting). record s { decoder = skipping_from s.decoder }) there
+  -- the frame that is skipped is passed
+  record IsPast (bytes : List ℕ) (mid : Decoding Delimiting) : Type 0 where
+    gone : List ℕ
+    takes : TakesFrame p bytes gone mid.held
+    said : Err (record {}) ≡ within limit gone
+    is : mid ≡ front p limit false mid.held
+
+  passes_long : (bytes : List ℕ) (mid : Decoding Delimiting) → NoneBegins p bytes (suc limit)
+      → Passes (front p limit true bytes) mid → IsPast bytes mid
+  passes_long bytes mid none (gone, takes, begins) = record {
+    gone = gone;
+    takes = takes_long p bytes (suc limit) gone mid.held none takes;
+    said = sym (within-long limit gone (omega (arith, takes.low)));
+    is = mid_is mid begins;
+  }
 
   -- the items of a state are reported, after that of the frame that is skipped
-  reaches : (items : List (Result (List ℕ) FrameTooLong)) (b : Bool) (bytes : List ℕ) (end : Decoding Delimiting) → OnTrue b (NoneBegins p bytes (suc limit))
-      → AreFirst Gives (front p limit b bytes) items end → Reaches p limit bytes (begun b ++ items) end
-  reaches [] false bytes end none are = (record { frames = []; rest = bytes; over = false; are = refl; reported = refl; long = tt }, sym are)
-  reaches [] true bytes end none are = (record { frames = []; rest = bytes; over = true; are = refl; reported = refl; long = none }, sym are)
-  reaches (Ok frame ∷ items) false bytes end none (next, g, later) =
-      let takes = subst (λ (s : Decoding Delimiting). Takes s frame next.held) g.1 g.2 in
-      reaches_next bytes frame next.held (Ok frame) items end (takes_first p bytes frame next.held takes) (sym (within-short limit frame g.3))
-      (reaches items false next.held end tt (subst (λ s. AreFirst Gives s items end) (mid_is bytes next g.4) later))
-  reaches (Err e ∷ items) false bytes end none (next, g, later) =
-      reaches items true bytes end (none_begins bytes (subst IsOverLimit g.1 g.2))
-      (subst (λ s. AreFirst Gives s items end) (skipping_is bytes g.0 next g.3 g.1) later)
-  reaches (Ok frame ∷ items) true bytes end none (next, (mid, (gone, takes, begins), taken, fits, after), later) =
-      let is = mid_is bytes mid begins in
-      let then = subst (λ (s : Decoding Delimiting). Takes s frame next.held) is taken in
-      reaches_next bytes gone mid.held (Err (record {})) (Ok frame ∷ items) end (takes_long p bytes (suc limit) gone mid.held none takes)
-      (sym (within-long limit gone (omega (arith, takes.low))))
-      (reaches_next mid.held frame next.held (Ok frame) items end (takes_first p mid.held frame next.held then) (sym (within-short limit frame fits))
-      (reaches items false next.held end tt (subst (λ s. AreFirst Gives s items end) (mid_is bytes next after) later)))
-  reaches (Err e ∷ items) true bytes end none (next, (mid, (gone, takes, begins), over, after), later) =
-      let is = mid_is bytes mid begins in
-      reaches_next bytes gone mid.held (Err (record {})) (Err e ∷ items) end (takes_long p bytes (suc limit) gone mid.held none takes)
-      (sym (within-long limit gone (omega (arith, takes.low))))
-      (reaches items true mid.held end (none_begins mid.held (subst IsOverLimit is over))
-      (subst (λ s. AreFirst Gives s items end) (skipping_is mid.held mid next after is) later))
+  abbrev Reaching : List (Result (List ℕ) FrameTooLong) → Decoding Delimiting → Type 0
+  Reaching items end = (b : Bool) (bytes : List ℕ) → OnTrue b (NoneBegins p bytes (suc limit)) → AreFirst Gives (front p limit b bytes) items end
+      → Reaches p limit bytes (begun b ++ items) end
+
+  reaches_front : (bytes : List ℕ) (item : Result (List ℕ) FrameTooLong)
+      (items : List (Result (List ℕ) FrameTooLong)) (next end : Decoding Delimiting)
+      → GivesFrame (front p limit false bytes) (Item item) next → AreFirst Gives next items end
+      → Reaching items end → Reaches p limit bytes (item ∷ items) end
+  reaches_front bytes (Ok frame) items next end (takes, fits, begins) later reaching =
+      reaches_next bytes frame next.held (Ok frame) items end (takes_first p bytes frame next.held takes) (sym (within-short limit frame fits))
+      (reaching false next.held tt (subst (λ s. AreFirst Gives s items end) (mid_is next begins) later))
+  reaches_front bytes (Err e) items next end (over, is) later reaching =
+      reaching true bytes (none_begins bytes over) (subst (λ s. AreFirst Gives s items end) is later)
+
+  reaches : (items : List (Result (List ℕ) FrameTooLong)) (end : Decoding Delimiting) → Reaching items end
+  reaches [] end b bytes none are =
+      (record { frames = []; rest = bytes; over = b; are = refl; reported = append-nil (begun b); long = none }, sym are)
+  reaches (item ∷ items) end b bytes none (next, inl g, later) = absurd cc
+  reaches (item ∷ items) end false bytes none (next, inr (mid, is, g), later) =
+      reaches_front bytes item items next end (subst (λ s. GivesFrame s (Item item) next) is g) later (reaches items end)
+  reaches (item ∷ items) end true bytes none (next, inr (mid, passes, g), later) =
+      let past = passes_long bytes mid none passes in
+      reaches_next bytes past.gone mid.held (Err (record {})) (item ∷ items) end past.takes past.said
+      (reaches_front mid.held item items next end (subst (λ s. GivesFrame s (Item item) next) past.is g) later (reaches items end))
 
   -- what comes at the end of the stream
-  ends : (bytes : List ℕ) (items : List (Result (List ℕ) FrameTooLong)) (frames : List (List ℕ)) (rest : List ℕ) (over : Bool) (after : Decoding Delimiting)
-      → AreFrames p bytes frames rest → items ≡ map (within limit) frames ++ begun over → OnTrue over (NoneBegins p rest (suc limit))
-      → gives_delimited (front p limit over rest) (Last None) after → Ends p limit bytes items after
-  ends bytes items frames rest false after are reported long (inl g) = absurd (false≢true g.0.0)
-  ends bytes items frames rest false after are reported long (inr (mid, is, awaits, left)) =
-      let there = subst AwaitsSeparator is awaits in (
-        record { frames = frames; rest = rest; over = false; are = are; reported = reported; long = long },
-        (λ occurs. there.lacks occurs.0 (omega arith) occurs.1),
-        ap (λ (s : Decoding Delimiting). s.held) (left ∙ ap (λ (s : Decoding Delimiting). front p limit false s.held) is),
-      )
-  ends bytes items frames rest true after are reported long (inl g) = (
-    record { frames = frames; rest = rest; over = true; are = are; reported = reported; long = long },
-    (λ occurs. g.0.1 occurs.0 (begins_past p rest (suc limit) occurs.0 long occurs.1) occurs.1),
-    ap (λ (s : Decoding Delimiting). s.held) g.1,
-  )
-  ends bytes items frames rest true after are reported long (inr (mid, (gone, takes, begins), awaits, left)) =
-      let there = subst AwaitsSeparator (mid_is rest mid begins) awaits in
-      let said = within-long limit gone (omega (arith, takes.low)) in (
-        record {
-          frames = frames ++ gone ∷ [];
-          rest = mid.held;
-          over = false;
-          are = AreFrames-next p bytes frames rest gone mid.held are (takes_long p rest (suc limit) gone mid.held long takes);
-          reported = reported ∙ ap (λ x. map (within limit) frames ++ x ∷ []) (sym said) ∙ sym (map-append (within limit) frames (gone ∷ []))
-              ∙ sym (append-nil (map (within limit) (frames ++ gone ∷ [])));
-          long = tt;
-        },
-        (λ occurs. there.lacks occurs.0 (omega arith) occurs.1),
-        ap (λ (s : Decoding Delimiting). s.held) left,
-      )
+  ends_front : (bytes : List ℕ) (items : List (Result (List ℕ) FrameTooLong)) (frames : List (List ℕ)) (rest : List ℕ) (after : Decoding Delimiting)
+      → AreFrames p bytes frames rest → items ≡ map (within limit) frames → GivesFrame (front p limit false rest) (Last None) after
+      → Ends p limit bytes items after
+  ends_front bytes items frames rest after are reported (awaits, left) =
+      let all = reported ∙ sym (append-nil (map (within limit) frames)) in
+      let held : after.held ≡ rest = ap (λ (s : Decoding Delimiting). s.held) left in
+      record {
+        reports = record { frames = frames; rest = rest; over = false; are = are; reported = all; long = tt };
+        lacks = λ occurs. awaits.lacks occurs.0 (omega arith) occurs.1;
+        left = held;
+        few = omega (arith, awaits.few, ap length held);
+      }
+
+  ends : (bytes : List ℕ) (items : List (Result (List ℕ) FrameTooLong)) (after : Decoding Delimiting)
+      (reports : AreReports p limit bytes items) (over : Bool)
+      → reports.over ≡ over → gives_delimited (front p limit over reports.rest) (Last None) after → Ends p limit bytes items after
+  ends bytes items after reports false is (inl g) = absurd (false≢true g.0.0)
+  ends bytes items after reports false is (inr (mid, here, g)) =
+      let none = reports.reported ∙ ap (λ b. map (within limit) reports.frames ++ begun b) is ∙ append-nil (map (within limit) reports.frames) in
+      ends_front bytes items reports.frames reports.rest after reports.are none (subst (λ s. GivesFrame s (Last None) after) here g)
+  ends bytes items after reports true is (inl (skips, last, there)) =
+      let long = subst (λ b. OnTrue b (NoneBegins p reports.rest (suc limit))) is reports.long in
+      let held : after.held ≡ [] = ap (λ (s : Decoding Delimiting). s.held) there in
+      record {
+        reports = reports;
+        lacks = λ occurs. skips.1 occurs.0 (begins_past p reports.rest (suc limit) occurs.0 long occurs.1) occurs.1;
+        left = held ∙ ap (λ b. left_of b reports.rest) (sym is);
+        few = omega (arith, ap length held);
+      }
+  ends bytes items after reports true is (inr (mid, passes, g)) =
+      let past = passes_long reports.rest mid (subst (λ b. OnTrue b (NoneBegins p reports.rest (suc limit))) is reports.long) passes in
+      let one = reports.reported
+      ∙ ap (λ b. map (within limit) reports.frames ++ begun b) is ∙ ap (λ x. map (within limit) reports.frames ++ x ∷ []) past.said
+      ∙ sym (map-append (within limit) reports.frames (past.gone ∷ [])) in
+      ends_front bytes items (reports.frames ++ past.gone ∷ []) mid.held after
+      (AreFrames-next p bytes reports.frames reports.rest past.gone mid.held reports.are past.takes) one
+      (subst (λ s. GivesFrame s (Last None) after) past.is g)
 
 pub delimited_frames_law : DelimitedFramesLaw
-delimited_frames_law p limit bytes items end are = (reaches p limit items false bytes are.rest tt are.are).0
+delimited_frames_law p limit bytes items end are = (reaches p limit items are.rest false bytes tt are.are).0
+
+pub delimited_ends : (p : List ℕ) (limit : ℕ) (bytes : List ℕ) (items : List (Result (List ℕ) FrameTooLong)) (end after : Decoding Delimiting)
+    → AreItems gives_delimited (front p limit false bytes) items end → gives_delimited end (Last None) after → Ends p limit bytes items after
+delimited_ends p limit bytes items end after are last =
+    let there = reaches p limit items are.rest false bytes tt are.are in
+    let now = (SameNext-now gives_delimited are.rest end are.same (Last None) after).1 last in
+    ends p limit bytes items after there.0 there.0.over refl (subst (λ s. gives_delimited s (Last None) after) there.1 now)
 
 pub delimited_whole_law : DelimitedWholeLaw
 delimited_whole_law p limit bytes items end after are last =
-    let there = reaches p limit items false bytes are.rest tt are.are in
-    let reports = there.0 in
-    let now = (SameNext-now gives_delimited are.rest end are.same (Last None) after).1 last in
-    ends p limit bytes items reports.frames reports.rest reports.over after reports.are reports.reported reports.long
-    (subst (λ s. gives_delimited s (Last None) after) there.1 now)
+    let whole = delimited_ends p limit bytes items end after are last in
+    (whole.reports, whole.lacks, whole.left)
 
 -- ---- how many bytes are held
 
 -- what the calls of a decoder keep: it looks for separators from a place on that is not after the first one over the
 -- limit
 record Kept (p : List ℕ) (limit : ℕ) (s : Decoding Delimiting) : Type 0 where
-  separator : s.decoder.separator ≡ p
-  max_length : s.decoder.max_length ≡ limit
+  begins : ready s.decoder ≡ delimiting p limit
   searched : s.decoder.searched ≤ suc limit
 
 module _ (p : List ℕ) (limit : ℕ) where
+  -- it looks for separators from the first byte on
+  kept_ready : (b : Bool) (s t : Decoding Delimiting) → Kept p limit s → t.decoder ≡ record s.decoder { searched = 0; skipping = b } → Kept p limit t
+  kept_ready b s t kept is =
+      record { begins = ap ready is ∙ kept.begins; searched = omega (arith, ap (λ (d : Delimiting). d.searched) is) }
+
   kept_passed : (b : Bool) (s mid : Decoding Delimiting) → Kept p limit s → PassesSkipped b s mid → Kept p limit mid
   kept_passed false s mid kept passes = subst (Kept p limit) (sym passes) kept
-  kept_passed true s mid kept (gone, takes, begins) = record {
-    separator = ap (λ (d : Delimiting). d.separator) begins ∙ kept.separator;
-    max_length = ap (λ (d : Delimiting). d.max_length) begins ∙ kept.max_length;
-    searched = omega (arith, ap (λ (d : Delimiting). d.searched) begins);
-  }
+  kept_passed true s mid kept (gone, takes, begins) = kept_ready false s mid kept begins
 
   kept_passes : (s mid : Decoding Delimiting) → Kept p limit s → Passes s mid → Kept p limit mid
   kept_passes s mid kept passes = kept_passed s.decoder.skipping s mid kept passes
 
-  kept_searched : (mid : Decoding Delimiting) → Kept p limit mid → AwaitsSeparator mid → Kept p limit (all_searched mid)
-  kept_searched mid kept awaits = record {
-    separator = kept.separator;
-    max_length = kept.max_length;
-    searched = omega (arith, kept.searched, kept.max_length, awaits.few);
-  }
-
   kept_left : (old new : Decoding Delimiting) → Kept p limit old → keeps_delimited old new → Kept p limit new
-  kept_left old new kept (inl (inl drops)) = record {
-    separator = ap (λ (d : Delimiting). d.separator) drops.decoder ∙ kept.separator;
-    max_length = ap (λ (d : Delimiting). d.max_length) drops.decoder ∙ kept.max_length;
-    searched = omega (arith, ap (λ (d : Delimiting). d.searched) drops.decoder);
-  }
+  kept_left old new kept (inl (inl drops)) = kept_ready old.decoder.skipping old new kept drops.decoder
   kept_left old new kept (inl (inr same)) = subst (Kept p limit) (sym same.1) kept
   kept_left old new kept (inr (mid, passes, inl is)) = subst (Kept p limit) (sym is) (kept_passes old mid kept passes)
   kept_left old new kept (inr (mid, passes, inr (awaits, is))) =
-      subst (Kept p limit) (sym is) (kept_searched mid (kept_passes old mid kept passes) awaits)
+      let there = kept_passes old mid kept passes in
+      let most = ap (λ (d : Delimiting). d.max_length) there.begins in
+      subst (Kept p limit) (sym is) (record { begins = there.begins; searched = omega (arith, there.searched, most, awaits.few) })
 
   kept_call : (old new : Decoding Delimiting) (result : Result (Option (Result (List ℕ) FrameTooLong)) Reason) → Kept p limit old
       → IsDelimitedCall old result new → Kept p limit new
-  kept_call old new (Ok (Some (Ok frame))) kept (mid, passes, takes, fits, begins) = record {
-    separator = ap (λ (d : Delimiting). d.separator) begins ∙ kept.separator;
-    max_length = ap (λ (d : Delimiting). d.max_length) begins ∙ kept.max_length;
-    searched = omega (arith, ap (λ (d : Delimiting). d.searched) begins);
-  }
-  kept_call old new (Ok (Some (Err e))) kept (mid, passes, over, is) =
+  kept_call old new (Ok (Some item)) kept (inl g) = absurd cc
+  kept_call old new (Ok (Some (Ok frame))) kept (inr (mid, passes, (takes, fits, begins))) =
+      kept_ready false mid new (kept_passes old mid kept passes) begins
+  kept_call old new (Ok (Some (Err e))) kept (inr (mid, passes, (over, is))) =
       let there = kept_passes old mid kept passes in
-      subst (Kept p limit) (sym is)
-      (record { separator = there.separator; max_length = there.max_length; searched = omega (arith, there.max_length) })
-  kept_call old new (Ok None) kept call = kept_left old new kept call.1
-  kept_call old new (Err reason) kept call = kept_left old new kept call.1
+      let most = ap (λ (d : Delimiting). d.max_length) there.begins in
+      subst (Kept p limit) (sym is) (record { begins = there.begins; searched = omega (arith, most) })
+  kept_call old new result kept call = kept_left old new kept call.1
 
   kept_run : (events : List DelimitedEvent) (s end : Decoding Delimiting) → Kept p limit s → IsRunOver fed IsDelimitedCall s events end → Kept p limit end
   kept_run [] s end kept run = subst (Kept p limit) (sym run) kept
   kept_run (Pushed piece ∷ events) s end kept run =
-      kept_run events (fed s piece) end (record { separator = kept.separator; max_length = kept.max_length; searched = kept.searched }) run
+      kept_run events (fed s piece) end (record { begins = kept.begins; searched = kept.searched }) run
   kept_run (Taken result ∷ events) s end kept (next, call, run) = kept_run events next end (kept_call s next result kept call) run
 
   few_awaited : (mid : Decoding Delimiting) → Kept p limit mid → AwaitsSeparator mid → length mid.held < limit + length p
-  few_awaited mid kept awaits = omega (arith, awaits.few, kept.max_length, ap length kept.separator)
+  few_awaited mid kept awaits =
+      omega (arith, awaits.few, ap (λ (d : Delimiting). d.max_length) kept.begins, ap (λ (d : Delimiting). length d.separator) kept.begins)
 
   few_held : (old new : Decoding Delimiting) → 0 < length p → Kept p limit old → AwaitsFrame old → keeps_delimited old new → length new.held < limit + length p
-  few_held old new some kept waits (inl (inl drops)) = omega (arith, drops.few, ap length kept.separator)
+  few_held old new some kept waits (inl (inl drops)) = omega (arith, drops.few, ap (λ (d : Delimiting). length d.separator) kept.begins)
   few_held old new some kept waits (inl (inr same)) =
       omega (arith, same.0, ap (λ (s : Decoding Delimiting). length s.held) same.1, kept.searched, some)
   few_held old new some kept (inl skips) (inr (mid, passes, left)) = absurd (SkipsOn-passes old mid skips passes)
@@ -307,5 +318,5 @@ module _ (p : List ℕ) (limit : ℕ) where
 
 pub delimited_held_law : DelimitedHeldLaw
 delimited_held_law p limit events before end some run call =
-    let kept = kept_run p limit events (front p limit false []) before (record { separator = refl; max_length = refl; searched = omega arith }) run in
+    let kept = kept_run p limit events (front p limit false []) before (record { begins = refl; searched = omega arith }) run in
     few_held p limit before end some kept call.0 call.1

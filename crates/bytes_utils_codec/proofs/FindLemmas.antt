@@ -100,6 +100,11 @@ module _ (p segment following : List ℕ) (from : ℕ) (some : 0 < length p) (in
   missed_inside missed j low fits here =
       missed_in_part (segment ++ following) p (drop from segment) following from within_all part missed j low (omega (arith, fits, inside, length-drop from segment)) here
 
+  -- no needle begins in the segment and ends after it
+  pub missed_alone : ((j : ℕ) → j < length segment → j + length p ≤ length (segment ++ following) → j + length p ≤ length segment)
+      → FindsNeedle (drop from segment) p 0 None → Nowhere (OccursAt (segment ++ following) p) from (length segment)
+  missed_alone fits missed j low high here = missed_inside missed j low (fits j high here.fits) here
+
   module _ {tail : ℕ} {window : List ℕ} (border : IsBorder p segment following from tail window) where
     tail_within : tail ≤ length (segment ++ following)
     tail_within = omega (arith, border.high, length-append segment following)

@@ -1,13 +1,12 @@
 -- Frames of bytes.
-use Rattle.std.proofs.Common.{map, All, IsUtf8, drop-drop, Option, ◌≤◌, ◌≡◌, true, false, ℕ, zero, suc, ◌+◌, ◌<◌, List, [], ◌∷◌, ◌++◌, length, take, drop, None, Some, ap, ◌∙◌, sym, refl, subst, arith, append_assoc, take-append-drop, ⊎_elim}
-use Rattle.std.proofs.lemmas.Bool.{cases_lt, false≢true}
+use Rattle.std.proofs.Common.{map, All, IsUtf8, drop-drop, ◌≤◌, ◌≡◌, true, false, ℕ, zero, suc, ◌+◌, ◌<◌, List, [], ◌∷◌, ◌++◌, length, take, drop, None, Some, ap, ◌∙◌, sym, refl, subst, arith, append_assoc}
+use Rattle.std.proofs.lemmas.Bool.{false≢true}
 use Rattle.std.proofs.lemmas.List.{append_cancel_left, length-take-le, take_at, drop_at}
 use Rattle.std.proofs.lemmas.List.Elements.{All-nil, All-cons, All-head, All-tail}
 use Rattle.std.proofs.lemmas.Str.{IsUtf8-drop}
 use Rattle.std.specs.Str.{chars}
-use Rattle.std.specs.Option.{IfNone, IfSome}
 use Rattle.memchr.specs.Find.{FindsNeedle}
-use Rattle.memchr.proofs.lemmas.MatchLemmas.{OccursAt-part, OccursAt-split}
+use Rattle.memchr.proofs.lemmas.MatchLemmas.{OccursAt-part}
 use Rattle.bytes_utils.specs.Occurrence.{Occurs, OccursAt, OccursFirstAt}
 use Rattle.bytes_utils.specs.Parts.{IsCutAtFirst, AreForwardParts}
 use Rattle.bytes_utils_codec.specs.Frames.{HasFrame, HasFrameWithin, TakesFrame, AreFrames, framed, FramePartsLaw, PutFramesLaw, SameFramesLaw, AllFramesLaw, TextFramesLaw}
@@ -22,36 +21,6 @@ use Rattle.bytes_utils_codec.proofs.StreamRunsLemmas.{AreFirst-more, AreFirst-ne
 use Rattle.bytes_utils.proofs.SearchLemmas.{chars-some, FindsFirst-from_needle}
 
 -- ---- a frame is taken
-
-module _ (p held : List ℕ) (some : 0 < length p) where
-  pub TakesFrame-found : (at : ℕ) → FindsNeedle held p 0 (Some at) → TakesFrame p held (take at held) (drop (at + length p) held)
-  TakesFrame-found at found =
-      let size : length (take at held) ≡ at = length-take-le at held (omega arith) in
-      record {
-        bytes = sym (take-append-drop at held) ∙ ap (λ l. take at held ++ l) (OccursAt-split held p at found.1);
-        first = subst (OccursFirstAt p held) (sym size) (record {
-          here = OccursAt-part held p at found.1;
-          none_before = λ j there.
-              ⊎_elim (λ below. absurd (found.0.before j (omega arith) below (HasNeedleAt-from_occurs p held j some there))) (λ from. from) (cases_lt j at);
-        });
-      }
-
-  lacks_missed : FindsNeedle held p 0 None → ¬ Occurs p held
-  lacks_missed missed occurs =
-      let fits = OccursAt-fits p held occurs.0 some occurs.1 in
-      missed occurs.0 (omega arith) (omega (arith, fits)) (HasNeedleAt-from_occurs p held occurs.0 some occurs.1)
-
-  pub found_frame : (r : Option ℕ) → FindsNeedle held p 0 r → IfSome r (λ len. TakesFrame p held (take len held) (drop (len + length p) held))
-  found_frame None missed = tt
-  found_frame (Some at) found = TakesFrame-found at found
-
-  pub found_within : (r : Option ℕ) → FindsNeedle held p 0 r → IfSome r (λ len. len + length p ≤ length held)
-  found_within None missed = tt
-  found_within (Some at) found = found.1.fits
-
-  pub found_none : (r : Option ℕ) → FindsNeedle held p 0 r → IfNone r (¬ Occurs p held)
-  found_none None missed = lacks_missed missed
-  found_none (Some at) found = tt
 
 -- what is never refused if it has no bytes has some
 pub some_from_refused : (n : ℕ) → (n ≡ 0 → false ≡ true) → 0 < n

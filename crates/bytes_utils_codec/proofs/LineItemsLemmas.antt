@@ -1,7 +1,8 @@
 -- What the decoder of lines did, by what it returned, and the items of one that is new.
-use Rattle.std.proofs.Common.{◌≡◌, ℕ, suc, ◌+◌, ◌<◌, ◌≤◌, Bool, true, false, List, [], ◌∷◌, ◌++◌, length, take, drop, map, Option, None, Some, Result, Ok, Err, ◌⊎◌, inl, inr, sym, ap, ◌∙◌, refl, subst, arith, append_assoc, length-append, IsUtf8, nat_le, if◌then◌else◌}
+use Rattle.std.proofs.Common.{◌≡◌, ℕ, suc, ◌+◌, ◌<◌, ◌≤◌, Bool, true, false, List, [], ◌∷◌, ◌++◌, length, take, drop, map, Option, None, Some, Result, Ok, Err, inl, inr, sym, ap, ◌∙◌, refl, subst, arith, append_assoc, length-append, take-append-drop, get_or, ◌-◌, IsUtf8, nat_le, if◌then◌else◌}
+use Rattle.std.proofs.Math.Seq.{drop-cons, get_or-append_seam}
 use Rattle.std.proofs.lemmas.Bool.{cases_eq, leb-false, leb-true}
-use Rattle.std.proofs.lemmas.List.{drop_at}
+use Rattle.std.proofs.lemmas.List.{drop_all, drop_at}
 use Rattle.std.specs.Bool.{OnTrue}
 use Rattle.std.specs.Option.{option_to_list}
 use Rattle.std.proofs.lemmas.Str.{utf8_lossy-IsUtf8}
@@ -10,7 +11,7 @@ use Rattle.bytes_utils.specs.Lines.{IsWithoutReturn, carriage_return, line_feed,
 use Rattle.bytes_utils.specs.Occurrence.{Occurs}
 use Rattle.bytes_utils.proofs.LinesLemmas.{lines-whole}
 use Rattle.bytes_utils_codec.specs.Decoding.{AreItems, Decoding, Item, Last, DecodesAtEnd}
-use Rattle.bytes_utils_codec.specs.Delimited.{Delimiting, FindsNext, PassesSkipped, StopsAt, begun, delimiting, gives_delimited, left_of, ready, within}
+use Rattle.bytes_utils_codec.specs.Delimited.{Delimiting, FindsNext, StopsAt, begun, delimiting, gives_delimited, left_of, ready, within}
 use Rattle.bytes_utils_codec.specs.Frames.{AreFrames}
 use Rattle.bytes_utils_codec.specs.LineItems.{AreItemsOf, IsItemOf, IsLastOf, IsLeft, IsLineOf, IsTextItem, LineItem, LineItemsLaw, LineReading, TakesLast, TakesLineItem, WholeLinesLaw, begun_line, fails_line, frames_of, gives_line, keeps_line}
 use Rattle.bytes_utils_codec.specs.Search.{NoneBegins}
@@ -19,29 +20,18 @@ use Rattle.bytes_utils_codec.specs.StreamRuns.{AreFirst}
 use Rattle.bytes_utils_codec.specs.declared.decode.too_long.FrameTooLong.{FrameTooLong}
 use Rattle.bytes_utils_codec.specs.declared.decode.lines.LineFault.TheVariants.{NotUtf8, TooLong}
 use Rattle.bytes_utils_codec.proofs.DecodingLemmas.{SameNext-now, SameNext-refl}
-use Rattle.bytes_utils_codec.proofs.DelimitedLemmas.{delimited_frames_law, delimited_whole_law}
+use Rattle.bytes_utils_codec.proofs.DelimitedLemmas.{delimited_ends, delimited_frames_law}
 use Rattle.bytes_utils_codec.proofs.StreamLinesLemmas.{TakesLine-framed, before_utf8, first_lines_law}
 
 -- ---- the end of the stream
 
-passed_ready : (b : Bool) (old mid : Decoding Delimiting) → PassesSkipped b old mid → ready mid.decoder ≡ ready old.decoder
-passed_ready false old mid passes = ap (λ (s : Decoding Delimiting). ready s.decoder) passes
-passed_ready true old mid passes = ap ready passes.2
-
 ends_at : (b : Bool) (old new : Decoding Delimiting) → StopsAt b old new
     → gives_delimited old (Last None) (record { decoder = ready new.decoder; held = left_of b new.held })
-ends_at true old new (skips, inl drops) = inl (skips, (λ i. record { decoder = ready (drops.decoder i); held = [] }))
+ends_at true old new (skips, inl drops) = inl (skips, refl, (λ i. record { decoder = ready (drops.decoder i); held = [] }))
 ends_at true old new (skips, inr (short, same)) =
-    inl (skips, ap (λ (s : Decoding Delimiting). record { decoder = ready s.decoder; held = [] }) same)
-ends_at false old new stops =
-    let mid = stops.0 in
-    inr (
-      mid,
-      stops.1,
-      stops.2,
-      ap (λ (s : Decoding Delimiting). record { decoder = ready s.decoder; held = s.held }) stops.3
-          ∙ (λ i. record { decoder = passed_ready old.decoder.skipping old mid stops.1 i; held = mid.held }),
-    )
+    inl (skips, refl, ap (λ (s : Decoding Delimiting). record { decoder = ready s.decoder; held = [] }) same)
+ends_at false old new (mid, passes, awaits, is) =
+    inr (mid, passes, (awaits, ap (λ (s : Decoding Delimiting). record { decoder = ready s.decoder; held = s.held }) is))
 
 module _ (s mid t : Decoding LineReading) (took : TakesLineItem s (Ok None) mid) where
   abbrev at_end : Decoding Delimiting
@@ -80,11 +70,6 @@ module _ (s mid t : Decoding LineReading) (took : TakesLineItem s (Ok None) mid)
 
 -- ---- a line that is lossy
 
-pub gives_over : (s t : Decoding LineReading) (over : FrameTooLong)
-    → gives_delimited (frames_of s) (Item (Err over)) (frames_of t) → t.decoder.lossy ≡ s.decoder.lossy
-    → gives_line s (Item (Err TooLong)) t
-gives_over s t over gives lossy = (Err over, gives, refl, lossy)
-
 pub gives_lossy : (s t : Decoding LineReading) (mid : Decoding Delimiting) (len : ℕ) (text : List ℕ) → s.decoder.lossy ≡ true
     → FindsNext (frames_of s) (Some (Ok len)) mid → IsLineOf true (Ok text) (Ok (take len mid.held))
     → t ≡ record { decoder = record { frames = ready mid.decoder; lossy = s.decoder.lossy }; held = drop (len + length mid.decoder.separator) mid.held }
@@ -116,18 +101,12 @@ AreLinesOf lossy [] [] = Unit {0}
 AreLinesOf lossy (item ∷ items) (frame ∷ frames) = IsLineOf lossy item frame × AreLinesOf lossy items frames
 AreLinesOf lossy items frames = ⊥
 
-gives_ready : (s t : Decoding Delimiting) (frame : Result (List ℕ) FrameTooLong) → gives_delimited s (Item frame) t → ready t.decoder ≡ ready s.decoder
-gives_ready s t (Ok frame) gives = ap ready gives.4
-gives_ready s t (Err over) gives =
-    ap (λ (u : Decoding Delimiting). ready u.decoder) gives.3 ∙ passed_ready s.decoder.skipping s gives.0 gives.1
-
 -- the frames of which these items are the lines
 record FramesOf (s : Decoding LineReading) (items : List LineItem) (rest : Decoding LineReading) : Type 0 where
   frames : List (Result (List ℕ) FrameTooLong)
   are : AreFirst (λ old frame new. gives_delimited old (Item frame) new) (frames_of s) frames (frames_of rest)
   lines : AreLinesOf s.decoder.lossy items frames
   lossy : rest.decoder.lossy ≡ s.decoder.lossy
-  same : ready rest.decoder.frames ≡ ready s.decoder.frames
 
 frames_of_items : (items : List LineItem) (s rest : Decoding LineReading)
     → AreFirst (λ old item new. gives_line old (Item item) new) s items rest → FramesOf s items rest
@@ -136,7 +115,6 @@ frames_of_items [] s rest are = record {
   are = ap frames_of are;
   lines = tt;
   lossy = ap (λ (u : Decoding LineReading). u.decoder.lossy) (sym are);
-  same = ap (λ (u : Decoding LineReading). ready u.decoder.frames) (sym are);
 }
 frames_of_items (item ∷ items) s rest are =
     let given = are.1 in
@@ -146,35 +124,29 @@ frames_of_items (item ∷ items) s rest are =
       are = (frames_of are.0, given.1, others.are);
       lines = (given.2, subst (λ b. AreLinesOf b items others.frames) given.3 others.lines);
       lossy = others.lossy ∙ given.3;
-      same = others.same ∙ gives_ready (frames_of s) (frames_of are.0) given.0 given.1;
     }
 
 -- ---- the lines of frames
 
-only_return : (c : ℕ) (front : List ℕ) → (c ≡ carriage_return → ⊥) → c ∷ [] ≡ front ++ carriage_return ∷ [] → ⊥
-only_return c [] other e = other (cc e)
-only_return c (x ∷ front) other e = omega (arith, ap length e, length-append front (carriage_return ∷ []))
+last_return : (frame front : List ℕ) → frame ≡ front ++ carriage_return ∷ [] → get_or frame (length frame - 1) 0 ≡ carriage_return
+last_return frame front is =
+    let size : length frame - 1 ≡ length front = omega (arith, ap length is, length-append front (carriage_return ∷ [])) in
+    ap (λ k. get_or frame k 0) size ∙ ap (λ l. get_or l (length front) 0) is ∙ get_or-append_seam front carriage_return [] 0
 
-none_led : (c : ℕ) (frame front : List ℕ) → 0 < length frame → ((f : List ℕ) → frame ≡ f ++ carriage_return ∷ [] → ⊥)
-    → c ∷ frame ≡ front ++ carriage_return ∷ [] → ⊥
-none_led c frame [] some none e = omega (arith, ap length e, some)
-none_led c frame (x ∷ front) some none e = none front (cc e)
-
-line_led : (c : ℕ) (frame line : List ℕ) → 0 < length frame → IsWithoutReturn line frame → IsWithoutReturn (c ∷ line) (c ∷ frame)
-line_led c frame line some (inl returned) = inl (ap (λ l. c ∷ l) returned)
-line_led c frame line some (inr whole) = inr (ap (λ l. c ∷ l) whole.0, λ front e. none_led c frame front some whole.1 e)
-
-line_of_one : (c : ℕ) → (c ≡ carriage_return) ⊎ (c ≡ carriage_return → ⊥) → (line : List ℕ) × IsWithoutReturn line (c ∷ [])
-line_of_one c (inl is) = ([], inl (ap (λ d. d ∷ []) is))
-line_of_one c (inr other) = (c ∷ [], inr (refl, λ front e. only_return c front other e))
+before_return : (frame : List ℕ) → get_or frame (length frame - 1) 0 ≡ carriage_return → frame ≡ take (length frame - 1) frame ++ carriage_return ∷ []
+before_return [] is = absurd (omega (arith, is))
+before_return (c ∷ t) is =
+    let frame = c ∷ t in
+    let last = length frame - 1 in
+    sym (take-append-drop last frame)
+    ∙ ap (λ l. take last frame ++ l) (drop-cons frame last 0 (omega arith) ∙ (λ i. is i ∷ drop_all (suc last) frame (omega arith) i))
 
 -- a frame has a line
 line_in : (frame : List ℕ) → (line : List ℕ) × IsWithoutReturn line frame
-line_in [] = ([], inr (refl, λ front e. omega (arith, ap length e, length-append front (carriage_return ∷ []))))
-line_in (c ∷ []) = line_of_one c (cases_eq c carriage_return)
-line_in (c ∷ d ∷ frame) =
-    let others = line_in (d ∷ frame) in
-    (c ∷ others.0, line_led c (d ∷ frame) others.0 (omega arith) others.1)
+line_in frame = elim (cases_eq (get_or frame (length frame - 1) 0) carriage_return) [
+  | inl is ↦ (take (length frame - 1) frame, inl (before_return frame is))
+  | inr other ↦ (frame, inr (refl, λ front e. other (last_return frame front e)))
+]
 
 -- each line is the frame at the same place without a carriage return at its end
 abbrev AreWithoutReturns : List (List ℕ) → List (List ℕ) → Type 0
@@ -187,8 +159,7 @@ first_lines : (bytes : List ℕ) (frames lines : List (List ℕ)) (rest : List �
 first_lines bytes [] [] rest are without = are
 first_lines bytes (frame ∷ frames) (line ∷ lines) rest are without =
     (are.0, TakesLine-framed bytes frame line are.0 are.1 without.0, first_lines are.0 frames lines rest are.2 without.1)
-first_lines bytes [] (line ∷ lines) rest are without = absurd without
-first_lines bytes (frame ∷ frames) [] rest are without = absurd without
+first_lines bytes frames lines rest are without = absurd without
 
 module _ (lossy : Bool) (limit : ℕ) where
   line_by : (item : LineItem) (frame : List ℕ) (b : Bool) → nat_le (length frame) limit ≡ b
@@ -215,12 +186,9 @@ module _ (lossy : Bool) (limit : ℕ) where
 
   items_of_frames : (frames : List (List ℕ)) (over : Bool) (items : List LineItem) → AreLinesOf lossy items (map (within limit) frames ++ begun over)
       → ItemsOf frames over items
-  items_of_frames [] true [] lines = absurd lines
   items_of_frames [] true (item ∷ []) lines = record { given = []; lines = []; without = tt; are = tt; all = ap (λ i. i ∷ []) lines.0 }
   items_of_frames [] true (item ∷ other ∷ items) lines = absurd lines.1
   items_of_frames [] false [] lines = record { given = []; lines = []; without = tt; are = tt; all = refl }
-  items_of_frames [] false (item ∷ items) lines = absurd lines
-  items_of_frames (frame ∷ frames) over [] lines = absurd lines
   items_of_frames (frame ∷ frames) over (item ∷ items) lines =
       let line = line_by item frame (nat_le (length frame) limit) refl lines.0 in
       let others = items_of_frames frames over items lines.1 in
@@ -231,6 +199,7 @@ module _ (lossy : Bool) (limit : ℕ) where
         are = (line.2, others.are);
         all = ap (λ l. item ∷ l) others.all;
       }
+  items_of_frames frames over items lines = absurd lines
 
 -- ---- the items of a new decoder
 
@@ -267,30 +236,11 @@ pub items_append : (lossy : Bool) (limit : ℕ) (a b : List LineItem) (l m f g :
     → AreItemsOf lossy limit (a ++ b) (l ++ m) (f ++ g)
 items_append lossy limit [] b [] m [] g one two = two
 items_append lossy limit (item ∷ a) b (line ∷ l) m (frame ∷ f) g one two = (one.0, items_append lossy limit a b l m f g one.1 two)
-items_append lossy limit [] b [] m (frame ∷ f) g one two = absurd one
-items_append lossy limit [] b (line ∷ l) m f g one two = absurd one
-items_append lossy limit (item ∷ a) b [] m f g one two = absurd one
-items_append lossy limit (item ∷ a) b (line ∷ l) m [] g one two = absurd one
+items_append lossy limit a b l m f g one two = absurd one
 
 lines_of_last : (rest : List ℕ) → ¬ Occurs (line_feed ∷ []) rest → lines rest ≡ last_line rest
 lines_of_last [] lacks = refl
 lines_of_last (c ∷ rest) lacks = lines-whole (c ∷ rest) (omega arith) lacks
-
--- bytes in the first of which no line feed begins, whatever comes after them, are as many
-many_of : (rest : List ℕ) (place : ℕ) → NoneBegins (line_feed ∷ []) rest place → place ≤ length rest
-many_of rest place none = none (line_feed ∷ []) (length rest) (ap (take 1) (drop_at rest (line_feed ∷ []) (length rest) refl))
-
--- what is left at the end of the stream is within the limit
-few_left : (s mid : Decoding Delimiting) (limit : ℕ) → ready s.decoder ≡ delimiting (line_feed ∷ []) limit
-    → gives_delimited s (Last None) mid → length mid.held ≤ limit
-few_left s mid limit is (inl skips) = omega (arith, ap (λ (u : Decoding Delimiting). length u.held) skips.1)
-few_left s mid limit is (inr awaits) =
-    let m = awaits.0 in
-    let begins : ready m.decoder ≡ delimiting (line_feed ∷ []) limit = passed_ready s.decoder.skipping s m awaits.1 ∙ is in
-    let most : m.decoder.max_length ≡ limit = ap (λ (d : Delimiting). d.max_length) begins in
-    let one : length m.decoder.separator ≡ 1 = ap (λ (d : Delimiting). length d.separator) begins in
-    let held : length mid.held ≡ length m.held = ap (λ (u : Decoding Delimiting). length u.held) awaits.3 in
-    omega (arith, awaits.2.few, most, one, held)
 
 module _ (lossy : Bool) (limit : ℕ) where
   pub last_items : (over : Bool) (last : Option LineItem) (rest : List ℕ) → IsLastOf lossy last (left_of over rest) → OnTrue over (limit < length rest)
@@ -303,8 +253,9 @@ module _ (lossy : Bool) (limit : ℕ) where
   last_items false (Some item) [] is many few = absurd (omega (arith, is.0))
   last_items false (Some item) (c ∷ rest) is many few = (record { within = λ fits. is.1; over = λ long. absurd (omega (arith, long, few)) }, tt)
 
+  -- bytes in the first of which no line feed begins, whatever comes after them, are as many
   many_over : (over : Bool) (rest : List ℕ) → OnTrue over (NoneBegins (line_feed ∷ []) rest (suc limit)) → OnTrue over (limit < length rest)
-  many_over true rest long = many_of rest (suc limit) long
+  many_over true rest long = long (line_feed ∷ []) (length rest) (ap (take 1) (drop_at rest (line_feed ∷ []) (length rest) refl))
   many_over false rest long = tt
 
 pub whole_lines_law : WholeLinesLaw
@@ -313,24 +264,26 @@ whole_lines_law lossy limit bytes items end last after are gives =
     let of = frames_of_items items s are.rest are.are in
     let ends = (SameNext-now gives_line are.rest end are.same (Last last) after).1 gives in
     let mid = ends.1.0 in
-    let whole = delimited_whole_law (line_feed ∷ []) limit bytes of.frames (frames_of are.rest) mid (frames_up_to s are.rest items of) ends.1.1 in
-    let reports = whole.0 in
+    let whole = delimited_ends (line_feed ∷ []) limit bytes of.frames (frames_of are.rest) mid (frames_up_to s are.rest items of) ends.1.1 in
+    let reports = whole.reports in
     let over = reports.over in
     let rest = reports.rest in
     let got = items_of_frames lossy limit reports.frames over items (subst (AreLinesOf lossy items) reports.reported of.lines) in
     let first = first_lines bytes reports.frames got.lines rest reports.are got.without in
-    let all : lines bytes ≡ got.lines ++ last_line rest = first_lines_law bytes got.lines rest first ∙ ap (λ l. got.lines ++ l) (lines_of_last rest whole.1) in
+    let all : lines bytes ≡ got.lines ++ last_line rest =
+    first_lines_law bytes got.lines rest first ∙ ap (λ l. got.lines ++ l) (lines_of_last rest whole.lacks) in
     let given : items ++ option_to_list last ≡ got.given ++ (begun_line over ++ option_to_list last) =
     ap (λ l. l ++ option_to_list last) got.all ∙ append_assoc got.given (begun_line over) (option_to_list last) in
-    let is = subst (λ b. IsLastOf b last (left_of over rest)) of.lossy (subst (IsLastOf are.rest.decoder.lossy last) (sym ends.1.2 ∙ whole.2) ends.2) in
-    let few = subst (λ l. length l ≤ limit) whole.2 (few_left (frames_of are.rest) mid limit of.same ends.1.1) in
+    let is = subst (λ b. IsLastOf b last (left_of over rest)) of.lossy
+    (subst (IsLastOf are.rest.decoder.lossy last) (sym ends.1.2 ∙ whole.left) ends.2) in
+    let few : length (left_of over rest) ≤ limit = omega (arith, whole.few, ap length whole.left) in
     let tail = last_items lossy limit over last rest is (many_over lossy limit over rest reports.long) few in
     let joined = items_append lossy limit got.given (begun_line over ++ option_to_list last) got.lines (last_line rest)
     reports.frames (last_line rest) got.are tail in (
       reports.frames,
       rest,
       reports.are,
-      whole.1,
+      whole.lacks,
       subst (λ l. AreItemsOf lossy limit l (lines bytes) (reports.frames ++ last_line rest)) (sym given)
           (subst (λ l. AreItemsOf lossy limit (got.given ++ (begun_line over ++ option_to_list last)) l (reports.frames ++ last_line rest)) (sym all) joined),
     )

@@ -1,5 +1,5 @@
 -- What `utf8_lossy` makes of a text, of a fault and of an unfinished character at the start of bytes.
-use Rattle.std.proofs.Common.{◌≡◌, ℕ, ◌+◌, ◌-◌, ◌<◌, ◌≤◌, List, [], ◌++◌, length, take, drop, None, Some, IsUtf8, arith, ⊎_elim, ap, ◌∙◌, sym, subst, append_assoc, length-append, take_all}
+use Rattle.std.proofs.Common.{◌≡◌, ℕ, ◌+◌, ◌-◌, ◌<◌, ◌≤◌, List, [], ◌++◌, length, take, drop, None, Some, IsUtf8, arith, ⊎_elim, ap, ◌∙◌, sym, subst, append_assoc, length-append, take_all, zero-add}
 use Rattle.std.proofs.Math.ListN.{drop_of_length-le}
 use Rattle.std.proofs.Math.Seq.{take-append-add, drop-append-add}
 use Rattle.std.proofs.lemmas.Bool.{cases_lt}
@@ -11,9 +11,6 @@ use Rattle.bytes_utils_codec.specs.StreamTexts.{IsFaulty}
 use Rattle.bytes_utils_codec.proofs.CharacterBegins.{faulty}
 use Rattle.bytes_utils_codec.proofs.FaultLen.{fault_more, fault_some, fault_within, fault_of_four}
 use Rattle.bytes_utils_codec.proofs.ValidLen.{behind_text, front, no_front, none_longer}
-
-from_zero : (n : ℕ) → 0 + n ≡ n
-from_zero n = omega arith
 
 the_sum : (n m : ℕ) → n < m → m ≡ n + (m - n)
 the_sum n m less = omega arith
@@ -71,7 +68,7 @@ lossy_text text rest utf8 =
 no_text : (bs : List ℕ) → utf8_valid_len bs ≡ 0 → 0 < length bs → utf8_lossy bs ≡ replacement_bytes ++ utf8_lossy (drop (utf8_invalid_len bs) bs)
 no_text bs none some =
     let after : after_first_chunk bs ≡ drop (utf8_invalid_len bs) bs
-    = ap (λ m. drop (m + utf8_invalid_len (drop m bs)) bs) none ∙ ap (λ m. drop m bs) (from_zero (utf8_invalid_len bs)) in
+    = ap (λ m. drop (m + utf8_invalid_len (drop m bs)) bs) none ∙ ap (λ m. drop m bs) (zero-add (utf8_invalid_len bs)) in
     utf8_lossy_step bs (λ e. omega (arith, e, none, some)) ∙ (λ i. take (none i) bs ++ (replacement_bytes ++ utf8_lossy (after i)))
 
 lossy_fault : (bs : List ℕ) (n : ℕ) → utf8_valid_len bs ≡ 0 → utf8_error_len bs ≡ Some n → utf8_lossy bs ≡ replacement_bytes ++ utf8_lossy (drop n bs)

@@ -1,13 +1,22 @@
 -- Bytes from a reader, and the items taken from them.
 use Rattle.std.proofs.Common.{◌≡◌, refl, sym, subst, ◌∙◌, ℕ, List, [], ◌∷◌, ◌++◌, Option, None, Some, Result, Ok, Err, inr}
 use Rattle.std.proofs.KnownBytes.{Consumes-nil, Consumes-trans, Consumes-whole}
-use Rattle.std.specs.Prelude.{◌⊎◌, IfOk, IfErr, IfSome, IfNone}
-use Rattle.std.specs.Io.KnownBytes.{Consumes, IsAtEnd}
-use Rattle.bytes_utils_codec.specs.Decoding.{Decoding, Next, Item, Last, Gives, fed, HasSameNext, LacksItem, IsStable, IsSingle, AreItems}
-use Rattle.bytes_utils_codec.specs.ReadItem.{ReadsNext, ReadsMore, TakesHeld, TakesLast, IsItemDue, IsOfDecoder, item_back_bytes, items_of, ReadItemsLaw, ReadWholeLaw, ReadSameLaw}
+use Rattle.std.specs.Prelude.{◌⊎◌, IfOk, IfErr, IfSome, IfNone, OnErr}
+use Rattle.std.specs.Io.KnownBytes.{Consumes, IsAtEnd, Keeps}
+use Rattle.bytes_utils_codec.specs.Decoding.{Decoding, IsFedBy, Next, Item, Last, Gives, fed, HasSameNext, LacksItem, IsStable, IsSingle, AreItems}
+use Rattle.bytes_utils_codec.specs.ReadItem.{ReadsNext, ReadsMore, TakesHeld, TakesLast, IsItemDue, IsReadDue, items_of, ReadItemsLaw, ReadWholeLaw, ReadSameLaw}
 use Rattle.bytes_utils_codec.specs.declared.decode.read.error.ReadItemError.{ReadItemError}
-use Rattle.bytes_utils_codec.specs.declared.decode.read.error.ReadItemError.TheVariants.{Decoder, Read}
+use Rattle.bytes_utils_codec.specs.declared.decode.read.error.ReadItemError.TheVariants.{Decoder, Io, TooManyReads}
 use Rattle.bytes_utils_codec.proofs.DecodingLemmas.{fed-none, fed-joined, SameNext-refl, SameNext-trans, SameNext-fed, SameNext-now, items_fed, decoder_whole}
+
+-- a read that failed gave no byte
+pub fed_by_none : {D : Type 0} (b c : Option (List ℕ)) (old new : Decoding D) → Keeps b c → new ≡ old → IsFedBy b c old new
+fed_by_none b c old new keeps same = record { got = []; consumed = none b c keeps; are = same ∙ sym (fed-none old) }
+  where
+    none : (b c : Option (List ℕ)) → Keeps b c → Consumes b c []
+    none None c keeps = tt
+    none (Some xs) None keeps = absurd keeps
+    none (Some xs) (Some ys) keeps = sym keeps
 
 module _ {D A : Type 0} (gives : Gives D A) where
   -- nothing was read yet
@@ -19,22 +28,14 @@ module _ {D A : Type 0} (gives : Gives D A) where
   }
 
   module _ {a b : Option (List ℕ)} {old mid : Decoding D} (reads : ReadsMore gives a b old mid) where
-    -- more bytes were read and pushed
-    pub ReadsMore-pushed : (c : Option (List ℕ)) (piece : List ℕ) → Consumes b c piece → ReadsMore gives a c old (fed mid piece)
-    ReadsMore-pushed c piece consumed = record {
-      got = reads.got ++ piece;
-      consumed = Consumes-trans a b c reads.got piece reads.consumed consumed;
-      same = subst (λ s. HasSameNext gives s (fed mid piece)) (fed-joined old reads.got piece) (SameNext-fed gives (fed old reads.got) mid piece reads.same);
+    -- more bytes were read
+    pub ReadsMore-read : (c : Option (List ℕ)) (new : Decoding D) → IsFedBy b c mid new → ReadsMore gives a c old new
+    ReadsMore-read c new read = record {
+      got = reads.got ++ read.got;
+      consumed = Consumes-trans a b c reads.got read.got reads.consumed read.consumed;
+      same = subst (λ s. HasSameNext gives s new) (fed-joined old reads.got read.got)
+          (subst (HasSameNext gives (fed (fed old reads.got) read.got)) (sym read.are) (SameNext-fed gives (fed old reads.got) mid read.got reads.same));
     }
-
-    -- the same, for a state that is known otherwise
-    pub read_pushed : (c : Option (List ℕ)) (piece : List ℕ) → Consumes b c piece → (new : Decoding D) → new ≡ fed mid piece → ReadsMore gives a c old new
-    read_pushed c piece consumed new is = subst (λ s. ReadsMore gives a c old s) (sym is) (ReadsMore-pushed c piece consumed)
-
-    -- they were read and are in an error
-    pub read_unpushed : (c : Option (List ℕ)) (piece : List ℕ) → Consumes b c piece → (new : Decoding D) → new ≡ mid → (back : List ℕ) → back ≡ piece
-        → ReadsMore gives a c old (fed new back)
-    read_unpushed c piece consumed new is back same = read_pushed c piece consumed (fed new back) (λ i. fed (is i) (same i))
 
     -- the same comes next as before
     pub ReadsMore-same : (new : Decoding D) → HasSameNext gives mid new → ReadsMore gives a b old new
@@ -58,48 +59,46 @@ module _ {D A : Type 0} (gives : Gives D A) where
   -- ---- calls on what is held
 
   module _ {E : Type 0} (fails : Decoding D → E → Type 0) (s t : Decoding D) where
-    pub held_lost : (known : Option (List ℕ)) (e : ReadItemError E) → TakesHeld gives fails s (Err e) t → ReadsMore gives known known s (fed t (item_back_bytes e))
-    held_lost known (Decoder e) took = ReadsMore-none known s (fed t []) (subst (HasSameNext gives s) (sym (fed-none t)) took.1)
-    held_lost known (Read e) took = absurd took
+    pub held_same : (e : ReadItemError E) → TakesHeld gives fails s (Err e) t → HasSameNext gives s t
+    held_same (Decoder e) took = took.1
+    held_same (Io e) took = absurd took
+    held_same TooManyReads took = absurd took
 
     pub held_due : (e : ReadItemError E) → TakesHeld gives fails s (Err e) t → IsItemDue gives fails t e
     held_due (Decoder e) took = (s, took.0, took.1)
-    held_due (Read e) took = absurd took
-
-    pub held_once : (e : ReadItemError E) → TakesHeld gives fails s (Err e) t → IsOfDecoder e
-    held_once (Decoder e) took = tt
-    held_once (Read e) took = absurd took
+    held_due (Io e) took = absurd took
+    held_due TooManyReads took = absurd took
 
     module _ {a b : Option (List ℕ)} {old : Decoding D} (reads : ReadsMore gives a b old s) where
-      pub read_lost : (e : ReadItemError E) → TakesHeld gives fails s (Err e) t → ReadsMore gives a b old (fed t (item_back_bytes e))
-      read_lost (Decoder e) took = ReadsMore-same reads (fed t []) (subst (HasSameNext gives s) (sym (fed-none t)) took.1)
-      read_lost (Read e) took = absurd took
+      pub last_some : IsAtEnd b → (r : Result (Option A) (ReadItemError E)) → TakesLast gives fails s r t
+          → IfOk r (λ next. IfSome next (λ item. ReadsNext gives a b old (Item item) t ⊎ (IsAtEnd b × ReadsNext gives a b old (Last (Some item)) t)))
+      last_some ends (Ok (Some item)) took = inr (ends, ReadsNext-taken reads (Last (Some item)) t took)
+      last_some ends (Ok None) took = tt
+      last_some ends (Err e) took = tt
 
-      module _ (c : Option (List ℕ)) (none : Consumes b c []) where
-        reads_none : ReadsMore gives a c old s
-        reads_none = subst (λ l. ReadsMore gives a c old l) (fed-none s) (ReadsMore-pushed reads c [] none)
+      pub last_none : IsAtEnd b → (r : Result (Option A) (ReadItemError E)) → TakesLast gives fails s r t
+          → IfOk r (λ next. IfNone next (IsAtEnd b × ReadsNext gives a b old (Last None) t))
+      last_none ends (Ok (Some item)) took = tt
+      last_none ends (Ok None) took = (ends, ReadsNext-taken reads (Last None) t took)
+      last_none ends (Err e) took = tt
 
-        pub last_some : IsAtEnd c → (r : Result (Option A) (ReadItemError E)) → TakesLast gives fails s r t
-            → IfOk r (λ next. IfSome next (λ item. ReadsNext gives a c old (Item item) t ⊎ (IsAtEnd c × ReadsNext gives a c old (Last (Some item)) t)))
-        last_some ends (Ok (Some item)) took = inr (ends, ReadsNext-taken reads_none (Last (Some item)) t took)
-        last_some ends (Ok None) took = tt
-        last_some ends (Err e) took = tt
-
-        pub last_none : IsAtEnd c → (r : Result (Option A) (ReadItemError E)) → TakesLast gives fails s r t
-            → IfOk r (λ next. IfNone next (IsAtEnd c × ReadsNext gives a c old (Last None) t))
-        last_none ends (Ok (Some item)) took = tt
-        last_none ends (Ok None) took = (ends, ReadsNext-taken reads_none (Last None) t took)
-        last_none ends (Err e) took = tt
-
-        pub last_lost : (r : Result (Option A) (ReadItemError E)) → TakesLast gives fails s r t → IfErr r (λ e. ReadsMore gives a c old (fed t (item_back_bytes e)))
-        last_lost (Ok last) took = tt
-        last_lost (Err (Decoder e)) took = ReadsMore-same reads_none (fed t []) (subst (HasSameNext gives s) (sym (fed-none t)) took.1)
-        last_lost (Err (Read e)) took = absurd took
+      pub last_lost : (r : Result (Option A) (ReadItemError E)) → TakesLast gives fails s r t → OnErr r (ReadsMore gives a b old t)
+      last_lost (Ok last) took = tt
+      last_lost (Err (Decoder e)) took = ReadsMore-same reads t took.1
+      last_lost (Err (Io e)) took = absurd took
+      last_lost (Err TooManyReads) took = absurd took
 
     pub last_due : (r : Result (Option A) (ReadItemError E)) → TakesLast gives fails s r t → IfErr r (IsItemDue gives fails t)
     last_due (Ok last) took = tt
     last_due (Err (Decoder e)) took = (s, took.0, took.1)
-    last_due (Err (Read e)) took = absurd took
+    last_due (Err (Io e)) took = absurd took
+    last_due (Err TooManyReads) took = absurd took
+
+  -- a read failed while no item was held
+  pub read_due : {E : Type 0} (fails : Decoding D → E → Type 0) (s : Decoding D) → LacksItem gives s → (e : ReadItemError E) → IsReadDue e → IsItemDue gives fails s e
+  read_due fails s lacks (Decoder e) due = absurd due
+  read_due fails s lacks (Io e) due = (lacks, due)
+  read_due fails s lacks TooManyReads due = lacks
 
   -- ---- runs
 

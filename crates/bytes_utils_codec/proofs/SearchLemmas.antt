@@ -1,8 +1,7 @@
 -- What a search that goes on where it stopped found, if the needle begins at no place before that one.
-use Rattle.std.proofs.Common.{◌≡◌, ℕ, ◌+◌, ◌-◌, ◌<◌, ◌≤◌, max, List, [], ◌++◌, length, take, drop, Option, None, Some, ap, ◌∙◌, sym, subst, arith, append_assoc, append-nil, take-append-drop, ⊎_elim}
+use Rattle.std.proofs.Common.{◌≡◌, ℕ, ◌+◌, ◌-◌, ◌<◌, ◌≤◌, max, List, [], ◌++◌, length, take, drop, None, Some, ap, ◌∙◌, sym, subst, arith, append_assoc, append-nil, take-append-drop, ⊎_elim}
 use Rattle.std.proofs.lemmas.Bool.{cases_lt}
 use Rattle.std.proofs.lemmas.List.{length-take-le}
-use Rattle.std.specs.Option.{IfNone, IfSome}
 use Rattle.memchr.specs.Find.{FindsNeedle}
 use Rattle.memchr.proofs.lemmas.MatchLemmas.{OccursAt-part, OccursAt-split}
 use Rattle.bytes_utils.specs.Occurrence.{Occurs, OccursAt, OccursFirstAt}
@@ -10,10 +9,6 @@ use Rattle.bytes_utils.proofs.Boundaries.{HasNeedleAt-from_occurs, OccursAt-fits
 use Rattle.bytes_utils.proofs.OccurrenceLemmas.{OccursAt-front}
 use Rattle.bytes_utils_codec.specs.Frames.{TakesFrame}
 use Rattle.bytes_utils_codec.specs.Search.{NoneBegins}
-
--- nothing was searched
-pub NoneBegins-front : (p bytes : List ℕ) → NoneBegins p bytes 0
-NoneBegins-front p bytes more k here = omega arith
 
 -- a piece is pushed
 pub NoneBegins-more : (p bytes piece : List ℕ) (from : ℕ) → NoneBegins p bytes from → NoneBegins p (bytes ++ piece) from
@@ -51,16 +46,3 @@ module _ (p bytes : List ℕ) (from : ℕ) (some : 0 < length p) (none : NoneBeg
           bytes = sym (take-append-drop at bytes) ∙ ap (λ l. take at bytes ++ l) (OccursAt-split bytes p at found.1);
           first = subst (OccursFirstAt p bytes) (sym size) first_of_all;
         }
-
-  -- the same by what the search returned
-  pub found_of_all : (r : Option ℕ) → FindsNeedle bytes p from r → IfSome r (λ at. TakesFrame p bytes (take at bytes) (drop (at + length p) bytes))
-  found_of_all None missed = tt
-  found_of_all (Some at) found = frame_of_all at found
-
-  pub missed_of_all : (r : Option ℕ) → FindsNeedle bytes p from r → IfNone r (¬ Occurs p bytes)
-  missed_of_all None missed = nowhere_left missed
-  missed_of_all (Some at) found = tt
-
-  pub none_begins_missed : (r : Option ℕ) → FindsNeedle bytes p from r → IfNone r (NoneBegins p bytes (max from (length bytes - (length p - 1))))
-  none_begins_missed None missed = NoneBegins-missed missed
-  none_begins_missed (Some at) found = tt

@@ -3,21 +3,24 @@ use Rattle.std.proofs.Common.{◌≡◌, ℕ, List, [], ◌∷◌, ◌++◌, ap,
 use Rattle.bytes_utils_codec.specs.StreamRuns.{StreamEvent, Pushed, Taken, IsRunOver, pushed_by, given_by, AreFirst, RunLaw, StreamLaw, SameFirstLaw, AllFirstLaw}
 
 module _ {S A : Type 0} (Takes : S → A → S → Type 0) where
-  -- one more item
+  -- more items
+  pub AreFirst-append : (s : S) (xs : List A) (mid : S) (ys : List A) (end : S)
+      → AreFirst Takes s xs mid → AreFirst Takes mid ys end → AreFirst Takes s (xs ++ ys) end
+  AreFirst-append s [] mid ys end first later = subst (λ l. AreFirst Takes l ys end) (sym first) later
+  AreFirst-append s (x ∷ xs) mid ys end first later = (first.0, first.1, AreFirst-append first.0 xs mid ys end first.2 later)
+
   pub AreFirst-next : (s : S) (items : List A) (held : S) (item : A) (rest : S) → AreFirst Takes s items held → Takes held item rest → AreFirst Takes s (items ++ item ∷ []) rest
-  AreFirst-next s [] held item rest are takes = (rest, subst (λ l. Takes l item rest) (sym are) takes, refl)
-  AreFirst-next s (x ∷ items) held item rest are takes = (are.0, are.1, AreFirst-next are.0 items held item rest are.2 takes)
+  AreFirst-next s items held item rest are takes = AreFirst-append s items held (item ∷ []) rest are (rest, takes, refl)
 
   -- what is taken first is one item, with the same state after it
   module _ (one : (old : S) (item other : A) (x y : S) → Takes old item x → Takes old other y → (item ≡ other) × (x ≡ y)) where
     pub same_first_law : SameFirstLaw Takes
     same_first_law s [] [] x y a b size = (refl, sym a ∙ b)
-    same_first_law s [] (g ∷ ys) x y a b size = absurd (omega (arith, size))
-    same_first_law s (f ∷ xs) [] x y a b size = absurd (omega (arith, size))
     same_first_law s (f ∷ xs) (g ∷ ys) x y a b size =
         let same = one s f g a.0 b.0 a.1 b.1 in
         let later = same_first_law b.0 xs ys x y (subst (λ l. AreFirst Takes l xs x) same.1 a.2) b.2 (omega (arith, size)) in
         ((λ i. same.0 i ∷ later.0 i), later.1)
+    same_first_law s xs ys x y a b size = absurd (omega (arith, size))
 
     pub all_first_law : AllFirstLaw Takes
     all_first_law s [] [] x y a b none_x none_y = (refl, sym a ∙ b)

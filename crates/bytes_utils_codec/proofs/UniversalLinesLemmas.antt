@@ -1,5 +1,5 @@
 -- Lines that end with a line feed, a carriage return, or both.
-use Rattle.std.proofs.Common.{◌≡◌, ◌≢◌, ◌==◌, ℕ, List, [], ◌∷◌, ◌++◌, inl, inr, true, drop, get_or, ap, ◌∙◌, sym, refl, subst, arith, IsUtf8}
+use Rattle.std.proofs.Common.{◌≡◌, ◌≢◌, ◌==◌, ℕ, List, [], ◌∷◌, ◌++◌, ◌<◌, inl, inr, true, drop, get_or, ap, ◌∙◌, sym, refl, subst, arith, IsUtf8}
 use Rattle.std.proofs.lemmas.Bool.{ne_eqb, and_left}
 use Rattle.std.proofs.lemmas.List.{append_cancel_left}
 use Rattle.std.proofs.lemmas.List.Elements.{All-nil, All-cons, All-head, All-tail}
@@ -80,14 +80,12 @@ text_universal_law text (line ∷ given) rest is are =
     (All-cons IsUtf8 line given one.0 later.0, later.1)
   where
     -- the end of a line is ASCII
+    cut : (line rest : List ℕ) (c : ℕ) → c < 128 → IsUtf8 (line ++ c ∷ rest) → IsUtf8 line × IsUtf8 rest
+    cut line rest c ascii is = (before_utf8 line c rest ascii is, after_utf8 line c rest ascii is)
+
     text_line : (line end rest : List ℕ) → IsUniversalEnd end rest → IsUtf8 (line ++ (end ++ rest)) → IsUtf8 line × IsUtf8 rest
-    text_line line end rest (inl fed) is =
-        let whole : IsUtf8 (line ++ 10 ∷ rest) = rw fed at is in
-        (before_utf8 line 10 rest (omega arith) whole, after_utf8 line 10 rest (omega arith) whole)
+    text_line line end rest (inl fed) is = cut line rest 10 (omega arith) (rw fed at is)
+    text_line line end rest (inr (inr returned)) is = cut line rest 13 (omega arith) (rw returned.0 at is)
     text_line line end rest (inr (inl both)) is =
-        let whole : IsUtf8 (line ++ 13 ∷ 10 ∷ rest) = rw both at is in
-        let fed : IsUtf8 (10 ∷ rest) = after_utf8 line 13 (10 ∷ rest) (omega arith) whole in
-        (before_utf8 line 13 (10 ∷ rest) (omega arith) whole, after_utf8 [] 10 rest (omega arith) fed)
-    text_line line end rest (inr (inr returned)) is =
-        let whole : IsUtf8 (line ++ 13 ∷ rest) = rw returned.0 at is in
-        (before_utf8 line 13 rest (omega arith) whole, after_utf8 line 13 rest (omega arith) whole)
+        let returned = cut line (10 ∷ rest) 13 (omega arith) (rw both at is) in
+        (returned.0, (cut [] rest 10 (omega arith) returned.1).1)

@@ -1,5 +1,5 @@
 -- Reading on in held bytes, which stay held.
-use Rattle.std.specs.Prelude.{◌≡◌, ◌≢◌, ℕ, ◌+◌, ◌<◌, ◌≤◌, List, [], ◌∷◌, ◌++◌, length, drop, Option, None, Some, Result, IfOk, IfSome, IfNone, OnErr}
+use Rattle.std.specs.Prelude.{◌≡◌, ◌≢◌, ℕ, ◌+◌, ◌<◌, ◌≤◌, List, [], ◌∷◌, ◌++◌, length, take, drop, Option, None, Some, Result, IfOk, IfSome, IfNone, OnErr}
 use Rattle.bytes_utils.specs.Occurrence.{OccursAt, OccursFirstAt}
 use Rattle.bytes_utils_codec.specs.Frames.{TakesFrame}
 use Rattle.bytes_utils_codec.specs.StreamLines.{TakesLine}
@@ -50,6 +50,13 @@ pub record ReadsPart {A E : Type 0} (IsPart : A → List ℕ → List ℕ → Ty
   pub waits : IfOk result (λ next. IfNone next ((new ≡ old) × Lack (unread old)))
   pub all : new.all ≡ old.all
   pub err : OnErr result (new ≡ old)
+
+-- what a call that reads the value of the next bytes returns: it, and then the cursor is after them; none, if fewer are unread, and then it stays
+pub record ReadsValue {A : Type 0} (len : ℕ) (value_of : List ℕ → A) (old new : Reading) (result : Option A) : Type 0 where
+  pub value : IfSome result (λ value. value ≡ value_of (take len (unread old)))
+  pub bytes : IfSome result (λ _. TakesFirst len (unread old) (take len (unread old)) (unread new))
+  pub waits : IfNone result ((new ≡ old) × (length (unread old) < len))
+  pub all : new.all ≡ old.all
 
 -- what a caller asks a cursor for
 pub data Wanted : Type 0 where

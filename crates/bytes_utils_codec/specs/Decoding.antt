@@ -1,5 +1,6 @@
 -- Items that a decoder takes off the front of the bytes of a stream.
 use Rattle.std.specs.Prelude.{◌≡◌, ◌↔◌, ◌⊎◌, ℕ, List, [], ◌∷◌, ◌++◌, drop, Option, None, Some, Result, Ok, Err}
+use Rattle.std.specs.Io.KnownBytes.{Consumes}
 use Rattle.std.specs.List.{concat, flat_map}
 use Rattle.bytes_utils_buf.specs.Packing.{Packing}
 use Rattle.bytes_utils_codec.specs.StreamRuns.{StreamEvent, IsRunOver, pushed_by, given_by, AreFirst}
@@ -24,6 +25,12 @@ Gives D A = Decoding D → Next A → Decoding D → Type 0
 -- bytes come after those held
 abbrev pub fed : {D : Type 0} → Decoding D → List ℕ → Decoding D
 fed s piece = record s { held = s.held ++ piece }
+
+-- a reader gave some bytes, and they come after those held
+pub record IsFedBy {D : Type 0} (before after : Option (List ℕ)) (old new : Decoding D) : Type 0 where
+  pub got : List ℕ
+  pub consumed : Consumes before after got
+  pub are : new ≡ fed old got
 
 -- whatever bytes follow, the same comes next
 abbrev pub HasSameNext : {D A : Type 0} → Gives D A → Decoding D → Decoding D → Type 0

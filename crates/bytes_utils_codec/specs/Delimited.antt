@@ -5,6 +5,7 @@ use Rattle.std.specs.Bool.{OnTrue}
 use Rattle.bytes_utils_buf.specs.declared.refused.Reason.{Reason}
 use Rattle.bytes_utils_buf.specs.declared.refused.Reason.TheVariants.{OutOfMemory, TooLong}
 use Rattle.bytes_utils.specs.Occurrence.{Occurs, OccursAt}
+use Rattle.bytes_utils_codec.specs.Skipping.{gives_skipping}
 use Rattle.bytes_utils_codec.specs.Frames.{AreFrames}
 use Rattle.bytes_utils_codec.specs.Search.{NoneBegins}
 use Rattle.bytes_utils_codec.specs.Decoding.{Decoding, Gives, Item, Last, AreItems, Decodes, fed}
@@ -72,17 +73,17 @@ SkipsOn s = (s.decoder.skipping ≡ true) × LacksSeparator s
 abbrev pub AwaitsFrame : Decoding Delimiting → Type 0
 AwaitsFrame s = SkipsOn s ⊎ ((mid : Decoding Delimiting) × Passes s mid × AwaitsSeparator mid)
 
--- What comes next: a frame within the limit, or that it is longer. At the end of the stream none, and what is held is
--- left, but for the bytes of a frame that is skipped.
+-- What comes next at the front of a frame: it, if it is within the limit, or that it is longer. At the end of the stream
+-- none, and what is held is left.
+abbrev pub GivesFrame : Gives Delimiting (Result (List ℕ) FrameTooLong)
+GivesFrame s (Item (Ok frame)) new = Takes s frame new.held × (length frame ≤ s.decoder.max_length) × (new.decoder ≡ ready s.decoder)
+GivesFrame s (Item (Err e)) new = IsOverLimit s × (new ≡ record s { decoder = skipping_from s.decoder })
+GivesFrame s (Last None) new = AwaitsSeparator s × (new ≡ record s { decoder = ready s.decoder })
+GivesFrame s (Last (Some item)) new = ⊥
+
+-- What comes next: that of the next frame. Of a frame that is skipped up to the end of the stream nothing is left.
 abbrev pub gives_delimited : Gives Delimiting (Result (List ℕ) FrameTooLong)
-gives_delimited old (Item (Ok frame)) new =
-    (mid : Decoding Delimiting) × Passes old mid × Takes mid frame new.held × (length frame ≤ old.decoder.max_length) × (new.decoder ≡ ready old.decoder)
-gives_delimited old (Item (Err e)) new =
-    (mid : Decoding Delimiting) × Passes old mid × IsOverLimit mid × (new ≡ record mid { decoder = skipping_from mid.decoder })
-gives_delimited old (Last None) new =
-    (SkipsOn old × (new ≡ record { decoder = ready old.decoder; held = [] }))
-    ⊎ ((mid : Decoding Delimiting) × Passes old mid × AwaitsSeparator mid × (new ≡ record { decoder = ready old.decoder; held = mid.held }))
-gives_delimited old (Last (Some item)) new = ⊥
+gives_delimited = gives_skipping Passes SkipsOn ready GivesFrame
 
 -- Memory was refused for the next frame, which has come, is within the limit and isn't empty.
 abbrev pub fails_delimited : Decoding Delimiting → Reason → Type 0

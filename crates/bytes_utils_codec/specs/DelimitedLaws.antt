@@ -1,11 +1,12 @@
 -- The laws of the decoder of frames that a separator ends.
-use Rattle.std.proofs.Common.{◌≡◌, ◌↔◌, ℕ, ◌+◌, ◌-◌, ◌<◌, ◌≤◌, max, Bool, true, false, List, [], ◌∷◌, ◌++◌, length, take, drop, None, Some, Result, Ok, Err, inl, inr, ap, ◌∙◌, sym, refl, subst, arith, append_assoc, length-append, length-drop, ⊎_elim}
+use Rattle.std.proofs.Common.{◌≡◌, ℕ, ◌+◌, ◌-◌, ◌<◌, ◌≤◌, max, Bool, true, false, List, [], ◌∷◌, ◌++◌, length, take, drop, None, Some, Result, Ok, Err, inl, inr, ap, ◌∙◌, sym, refl, subst, arith, append_assoc, length-append, length-drop, ⊎_elim}
 use Rattle.std.proofs.lemmas.Bool.{cases_lt, false≢true}
 use Rattle.std.proofs.lemmas.List.{take-append-le, drop-append-le, take_at, drop_at}
 use Rattle.bytes_utils_buf.proofs.Lists.{drop-append_past}
 use Rattle.bytes_utils.specs.Occurrence.{OccursAt}
 use Rattle.bytes_utils_codec.specs.Decoding.{Decoding, Next, Item, Last, fed, HasSameNext, IsStable, IsSingle, WaitsForItem, KeepsNext}
-use Rattle.bytes_utils_codec.specs.Delimited.{Delimiting, ready, TakesFrameFrom, Takes, LacksSeparator, PassesSkipped, Passes, AwaitsSeparator, IsOverLimit, skipping_from, SkipsOn, AwaitsFrame, gives_delimited, DropsSkipped, all_searched, keeps_delimited}
+use Rattle.bytes_utils_codec.specs.Skipping.{AreFronts, Leads, skipping_single, skipping_stable, skipping_waits, same_front, same_next, same_trans}
+use Rattle.bytes_utils_codec.specs.Delimited.{Delimiting, GivesFrame, ready, TakesFrameFrom, Takes, LacksSeparator, PassesSkipped, Passes, AwaitsSeparator, IsOverLimit, SkipsOn, AwaitsFrame, gives_delimited, DropsSkipped, all_searched, keeps_delimited}
 use Rattle.bytes_utils_codec.specs.declared.decode.too_long.FrameTooLong.{FrameTooLong}
 
 -- ---- a frame is taken
@@ -67,12 +68,16 @@ passed_more true s mid more passes =
 pub Passes-more : (s mid : Decoding Delimiting) (more : List ℕ) → Passes s mid → Passes (fed s more) (fed mid more)
 Passes-more s mid more passes = passed_more s.decoder.skipping s mid more passes
 
-passed_limit : (b : Bool) (s mid : Decoding Delimiting) → PassesSkipped b s mid → mid.decoder.max_length ≡ s.decoder.max_length
-passed_limit false s mid passes = ap (λ (t : Decoding Delimiting). t.decoder.max_length) passes
-passed_limit true s mid passes = ap (λ (d : Delimiting). d.max_length) passes.2
+passed_ready : (b : Bool) (s mid : Decoding Delimiting) → PassesSkipped b s mid → ready mid.decoder ≡ ready s.decoder
+passed_ready false s mid passes = ap (λ (t : Decoding Delimiting). ready t.decoder) passes
+passed_ready true s mid passes = ap ready passes.2
 
-pub Passes-limit : (s mid : Decoding Delimiting) → Passes s mid → mid.decoder.max_length ≡ s.decoder.max_length
-Passes-limit s mid passes = passed_limit s.decoder.skipping s mid passes
+pub Passes-ready : (s mid : Decoding Delimiting) → Passes s mid → ready mid.decoder ≡ ready s.decoder
+Passes-ready s mid passes = passed_ready s.decoder.skipping s mid passes
+
+passed_front : (b : Bool) (s mid : Decoding Delimiting) → s.decoder.skipping ≡ b → PassesSkipped b s mid → mid.decoder.skipping ≡ false
+passed_front false s mid is passes = ap (λ (t : Decoding Delimiting). t.decoder.skipping) passes ∙ is
+passed_front true s mid is passes = ap (λ (d : Delimiting). d.skipping) passes.2
 
 passed_not : (b : Bool) (s mid : Decoding Delimiting) → b ≡ true → LacksSeparator s → PassesSkipped b s mid → ⊥
 passed_not false s mid is lacks passes = false≢true is
@@ -92,85 +97,58 @@ IsOverLimit-more s more over = record {
       (cases_lt s.decoder.max_length k);
 }
 
-pub delimited_stable : IsStable gives_delimited
-delimited_stable old (Ok frame) new more g = (
-  fed g.0 more,
-  Passes-more old g.0 more g.1,
-  TakesFrameFrom-more g.0.decoder.separator g.0.decoder.searched g.0.held frame new.held g.2 more,
-  g.3,
-  g.4,
-)
-delimited_stable old (Err e) new more g = (fed g.0 more, Passes-more old g.0 more g.1, IsOverLimit-more g.0 more g.2, ap (λ s. fed s more) g.3)
+frame_more : (s new : Decoding Delimiting) (item : Result (List ℕ) FrameTooLong) (more : List ℕ) → GivesFrame s (Item item) new
+    → GivesFrame (fed s more) (Item item) (fed new more)
+frame_more s new (Ok frame) more g = (TakesFrameFrom-more s.decoder.separator s.decoder.searched s.held frame new.held g.0 more, g.1, g.2)
+frame_more s new (Err e) more g = (IsOverLimit-more s more g.0, ap (λ t. fed t more) g.1)
 
 -- ---- at most one thing comes next
 
+frame_lacks : WaitsForItem GivesFrame AwaitsSeparator
+frame_lacks s awaits (Ok frame) new g =
+    awaits.lacks (length frame) g.0.low (occurs_after s.decoder.separator s.decoder.searched s.held frame new.held g.0)
+frame_lacks s awaits (Err e) new g = omega (arith, awaits.few, g.0.many)
+
+over_not_taken : (s : Decoding Delimiting) (frame rest : List ℕ) → Takes s frame rest → length frame ≤ s.decoder.max_length → ¬ IsOverLimit s
+over_not_taken s frame rest takes fits over =
+    omega (arith, fits, over.none (length frame) takes.low (occurs_after s.decoder.separator s.decoder.searched s.held frame rest takes))
+
+frame_single : IsSingle GivesFrame
+frame_single s (Item (Ok f)) (Item (Ok g)) x y a b =
+    let same = TakesFrameFrom-same s.decoder.separator s.decoder.searched s.held f g x.held y.held a.0 b.0 in
+    let decoders : x.decoder ≡ y.decoder = a.2 ∙ sym b.2 in
+    ((λ i. Item (Ok (same.0 i))), (λ i. record { decoder = decoders i; held = same.1 i }))
+frame_single s (Item (Ok f)) (Item (Err e)) x y a b = absurd (over_not_taken s f x.held a.0 a.1 b.0)
+frame_single s (Item (Err e)) (Item (Ok g)) x y a b = absurd (over_not_taken s g y.held b.0 b.1 a.0)
+frame_single s (Item (Err e)) (Item (Err d)) x y a b = (refl, a.1 ∙ sym b.1)
+frame_single s (Item item) (Last None) x y a b = absurd (frame_lacks s b.0 item x a)
+frame_single s (Last None) (Item item) x y a b = absurd (frame_lacks s a.0 item y b)
+frame_single s (Last None) (Last None) x y a b = (refl, a.1 ∙ sym b.1)
+frame_single s (Last (Some f)) next x y a b = absurd a
+frame_single s next (Last (Some g)) x y a b = absurd b
+
+fronts : AreFronts Passes SkipsOn ready GivesFrame AwaitsSeparator
+fronts = record {
+  one = Passes-same;
+  none = SkipsOn-passes;
+  more = λ s mid new item bytes passes given. (Passes-more s mid bytes passes, frame_more mid new item bytes given);
+  single = frame_single;
+  lacks = frame_lacks;
+}
+
+pub delimited_stable : IsStable gives_delimited
+delimited_stable = skipping_stable fronts
+
 pub delimited_waits : WaitsForItem gives_delimited AwaitsFrame
-delimited_waits s (inl skips) (Ok frame) after g = SkipsOn-passes s g.0 skips g.1
-delimited_waits s (inl skips) (Err e) after g = SkipsOn-passes s g.0 skips g.1
-delimited_waits s (inr awaits) (Ok frame) after g =
-    let mid = g.0 in
-    let there = subst AwaitsSeparator (Passes-same s awaits.0 mid awaits.1 g.1) awaits.2 in
-    there.lacks (length frame) g.2.low (occurs_after mid.decoder.separator mid.decoder.searched mid.held frame after.held g.2)
-delimited_waits s (inr awaits) (Err e) after g =
-    let there = subst AwaitsSeparator (Passes-same s awaits.0 g.0 awaits.1 g.1) awaits.2 in
-    absurd (omega (arith, there.few, g.2.many))
-
--- what comes at the end of the stream, if no item is there
-pub awaits_at_end : (s after : Decoding Delimiting) → gives_delimited s (Last None) after → AwaitsFrame s
-awaits_at_end s after (inl skips) = inl skips.0
-awaits_at_end s after (inr awaits) = inr (awaits.0, awaits.1, awaits.2)
-
-over_not_taken : (s x y : Decoding Delimiting) (frame : List ℕ) (e : FrameTooLong) → gives_delimited s (Item (Ok frame)) x
-    → ¬ gives_delimited s (Item (Err e)) y
-over_not_taken s x y frame e a b =
-    let mid = a.0 in
-    let over = subst IsOverLimit (Passes-same s b.0 mid b.1 a.1) b.2 in
-    let long = over.none (length frame) a.2.low (occurs_after mid.decoder.separator mid.decoder.searched mid.held frame x.held a.2) in
-    absurd (omega (arith, long, a.3, Passes-limit s mid a.1))
-
-ends_same : (s x y : Decoding Delimiting) → gives_delimited s (Last None) x → gives_delimited s (Last None) y → x ≡ y
-ends_same s x y (inl a) (inl b) = a.1 ∙ sym b.1
-ends_same s x y (inl a) (inr b) = absurd (SkipsOn-passes s b.0 a.0 b.1)
-ends_same s x y (inr a) (inl b) = absurd (SkipsOn-passes s a.0 b.0 a.1)
-ends_same s x y (inr a) (inr b) =
-    a.3 ∙ ap (λ (mid : Decoding Delimiting). record { decoder = ready s.decoder; held = mid.held }) (Passes-same s a.0 b.0 a.1 b.1) ∙ sym b.3
+delimited_waits = skipping_waits fronts
 
 pub delimited_single : IsSingle gives_delimited
-delimited_single s (Item (Ok f)) (Item (Ok g)) x y a b =
-    let mid = b.0 in
-    let takes = subst (λ (t : Decoding Delimiting). Takes t f x.held) (Passes-same s a.0 mid a.1 b.1) a.2 in
-    let same = TakesFrameFrom-same mid.decoder.separator mid.decoder.searched mid.held f g x.held y.held takes b.2 in
-    let decoders : x.decoder ≡ y.decoder = a.4 ∙ sym b.4 in
-    ((λ i. Item (Ok (same.0 i))), (λ i. record { decoder = decoders i; held = same.1 i }))
-delimited_single s (Item (Ok f)) (Item (Err e)) x y a b = absurd (over_not_taken s x y f e a b)
-delimited_single s (Item (Err e)) (Item (Ok g)) x y a b = absurd (over_not_taken s y x g e b a)
-delimited_single s (Item (Err e)) (Item (Err d)) x y a b = (
-  refl,
-  a.3 ∙ ap (λ (mid : Decoding Delimiting). record mid { decoder = skipping_from mid.decoder }) (Passes-same s a.0 b.0 a.1 b.1) ∙ sym b.3,
-)
-delimited_single s (Item item) (Last None) x y a b = absurd (delimited_waits s (awaits_at_end s y b) item x a)
-delimited_single s (Item item) (Last (Some g)) x y a b = absurd b
-delimited_single s (Last None) (Item item) x y a b = absurd (delimited_waits s (awaits_at_end s x a) item y b)
-delimited_single s (Last None) (Last None) x y a b = (refl, ends_same s x y a b)
-delimited_single s (Last None) (Last (Some g)) x y a b = absurd b
-delimited_single s (Last (Some f)) next x y a b = absurd a
+delimited_single = skipping_single fronts
 
 -- ---- after a call that gave no item
 
 abbrev state : List ℕ → ℕ → ℕ → Bool → List ℕ → Decoding Delimiting
 state p limit from b held = record { decoder = record { separator = p; max_length = limit; searched = from; skipping = b }; held = held }
-
--- two states in which a frame is skipped, of the same decoder, one of which passes what the other does
-gives_skipped : (p : List ℕ) (limit from n : ℕ) (x y : List ℕ)
-    → ((mid : Decoding Delimiting) → Passes (state p limit from true x) mid → Passes (state p limit n true y) mid)
-    → (LacksSeparator (state p limit from true x) → LacksSeparator (state p limit n true y))
-    → (next : Next (Result (List ℕ) FrameTooLong)) (after : Decoding Delimiting)
-    → gives_delimited (state p limit from true x) next after → gives_delimited (state p limit n true y) next after
-gives_skipped p limit from n x y passes lacks (Item (Ok frame)) after g = (g.0, passes g.0 g.1, g.2, g.3, g.4)
-gives_skipped p limit from n x y passes lacks (Item (Err e)) after g = (g.0, passes g.0 g.1, g.2, g.3)
-gives_skipped p limit from n x y passes lacks (Last None) after (inl g) = inl ((refl, lacks g.0.1), g.1)
-gives_skipped p limit from n x y passes lacks (Last None) after (inr g) = inr (g.0, passes g.0 g.1, g.2, g.3)
-gives_skipped p limit from n x y passes lacks (Last (Some item)) after g = g
 
 -- two places from which the same separators are found
 module _ (p bytes : List ℕ) (from n : ℕ) (on : (k : ℕ) → OccursAt p bytes k → from ≤ k → n ≤ k) (back : (k : ℕ) → OccursAt p bytes k → n ≤ k → from ≤ k) where
@@ -181,43 +159,20 @@ module _ (p bytes : List ℕ) (from n : ℕ) (on : (k : ℕ) → OccursAt p byte
     first = λ k low here. takes.first k (back k here low) here;
   }
 
-  module _ (limit : ℕ) where
-    lacks_searched : (b : Bool) → LacksSeparator (state p limit from b bytes) → LacksSeparator (state p limit n b bytes)
-    lacks_searched b lacks k low here = lacks k (back k here low) here
+  frame_searched : (limit : ℕ) (next : Next (Result (List ℕ) FrameTooLong)) (after : Decoding Delimiting)
+      → GivesFrame (state p limit from false bytes) next after → GivesFrame (state p limit n false bytes) next after
+  frame_searched limit (Item (Ok frame)) after g = (takes_searched frame after.held g.0, g.1, g.2)
+  frame_searched limit (Item (Err e)) after g = (record { many = g.0.many; none = λ k low here. g.0.none k (back k here low) here }, g.1)
+  frame_searched limit (Last None) after g = (record { lacks = λ k low here. g.0.lacks k (back k here low) here; few = g.0.few }, g.1)
+  frame_searched limit (Last (Some item)) after g = g
 
-    awaits_searched : AwaitsSeparator (state p limit from false bytes) → AwaitsSeparator (state p limit n false bytes)
-    awaits_searched awaits = record { lacks = lacks_searched false awaits.lacks; few = awaits.few }
-
-    over_searched : IsOverLimit (state p limit from false bytes) → IsOverLimit (state p limit n false bytes)
-    over_searched over = record { many = over.many; none = λ k low here. over.none k (back k here low) here }
-
-    skipped_searched : (mid : Decoding Delimiting) → Passes (state p limit from true bytes) mid → Passes (state p limit n true bytes) mid
-    skipped_searched mid passes = (passes.0, takes_searched passes.0 mid.held passes.1, passes.2)
-
-    gives_searched : (b : Bool) (next : Next (Result (List ℕ) FrameTooLong)) (after : Decoding Delimiting)
-        → gives_delimited (state p limit from b bytes) next after → gives_delimited (state p limit n b bytes) next after
-    gives_searched false (Item (Ok frame)) after g = (
-      state p limit n false bytes,
-      refl,
-      takes_searched frame after.held (subst (λ (s : Decoding Delimiting). Takes s frame after.held) g.1 g.2),
-      g.3,
-      g.4,
-    )
-    gives_searched false (Item (Err e)) after g = (
-      state p limit n false bytes,
-      refl,
-      over_searched (subst IsOverLimit g.1 g.2),
-      g.3 ∙ ap (λ (s : Decoding Delimiting). record s { decoder = skipping_from s.decoder }) g.1,
-    )
-    gives_searched false (Last None) after (inl g) = absurd (false≢true g.0.0)
-    gives_searched false (Last None) after (inr g) = inr (
-      state p limit n false bytes,
-      refl,
-      awaits_searched (subst AwaitsSeparator g.1 g.2),
-      g.3 ∙ ap (λ (s : Decoding Delimiting). state p limit 0 false s.held) g.1,
-    )
-    gives_searched false (Last (Some item)) after g = g
-    gives_searched true next after g = gives_skipped p limit from n bytes bytes skipped_searched (lacks_searched true) next after g
+  leads_searched : (limit : ℕ) → Leads Passes SkipsOn ready GivesFrame (state p limit from false bytes) (state p limit n false bytes)
+  leads_searched limit = record {
+    passes = λ mid is.
+        (state p limit n false bytes, refl, λ next after given. frame_searched limit next after (subst (λ t. GivesFrame t next after) is given));
+    skips = λ skips. absurd (false≢true skips.0);
+    decoder = refl;
+  }
 
 -- a separator that is not there isn't empty
 some_from_lacking : (p held : List ℕ) (from : ℕ) → ((k : ℕ) → from ≤ k → ¬ OccursAt p held k) → 0 < length p
@@ -225,20 +180,18 @@ some_from_lacking [] held from lacks = absurd (lacks from (omega arith) refl)
 some_from_lacking (b ∷ p) held from lacks = omega arith
 
 -- all held bytes are searched, and no separator is there
-same_searched : (p : List ℕ) (limit from : ℕ) (b : Bool) (held : List ℕ) → AwaitsSeparator (state p limit from b held)
-    → HasSameNext gives_delimited (state p limit from b held) (all_searched (state p limit from b held))
-same_searched p limit from b held awaits more next after =
-    let some = some_from_lacking p held from awaits.lacks in
+same_searched : (p : List ℕ) (limit from : ℕ) (held : List ℕ) → ((k : ℕ) → from ≤ k → ¬ OccursAt p held k)
+    → HasSameNext gives_delimited (state p limit from false held) (all_searched (state p limit from false held))
+same_searched p limit from held lacks =
+    let some = some_from_lacking p held from lacks in
     let n = max from (length held - (length p - 1)) in
+    same_next fronts (state p limit from false held) (state p limit n false held) (λ more.
     let bytes = held ++ more in
     let further : (k : ℕ) → OccursAt p bytes k → from ≤ k → n ≤ k =
-    λ k here low. ⊎_elim
-    (λ below. absurd (awaits.lacks k low (occurs_in_front p held more k here (omega (arith, below, low, some))))) (λ above. above)
+    λ k here low. ⊎_elim (λ below. absurd (lacks k low (occurs_in_front p held more k here (omega (arith, below, low, some))))) (λ above. above)
     (cases_lt k n) in
-    let back : (k : ℕ) → OccursAt p bytes k → n ≤ k → from ≤ k = λ k here low. omega arith in (
-      gives_searched p bytes from n further back limit b next after,
-      gives_searched p bytes n from back further limit b next after,
-    )
+    let back : (k : ℕ) → OccursAt p bytes k → n ≤ k → from ≤ k = λ k here low. omega arith in
+    (leads_searched p bytes from n further back limit, leads_searched p bytes n from back further limit))
 
 -- the first bytes of the frame that is skipped are gone
 module _ (p gone bytes : List ℕ) (from : ℕ) (low : from ≤ length gone) (none : (k : ℕ) → from ≤ k → OccursAt p (gone ++ bytes) k → length gone ≤ k) where
@@ -269,32 +222,29 @@ module _ (p gone bytes : List ℕ) (from : ℕ) (low : from ≤ length gone) (no
             omega (arith, size, above, takes.first (k - length gone) (omega arith) (occurs_from_after k above here));
       }
 
-  module _ (limit : ℕ) where
-    passes_dropped : (mid : Decoding Delimiting) → Passes (state p limit from true (gone ++ bytes)) mid → Passes (state p limit 0 true bytes) mid
-    passes_dropped mid passes = (drop (length gone) passes.0, takes_dropped passes.0 mid.held passes.1, passes.2)
-
-    passes_whole : (mid : Decoding Delimiting) → Passes (state p limit 0 true bytes) mid → Passes (state p limit from true (gone ++ bytes)) mid
-    passes_whole mid passes = (gone ++ passes.0, takes_whole passes.0 mid.held passes.1, passes.2)
-
-    lacks_dropped : LacksSeparator (state p limit from true (gone ++ bytes)) → LacksSeparator (state p limit 0 true bytes)
-    lacks_dropped lacks k on here = lacks (length gone + k) (omega (arith, low)) (occurs_following k here)
-
-    lacks_whole : LacksSeparator (state p limit 0 true bytes) → LacksSeparator (state p limit from true (gone ++ bytes))
-    lacks_whole lacks k on here = lacks (k - length gone) (omega arith) (occurs_from_after k (none k on here) here)
+  leads_dropped : (limit : ℕ) → Leads Passes SkipsOn ready GivesFrame (state p limit from true (gone ++ bytes)) (state p limit 0 true bytes)
+      × Leads Passes SkipsOn ready GivesFrame (state p limit 0 true bytes) (state p limit from true (gone ++ bytes))
+  leads_dropped limit = (
+    record {
+      passes = λ mid passes. (mid, (drop (length gone) passes.0, takes_dropped passes.0 mid.held passes.1, passes.2), λ next after given. given);
+      skips = λ skips. (refl, λ k on here. skips.1 (length gone + k) (omega (arith, low)) (occurs_following k here));
+      decoder = refl;
+    },
+    record {
+      passes = λ mid passes. (mid, (gone ++ passes.0, takes_whole passes.0 mid.held passes.1, passes.2), λ next after given. given);
+      skips = λ skips. (refl, λ k on here. skips.1 (k - length gone) (omega arith) (occurs_from_after k (none k on here) here));
+      decoder = refl;
+    },
+  )
 
 same_dropped : (p : List ℕ) (limit from : ℕ) (gone held : List ℕ) → from ≤ length gone
     → ((more : List ℕ) (k : ℕ) → from ≤ k → OccursAt p ((gone ++ held) ++ more) k → length gone ≤ k)
     → HasSameNext gives_delimited (state p limit from true (gone ++ held)) (state p limit 0 true held)
-same_dropped p limit from gone held low none more next after =
+same_dropped p limit from gone held low none =
+    same_next fronts (state p limit from true (gone ++ held)) (state p limit 0 true held) (λ more.
     let joined : (gone ++ held) ++ more ≡ gone ++ (held ++ more) = append_assoc gone held more in
     let there = subst (λ l. (k : ℕ) → from ≤ k → OccursAt p l k → length gone ≤ k) joined (none more) in
-    let bytes = held ++ more in
-    rw joined (
-      gives_skipped p limit from 0 (gone ++ bytes) bytes (passes_dropped p gone bytes from low there limit)
-          (lacks_dropped p gone bytes from low there limit) next after,
-      gives_skipped p limit 0 from bytes (gone ++ bytes) (passes_whole p gone bytes from low there limit)
-          (lacks_whole p gone bytes from low there limit) next after,
-    )
+    rw joined (leads_dropped p gone (held ++ more) from low there limit))
 
 SameNext-dropped : (old new : Decoding Delimiting) → DropsSkipped old new → HasSameNext gives_delimited old new
 SameNext-dropped old new drops =
@@ -309,82 +259,20 @@ SameNext-dropped old new drops =
     (subst (HasSameNext gives_delimited (state d.separator d.max_length d.searched true (drops.gone ++ new.held))) after same)
 
 -- the frame that is skipped is passed
-module _ (p : List ℕ) (limit from : ℕ) (held gone rest : List ℕ) (takes : TakesFrameFrom p from held gone rest) where
-  passes_to : (mid : Decoding Delimiting) → Passes (state p limit from true held) mid → mid ≡ state p limit 0 false rest
-  passes_to mid passes = Passes-same (state p limit from true held) mid (state p limit 0 false rest) passes (gone, takes, refl)
-
-  passes_from : (mid : Decoding Delimiting) → mid ≡ state p limit 0 false rest → Passes (state p limit from true held) mid
-  passes_from mid is = subst (Passes (state p limit from true held)) (sym is) (gone, takes, refl)
-
-  gives_passed : (next : Next (Result (List ℕ) FrameTooLong)) (after : Decoding Delimiting)
-      → gives_delimited (state p limit from true held) next after → gives_delimited (state p limit 0 false rest) next after
-  gives_passed (Item (Ok frame)) after g = (
-    state p limit 0 false rest,
-    refl,
-    subst (λ (s : Decoding Delimiting). Takes s frame after.held) (passes_to g.0 g.1) g.2,
-    g.3,
-    g.4,
-  )
-  gives_passed (Item (Err e)) after g = (
-    state p limit 0 false rest,
-    refl,
-    subst IsOverLimit (passes_to g.0 g.1) g.2,
-    g.3 ∙ ap (λ (s : Decoding Delimiting). record s { decoder = skipping_from s.decoder }) (passes_to g.0 g.1),
-  )
-  gives_passed (Last None) after (inl g) =
-      absurd (SkipsOn-passes (state p limit from true held) (state p limit 0 false rest) g.0 (gone, takes, refl))
-  gives_passed (Last None) after (inr g) = inr (
-    state p limit 0 false rest,
-    refl,
-    subst AwaitsSeparator (passes_to g.0 g.1) g.2,
-    g.3 ∙ ap (λ (s : Decoding Delimiting). state p limit 0 false s.held) (passes_to g.0 g.1),
-  )
-  gives_passed (Last (Some item)) after g = g
-
-  gives_before : (next : Next (Result (List ℕ) FrameTooLong)) (after : Decoding Delimiting)
-      → gives_delimited (state p limit 0 false rest) next after → gives_delimited (state p limit from true held) next after
-  gives_before (Item (Ok frame)) after g = (g.0, passes_from g.0 g.1, g.2, g.3, g.4)
-  gives_before (Item (Err e)) after g = (g.0, passes_from g.0 g.1, g.2, g.3)
-  gives_before (Last None) after (inl g) = absurd (false≢true g.0.0)
-  gives_before (Last None) after (inr g) = inr (g.0, passes_from g.0 g.1, g.2, g.3)
-  gives_before (Last (Some item)) after g = g
-
-same_after : (p : List ℕ) (limit from : ℕ) (held gone rest : List ℕ) → TakesFrameFrom p from held gone rest
-    → HasSameNext gives_delimited (state p limit from true held) (state p limit 0 false rest)
-same_after p limit from held gone rest takes more next after =
-    let whole = TakesFrameFrom-more p from held gone rest takes more in (
-      gives_passed p limit from (held ++ more) gone (rest ++ more) whole next after,
-      gives_before p limit from (held ++ more) gone (rest ++ more) whole next after,
-    )
-
-same_passed : (b : Bool) (s mid : Decoding Delimiting) → b ≡ s.decoder.skipping → PassesSkipped b s mid → HasSameNext gives_delimited s mid
-same_passed false s mid is passes more next after =
-    subst (λ (t : Decoding Delimiting). gives_delimited (fed s more) next after ↔ gives_delimited (fed t more) next after) (sym passes)
-    ((λ g. g), (λ g. g))
-same_passed true s mid is passes more next after =
-    let d = s.decoder in
-    let front : state d.separator d.max_length d.searched true s.held ≡ s = (λ i. state d.separator d.max_length d.searched (is i) s.held) in
-    let rest : state d.separator d.max_length 0 false mid.held ≡ mid = (λ i. record { decoder = sym passes.2 i; held = mid.held }) in
-    let same = same_after d.separator d.max_length d.searched s.held passes.0 mid.held passes.1 in
-    subst (λ t. HasSameNext gives_delimited t mid) front
-    (subst (HasSameNext gives_delimited (state d.separator d.max_length d.searched true s.held)) rest same) more next after
-
 SameNext-passed : (s mid : Decoding Delimiting) → Passes s mid → HasSameNext gives_delimited s mid
-SameNext-passed s mid passes = same_passed s.decoder.skipping s mid refl passes
-
-SameNext-none : (s : Decoding Delimiting) → HasSameNext gives_delimited s s
-SameNext-none s more next after = ((λ g. g), (λ g. g))
-
--- the same comes next after states that give the same
-SameNext-trans : (s t u : Decoding Delimiting) → HasSameNext gives_delimited s t → HasSameNext gives_delimited t u → HasSameNext gives_delimited s u
-SameNext-trans s t u first later more next after =
-    ((λ g. (later more next after).0 ((first more next after).0 g)), (λ g. (first more next after).1 ((later more next after).1 g)))
+SameNext-passed s mid passes =
+    let front = passed_front s.decoder.skipping s mid refl passes in
+    same_front fronts s mid (sym (Passes-ready s mid passes)) (λ more.
+    (fed mid more, Passes-more s mid more passes, subst (λ b. PassesSkipped b (fed mid more) (fed mid more)) (sym front) refl))
 
 pub delimited_same : KeepsNext gives_delimited keeps_delimited
 delimited_same old new (inl (inl drops)) = SameNext-dropped old new drops
-delimited_same old new (inl (inr waits)) = subst (HasSameNext gives_delimited old) (sym waits.1) (SameNext-none old)
+delimited_same old new (inl (inr waits)) = subst (HasSameNext gives_delimited old) (sym waits.1) (λ more next after. ((λ g. g), (λ g. g)))
 delimited_same old new (inr (mid, passes, inl is)) = subst (HasSameNext gives_delimited old) (sym is) (SameNext-passed old mid passes)
 delimited_same old new (inr (mid, passes, inr (awaits, is))) =
     let d = mid.decoder in
-    subst (HasSameNext gives_delimited old) (sym is)
-    (SameNext-trans old mid (all_searched mid) (SameNext-passed old mid passes) (same_searched d.separator d.max_length d.searched d.skipping mid.held awaits))
+    let front = passed_front old.decoder.skipping old mid refl passes in
+    let searched = subst (λ b. HasSameNext gives_delimited (state d.separator d.max_length d.searched b mid.held)
+    (all_searched (state d.separator d.max_length d.searched b mid.held))) (sym front)
+    (same_searched d.separator d.max_length d.searched mid.held awaits.lacks) in
+    subst (HasSameNext gives_delimited old) (sym is) (same_trans fronts old mid (all_searched mid) (SameNext-passed old mid passes) searched)

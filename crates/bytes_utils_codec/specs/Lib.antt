@@ -7,9 +7,9 @@ pub mod UniversalLines
 pub mod StreamTexts
 pub mod LossyTexts
 pub mod Pushing
-pub mod ReadError
 pub mod Decoding
 pub mod Taking
+pub mod Skipping
 pub mod Prefixed
 pub mod PrefixedLaws
 pub mod Delimited

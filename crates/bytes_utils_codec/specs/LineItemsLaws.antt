@@ -5,8 +5,8 @@ use Rattle.std.specs.Str.{valid_up_to, error_len}
 use Rattle.std.specs.Str.Lossy.{utf8_error_len}
 use Rattle.bytes_utils.specs.Errors.{fault_of, refused_storage}
 use Rattle.bytes_utils.specs.Lines.{IsWithoutReturn, carriage_return}
-use Rattle.bytes_utils_codec.specs.Decoding.{Decoding, Item, Last, IsStable, IsSingle, WaitsForItem, KeepsNext, Next}
-use Rattle.bytes_utils_codec.specs.Delimited.{Delimiting}
+use Rattle.bytes_utils_codec.specs.Decoding.{Decoding, Item, Last, fed, IsStable, IsSingle, WaitsForItem, KeepsNext, Next}
+use Rattle.bytes_utils_codec.specs.Delimited.{Delimiting, gives_delimited}
 use Rattle.bytes_utils_codec.specs.DelimitedLaws.{delimited_same, delimited_single, delimited_stable, delimited_waits}
 use Rattle.bytes_utils_codec.specs.LineItems.{AwaitsLine, IsLastOf, IsLineOf, IsTextItem, LineItem, LineReading, frames_of, gives_line, keeps_line}
 use Rattle.bytes_utils_codec.specs.declared.decode.too_long.FrameTooLong.{FrameTooLong}
@@ -20,15 +20,14 @@ IsTextItem-same true (Ok a) (Err f) bytes s t = absurd t
 IsTextItem-same true (Err e) y bytes s t = absurd s
 IsTextItem-same false (Ok a) (Ok b) bytes s t = ap Ok (s.0 ∙ sym t.0)
 IsTextItem-same false (Ok a) (Err (NotUtf8 f)) bytes s t = absurd (t.1 s.1)
-IsTextItem-same false (Ok a) (Err TooLong) bytes s t = absurd t
 IsTextItem-same false (Err (NotUtf8 e)) (Ok b) bytes s t = absurd (s.1 t.1)
 IsTextItem-same false (Err (NotUtf8 e)) (Err (NotUtf8 f)) bytes s t =
     let storage : refused_storage e ≡ refused_storage f = s.0 ∙ sym t.0 in
     let valid : valid_up_to (fault_of e) ≡ valid_up_to (fault_of f) = s.2.0 ∙ sym t.2.0 in
     let len : error_len (fault_of e) ≡ error_len (fault_of f) = s.2.1 ∙ ap (λ n. utf8_error_len (drop n bytes)) valid ∙ sym t.2.1 in
     (λ i. Err (NotUtf8 (record { storage = storage i; fault = record { valid_up_to = valid i; error_len = len i } })))
-IsTextItem-same false (Err (NotUtf8 e)) (Err TooLong) bytes s t = absurd t
 IsTextItem-same false (Err TooLong) y bytes s t = absurd s
+IsTextItem-same false x (Err TooLong) bytes s t = absurd t
 
 IsWithoutReturn-same : (x y t : List ℕ) → IsWithoutReturn x t → IsWithoutReturn y t → x ≡ y
 IsWithoutReturn-same x y t (inl a) (inl b) = append_cancel_right x y (carriage_return ∷ []) (sym a ∙ b)
@@ -56,10 +55,6 @@ line_stable old item new more given = (given.0, delimited_stable (frames_of old)
 pub line_waits : WaitsForItem gives_line AwaitsLine
 line_waits s awaits item after given = delimited_waits (frames_of s) awaits given.0 (frames_of after) given.1
 
-frame_in : Result (List ℕ) FrameTooLong → Next (Result (List ℕ) FrameTooLong) → Result (List ℕ) FrameTooLong
-frame_in other (Item frame) = frame
-frame_in other (Last last) = other
-
 -- no item is there if the stream may end
 not_both : (s : Decoding LineReading) (item : LineItem) (last : Option LineItem) (x y : Decoding LineReading)
     → gives_line s (Item item) x → gives_line s (Last last) y → ⊥
@@ -86,34 +81,22 @@ line_single s (Last m) (Last n) x y a b =
       a.1.3 ∙ (λ i. record { decoder = record { frames = (mids i).decoder; lossy = s.decoder.lossy }; held = [] }) ∙ sym b.1.3,
     )
 
+-- two states whose frames give the same
+line_next : (s t : Decoding LineReading)
+    → ((next : Next (Result (List ℕ) FrameTooLong)) (after : Decoding Delimiting)
+    → gives_delimited (frames_of s) next after → gives_delimited (frames_of t) next after)
+    → s.decoder.lossy ≡ t.decoder.lossy → (next : Next LineItem) (after : Decoding LineReading) → gives_line s next after → gives_line t next after
+line_next s t there lossy (Item item) after g =
+    (g.0, there (Item g.0) (frames_of after) g.1, subst (λ b. IsLineOf b item g.0) lossy g.2, g.3 ∙ lossy)
+line_next s t there lossy (Last last) after (bytes, (mid, ends, held, is), given) = (
+  bytes,
+  (mid, there (Last None) mid ends, held, is ∙ (λ i. record { decoder = record { frames = mid.decoder; lossy = lossy i }; held = [] })),
+  subst (λ b. IsLastOf b last bytes) lossy given,
+)
+
 pub line_same : KeepsNext gives_line keeps_line
-line_same old new keeps more (Item item) after =
-    let lossy : new.decoder.lossy ≡ old.decoder.lossy = keeps.1 in
-    let there = delimited_same (frames_of old) (frames_of new) keeps.0 more in (
-      (λ g. (g.0, (there (Item g.0) (frames_of after)).0 g.1, subst (λ b. IsLineOf b item g.0) (sym lossy) g.2, g.3 ∙ sym lossy)),
-      (λ g. (g.0, (there (Item g.0) (frames_of after)).1 g.1, subst (λ b. IsLineOf b item g.0) lossy g.2, g.3 ∙ lossy)),
-    )
-line_same old new keeps more (Last last) after =
-    let lossy : new.decoder.lossy ≡ old.decoder.lossy = keeps.1 in
-    let there = delimited_same (frames_of old) (frames_of new) keeps.0 more in (
-      (λ g. (
-        g.0,
-        (
-          g.1.0,
-          (there (Last None) g.1.0).0 g.1.1,
-          g.1.2,
-          g.1.3 ∙ (λ i. record { decoder = record { frames = g.1.0.decoder; lossy = sym lossy i }; held = [] }),
-        ),
-        subst (λ b. IsLastOf b last g.0) (sym lossy) g.2,
-      )),
-      (λ g. (
-        g.0,
-        (
-          g.1.0,
-          (there (Last None) g.1.0).1 g.1.1,
-          g.1.2,
-          g.1.3 ∙ (λ i. record { decoder = record { frames = g.1.0.decoder; lossy = lossy i }; held = [] }),
-        ),
-        subst (λ b. IsLastOf b last g.0) lossy g.2,
-      )),
+line_same old new keeps more next after =
+    let same = delimited_same (frames_of old) (frames_of new) keeps.0 more in (
+      line_next (fed old more) (fed new more) (λ n a. (same n a).0) (sym keeps.1) next after,
+      line_next (fed new more) (fed old more) (λ n a. (same n a).1) keeps.1 next after,
     )

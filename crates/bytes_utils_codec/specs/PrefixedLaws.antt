@@ -94,15 +94,11 @@ front_single s (Item (Err e)) (Item (Ok g)) x y a b = absurd (not_both s.decoder
 front_single s (Item (Err e)) (Item (Err f)) x y a b =
     let same = over_same s.decoder.max_length (body_len s.decoder s.held) a.1.0 b.1.0 a.1.1.over b.1.1.over in
     (refl, a.1.2 ∙ ap (λ n. skipping n s) same ∙ sym b.1.2)
-front_single s (Item (Ok f)) (Last None) x y a b = absurd (front_waits s b.0 (Ok f) x a)
-front_single s (Item (Err e)) (Last None) x y a b = absurd (front_waits s b.0 (Err e) x a)
-front_single s (Item (Ok f)) (Last (Some g)) x y a b = absurd b
-front_single s (Item (Err e)) (Last (Some g)) x y a b = absurd b
-front_single s (Last None) (Item (Ok g)) x y a b = absurd (front_waits s a.0 (Ok g) y b)
-front_single s (Last None) (Item (Err e)) x y a b = absurd (front_waits s a.0 (Err e) y b)
+front_single s (Item item) (Last None) x y a b = absurd (front_waits s b.0 item x a)
+front_single s (Last None) (Item item) x y a b = absurd (front_waits s a.0 item y b)
 front_single s (Last None) (Last None) x y a b = (refl, a.1 ∙ sym b.1)
-front_single s (Last None) (Last (Some g)) x y a b = absurd b
 front_single s (Last (Some f)) next x y a b = absurd a
+front_single s next (Last (Some g)) x y a b = absurd b
 
 -- ---- the bytes that are skipped
 

@@ -1,11 +1,12 @@
 -- Items of a decoder read from a reader, piece by piece.
-use Rattle.std.specs.Prelude.{◌≡◌, ⊤, ℕ, List, [], ◌∷◌, Option, None, Some, Result, Ok, Err}
+use Rattle.std.specs.Prelude.{◌≡◌, ◌≢◌, ⊤, ℕ, List, [], ◌∷◌, Option, None, Some, Result, Ok, Err, codes}
 use Rattle.std.specs.List.{filter_map}
 use Rattle.std.specs.Io.KnownBytes.{Consumes, IsAtEnd}
+use Rattle.std.specs.IoError.{error_kind}
+use Rattle.std.specs.declared.io.ErrorKind.TheVariants.{Interrupted}
 use Rattle.bytes_utils_codec.specs.Decoding.{Decoding, Gives, Next, Item, Last, AreItems, HasSameNext, LacksItem, fed}
-use Rattle.bytes_utils_codec.specs.ReadError.{IsReadDue, back_bytes, error_text}
 use Rattle.bytes_utils_codec.specs.declared.decode.read.error.ReadItemError.{ReadItemError}
-use Rattle.bytes_utils_codec.specs.declared.decode.read.error.ReadItemError.TheVariants.{Decoder, Read}
+use Rattle.bytes_utils_codec.specs.declared.decode.read.error.ReadItemError.TheVariants.{Decoder, Io, TooManyReads}
 
 -- the reader gave some bytes, and this was what came next of the bytes that were held and these
 pub record ReadsNext {D A : Type 0} (gives : Gives D A) (before after : Option (List ℕ)) (old : Decoding D) (next : Next A) (new : Decoding D) : Type 0 where
@@ -19,42 +20,48 @@ pub record ReadsMore {D A : Type 0} (gives : Gives D A) (before after : Option (
   pub consumed : Consumes before after got
   pub same : HasSameNext gives (fed old got) new
 
--- the bytes that were read and are in the error
-abbrev pub item_back_bytes : {E : Type 0} → ReadItemError E → List ℕ
-item_back_bytes (Decoder error) = []
-item_back_bytes (Read error) = back_bytes error
-
--- what the error prints: what the decoder's error does, or that of the read
+-- what the error prints: what the decoder's error does; nothing is said of a reader's own error
 abbrev pub item_error_text : {E : Type 0} → (E → Option (List ℕ)) → ReadItemError E → Option (List ℕ)
 item_error_text text (Decoder error) = text error
-item_error_text text (Read error) = error_text error
+item_error_text text (Io error) = None
+item_error_text text TooManyReads = Some (codes "too many reads")
 
 -- what a call for the next item of the held bytes did, by what it returned
 abbrev pub TakesHeld : {D A E : Type 0} → Gives D A → (Decoding D → E → Type 0) → Decoding D → Result (Option A) (ReadItemError E) → Decoding D → Type 0
 TakesHeld gives fails old (Ok (Some item)) new = gives old (Item item) new
 TakesHeld gives fails old (Ok None) new = LacksItem gives old × HasSameNext gives old new
 TakesHeld gives fails old (Err (Decoder error)) new = fails old error × HasSameNext gives old new
-TakesHeld gives fails old (Err (Read error)) new = ⊥
+TakesHeld gives fails old (Err (Io error)) new = ⊥
+TakesHeld gives fails old (Err TooManyReads) new = ⊥
 
 -- the same of a call at the end of the stream, while no item is held
 abbrev pub TakesLast : {D A E : Type 0} → Gives D A → (Decoding D → E → Type 0) → Decoding D → Result (Option A) (ReadItemError E) → Decoding D → Type 0
 TakesLast gives fails old (Ok last) new = gives old (Last last) new
 TakesLast gives fails old (Err (Decoder error)) new = fails old error × HasSameNext gives old new
-TakesLast gives fails old (Err (Read error)) new = ⊥
+TakesLast gives fails old (Err (Io error)) new = ⊥
+TakesLast gives fails old (Err TooManyReads) new = ⊥
 
--- The cause of each error: the decoder failed, and what comes next is what came next then; or no item is held, and there is a cause for the error of
--- the read.
+-- the error is that of a read, which is not an interruption
+abbrev pub IsReadDue : {E : Type 0} → ReadItemError E → Type 0
+IsReadDue (Decoder error) = ⊥
+IsReadDue (Io error) = error_kind error ≢ Interrupted
+IsReadDue TooManyReads = ⊥
+
+-- The cause of each error: the decoder failed, and what comes next is what came next then; or no item is held, and a read failed, or there were too
+-- many.
 abbrev pub IsItemDue : {D A E : Type 0} → Gives D A → (Decoding D → E → Type 0) → Decoding D → ReadItemError E → Type 0
 IsItemDue {D} gives fails new (Decoder error) = (s : Decoding D) × fails s error × HasSameNext gives s new
-IsItemDue gives fails new (Read error) = LacksItem gives new × IsReadDue new.held error
+IsItemDue gives fails new (Io error) = LacksItem gives new × (error_kind error ≢ Interrupted)
+IsItemDue gives fails new TooManyReads = LacksItem gives new
 
 -- the error is the decoder's
 abbrev pub IsOfDecoder : {E : Type 0} → ReadItemError E → Type 0
 IsOfDecoder (Decoder error) = ⊤
-IsOfDecoder (Read error) = ⊥
+IsOfDecoder (Io error) = ⊥
+IsOfDecoder TooManyReads = ⊥
 
 -- A run of calls leads from what the reader has left and a state to both at the end. Each call is given as the item that it returned, or `None` if it
--- returned none. The bytes in an error were put back.
+-- returned none.
 abbrev pub IsItemRun : {D A : Type 0} → Gives D A → Option (List ℕ) → Decoding D → List (Option A) → Option (List ℕ) → Decoding D → Type 0
 IsItemRun gives before s [] after end = (after ≡ before) × (end ≡ s)
 IsItemRun {D} gives before s (None ∷ calls) after end = (between : Option (List ℕ)) × (t : Decoding D) × ReadsMore gives before between s t

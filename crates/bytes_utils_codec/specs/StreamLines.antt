@@ -1,14 +1,9 @@
 -- Lines of a stream of bytes that comes in pieces, each ended by a line feed.
-use Rattle.std.specs.Prelude.{◌≡◌, ℕ, List, [], ◌∷◌, ◌++◌, map, All, IsUtf8, Option, None, Some, Result, Ok, Err}
-use Rattle.std.specs.Str.{chars, valid_up_to, error_len}
+use Rattle.std.specs.Prelude.{◌≡◌, ℕ, List, [], ◌∷◌, ◌++◌, map, All, IsUtf8}
+use Rattle.std.specs.Str.{chars}
 use Rattle.bytes_utils.specs.Occurrence.{Occurs}
 use Rattle.bytes_utils.specs.Lines.{lines, line_feed, IsFeedEnd}
-use Rattle.bytes_utils_buf.specs.declared.refused.Reason.TheVariants.{OutOfMemory}
-use Rattle.bytes_utils_buf.specs.Refusals.{reason_text}
-use Rattle.bytes_utils.specs.Errors.{IsFaultOf, fault_of, refused_storage, utf8_error_text}
 use Rattle.bytes_utils_codec.specs.StreamRuns.{AreFirst, SameFirstLaw}
-use Rattle.bytes_utils_codec.specs.declared.line_error.LineError.{LineError}
-use Rattle.bytes_utils_codec.specs.declared.line_error.LineError.TheVariants.{Refused, NotUtf8}
 
 -- the old bytes are the line, its end and the rest, and the line has no line feed
 pub record TakesLine (old line rest : List ℕ) : Type 0 where
@@ -44,17 +39,3 @@ TextLinesLaw = (text : List ℕ) (given : List (List ℕ)) (rest : List ℕ) →
 -- two lists of first lines of the same bytes that have the same length are the same, with the same bytes after them
 abbrev pub SameLinesLaw : Type 0
 SameLinesLaw = SameFirstLaw TakesLine
-
--- What a call for the last line did, by what it returned, the bytes held before and those held after. All held bytes, if there are any, are the
--- line: without a line feed no end is cut off, as `str::lines` keeps a carriage return at the very end of a text.
-abbrev pub IsLastLine : List ℕ → Result (Option (List ℕ)) LineError → List ℕ → Type 0
-IsLastLine old (Ok (Some line)) new = (last_line old ≡ line ∷ []) × (new ≡ []) × IsUtf8 line
-IsLastLine old (Ok None) new = (last_line old ≡ []) × (new ≡ old)
-IsLastLine old (Err (Refused reason)) new = (reason ≡ OutOfMemory) × (new ≡ old)
-IsLastLine old (Err (NotUtf8 fault)) new =
-    (last_line old ≡ refused_storage fault ∷ []) × (new ≡ []) × (¬ IsUtf8 old) × IsFaultOf (fault_of fault) old
-
--- the text of a `LineError`
-abbrev pub line_error_text : LineError → List ℕ
-line_error_text (Refused reason) = reason_text reason
-line_error_text (NotUtf8 fault) = utf8_error_text (valid_up_to (fault_of fault)) (error_len (fault_of fault))

@@ -47,11 +47,10 @@ module _ {D A : Type 0} {Takes : Taking D A} {waits : Decoding D → Type 0} (fa
   pub taken_single : IsSingle (gives_by Takes waits)
   taken_single s (Item a) (Item b) x y p q = let same = facts.same s a b x y p q in (ap Item same.0, same.1)
   taken_single s (Item a) (Last None) x y p q = absurd (facts.lacks s q.0 a x p)
-  taken_single s (Item a) (Last (Some b)) x y p q = absurd q
   taken_single s (Last None) (Item b) x y p q = absurd (facts.lacks s p.0 b y q)
   taken_single s (Last None) (Last None) x y p q = (refl, p.1 ∙ sym q.1)
-  taken_single s (Last None) (Last (Some b)) x y p q = absurd q
   taken_single s (Last (Some a)) next x y p q = absurd p
+  taken_single s next (Last (Some b)) x y p q = absurd q
 
   pub taken_waits : WaitsForItem (gives_by Takes waits) waits
   taken_waits = facts.lacks

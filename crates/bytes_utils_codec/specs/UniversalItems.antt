@@ -7,6 +7,7 @@ use Rattle.bytes_utils_buf.specs.declared.refused.Reason.{Reason}
 use Rattle.bytes_utils_buf.specs.declared.refused.Reason.TheVariants.{OutOfMemory}
 use Rattle.bytes_utils.specs.Lines.{line_feed, carriage_return}
 use Rattle.bytes_utils_codec.specs.Decoding.{Decoding, Gives, Next, Item, Last, AreItems}
+use Rattle.bytes_utils_codec.specs.Skipping.{gives_skipping}
 use Rattle.bytes_utils_codec.specs.LineItems.{LineItem, IsTextItem, IsLastOf, AreItemsOf, begun_line}
 use Rattle.bytes_utils_codec.specs.UniversalLines.{AreFirstUniversal, FindsEnd, IsEndAt, LacksEnds, universal_lines}
 use Rattle.bytes_utils_codec.specs.declared.decode.too_long.FrameTooLong.{FrameTooLong}
@@ -42,14 +43,14 @@ without_feed [] = []
 without_feed (c ∷ t) = if c == line_feed then t else c ∷ t
 
 -- a line feed that belongs to the end of the line before is passed; as long as no byte is held it may still come
-abbrev pub feed_passed : Place → List ℕ → Decoding UniversalReading → Decoding UniversalReading
-feed_passed Line held s = s
-feed_passed LongLine held s = s
-feed_passed AfterReturn [] s = s
-feed_passed AfterReturn (c ∷ t) s = record { decoder = record s.decoder { place = Line }; held = without_feed (c ∷ t) }
+abbrev pub feed_passed : Place → List ℕ → Place × List ℕ
+feed_passed AfterReturn (c ∷ t) = (Line, without_feed (c ∷ t))
+feed_passed place held = (place, held)
 
 abbrev pub after_feed : Decoding UniversalReading → Decoding UniversalReading
-after_feed s = feed_passed s.decoder.place s.held s
+after_feed s =
+    let passed = feed_passed s.decoder.place s.held in
+    record { decoder = record s.decoder { place = passed.0 }; held = passed.1 }
 
 -- where the bytes begin that come after this end
 abbrev pub place_after : ℕ → Place
@@ -69,21 +70,22 @@ LacksEnd s = FindsEnd s.held s.decoder.searched None
 
 -- a line that is skipped, if there is one, is passed with its end
 abbrev pub PassesLongBy : Place → Decoding UniversalReading → Decoding UniversalReading → Type 0
-PassesLongBy Line old new = new ≡ old
-PassesLongBy AfterReturn old new = new ≡ old
 PassesLongBy LongLine old new = (len : ℕ) × EndsAt old len × (new ≡ after_feed (after_end len old))
+PassesLongBy place old new = new ≡ old
 
 abbrev pub PassesLong : Decoding UniversalReading → Decoding UniversalReading → Type 0
 PassesLong old new = PassesLongBy old.decoder.place old new
 
--- the new state is at the front of the next line: the rest of an end, or a line that is skipped, is passed
-abbrev pub ReachesBy : Place → Decoding UniversalReading → Decoding UniversalReading → Type 0
-ReachesBy Line old new = new ≡ after_feed old
-ReachesBy AfterReturn old new = new ≡ after_feed old
-ReachesBy LongLine old new = (len : ℕ) × EndsAt old len × (new ≡ after_feed (after_end len old))
+-- the new state is after the byte that ends the line that is skipped, if there is one
+abbrev pub EndsLongBy : Place → Decoding UniversalReading → Decoding UniversalReading → Type 0
+EndsLongBy LongLine old new = (len : ℕ) × EndsAt old len × (new ≡ after_end len old)
+EndsLongBy place old new = new ≡ old
 
-abbrev pub Reaches : Decoding UniversalReading → Decoding UniversalReading → Type 0
-Reaches old new = ReachesBy old.decoder.place old new
+-- the new state is at the front of the next line: the rest of an end, or a line that is skipped, is passed
+pub record Reaches (old new : Decoding UniversalReading) : Type 0 where
+  pub ending : Decoding UniversalReading
+  pub ends : EndsLongBy old.decoder.place old ending
+  pub is : new ≡ after_feed ending
 
 -- the end of the line that is skipped has not come
 abbrev pub SkipsOn : Decoding UniversalReading → Type 0
@@ -123,8 +125,7 @@ GivesFrom s (Last last) new = AwaitsEnd s × IsLastOf s.decoder.lossy last s.hel
 
 -- What comes next: that of the next line. Of a line that is skipped up to the end of the stream nothing is left.
 abbrev pub gives_universal : Gives UniversalReading LineItem
-gives_universal old next new = (SkipsOn old × (next ≡ Last None) × (new ≡ ended old))
-    ⊎ ((mid : Decoding UniversalReading) × Reaches old mid × GivesFrom mid next new)
+gives_universal = gives_skipping Reaches SkipsOn ready_universal GivesFrom
 
 -- the end of the next line has not come, or that of a line that is skipped
 abbrev pub AwaitsUniversal : Decoding UniversalReading → Type 0

@@ -1,18 +1,19 @@
 //! Reading on in a buffer that is only borrowed.
-ghost use Rattle.std.specs.Prelude.{◌≡◌, ◌≢◌, ◌+◌, ◌<◌, ◌≤◌, ◌↔◌, ◌++◌, [], ◌∷◌, length, take, drop, IsUtf8, IsTrue, IsOk, IfOk, IfErr, IfSome, IfNone, OnErr};
+ghost use Rattle.std.specs.Prelude.{◌≡◌, ◌≢◌, ℕ, ◌+◌, ◌<◌, ◌≤◌, ◌↔◌, List, ◌++◌, [], ◌∷◌, length, take, drop, false, IsTrue, IsOk, IfOk, IfErr, IfSome, IfNone, OnErr};
 ghost use Rattle.std.specs.List.{concat, slice_get};
 ghost use Rattle.bytes_utils_codec.specs.Cursor.{IsBegun, IsFirstWithin, NeverBegins, NeverEndsWithin, OneReplyLaw, SameReadLaw, StaysReadLaw, StaysWrongLaw, TakesFirst, TakesUpTo, passed_on, unread};
-ghost use Rattle.bytes_utils.specs.Errors.{IsFaultOf, fault_of, refused_storage};
 ghost use Rattle.bytes_utils_codec.specs.Frames.{HasFrame, HasFrameWithin, TakesFrame};
 ghost use Rattle.bytes_utils.specs.Lines.{line_feed};
 ghost use Rattle.bytes_utils.specs.Occurrence.{Occurs, OccursAt, OccursFirstAt};
+ghost use Rattle.bytes_utils_codec.specs.LineItems.{IsTextItem};
 ghost use Rattle.bytes_utils_codec.specs.StreamLines.{TakesLine};
 
+pub mod integers;
 pub mod read;
 
-use crate::decode::lines::drop_return;
+use crate::decode::LineFault;
+use crate::decode::lines::{drop_return, text_of};
 use crate::find::find_from;
-use crate::line_error::LineError;
 use bytes::{Buf, Bytes};
 use bytes_utils::string::Str;
 use bytes_utils_buf::Reason;
@@ -373,40 +374,13 @@ impl<'a, B: ContiguousBuf + Drop> Cursor<'a, B> {
         Ok(Some(()))
     }
 
-    /// Passes the next line with its end and returns it, as [`Lines`](crate::decode::Lines) does, or
-    /// returns `None` if its line feed has not come yet. Fails with `NotUtf8` if the line is not
-    /// UTF-8; its bytes are in the error, and the cursor is after the line. Fails with `Refused` if
-    /// memory for a line that has come is refused. The cursor then stays, as with `None`.
-    pub fn line(&mut self, alloc: Global) -> Result<Option<Str>, LineError>
-        ensures line { IfOk result (λ next. IfSome next (λ line.
-            TakesLine (unread self.old) line (unread self.new))) }
-        ensures utf8 { IfOk result (λ next. IfSome next IsUtf8) }
-        ensures waits { IfOk result (λ next. IfNone next
-            ((self.new ≡ self.old) × (¬ Occurs (line_feed ∷ []) (unread self.old)))) }
-        ensures all { self.new.all ≡ self.old.all }
-        ensures refused { IfErr result
-            (λ e. (reason : _) → e ≡ LineError.Refused reason → self.new ≡ self.old) }
-        ensures reason { IfErr result
-            (λ e. (reason : _) → e ≡ LineError.Refused reason → reason ≡ Reason.OutOfMemory) }
-        ensures due { IfErr result (λ e. (reason : _) → e ≡ LineError.Refused reason
-            → HasFrame (line_feed ∷ []) (unread self.old)) }
-        ensures bytes { IfErr result (λ e. (fault : _) → e ≡ LineError.NotUtf8 fault
-            → TakesLine (unread self.old) (refused_storage fault) (unread self.new)) }
-        ensures not_utf8 { IfErr result (λ e. (fault : _) → e ≡ LineError.NotUtf8 fault
-            → ¬ IsUtf8 (refused_storage fault)) }
-        ensures fault { IfErr result (λ e. (fault : _) → e ≡ LineError.NotUtf8 fault
-            → IsFaultOf (fault_of fault) (refused_storage fault)) }
-    {
-        let Some(line) = self.line_bytes(alloc)? else {
-            return Ok(None);
-        };
-        Ok(Some(Str::from_inner(line)?))
-    }
-
-    /// The bytes of the next line, which is passed.
-    fn line_bytes(&mut self, alloc: Global) -> Result<Option<Bytes>, Reason>
-        ensures line { IfOk result (λ next. IfSome next (λ line.
-            TakesLine (unread self.old) line (unread self.new))) }
+    /// Passes the next line with its end and returns it, as [`Lines`](crate::decode::Lines) does: if
+    /// it is not UTF-8, a fault that has its bytes. Returns `None` if its line feed has not come yet.
+    /// Fails with `OutOfMemory` if memory for a line that has come is refused. The cursor then
+    /// stays, as with `None`.
+    pub fn line(&mut self, alloc: Global) -> Result<Option<Result<Str, LineFault>>, Reason>
+        ensures line { IfOk result (λ next. IfSome next (λ item. (line : List ℕ)
+            × TakesLine (unread self.old) line (unread self.new) × IsTextItem false item line)) }
         ensures waits { IfOk result (λ next. IfNone next
             ((self.new ≡ self.old) × (¬ Occurs (line_feed ∷ []) (unread self.old)))) }
         ensures all { self.new.all ≡ self.old.all }
@@ -418,7 +392,7 @@ impl<'a, B: ContiguousBuf + Drop> Cursor<'a, B> {
             return Ok(None);
         };
         drop_return(&mut line);
-        Ok(Some(line))
+        Ok(Some(text_of(line)))
     }
 
     /// Passes the next `len` bytes, which it returns, and the needle that was found after them.

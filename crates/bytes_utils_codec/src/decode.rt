@@ -18,7 +18,7 @@ pub use framed::Framed;
 pub use frames::frame_laws;
 pub use length_prefixed::LengthPrefixed;
 pub use lines::{LineFault, Lines, line_laws};
-pub use read::{ReadError, ReadItemError, read_item, read_item_laws};
+pub use read::{ReadItemError, read_item_laws};
 use std::alloc::Global;
 pub use too_long::FrameTooLong;
 pub use universal_lines::{UniversalLines, universal_line_laws};

@@ -159,10 +159,14 @@ pub(crate) fn find_prepared<B: ContiguousBuf + Drop>(
     requires room { 2 * (length finder.now - 1) ≤ length window.old }
     ensures { FindsNeedle (concat buf.now.segments) finder.now start result }
 {
-    match find_near(buf, start, finder.needle()) {
-        Ok(at) => Some(at),
-        Err(from) => find_from_segment(buf, buf.segment_of(from)?, from, finder, window),
+    let from = match find_near(buf, start, finder.needle()) {
+        Ok(at) => return Some(at),
+        Err(from) => from,
+    };
+    if buf.remaining().saturating_sub(from) < finder.needle().len() {
+        return None;
     }
+    find_from_segment(buf, buf.segment_of(from)?, from, finder, window)
 }
 
 /// As `find_prepared`, for a needle that is not prepared and may be empty.
@@ -264,6 +268,9 @@ fn find_starting_in<B: ContiguousBuf + Drop>(
         return Some(from + at);
     }
     let most = finder.needle().len() - 1;
+    if most == 0 || next >= buf.segments() {
+        return None;
+    }
     let tail = from.max(segment.len().saturating_sub(most));
     let window = &mut window[..segment.len() - tail + most];
     let count = fill_window(window, &segment[tail..], buf, next);

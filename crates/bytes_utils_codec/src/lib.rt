@@ -11,6 +11,5 @@ pub mod cursor;
 pub mod decode;
 pub mod find;
 mod find_end;
-pub mod line_error;
 pub mod search;
 pub mod texts;

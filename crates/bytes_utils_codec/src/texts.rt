@@ -133,7 +133,7 @@ impl Texts {
     /// character over a border. Returns `None` while the held bytes are the beginning of a
     /// character, or none. Fails with `NotUtf8` if they begin with no text, and can't whatever
     /// follows: as early as that is certain, and again at each further call. Fails with `Refused`
-    /// if memory is refused. Then nothing has changed.
+    /// if memory is refused, and only if the held bytes begin with a text. Then nothing has changed.
     pub fn next_text(&mut self, alloc: Global) -> Result<Option<Str>, TextError>
         ensures text { IfOk result
             (λ next. IfSome next (λ text. TakesText self.old text self.new)) }
@@ -142,6 +142,8 @@ impl Texts {
         ensures err { OnErr result (self.new ≡ self.old) }
         ensures not_utf8 { IfErr result (λ e. e ≡ TextError.NotUtf8 → IsFaulty self.old) }
         ensures front { IfErr result (λ e. e ≡ TextError.NotUtf8 → utf8_valid_len self.old ≡ 0) }
+        ensures some { IfErr result
+            (λ e. (reason : _) → e ≡ TextError.Refused reason → 0 < utf8_valid_len self.old) }
         ensures reason { IfErr result
             (λ e. (reason : _) → e ≡ TextError.Refused reason → reason ≡ Reason.OutOfMemory) }
     {

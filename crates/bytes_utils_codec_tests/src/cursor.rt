@@ -1,5 +1,6 @@
 //! What no clause says: that calls succeed, which memory is shared, and the state after a refused
 //! request for memory.
+mod integers;
 mod memory;
 mod read;
 
@@ -8,17 +9,18 @@ use bytes_utils::{Reason, SegmentedBuf, Str};
 use bytes_utils_buf::contiguous::ContiguousBuf;
 use bytes_utils_buf::segmented::PackedBuf;
 use bytes_utils_codec::cursor::Cursor;
+use bytes_utils_codec::decode::LineFault;
 use std::alloc::Global;
 use std::collections::VecDeque;
 
 /// A message of four parts: a word, the number of bytes of the body, the body, and a line.
 const MESSAGE: &[u8] = b"PUT 7\r\nHe\r\nllothe end\r\n";
 
-/// Whether there is a text, which has to be this one.
-fn is_text(text: Option<Str>, want: &str) -> bool {
-    match text {
-        Some(text) => text.eq_str(want),
-        None => false,
+/// Whether there is a line, which has to be this text.
+fn is_text(line: Option<Result<Str, LineFault>>, want: &str) -> bool {
+    match line {
+        Some(Ok(text)) => text.eq_str(want),
+        _ => false,
     }
 }
 
@@ -163,6 +165,25 @@ fn shares(alloc: Global, buf: &SegmentedBuf<Bytes>) -> bool {
 fn bytes_of_one_segment_are_shared(rt: HostRuntime) {
     let buf = header(rt.alloc()).expect(&rt, "no memory");
     assert!(rt; shares(rt.alloc(), &buf));
+}
+
+/// Whether the words of a line that is in one block share it.
+fn shares_words(alloc: Global, line: &Bytes) -> Result<bool, Reason> {
+    let mut whole = SegmentedBuf::new(alloc);
+    whole.try_push(line.clone()?)?;
+    let mut cursor = Cursor::new(&whole);
+    let are_shared = is_taken(cursor.take_until(alloc, b" "), b"set", false)
+        && is_taken(cursor.take_until(alloc, b" "), b"\xff\xfe", false)
+        && is_taken(cursor.take(alloc, 2), b"12", false);
+    Ok(are_shared)
+}
+
+#[test]
+fn words_of_one_block_are_shared(rt: HostRuntime) {
+    let line = Bytes::copy_from_slice(rt.alloc(), b"set \xff\xfe 12");
+    let line = line.expect(&rt, "no memory");
+    let are_shared = shares_words(rt.alloc(), &line).expect(&rt, "no memory");
+    assert!(rt; are_shared);
 }
 
 /// Whether there are too many bytes before the needle.

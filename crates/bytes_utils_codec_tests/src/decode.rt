@@ -1,18 +1,20 @@
 //! What no clause covers: worked cases, what is shared, and that calls succeed with ample memory.
+mod cuts;
 mod delimited;
 mod framed;
 mod lines;
+mod made;
 mod memory;
 mod prefixed;
 mod read;
 mod rows;
-mod stream_lines;
 mod universal_lines;
 
 use bytes::Bytes;
 use bytes_utils::{Reason, Str};
 use bytes_utils_codec::decode::{Decoder, FrameTooLong, Framed, LineFault};
 use std::alloc::Global;
+use std::str;
 
 /// An item that is a frame or a line, or says why there is none.
 trait Frame: Drop {
@@ -35,11 +37,19 @@ impl Frame for Result<Bytes, FrameTooLong> {
     }
 }
 
+/// The bytes, or `text` if they are one.
+fn not_text(bytes: Bytes) -> Bytes {
+    match str::from_utf8(bytes.as_slice()) {
+        Ok(_) => Bytes::from_static(b"text"),
+        Err(_) => bytes,
+    }
+}
+
 impl Frame for Result<Str, LineFault> {
     fn into_bytes(self) -> Bytes {
         match self {
             Ok(line) => line.into_inner(),
-            Err(LineFault::NotUtf8(fault)) => fault.into_inner(),
+            Err(LineFault::NotUtf8(fault)) => not_text(fault.into_inner()),
             Err(LineFault::TooLong) => Bytes::from_static(b"long"),
         }
     }
@@ -59,14 +69,6 @@ fn bytes_of<I: Frame>(answer: Result<Option<I>, Reason>) -> Result<Bytes, Reason
 fn is_given<I: Frame>(answer: Result<Option<I>, Reason>, want: &[u8]) -> bool {
     match bytes_of(answer) {
         Ok(bytes) => bytes.as_slice() == want,
-        Err(_) => false,
-    }
-}
-
-/// Whether so many bytes were returned, and whether they are the only owner of their block.
-fn is_owned<I: Frame>(answer: Result<Option<I>, Reason>, len: usize, is_unique: bool) -> bool {
-    match bytes_of(answer) {
-        Ok(bytes) => bytes.len() == len && bytes.is_unique() == is_unique,
         Err(_) => false,
     }
 }
@@ -99,54 +101,7 @@ fn put_frame(frame: &[u8], out: &mut Vec<u8>) -> Option<()> {
     out.push(b'|').ok()
 }
 
-/// Takes the frames that have come. Returns `None` if one is refused, or there are too many.
-fn take_frames<I: Frame, D: Decoder<Item = I, Error = Reason>>(
-    alloc: Global,
-    reader: &mut Framed<D>,
-    out: &mut Vec<u8>,
-) -> Option<()> {
-    for _ in 0..6 {
-        let Some(frame) = reader.next_item(alloc).ok()? else {
-            return Some(());
-        };
-        put_frame(frame.into_bytes().as_slice(), out)?;
-    }
-    None
-}
-
-/// Pushes a piece, and takes the frames that come.
-fn take_piece<I: Frame, D: Decoder<Item = I, Error = Reason>>(
-    alloc: Global,
-    reader: &mut Framed<D>,
-    piece: &[u8],
-    out: &mut Vec<u8>,
-) -> Option<()> {
-    reader.push_slice(piece).ok()?;
-    take_frames(alloc, reader, out)
-}
-
-/// Whether these frames, each with a stroke after it, come with both pieces.
-fn are_frames<I: Frame, D: Decoder<Item = I, Error = Reason>>(
-    alloc: Global,
-    reader: &mut Framed<D>,
-    (front, back): (&[u8], &[u8]),
-    want: &[u8],
-) -> bool {
-    let mut out = Vec::new(alloc);
-    take_piece(alloc, reader, front, &mut out).is_some()
-        && take_piece(alloc, reader, back, &mut out).is_some()
-        && out.as_slice() == want
-}
-
 /// Pushes a share of the piece.
 fn push_share<D: Decoder>(reader: &mut Framed<D>, piece: &Bytes) -> Result<(), Reason> {
     Ok(reader.push(piece.clone()?)?)
-}
-
-/// Pushes so many pieces of `a`, each of which is held without a copy.
-fn push_long<D: Decoder>(reader: &mut Framed<D>, count: usize) -> Result<(), Reason> {
-    for _ in 0..count {
-        reader.push(Bytes::from_static(&[b'a'; 1_000]))?;
-    }
-    Ok(())
 }

@@ -1,8 +1,10 @@
-//! Readers and assertions that many tests use.
+//! Readers, buffers and assertions that many tests use.
 pub(crate) mod readers;
 pub(crate) mod refusals;
 pub(crate) mod returned;
 
+use bytes::Bytes;
+use bytes_utils::SegmentedBuf;
 use std::alloc::{AllocError, Global};
 use std::error::Error;
 
@@ -37,4 +39,13 @@ pub(crate) fn debugs<E: Error>(alloc: Global, error: &E, text: &str) -> bool {
         Ok(said) => said.as_str() == text,
         Err(_) => false,
     }
+}
+
+/// These pieces, each in a segment of its own, or `None` if memory is refused.
+pub(crate) fn in_segments(alloc: Global, pieces: &[&'static str]) -> Option<SegmentedBuf<Bytes>> {
+    let mut buf = SegmentedBuf::new(alloc);
+    for piece in pieces {
+        buf.try_push(Bytes::from_static(piece.as_bytes())).ok()?;
+    }
+    Some(buf)
 }

@@ -11,8 +11,6 @@ mod find;
 #[cfg(test)]
 mod fixtures;
 #[cfg(test)]
-mod line_error;
-#[cfg(test)]
 mod readme;
 #[cfg(test)]
 mod search;

@@ -4,7 +4,7 @@ mod tests;
 use bytes::{Buf, Bytes};
 use bytes_utils::{Reason, SegmentedBuf, Str};
 use bytes_utils_codec::decode::{
-    FrameTooLong, Framed, LengthPrefixed, LineFault, Lines, ReadItemError, read_item,
+    FrameTooLong, Framed, LengthPrefixed, LineFault, Lines, ReadItemError,
 };
 use std::alloc::Global;
 use std::io::{self, Read, Write};
@@ -29,7 +29,7 @@ fn message<R: Read>(
     input: &mut R,
     messages: &mut Framed<LengthPrefixed>,
 ) -> Result<Option<Result<Bytes, FrameTooLong>>, ReadItemError<Reason>> {
-    read_item(input, messages, alloc) // no byte is lost: `put_back` of the error returns it
+    messages.read_item(alloc, input) // after an error the call can be made again: no byte is lost
 }
 
 /// Splits a line such as `Host: example.org` into name and value.

@@ -3,9 +3,10 @@ ghost use Rattle.std.specs.Prelude.{◌<◌, length};
 
 mod memory;
 
+use crate::fixtures::in_segments;
 use bytes::{Buf, Bytes};
+use bytes_utils::SegmentedBuf;
 use bytes_utils::contiguous::ContiguousBuf;
-use bytes_utils::{Reason, SegmentedBuf};
 use bytes_utils_codec::search::Search;
 use std::alloc::Global;
 use std::cell::Cell;
@@ -83,17 +84,18 @@ fn goes_on(search: &mut Search, held: &SegmentedBuf<Bytes>) -> bool {
         && search.find(held) == Some(1)
 }
 
-/// Bytes in which the needle is twice, and a search for it.
-fn searched(alloc: Global) -> Result<(Search, SegmentedBuf<Bytes>), Reason> {
-    let mut held = SegmentedBuf::new(alloc);
-    held.try_push(Bytes::from_static(b"a--b--"))?;
-    Ok((Search::new(alloc, b"--")?, held))
+/// Whether a new search for the needle goes on in these bytes.
+fn goes_on_anew(alloc: Global, held: &SegmentedBuf<Bytes>) -> bool {
+    match Search::new(alloc, b"--") {
+        Ok(mut search) => goes_on(&mut search, held),
+        Err(_) => false,
+    }
 }
 
 #[test]
 fn places_from_a_place(rt: HostRuntime) {
-    let (mut search, held) = searched(rt.alloc()).expect(&rt, "no memory");
-    assert!(rt; goes_on(&mut search, &held));
+    let held = in_segments(rt.alloc(), &["a--b--"]).expect(&rt, "no memory");
+    assert!(rt; goes_on_anew(rt.alloc(), &held));
 }
 
 /// A byte that counts how often it is looked at.

@@ -1,5 +1,5 @@
 -- Event streams.
-use Rattle.std.proofs.Common.{◌≡◌, ◌≢◌, ℕ, ◌+◌, ◌-◌, ◌==◌, ◌<◌, ◌≤◌, List, [], ◌∷◌, ◌++◌, inl, inr, Bool, true, false, length, take, drop, get_or, Option, None, Some, Ok, Err, ap, ◌∙◌, sym, refl, subst, arith, append_assoc, append-nil, length-append, if◌then◌else◌, IsUtf8, unwrap_or}
+use Rattle.std.proofs.Common.{◌≡◌, ◌≢◌, ℕ, ◌+◌, ◌-◌, ◌==◌, ◌<◌, ◌≤◌, List, [], ◌∷◌, ◌++◌, inl, inr, Bool, true, false, length, take, drop, Option, None, Some, Ok, Err, ap, ◌∙◌, sym, refl, subst, arith, append_assoc, length-append, if◌then◌else◌, IsUtf8, unwrap_or}
 use Rattle.std.specs.Prelude.{IfNone, MatchOption, nat_eq, nat_lt, ◌^◌, ◌&&◌}
 use Rattle.std.specs.Char.{digit_value}
 use Rattle.std.specs.List.{after_first, list_all, position_or_len, starts_with}
@@ -8,10 +8,8 @@ use Rattle.std.specs.Str.{IsCharBoundary}
 use Rattle.std.proofs.Math.Seq.{drop-append_seam}
 use Rattle.std.proofs.lemmas.Bool.{and_from, and_parts, cases_Bool, cond-false, cond-true, lt-ltb, ltb-true, ne_eqb}
 use Rattle.std.proofs.lemmas.List.{take-append-drop}
-use Rattle.std.proofs.lemmas.List.Elements.{All-head, All-tail}
 use Rattle.std.proofs.lemmas.Str.{IsCharBoundary-at_seam}
 use denote.Ref.{Bor}
-use Rattle.bytes_utils.specs.Lines.{line_feed}
 use Rattle.bytes_utils_codec.specs.StreamRuns.{AreFirst}
 use Rattle.bytes_utils_codec.specs.Decoding.{Item}
 use Rattle.bytes_utils_codec.specs.LineItems.{LineItem}

@@ -1,7 +1,7 @@
 //! Netstrings from a reader. The first two are the examples of their definition.
 use crate::fixtures::debugs_as;
 use bytes::Bytes;
-use bytes_utils_codec::decode::{Framed, read_item};
+use bytes_utils_codec::decode::Framed;
 use bytes_utils_protocols::netstrings::Netstrings;
 use std::alloc::Global;
 
@@ -16,15 +16,15 @@ fn is_next_text(
     texts: &mut Framed<Netstrings>,
     wanted: &[u8],
 ) -> bool {
-    match read_item(input, texts, alloc) {
+    match texts.read_item(alloc, input) {
         Ok(Some(text)) => text.as_slice() == wanted,
         _ => false,
     }
 }
 
-/// Whether the input has ended, and this many bytes of it are in no netstring.
+/// Whether the input has ended, and this number of its bytes are in no netstring.
 fn is_end(alloc: Global, input: &mut &[u8], texts: &mut Framed<Netstrings>, left: usize) -> bool {
-    matches!(read_item(input, texts, alloc), Ok(None)) && texts.remaining() == left
+    matches!(texts.read_item(alloc, input), Ok(None)) && texts.remaining() == left
 }
 
 /// Whether the three texts are read, and then the end, after which five bytes are left.

@@ -1,5 +1,6 @@
 -- Runs of calls, and the lists of buffers that aren't segmented.
-use Rattle.std.proofs.Common.{◌≡◌, ℕ, List, [], ◌∷◌, ◌++◌, length, length-drop, drop, refl, sym, ap, subst, ◌∙◌, arith, append-nil}
+use Rattle.std.proofs.Common.{◌≡◌, ℕ, ◌+◌, ◌≤◌, List, [], ◌∷◌, ◌++◌, vec_len, vec_capacity, length, length-drop, drop, refl, sym, ap, subst, ◌∙◌, append_assoc, arith, append-nil}
+use Rattle.std.specs.Global.{Vec}
 use Rattle.std.specs.List.{concat}
 use Rattle.bytes_utils_buf.specs.Segments.{Skips}
 use Rattle.bytes_utils_buf.proofs.Lists.{concat-without_empty}
@@ -49,3 +50,19 @@ IsRun-push {C} {S} Is calls old replies mid call reply new after is run one =
     pushed [] old (r ∷ replies) run = absurd run
     pushed (c ∷ calls) old [] run = absurd run
     pushed (c ∷ calls) old (r ∷ replies) run = (run.0, run.1, pushed calls run.0 replies run.2)
+
+-- The calls that were made and those to come, `count` of them, are all calls. There is room for all replies.
+pub record HasRoom {C : Type 0} (calls : Vec C) (made coming : List C) (count : ℕ) (given : Vec Reply) : Type 0 where
+  pub more : made ++ coming ≡ calls.items
+  pub counts : vec_len given + count ≡ vec_len calls
+  pub room : vec_len calls ≤ vec_capacity given
+
+-- one more call
+pub HasRoom-push : {C : Type 0} (calls : Vec C) (made coming after : List C) (count less : ℕ) (given more : Vec Reply) (call : C)
+    → HasRoom calls made coming count given → (coming ≡ call ∷ after) × (less + 1 ≡ count) → vec_len more ≡ vec_len given + 1
+    → vec_capacity more ≡ vec_capacity given → HasRoom calls (made ++ call ∷ []) after less more
+HasRoom-push calls made coming after count less given more call old step len capacity = record {
+  more = append_assoc made (call ∷ []) after ∙ ap (λ rest. made ++ rest) (sym step.0) ∙ old.more;
+  counts = omega (arith, old.counts, step.1, len);
+  room = omega (arith, old.room, capacity);
+}

@@ -11,7 +11,6 @@ use bytes_utils::{Reason, Str};
 use std::alloc::Global;
 use std::iter::repeat_n;
 use std::process::Abort;
-use std::test::Fail;
 
 /// Input that is not JSON, with a bar between.
 const NOT_JSON: &str = "[1||\"a\" 1";
@@ -110,10 +109,9 @@ fn comes_back(alloc: Global, text: &Str, length: usize) -> Result<bool, Reason> 
 }
 
 #[test]
-fn a_long_text(rt: HostRuntime) -> Result<(), Fail> {
-    let text = Str::from_chars(rt.alloc(), repeat_n('\n', 50_000))?;
-    assert!(rt; comes_back(rt.alloc(), &text, 100_002)?);
-    Ok(())
+fn a_long_text(rt: HostRuntime) {
+    let text = Str::from_chars(rt.alloc(), repeat_n('\n', 50_000)).expect(&rt, "no memory");
+    assert!(rt; comes_back(rt.alloc(), &text, 100_002).expect(&rt, "no memory"));
 }
 
 /// Callers can rely on these numbers of the errors.
@@ -125,19 +123,18 @@ fn numbers_of_refusals(rt: HostRuntime) {
 }
 
 #[test]
-fn refusals_of_json_say_why(rt: HostRuntime) -> Result<(), Fail> {
-    let alloc = rt.alloc();
-    assert!(rt; says(alloc, &JsonRefused::OutOfMemory, "out of memory")?);
-    assert!(rt; says(alloc, &JsonRefused::NotJson, "not JSON")?);
-    assert!(rt;
-        says(
-            alloc,
-            &JsonRefused::NotText,
-            "neither a string nor a list of bytes"
-        )?
-    );
-    assert!(rt; says(alloc, &JsonRefused::NotUtf8, "not UTF-8")?);
-    let debugged = format!(in alloc; "{:?}", JsonRefused::NotUtf8)?;
+fn refusals_of_json_say_why(rt: HostRuntime) {
+    for (refused, why) in [
+        (JsonRefused::OutOfMemory, "out of memory"),
+        (JsonRefused::NotJson, "not JSON"),
+        (JsonRefused::NotText, "neither a string nor a list of bytes"),
+        (JsonRefused::NotUtf8, "not UTF-8"),
+    ] {
+        assert!(rt;
+            says(rt.alloc(), &refused, why).expect(&rt, "no memory"),
+            "{why}"
+        );
+    }
+    let debugged = format!(in rt.alloc(); "{:?}", JsonRefused::NotUtf8).expect(&rt, "no memory");
     assert!(rt; debugged.as_str() == "NotUtf8");
-    Ok(())
 }

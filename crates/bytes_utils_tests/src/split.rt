@@ -1,7 +1,6 @@
 //! What no clause says: that calls succeed with enough memory, printed text, and worked cases.
 mod borrowed;
 mod closure;
-mod ends;
 mod inclusive;
 mod indices;
 mod lines;

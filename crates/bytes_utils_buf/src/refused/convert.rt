@@ -5,6 +5,7 @@ ghost use Rattle.bytes_utils_buf.specs.declared.refused.Reason.TheVariants.{OutO
 use super::{Reason, Refused};
 use crate::parts::CopyRefused;
 use std::alloc::{AllocError, AllocFailed};
+use std::io::{self, ErrorKind};
 
 /// Keeps the reason, and drops the value.
 impl<T: Drop> From<Refused<T>> for Reason {
@@ -37,5 +38,20 @@ impl<T: Drop> From<AllocFailed<T>> for Reason {
 
     fn from(_refused: AllocFailed<T>) -> Reason {
         Reason::OutOfMemory
+    }
+}
+
+/// Keeps the reason as a kind: `OutOfMemory`, or `FileTooLarge` for a sum of lengths.
+impl From<Reason> for io::Error {
+    ghost use Rattle.std.specs.IoError.{error_kind};
+    ghost use Rattle.bytes_utils_buf.specs.Refusals.{reason_kind};
+
+    ghost from_gives = { λ reason error. error_kind error ≡ reason_kind reason };
+
+    fn from(reason: Reason) -> io::Error {
+        match reason {
+            Reason::OutOfMemory => io::Error::from(ErrorKind::OutOfMemory),
+            Reason::TooLong => io::Error::from(ErrorKind::FileTooLarge),
+        }
     }
 }

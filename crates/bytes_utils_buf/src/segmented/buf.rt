@@ -14,6 +14,7 @@ mod join;
 mod peek;
 mod queue;
 mod range;
+mod read;
 mod remove;
 mod share;
 mod split;

@@ -6,6 +6,8 @@ ghost use Rattle.bytes_utils_buf.specs.Packing.{IsPacked, Packs, last_of};
 ghost use Rattle.bytes_utils_buf.specs.Segments.{CountsPass, IsPaid, Skips, after_accepting, front_of, newly_held, nothing_held, take_bytes};
 ghost use Rattle.bytes_utils_buf.specs.Slices.{taken_by};
 
+mod read;
+
 use super::{BLOCK, SegmentedBuf};
 use crate::parts::{BufParts, CopyRefused};
 use crate::{EitherBuf, Reason, Refused};

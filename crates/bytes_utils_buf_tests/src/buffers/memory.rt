@@ -1,6 +1,6 @@
 //! Refused memory: the buffers of std and of the crate `bytes`.
-use crate::fixtures::JOINED;
-use crate::fixtures::refusals::copies_out;
+use crate::fixtures::refusals::{copies_made, copies_out};
+use crate::fixtures::{JOINED, assert_that};
 use bytes::{Buf, Bytes, BytesMut, BytesQueue};
 use bytes_utils_buf::EitherBuf;
 use bytes_utils_buf::contiguous::ContiguousBuf;
@@ -24,31 +24,29 @@ fn copies_whole<B: BufParts + ContiguousBuf>(
 fn copy_out_of_borrowed_ones(rt: HostRuntime) {
     let mut cursor = Cursor::new(b"> Hello World".as_slice());
     cursor.set_position(2);
-    assert!(rt; copies_whole(&rt, rt.alloc(), "copy_out of Cursor", &mut cursor));
+    let holds = copies_whole(&rt, rt.alloc(), "copy_out of Cursor", &mut cursor);
+    assert_that(&rt, holds);
     let mut limited = b"Hello World, and more".as_slice().take(11);
-    assert!(rt; copies_whole(&rt, rt.alloc(), "copy_out of Take", &mut limited));
+    let holds = copies_whole(&rt, rt.alloc(), "copy_out of Take", &mut limited);
+    assert_that(&rt, holds);
     let mut either: EitherBuf<&[u8], Bytes> = EitherBuf::Left(JOINED.as_bytes());
-    assert!(rt; copies_whole(&rt, rt.alloc(), "copy_out of EitherBuf", &mut either));
+    let holds = copies_whole(&rt, rt.alloc(), "copy_out of EitherBuf", &mut either);
+    assert_that(&rt, holds);
 }
 
 #[test]
 fn copy_out_of_chains(rt: HostRuntime) {
-    let mut chain = Bytes::from_static(b"Hello").chain(b" World".as_slice());
-    assert!(rt;
-        copies_out(
-            &rt,
-            rt.alloc(),
-            "copy_out of Chain",
-            &mut chain,
-            "Hello| World"
-        )
-    );
+    let (alloc, call) = (rt.alloc(), "copy_out of Chain");
+    let chain = Bytes::from_static(b"Hello").chain(b" World".as_slice());
+    let holds = copies_made(&rt, alloc, call, Some(chain), "Hello| World");
+    assert_that(&rt, holds);
 }
 
 #[test]
 fn copy_out_of_grown_ones(rt: HostRuntime) {
     if let Ok(mut buf) = BytesMut::copy_from_slice(rt.alloc(), JOINED.as_bytes()) {
-        assert!(rt; copies_whole(&rt, rt.alloc(), "copy_out of BytesMut", &mut buf));
+        let holds = copies_whole(&rt, rt.alloc(), "copy_out of BytesMut", &mut buf);
+        assert_that(&rt, holds);
     }
 }
 
@@ -66,17 +64,9 @@ fn wrapped(alloc: Global) -> Option<VecDeque<u8>> {
 
 #[test]
 fn copy_out_of_deques(rt: HostRuntime) {
-    if let Some(mut buf) = wrapped(rt.alloc()) {
-        assert!(rt;
-            copies_out(
-                &rt,
-                rt.alloc(),
-                "copy_out of VecDeque",
-                &mut buf,
-                "Hello| World"
-            )
-        );
-    }
+    let (alloc, call) = (rt.alloc(), "copy_out of VecDeque");
+    let holds = copies_made(&rt, alloc, call, wrapped(alloc), "Hello| World");
+    assert_that(&rt, holds);
 }
 
 fn queue(alloc: Global) -> Option<BytesQueue> {
@@ -88,15 +78,7 @@ fn queue(alloc: Global) -> Option<BytesQueue> {
 
 #[test]
 fn copy_out_of_queues(rt: HostRuntime) {
-    if let Some(mut buf) = queue(rt.alloc()) {
-        assert!(rt;
-            copies_out(
-                &rt,
-                rt.alloc(),
-                "copy_out of BytesQueue",
-                &mut buf,
-                "Hello| World"
-            )
-        );
-    }
+    let (alloc, call) = (rt.alloc(), "copy_out of BytesQueue");
+    let holds = copies_made(&rt, alloc, call, queue(alloc), "Hello| World");
+    assert_that(&rt, holds);
 }

@@ -3,6 +3,7 @@ ghost use Rattle.std.specs.Prelude.{◌≡◌, ℕ, ◌+◌, ◌^◌, ◌<◌, [
 ghost use Rattle.std.specs.List.{concat};
 ghost use Rattle.bytes_utils_buf.specs.Segments.{cut_front};
 
+use crate::fixtures::assert_that;
 use bytes::Buf;
 use bytes_utils_buf::segmented::SegmentedSlice;
 
@@ -41,6 +42,6 @@ fn skip_two<B: Buf>(bufs: &mut [B]) {
 fn callers_know_their_buffers(rt: HostRuntime) {
     let mut bufs: [&[u8]; 3] = [b"ab", b"", b"cd"];
     skip_two(&mut bufs);
-    assert_eq!(rt; bufs[0].len(), 0);
-    assert_eq!(rt; bufs[2], b"d".as_slice());
+    assert_that(&rt, bufs[0].is_empty());
+    assert_that(&rt, bufs[2] == b"d".as_slice());
 }

@@ -1,5 +1,5 @@
 //! A whole front that is moved out of segmented buffers.
-use crate::fixtures::{hold, is_moved, lend, shared, take_out};
+use crate::fixtures::{assert_some, hold, is_moved, lend, shared, take_out};
 use bytes::Bytes;
 use bytes_utils_buf::parts::BufParts;
 use std::alloc::Global;
@@ -13,14 +13,21 @@ fn moves_front<B: BufParts>(alloc: Global, buf: &mut B, other: &Bytes) -> bool {
     }
 }
 
+fn moves_front_of<B: BufParts + Drop>(alloc: Global, held: Option<B>, other: &Bytes) -> bool {
+    match held {
+        Some(mut held) => moves_front(alloc, &mut held, other),
+        None => false,
+    }
+}
+
 fn moves_held_front(alloc: Global) -> Option<bool> {
     let (front, other) = shared(alloc)?;
-    Some(moves_front(alloc, &mut hold(alloc, front)?, &other))
+    Some(moves_front_of(alloc, hold(alloc, front), &other))
 }
 
 #[test]
 fn whole_front_is_moved(rt: HostRuntime) {
-    assert!(rt; moves_held_front(rt.alloc()) == Some(true));
+    assert_some(&rt, moves_held_front(rt.alloc()));
 }
 
 fn moves_lent_front(rt: &impl Abort, alloc: Global) -> Option<bool> {
@@ -30,5 +37,5 @@ fn moves_lent_front(rt: &impl Abort, alloc: Global) -> Option<bool> {
 
 #[test]
 fn whole_lent_front_is_moved(rt: HostRuntime) {
-    assert!(rt; moves_lent_front(&rt, rt.alloc()) == Some(true));
+    assert_some(&rt, moves_lent_front(&rt, rt.alloc()));
 }

@@ -1,12 +1,11 @@
 //! Buffers that a `SegmentedBuf` accepts, and those that it refuses.
 use crate::fixtures::odd::Zeros;
-use crate::fixtures::{bytes_of, extend, hold, put, shows, skip};
+use crate::fixtures::{assert_some, assert_that, bytes_of, extend, hold, put, shows, skip};
 use bytes::{Buf, Bytes};
 use bytes_utils_buf::segmented::SegmentedBuf;
 use bytes_utils_buf::{Reason, Refused};
 use std::alloc::{AllocError, Global};
 use std::collections::VecDeque;
-use std::process::Abort;
 use std::vec::IntoIter;
 
 fn holds_none<B: Buf + Drop>(buf: &SegmentedBuf<B>) -> bool {
@@ -16,7 +15,7 @@ fn holds_none<B: Buf + Drop>(buf: &SegmentedBuf<B>) -> bool {
 /// Whether buffers were accepted, and none is held.
 fn has_none<B: Buf + Drop, E: Drop>(made: Result<SegmentedBuf<B>, E>) -> bool {
     match made {
-        Ok(buf) => holds_none(&buf) && buf.into_inner().is_empty(),
+        Ok(buf) => holds_none(&buf) & buf.into_inner().is_empty(),
         Err(_) => false,
     }
 }
@@ -40,29 +39,26 @@ fn drops_both(alloc: Global, is_vec: bool) -> bool {
 
 #[test]
 fn empty_bufs(rt: HostRuntime) {
-    assert!(rt;
-        has_none_of(rt.alloc(), Vec::new(rt.alloc()), true)
-            && drops_both(rt.alloc(), true)
-            && drops_both(rt.alloc(), false)
-    );
+    assert_that(&rt, has_none_of(rt.alloc(), Vec::new(rt.alloc()), true));
+    assert_that(&rt, drops_both(rt.alloc(), true));
+    assert_that(&rt, drops_both(rt.alloc(), false));
 }
 
 /// Whether nothing is held after an empty buffer is pushed, and others follow.
 fn accepts_empty<B: Buf + Drop>(alloc: Global, first: B, others: Vec<B>) -> bool {
     let mut buf = SegmentedBuf::new(alloc);
     let is_first_accepted = put(&mut buf, first);
-    let is_accepted = extend(&mut buf, others) && is_first_accepted && holds_none(&buf);
-    buf.into_inner().is_empty() && is_accepted
+    let is_accepted = extend(&mut buf, others) & is_first_accepted & holds_none(&buf);
+    buf.into_inner().is_empty() & is_accepted
+}
+
+fn accepts_three(alloc: Global) -> Option<bool> {
+    Some(accepts_empty(alloc, Bytes::new(), bytes_of(alloc, "|").ok()?))
 }
 
 #[test]
 fn empty_bufs_after_an_empty_one(rt: HostRuntime) {
-    assert!(rt;
-        match bytes_of(rt.alloc(), "|") {
-            Ok(others) => accepts_empty(rt.alloc(), Bytes::new(), others),
-            Err(_) => false,
-        }
-    );
+    assert_some(&rt, accepts_three(rt.alloc()));
 }
 
 // `x`, ten thousand empty buffers, and `y`.
@@ -89,7 +85,7 @@ fn drops_empties(alloc: Global) -> Option<bool> {
 
 #[test]
 fn many_empties(rt: HostRuntime) {
-    assert!(rt; drops_empties(rt.alloc()) == Some(true));
+    assert_some(&rt, drops_empties(rt.alloc()));
 }
 
 fn zeros(alloc: Global, counts: &[usize]) -> Option<Vec<Zeros>> {
@@ -121,7 +117,7 @@ fn longest_refuses(alloc: Global) -> Option<bool> {
 
 #[test]
 fn too_long(rt: HostRuntime) {
-    assert!(rt; longest_refuses(rt.alloc()) == Some(true));
+    assert_some(&rt, longest_refuses(rt.alloc()));
 }
 
 /// The reason for which a deque is refused, and how many buffers come back.
@@ -133,7 +129,7 @@ fn refusal(alloc: Global) -> Option<(Reason, usize)> {
 
 #[test]
 fn too_long_conversions(rt: HostRuntime) {
-    assert!(rt; refusal(rt.alloc()) == Some((Reason::TooLong, 2)));
+    assert_that(&rt, refusal(rt.alloc()) == Some((Reason::TooLong, 2)));
 }
 
 /// Whether the item of one byte is refused, and the one of two bytes stays with the iterator.
@@ -163,6 +159,6 @@ const LENGTHS: &[usize] = &[0, usize::MAX, 1, 2];
 #[test]
 fn items_after_a_refused_one_stay(rt: HostRuntime) {
     let alloc = rt.alloc();
-    assert!(rt; extends_in_part(alloc, zeros(alloc, LENGTHS)) == Some(true));
-    assert!(rt; collects_in_part(alloc, zeros(alloc, LENGTHS)) == Some(true));
+    assert_some(&rt, extends_in_part(alloc, zeros(alloc, LENGTHS)));
+    assert_some(&rt, collects_in_part(alloc, zeros(alloc, LENGTHS)));
 }

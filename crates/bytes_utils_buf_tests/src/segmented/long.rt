@@ -1,7 +1,9 @@
 //! Long bodies: no call is refused while there is memory.
 use super::queue::{append_queue, drain_into_queue};
 use super::split::cut;
-use crate::fixtures::{copies_long, lend, put, put_first};
+use crate::fixtures::{
+    assert_some, assert_that, copies_long, copies_long_of, lend, put, put_first,
+};
 use bytes::{Buf, Bytes, BytesQueue};
 use bytes_utils_buf::segmented::{PackedBuf, SegmentedBuf};
 use std::alloc::{AllocError, Global};
@@ -21,18 +23,14 @@ fn body(alloc: Global) -> Option<SegmentedBuf<Bytes>> {
     SegmentedBuf::from_iter(alloc, pieces(alloc).ok()?.into_iter()).ok()
 }
 
-fn copies_body(alloc: Global) -> Option<bool> {
-    Some(copies_long(alloc, &mut body(alloc)?))
-}
-
 fn copies_lent_body(rt: &impl Abort, alloc: Global) -> Option<bool> {
     Some(copies_long(alloc, &mut lend(rt, &mut pieces(alloc).ok()?)))
 }
 
 #[test]
 fn long_body_is_copied(rt: HostRuntime) {
-    assert!(rt; copies_body(rt.alloc()) == Some(true));
-    assert!(rt; copies_lent_body(&rt, rt.alloc()) == Some(true));
+    assert_that(&rt, copies_long_of(rt.alloc(), body(rt.alloc())));
+    assert_some(&rt, copies_lent_body(&rt, rt.alloc()));
 }
 
 /// Whether the first bytes come in one piece and in segments, of which the last is cut.
@@ -49,14 +47,15 @@ fn gives_range(alloc: Global, body: &SegmentedBuf<Bytes>) -> bool {
         && matches!(&body.slice(alloc, 50..99_950), Ok(range) if range.segments() == 1_000)
 }
 
-fn gives_parts(alloc: Global) -> Option<bool> {
-    let body = body(alloc)?;
-    Some(gives_first(alloc, &body) & gives_range(alloc, &body))
+fn gives_parts(alloc: Global, body: &SegmentedBuf<Bytes>) -> bool {
+    gives_first(alloc, body) && gives_range(alloc, body)
 }
 
 #[test]
 fn long_body_is_shared(rt: HostRuntime) {
-    assert!(rt; gives_parts(rt.alloc()) == Some(true));
+    let body = body(rt.alloc());
+    let holds = matches!(&body, Some(body) if gives_parts(rt.alloc(), body));
+    assert_that(&rt, holds);
 }
 
 /// Whether the halves of a body are put together again.
@@ -74,49 +73,63 @@ fn is_cut_and_joined(alloc: Global, body: &SegmentedBuf<Bytes>, is_front: bool) 
     Some(is_joined(&mut one, other))
 }
 
+/// The same by either call that cuts.
+fn is_cut_by_both(alloc: Global, body: &SegmentedBuf<Bytes>) -> bool {
+    is_cut_and_joined(alloc, body, false) == Some(true)
+        && is_cut_and_joined(alloc, body, true) == Some(true)
+}
+
 #[test]
 fn long_body_is_cut_and_joined(rt: HostRuntime) {
     let body = body(rt.alloc());
-    assert!(rt;
-        match &body {
-            Some(body) => {
-                is_cut_and_joined(rt.alloc(), body, false) == Some(true)
-                    && is_cut_and_joined(rt.alloc(), body, true) == Some(true)
-            }
-            None => false,
-        }
-    );
+    let holds = matches!(&body, Some(body) if is_cut_by_both(rt.alloc(), body));
+    assert_that(&rt, holds);
 }
 
 /// Whether a body is moved to a queue and back.
-fn is_moved(body: Option<SegmentedBuf<Bytes>>, queue: &mut BytesQueue) -> bool {
-    let Some(mut body) = body else {
-        return false;
-    };
-    drain_into_queue(&mut body, queue).is_ok()
-        && append_queue(&mut body, queue).is_ok()
+fn is_moved(body: &mut SegmentedBuf<Bytes>, queue: &mut BytesQueue) -> bool {
+    drain_into_queue(body, queue).is_ok()
+        && append_queue(body, queue).is_ok()
         && body.segments() == 1_000
         && queue.is_empty()
 }
 
-#[test]
-fn long_body_is_moved_by_a_queue(rt: HostRuntime) {
-    assert!(rt; is_moved(body(rt.alloc()), &mut BytesQueue::new(rt.alloc())));
+fn moves_body(alloc: Global) -> Option<bool> {
+    Some(is_moved(&mut body(alloc)?, &mut BytesQueue::new(alloc)))
 }
 
-/// The pieces, each held as it came, become shared.
-fn becomes_shared(alloc: Global) -> Option<SegmentedBuf<Bytes>> {
-    let mut body = PackedBuf::new(alloc, 99);
-    for piece in pieces(alloc).ok()? {
-        body.push(alloc, piece).ok()?;
+#[test]
+fn long_body_is_moved_by_a_queue(rt: HostRuntime) {
+    assert_some(&rt, moves_body(rt.alloc()));
+}
+
+/// Pushes the pieces, each of which is held as it came.
+fn pushes_pieces(alloc: Global, body: &mut PackedBuf) -> bool {
+    for _ in 0..1_000 {
+        if body.push(alloc, Bytes::from_static(&[b'x'; 100])).is_err() {
+            return false;
+        }
     }
-    body.into_shared(alloc).ok()
+    true
+}
+
+fn has_thousand(body: &SegmentedBuf<Bytes>) -> bool {
+    body.segments() == 1_000 && body.remaining() == 100_000
+}
+
+/// Whether they become shared.
+fn becomes_shared(alloc: Global) -> bool {
+    let mut body = PackedBuf::new(alloc, 99);
+    let is_pushed = pushes_pieces(alloc, &mut body);
+    match body.into_shared(alloc) {
+        Ok(shared) => has_thousand(&shared) & is_pushed,
+        Err(_) => false,
+    }
 }
 
 #[test]
 fn long_body_becomes_shared(rt: HostRuntime) {
-    let shared = becomes_shared(rt.alloc());
-    assert!(rt; matches!(&shared, Some(it) if it.segments() == 1_000 && it.remaining() == 100_000));
+    assert_that(&rt, becomes_shared(rt.alloc()));
 }
 
 /// Whether segments are put after and before the others, one at a time.
@@ -131,5 +144,5 @@ fn accepts_many(buf: &mut SegmentedBuf<Bytes>) -> bool {
 
 #[test]
 fn many_segments(rt: HostRuntime) {
-    assert!(rt; accepts_many(&mut SegmentedBuf::new(rt.alloc())));
+    assert_that(&rt, accepts_many(&mut SegmentedBuf::new(rt.alloc())));
 }

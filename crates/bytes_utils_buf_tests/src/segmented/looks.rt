@@ -1,6 +1,8 @@
 //! How often buffers are advanced and looked at.
 use crate::fixtures::odd::Asked;
-use crate::fixtures::{extend, hold, lend, put, put_first, take_out, thousand};
+use crate::fixtures::{
+    assert_some, assert_that, extend, hold, lend, put, put_first, take_out, thousand,
+};
 use bytes::Buf;
 use bytes_utils_buf::contiguous::ContiguousBuf;
 use bytes_utils_buf::parts::BufParts;
@@ -56,9 +58,9 @@ fn walks_thousand(rt: &impl Abort, alloc: Global, is_own: bool, times: usize, cn
 
 #[test]
 fn walks_once(rt: HostRuntime) {
-    assert!(rt; walks_thousand(&rt, rt.alloc(), true, 1000, 1));
-    assert!(rt; walks_thousand(&rt, rt.alloc(), false, 1000, 1));
-    assert!(rt; walks_thousand(&rt, rt.alloc(), true, 1, 1000));
+    assert_that(&rt, walks_thousand(&rt, rt.alloc(), true, 1000, 1));
+    assert_that(&rt, walks_thousand(&rt, rt.alloc(), false, 1000, 1));
+    assert_that(&rt, walks_thousand(&rt, rt.alloc(), true, 1, 1000));
 }
 
 /// Skips all held buffers but the last, and returns whether there are as many.
@@ -89,8 +91,8 @@ fn leaves_one(alloc: Global, is_own: bool) -> Option<bool> {
 
 #[test]
 fn walks_held_once(rt: HostRuntime) {
-    assert!(rt; leaves_one(rt.alloc(), true) == Some(true));
-    assert!(rt; leaves_one(rt.alloc(), false) == Some(true));
+    assert_some(&rt, leaves_one(rt.alloc(), true));
+    assert_some(&rt, leaves_one(rt.alloc(), false));
 }
 
 /// Whether none of these after the first few was advanced or copied from, and each was looked at
@@ -144,13 +146,14 @@ fn accepts_each(alloc: Global, buf: &mut SegmentedBuf<Asked>) -> bool {
     }
 }
 
-/// Buffers of one byte each are accepted: many at once, and forty more, one after another.
-fn accepts(alloc: Global, buf: &mut SegmentedBuf<Asked>, many: Vec<Asked>) -> bool {
-    let mut is_accepted = extend(buf, many);
+/// Forty buffers of one byte each are accepted, one after another.
+fn accepts_forty(alloc: Global, buf: &mut SegmentedBuf<Asked>) -> bool {
     for _ in 0..20 {
-        is_accepted = accepts_each(alloc, buf) && is_accepted;
+        if !accepts_each(alloc, buf) {
+            return false;
+        }
     }
-    is_accepted
+    true
 }
 
 /// Ten bytes are peeked at and shared.
@@ -163,24 +166,27 @@ fn sees_ten<B: ContiguousBuf + Drop>(alloc: Global, buf: &SegmentedBuf<B>) -> bo
         && buf.prefix(alloc, 10).is_ok()
 }
 
-/// Whether neither a buffer that is accepted nor a read looks at the other segments.
+/// Accepts buffers one after another, and reads.
+fn accepts_and_reads(alloc: Global, buf: &mut SegmentedBuf<Asked>) -> bool {
+    accepts_forty(alloc, buf) && sees_ten(alloc, buf) && shows_two(buf) && copies(alloc, buf, TEN)
+}
+
+/// Whether neither buffers that are accepted, many at once or one after another, nor a read looks at
+/// the other segments.
 fn looks_at_first(alloc: Global, many: Vec<Asked>) -> bool {
     let mut buf = SegmentedBuf::new(alloc);
-    let is_read = accepts(alloc, &mut buf, many)
-        && sees_ten(alloc, &buf)
-        && shows_two(&buf)
-        && copies(alloc, &mut buf, TEN);
-    is_read && are_untouched(&buf.into_inner().into_vec(), 1)
+    let are_accepted = extend(&mut buf, many);
+    let is_read = accepts_and_reads(alloc, &mut buf);
+    are_accepted & is_read & are_untouched(&buf.into_inner().into_vec(), 1)
+}
+
+fn looks_at_first_of_thousand(alloc: Global) -> Option<bool> {
+    Some(looks_at_first(alloc, thousand(alloc).ok()?))
 }
 
 #[test]
 fn held_are_not_looked_at(rt: HostRuntime) {
-    assert!(rt;
-        match thousand(rt.alloc()) {
-            Ok(many) => looks_at_first(rt.alloc(), many),
-            Err(_) => false,
-        }
-    );
+    assert_some(&rt, looks_at_first_of_thousand(rt.alloc()));
 }
 
 /// Copies out of borrowed buffers, and returns whether those after the first few are untouched.
@@ -201,32 +207,38 @@ fn copies_lent_thousand(rt: &impl Abort, alloc: Global) -> Option<bool> {
 
 #[test]
 fn lent_are_not_looked_at(rt: HostRuntime) {
-    assert!(rt; copies_lent_thousand(&rt, rt.alloc()) == Some(true));
+    assert_some(&rt, copies_lent_thousand(&rt, rt.alloc()));
 }
 
 // A copy takes a whole chunk by one call, with no call for zero bytes before it.
+fn advances_once(rt: &impl Abort, alloc: Global, bufs: &mut [Asked; 2]) -> bool {
+    copies_lent(rt, alloc, bufs, b"\x01\x07", 2) && bufs[0].advanced == 2 && bufs[1].advanced == 1
+}
+
 #[test]
 fn copy_advances_once(rt: HostRuntime) {
     let mut bufs = [Asked::of("abc"), Asked::of("defghi")];
-    assert!(rt;
-        copies_lent(&rt, rt.alloc(), &mut bufs, b"\x01\x07", 2)
-            && bufs[0].advanced == 2
-            && bufs[1].advanced == 1
-    );
+    assert_that(&rt, advances_once(&rt, rt.alloc(), &mut bufs));
 }
 
-/// How often the last of two buffers is advanced by a copy across the end of the first, and by two of
-/// the second alone.
-fn times_advanced(alloc: Global) -> Option<usize> {
+/// Whether there is one buffer, which was advanced so often.
+fn is_advanced(bufs: &[Asked], times: usize) -> bool {
+    bufs.len() == 1 && are_asked(bufs, (times, times), usize::MAX)
+}
+
+/// Copies across the end of the first of two buffers, and twice out of the second alone.
+fn copies_of_two(alloc: Global, buf: &mut SegmentedBuf<Asked>) -> bool {
+    put(buf, Asked::of("defghi")) && shows_two(buf) && copies(alloc, buf, b"\x05\x01\x01")
+}
+
+/// Whether the second is advanced three times by that.
+fn advances_second(alloc: Global) -> Option<bool> {
     let mut buf = hold(alloc, Asked::of("abc"))?;
-    let is_copied = put(&mut buf, Asked::of("defghi"))
-        && shows_two(&buf)
-        && copies(alloc, &mut buf, b"\x05\x01\x01");
-    let left = buf.into_inner();
-    (is_copied && left.len() == 1).then_some(left.front()?.advanced)
+    let is_copied = copies_of_two(alloc, &mut buf);
+    Some(is_copied & is_advanced(&buf.into_inner().into_vec(), 3))
 }
 
 #[test]
 fn held_are_advanced_once_a_call(rt: HostRuntime) {
-    assert!(rt; times_advanced(rt.alloc()) == Some(3));
+    assert_some(&rt, advances_second(rt.alloc()));
 }

@@ -1,10 +1,9 @@
 //! Segmented buffers in segmented buffers.
-use crate::fixtures::{fills, gives, held, put, shows, skip};
+use crate::fixtures::{assert_some, fills, gives, held, put, shows, skip};
 use bytes::{Buf, Bytes};
 use bytes_utils_buf::parts::BufParts;
 use bytes_utils_buf::segmented::SegmentedBuf;
 use std::alloc::Global;
-use std::process::Abort;
 
 // The outer buffer holds `a`, `b` and `cd`, the last in a segment of its own.
 fn reads_three<B: BufParts + Drop>(alloc: Global, outer: &mut SegmentedBuf<B>) -> bool {
@@ -17,10 +16,10 @@ fn reads_three<B: BufParts + Drop>(alloc: Global, outer: &mut SegmentedBuf<B>) -
 }
 
 /// Holds a buffer and another.
-fn pair<B: Buf + Drop>(alloc: Global, first: B, second: B) -> Option<SegmentedBuf<B>> {
+pub(super) fn pair<B: Buf + Drop>(alloc: Global, first: B, second: B) -> Option<SegmentedBuf<B>> {
     let mut both = SegmentedBuf::new(alloc);
-    both.try_push(first).ok()?;
-    put(&mut both, second).then_some(both)
+    let is_first_held = both.try_push(first).is_ok();
+    (put(&mut both, second) & is_first_held).then_some(both)
 }
 
 type Middle = SegmentedBuf<SegmentedBuf<Bytes>>;
@@ -37,5 +36,5 @@ fn reads_levels(alloc: Global) -> Option<bool> {
 
 #[test]
 fn three_levels(rt: HostRuntime) {
-    assert!(rt; reads_levels(rt.alloc()) == Some(true));
+    assert_some(&rt, reads_levels(rt.alloc()));
 }

@@ -1,10 +1,13 @@
 //! Pieces of a `PackedBuf`: which become one segment, what is shared, and how large a block is.
-use crate::fixtures::{FOUR, JOINED, debugs, fills, gives, reads, shared, skip};
+use crate::fixtures::{
+    FOUR, JOINED, assert_row, assert_some, assert_that, debugs, fills, gives, long, reads, shared,
+    skip,
+};
 use bytes::{Buf, Bytes, BytesMut};
 use bytes_utils_buf::EitherBuf;
 use bytes_utils_buf::segmented::{PackedBuf, SegmentedBuf};
 use std::alloc::Global;
-use std::process::Abort;
+use std::collections::VecDeque;
 
 /// The segments of `hello`.
 pub(super) const HELLO: &str = "Hello| |World";
@@ -22,7 +25,13 @@ fn take(alloc: Global, buf: &mut PackedBuf, len: usize) -> Option<Bytes> {
     buf.take_bytes(alloc, len).ok()
 }
 
-/// The same by `split_to`.
+/// Whether one read of a reader of this text gives all of it.
+fn reads_in(alloc: Global, buf: &mut PackedBuf, mut text: &[u8]) -> bool {
+    let len = text.len();
+    matches!(buf.read_from(alloc, &mut text), Ok(count) if count == len && text.is_empty())
+}
+
+/// Takes the next bytes out by `split_to`, if there are as many, and memory.
 fn split(alloc: Global, buf: &mut PackedBuf, len: usize) -> Option<SegmentedBuf<Bytes>> {
     if len > buf.remaining() {
         return None;
@@ -50,7 +59,7 @@ impl Both {
     /// Makes a call that adds a text or takes it off, and returns whether the bytes are right then.
     fn call(&mut self, alloc: Global, name: &str, text: &'static [u8]) -> bool {
         let is_made = match name {
-            "push" | "copy" => self.adds(alloc, name, text),
+            "push" | "copy" | "read" => self.adds(alloc, name, text),
             _ => self.takes(alloc, name, text),
         };
         is_made && self.is_flat()
@@ -60,7 +69,8 @@ impl Both {
         self.flat.extend_from_slice(text).is_ok()
             && match name {
                 "push" => self.buf.push(alloc, Bytes::from_static(text)).is_ok(),
-                _ => self.buf.push_slice(alloc, text).is_ok(),
+                "copy" => self.buf.push_slice(alloc, text).is_ok(),
+                _ => reads_in(alloc, &mut self.buf, text),
             }
     }
 
@@ -91,6 +101,9 @@ const ROWS: &str = "\
 3: push abc 1, push def 1, push ghij 2, push klmn 3, push opq 4, push r 4, take abcdefg 3|\
 3: copy abcd 1, copy efgh 1, push ijkl 2, take abcdefghijk 1, copy mn 1, push op 1|\
 512: push a 1, push bcd 1, push  1, advance ab 1, push e 1, split cde 0, push f 1|\
+0: read  0, read a 1, read b 1, read  1, take ab 0, read  0, read c 1|\
+3: push abcd 1, read e 2, copy f 2, push ghij 3, read k 4, split abcde 3, advance fghij 1, read l 1|\
+5: push abcdef 1, take abcd 1, read  1, read g 1, read h 1, push ijklmn 2, read o 3|\
 18446744073709551615: push abcd 1, push e 1, take abc 1, push f 1, split def 0, push g 1";
 
 /// Makes a call, and returns whether it was right.
@@ -120,7 +133,7 @@ fn is_row(alloc: Global, row: &'static str) -> Option<bool> {
 #[test]
 fn rows(rt: HostRuntime) {
     for row in ROWS.split('|') {
-        assert!(rt; is_row(rt.alloc(), row) == Some(true), "{row}");
+        assert_row(&rt, row, is_row(rt.alloc(), row));
     }
 }
 
@@ -179,7 +192,7 @@ fn is_cut_everywhere(alloc: Global, row: &str) -> Option<bool> {
 #[test]
 fn every_cut(rt: HostRuntime) {
     for row in CUTS.split(',') {
-        assert!(rt; is_cut_everywhere(rt.alloc(), row) == Some(true), "{row}");
+        assert_row(&rt, row, is_cut_everywhere(rt.alloc(), row));
     }
 }
 
@@ -231,7 +244,8 @@ fn is_stream(alloc: Global, buf: &mut PackedBuf, stream: &Bytes, len: usize) -> 
 fn segments_of_stream(alloc: Global, len: usize) -> Option<usize> {
     let stream = stream(alloc)?;
     let mut buf = PackedBuf::new(alloc, 512);
-    is_stream(alloc, &mut buf, &stream, len)?.then_some(buf.segments())
+    let is_right = is_stream(alloc, &mut buf, &stream, len) == Some(true);
+    is_right.then_some(buf.segments())
 }
 
 // The pieces of up to 512 bytes have 131,328 bytes. At least 3,585 of a block of 4,096 are used
@@ -239,12 +253,13 @@ fn segments_of_stream(alloc: Global, len: usize) -> Option<usize> {
 // more than 512 bytes: 621 to 625 segments.
 #[test]
 fn pieces_of_all_lengths(rt: HostRuntime) {
-    assert!(rt; matches!(segments_of_stream(rt.alloc(), 0), Some(621..=625)));
+    let holds = matches!(segments_of_stream(rt.alloc(), 0), Some(621..=625));
+    assert_that(&rt, holds);
 }
 
 #[test]
 fn pieces_of_all_lengths_with_reads_between(rt: HostRuntime) {
-    assert!(rt; segments_of_stream(rt.alloc(), 7).is_some());
+    assert_that(&rt, segments_of_stream(rt.alloc(), 7).is_some());
 }
 
 /// Pushes as many bytes at once, and returns whether there was memory for them.
@@ -277,8 +292,12 @@ fn is_block(segment: &EitherBuf<Bytes, BytesMut>, block: &str) -> Option<bool> {
 
 /// Whether the segments are blocks of these numbers of bytes, with room for at most these.
 fn are_blocks(buf: PackedBuf, blocks: &str) -> Option<bool> {
+    are_all_blocks(&buf.into_segmented().into_inner(), blocks)
+}
+
+fn are_all_blocks(segments: &VecDeque<EitherBuf<Bytes, BytesMut>>, blocks: &str) -> Option<bool> {
     let mut wanted = blocks.split(", ");
-    for segment in buf.into_segmented().into_inner().iter() {
+    for segment in segments.iter() {
         if !is_block(segment, wanted.next()?)? {
             return Some(false);
         }
@@ -295,13 +314,17 @@ const BLOCKS: &str = "\
 512 100000 0: 100000 of 200000|\
 18446744073709551615 0 5000: 5000 of 8194";
 
+fn puts_both(alloc: Global, buf: &mut PackedBuf, first: usize, singles: usize) -> bool {
+    puts(alloc, buf, b'x', first) && puts_singles(alloc, buf, singles)
+}
+
 fn has_blocks(alloc: Global, row: &str) -> Option<bool> {
     let (counts, blocks) = row.split_once(": ")?;
     let (threshold, counts) = counts.split_once(' ')?;
     let (first, singles) = counts.split_once(' ')?;
     let (first, singles) = (first.parse().ok()?, singles.parse().ok()?);
     let mut buf = PackedBuf::new(alloc, threshold.parse().ok()?);
-    let is_put = puts(alloc, &mut buf, b'x', first) && puts_singles(alloc, &mut buf, singles);
+    let is_put = puts_both(alloc, &mut buf, first, singles);
     Some(are_blocks(buf, blocks)? && is_put)
 }
 
@@ -309,7 +332,7 @@ fn has_blocks(alloc: Global, row: &str) -> Option<bool> {
 #[test]
 fn blocks(rt: HostRuntime) {
     for row in BLOCKS.split('|') {
-        assert!(rt; has_blocks(rt.alloc(), row) == Some(true), "{row}");
+        assert_row(&rt, row, has_blocks(rt.alloc(), row));
     }
 }
 
@@ -321,20 +344,24 @@ const LATER_BLOCKS: &str = "\
 65: 65 of 128|\
 5000: 4096 of 4096, 904 of 4096";
 
+fn puts_later(alloc: Global, buf: &mut PackedBuf, count: usize) -> bool {
+    buf.push(alloc, Bytes::from_static(b"Hello World")).is_ok()
+        && puts_singles(alloc, buf, count)
+        && skip(buf, 11)
+}
+
 fn has_later_blocks(alloc: Global, row: &str) -> Option<bool> {
     let (count, blocks) = row.split_once(": ")?;
     let count = count.parse().ok()?;
     let mut buf = PackedBuf::new(alloc, 10);
-    let is_put = buf.push(alloc, Bytes::from_static(b"Hello World")).is_ok()
-        && puts_singles(alloc, &mut buf, count)
-        && skip(&mut buf, 11);
+    let is_put = puts_later(alloc, &mut buf, count);
     Some(are_blocks(buf, blocks)? && is_put)
 }
 
 #[test]
 fn blocks_after_a_longer_piece(rt: HostRuntime) {
     for row in LATER_BLOCKS.split('|') {
-        assert!(rt; has_later_blocks(rt.alloc(), row) == Some(true), "{row}");
+        assert_row(&rt, row, has_later_blocks(rt.alloc(), row));
     }
 }
 
@@ -356,14 +383,24 @@ fn gives_block_up(alloc: Global, buf: &mut PackedBuf, count: usize) -> bool {
 
 // The room of a block that was read to its end is kept for the next message, but not that of a large
 // block.
+fn share_a_block(alloc: Global, buf: &mut PackedBuf) -> bool {
+    shares_room(alloc, buf, b"one")
+        && shares_room(alloc, buf, b"two")
+        && gives_block_up(alloc, buf, 20_000)
+}
+
 #[test]
 fn messages_share_a_block(rt: HostRuntime) {
-    let mut buf = PackedBuf::new(rt.alloc(), 512);
-    assert!(rt;
-        shares_room(rt.alloc(), &mut buf, b"one")
-            && shares_room(rt.alloc(), &mut buf, b"two")
-            && gives_block_up(rt.alloc(), &mut buf, 20_000)
-    );
+    let holds = share_a_block(rt.alloc(), &mut PackedBuf::new(rt.alloc(), 512));
+    assert_that(&rt, holds);
+}
+
+/// Whether one segment holds 696 bytes, of which the last were pushed.
+fn holds_rest(buf: &PackedBuf) -> bool {
+    buf.segments() == 1
+        && buf.remaining() == 696
+        && buf.last_segment().starts_with(b"xxxx")
+        && buf.last_segment().ends_with(b"yyyy")
 }
 
 /// Fills a block, takes all but 196 bytes out, and pushes 500. Returns whether one segment holds
@@ -374,17 +411,14 @@ fn moves_rest(alloc: Global, buf: &mut PackedBuf) -> bool {
     } else {
         None
     };
-    puts(alloc, buf, b'y', 500)
-        && taken.is_some()
-        && buf.segments() == 1
-        && buf.remaining() == 696
-        && buf.last_segment().starts_with(b"xxxx")
-        && buf.last_segment().ends_with(b"yyyy")
+    let is_put = puts(alloc, buf, b'y', 500);
+    taken.is_some() & is_put & holds_rest(buf)
 }
 
 #[test]
 fn short_rests_move(rt: HostRuntime) {
-    assert!(rt; moves_rest(rt.alloc(), &mut PackedBuf::new(rt.alloc(), 512)));
+    let holds = moves_rest(rt.alloc(), &mut PackedBuf::new(rt.alloc(), 512));
+    assert_that(&rt, holds);
 }
 
 /// Pushes a piece, and returns whether another owner of its block is left, and the buffer holds it.
@@ -392,18 +426,21 @@ fn is_shared(alloc: Global, buf: &mut PackedBuf, piece: Bytes, other: &Bytes) ->
     buf.push(alloc, piece).is_ok() && !other.is_unique() && holds(buf, other.as_slice())
 }
 
-/// The same of a piece of eleven bytes.
-fn shares_eleven(alloc: Global, threshold: usize) -> Option<bool> {
-    let (piece, other) = shared(alloc)?;
-    Some(is_shared(alloc, &mut PackedBuf::new(alloc, threshold), piece, &other))
+/// Whether that is `wanted` of a piece of eleven bytes.
+fn shares_eleven(alloc: Global, threshold: usize, wanted: bool) -> bool {
+    let mut buf = PackedBuf::new(alloc, threshold);
+    match shared(alloc) {
+        Some((piece, other)) => is_shared(alloc, &mut buf, piece, &other) == wanted,
+        None => false,
+    }
 }
 
 #[test]
 fn large_pieces_are_shared(rt: HostRuntime) {
-    assert!(rt; shares_eleven(rt.alloc(), 0) == Some(true));
-    assert!(rt; shares_eleven(rt.alloc(), 10) == Some(true));
-    assert!(rt; shares_eleven(rt.alloc(), 11) == Some(false));
-    assert!(rt; shares_eleven(rt.alloc(), usize::MAX) == Some(false));
+    assert_that(&rt, shares_eleven(rt.alloc(), 0, true));
+    assert_that(&rt, shares_eleven(rt.alloc(), 10, true));
+    assert_that(&rt, shares_eleven(rt.alloc(), 11, false));
+    assert_that(&rt, shares_eleven(rt.alloc(), usize::MAX, false));
 }
 
 /// A piece of eleven bytes: a block by a threshold of as many, and else held as it came.
@@ -444,7 +481,7 @@ fn shares_segments(alloc: Global) -> Option<bool> {
 
 #[test]
 fn taken_bytes_are_shared(rt: HostRuntime) {
-    assert!(rt; shares_segments(rt.alloc()) == Some(true));
+    assert_some(&rt, shares_segments(rt.alloc()));
 }
 
 /// Whether a segment that is split off a block, or a piece, has another owner of its block.
@@ -456,14 +493,14 @@ fn shares_split(alloc: Global, threshold: usize) -> Option<bool> {
 
 #[test]
 fn split_segments_are_shared_unless_of_a_block(rt: HostRuntime) {
-    assert!(rt; shares_split(rt.alloc(), 11) == Some(false));
-    assert!(rt; shares_split(rt.alloc(), 10) == Some(true));
+    assert_that(&rt, shares_split(rt.alloc(), 11) == Some(false));
+    assert_some(&rt, shares_split(rt.alloc(), 10));
 }
 
 /// Whether bytes share the block of the only one of these segments, and no longer once that is
 /// dropped.
 fn are_of_block(taken: &Bytes, all: SegmentedBuf<Bytes>) -> bool {
-    let is_kept = !taken.is_unique() && all.eq_bytes(b"lo World") && all.segments() == 1;
+    let is_kept = !taken.is_unique() & all.eq_bytes(b"lo World") & (all.segments() == 1);
     drop(all);
     is_kept && taken.is_unique()
 }
@@ -478,8 +515,8 @@ fn keeps_blocks(alloc: Global, threshold: usize) -> Option<bool> {
 
 #[test]
 fn into_shared_copies_nothing(rt: HostRuntime) {
-    assert!(rt; keeps_blocks(rt.alloc(), 11) == Some(true));
-    assert!(rt; keeps_blocks(rt.alloc(), 10) == Some(true));
+    assert_some(&rt, keeps_blocks(rt.alloc(), 11));
+    assert_some(&rt, keeps_blocks(rt.alloc(), 10));
 }
 
 /// `Hello` and `World` as they came, and a block of one byte between them.
@@ -507,15 +544,52 @@ fn hello_reads(alloc: Global) -> Option<bool> {
 
 #[test]
 fn reads_as_any_buffer(rt: HostRuntime) {
-    assert!(rt; hello_reads(rt.alloc()) == Some(true));
+    assert_some(&rt, hello_reads(rt.alloc()));
 }
 
-fn become_shared(alloc: Global) -> Option<SegmentedBuf<Bytes>> {
-    hello(alloc)?.into_segmented().into_shared(alloc).ok()
+fn become_shared(alloc: Global) -> Option<bool> {
+    let shared = hello(alloc)?.into_segmented().into_shared(alloc).ok()?;
+    Some(fills(&shared, 10, HELLO))
 }
 
 #[test]
 fn segments_of_two_types_become_shared(rt: HostRuntime) {
-    let shared = become_shared(rt.alloc());
-    assert!(rt; matches!(&shared, Some(shared) if fills(shared, 10, HELLO)));
+    assert_some(&rt, become_shared(rt.alloc()));
+}
+
+/// Reads until the input ends, at most `most` bytes at once.
+fn reads_all(alloc: Global, buf: &mut PackedBuf, mut input: &[u8], most: usize) -> bool {
+    for _ in 0..10_000 {
+        let mut next = &input[..most.min(input.len())];
+        match buf.read_from(alloc, &mut next) {
+            Ok(0) => return input.is_empty(),
+            Ok(count) => input = &input[count.min(input.len())..],
+            Err(_) => return false,
+        }
+    }
+    false
+}
+
+/// How many bytes are read, and how many at once at most; the blocks that hold them. A read takes as
+/// many as there is room for, if that is for at least 512.
+const READ_BLOCKS: &str = "\
+10000 10000: 4096 of 4096, 4096 of 4096, 1808 of 4096|\
+5000 1: 3585 of 4096, 1415 of 4096|\
+5000 1000: 4000 of 4096, 1000 of 4096";
+
+fn has_read_blocks(alloc: Global, row: &str) -> Option<bool> {
+    let (counts, blocks) = row.split_once(": ")?;
+    let (count, most) = counts.split_once(' ')?;
+    let (count, most): (usize, usize) = (count.parse().ok()?, most.parse().ok()?);
+    let input = long().get(..count)?;
+    let mut buf = PackedBuf::new(alloc, 512);
+    let is_read = reads_all(alloc, &mut buf, input, most);
+    Some(are_blocks(buf, blocks)? && is_read)
+}
+
+#[test]
+fn blocks_of_reads(rt: HostRuntime) {
+    for row in READ_BLOCKS.split('|') {
+        assert_row(&rt, row, has_read_blocks(rt.alloc(), row));
+    }
 }

@@ -1,6 +1,9 @@
 //! What becomes of buffers that are passed, read to the end, or empty.
+use super::nested::pair;
 use crate::fixtures::odd::Asked;
-use crate::fixtures::{FOUR, held, hold, lend, put, put_first, shared, skip, take_out};
+use crate::fixtures::{
+    FOUR, assert_some, assert_that, held, hold, lend, put, put_first, shared, skip, take_out,
+};
 use bytes::{Buf, Bytes};
 use bytes_utils_buf::parts::BufParts;
 use bytes_utils_buf::segmented::SegmentedBuf;
@@ -50,10 +53,10 @@ fn come_back_of(
 #[test]
 fn lent_come_back_in_their_order(rt: HostRuntime) {
     let alloc = rt.alloc();
-    assert!(rt; come_back_of(&rt, alloc, "a|b|c|d", 3, 0));
-    assert!(rt; come_back_of(&rt, alloc, "a|b|c|d", 1, 3));
-    assert!(rt; come_back_of(&rt, alloc, "||c|d", 0, 1));
-    assert!(rt; come_back_of(&rt, alloc, "a||c|d", 0, 1));
+    assert_that(&rt, come_back_of(&rt, alloc, "a|b|c|d", 3, 0));
+    assert_that(&rt, come_back_of(&rt, alloc, "a|b|c|d", 1, 3));
+    assert_that(&rt, come_back_of(&rt, alloc, "||c|d", 0, 1));
+    assert_that(&rt, come_back_of(&rt, alloc, "a||c|d", 0, 1));
 }
 
 /// Whether a segment of eleven bytes is dropped with its last byte, and not before.
@@ -61,14 +64,21 @@ fn drops_last<B: Buf + Drop>(held: &mut SegmentedBuf<B>, other: &Bytes) -> bool 
     skip(held, 10) && !other.is_unique() && skip(held, 1) && other.is_unique()
 }
 
+fn drops_held<B: Buf + Drop>(held: Option<SegmentedBuf<B>>, other: &Bytes) -> bool {
+    match held {
+        Some(mut held) => drops_last(&mut held, other),
+        None => false,
+    }
+}
+
 fn drops_passed(alloc: Global) -> Option<bool> {
     let (bytes, other) = shared(alloc)?;
-    Some(drops_last(&mut hold(alloc, bytes)?, &other))
+    Some(drops_held(hold(alloc, bytes), &other))
 }
 
 #[test]
 fn passed_segments_are_dropped(rt: HostRuntime) {
-    assert!(rt; drops_passed(rt.alloc()) == Some(true));
+    assert_some(&rt, drops_passed(rt.alloc()));
 }
 
 /// Whether an empty buffer is dropped, by either call that accepts one.
@@ -78,42 +88,46 @@ fn drops_empty<B: Buf + Drop>(
     other: &Bytes,
     is_first: bool,
 ) -> bool {
-    let has_owner = empty.remaining() == 0 && !other.is_unique();
+    let has_owner = (empty.remaining() == 0) & !other.is_unique();
     let is_accepted = if is_first {
         put_first(held, empty)
     } else {
         put(held, empty)
     };
-    has_owner && is_accepted && other.is_unique()
+    has_owner & is_accepted & other.is_unique()
 }
 
 /// The same of a buffer that is read to its end.
-fn drops_read_out(alloc: Global, held: &mut SegmentedBuf<Bytes>, is_first: bool) -> Option<bool> {
-    let (mut bytes, other) = shared(alloc)?;
-    Some(skip(&mut bytes, other.len()) && drops_empty(held, bytes, &other, is_first))
+fn drops_read_out(alloc: Global, held: &mut SegmentedBuf<Bytes>, is_first: bool) -> bool {
+    let Some((mut bytes, other)) = shared(alloc) else {
+        return false;
+    };
+    let is_read = skip(&mut bytes, other.len());
+    drops_empty(held, bytes, &other, is_first) & is_read
+}
+
+/// Whether these calls leave none.
+fn drops_both(alloc: Global, none: &mut SegmentedBuf<Bytes>) -> bool {
+    drops_read_out(alloc, none, false) && drops_read_out(alloc, none, true) && none.segments() == 0
 }
 
 #[test]
 fn empty_segments_are_dropped(rt: HostRuntime) {
-    let mut none = SegmentedBuf::new(rt.alloc());
-    assert!(rt;
-        drops_read_out(rt.alloc(), &mut none, false) == Some(true)
-            && drops_read_out(rt.alloc(), &mut none, true) == Some(true)
-            && none.segments() == 0
-    );
+    let holds = drops_both(rt.alloc(), &mut SegmentedBuf::new(rt.alloc()));
+    assert_that(&rt, holds);
+}
+
+fn drops_fourth(alloc: Global, three: &mut SegmentedBuf<Bytes>) -> bool {
+    drops_read_out(alloc, three, false) && three.segments() == 3
+}
+
+fn drops_after_three(alloc: Global) -> Option<bool> {
+    Some(drops_fourth(alloc, &mut held(alloc, FOUR)?))
 }
 
 #[test]
 fn empty_segments_after_others_are_dropped(rt: HostRuntime) {
-    let mut three = held(rt.alloc(), FOUR);
-    assert!(rt;
-        match &mut three {
-            Some(three) => {
-                drops_read_out(rt.alloc(), three, false) == Some(true) && three.segments() == 3
-            }
-            None => false,
-        }
-    );
+    assert_some(&rt, drops_after_three(rt.alloc()));
 }
 
 /// Passes a whole segment.
@@ -139,15 +153,13 @@ fn passes_lent(rt: &impl Abort, alloc: Global, bufs: &mut [Asked]) -> bool {
     passes(alloc, lend(rt, bufs)) && are_unread(bufs)
 }
 
+fn passes_lent_ones(rt: &impl Abort, alloc: Global) -> Option<bool> {
+    Some(passes_lent(rt, alloc, &mut numbered(alloc, "ab|cd").ok()?))
+}
+
 #[test]
 fn passed_segments_are_not_advanced(rt: HostRuntime) {
-    let mut bufs = numbered(rt.alloc(), "ab|cd");
-    assert!(rt;
-        match &mut bufs {
-            Ok(bufs) => passes_lent(&rt, rt.alloc(), bufs),
-            Err(_) => false,
-        }
-    );
+    assert_some(&rt, passes_lent_ones(&rt, rt.alloc()));
 }
 
 /// Shows first bytes and ranges of a buffer of eleven bytes.
@@ -170,14 +182,15 @@ fn takes_parts(alloc: Global, buf: &mut SegmentedBuf<Bytes>) -> bool {
         && buf.pop().is_some()
 }
 
-/// Two pieces of one block, and another owner of it.
-fn two_of_one(alloc: Global) -> Option<(SegmentedBuf<Bytes>, Bytes)> {
-    let (mut back, other) = shared(alloc)?;
+/// The pieces of a block of eleven bytes.
+fn two_of(alloc: Global, mut back: Bytes) -> Option<SegmentedBuf<Bytes>> {
     if back.len() != 11 {
         return None;
     }
-    let mut held = hold(alloc, back.split_to(5).ok()?)?;
-    put(&mut held, back).then_some((held, other))
+    match back.split_to(5) {
+        Ok(front) => pair(alloc, front, back),
+        Err(_) => None,
+    }
 }
 
 /// Whether a part is held, and its block with it, when others were taken out.
@@ -188,15 +201,22 @@ fn keeps_part(alloc: Global, held: &mut SegmentedBuf<Bytes>, other: &Bytes) -> b
         && !other.is_unique()
 }
 
+/// The same, and whether the block is let go with the part.
+fn lets_go(alloc: Global, held: Option<SegmentedBuf<Bytes>>, other: &Bytes) -> bool {
+    let is_kept = match held {
+        Some(mut held) => keeps_part(alloc, &mut held, other),
+        None => false,
+    };
+    is_kept && other.is_unique()
+}
+
 fn lets_block_go(alloc: Global) -> Option<bool> {
-    let (mut held, other) = two_of_one(alloc)?;
-    let is_kept = keeps_part(alloc, &mut held, &other);
-    drop(held);
-    Some(is_kept && other.is_unique())
+    let (back, other) = shared(alloc)?;
+    Some(lets_go(alloc, two_of(alloc, back), &other))
 }
 
 // The first and the second piece are of one block.
 #[test]
 fn parts_let_their_block_go(rt: HostRuntime) {
-    assert!(rt; lets_block_go(rt.alloc()) == Some(true));
+    assert_some(&rt, lets_block_go(rt.alloc()));
 }

@@ -1,9 +1,8 @@
 //! The first bytes of held buffers, seen where they are, and their segments.
 use super::packed::hello;
-use crate::fixtures::{FOUR, held, held_slices};
+use crate::fixtures::{FOUR, assert_that, held, held_slices};
 use bytes_utils_buf::contiguous::ContiguousBuf;
-use bytes_utils_buf::segmented::SegmentedBuf;
-use std::process::Abort;
+use bytes_utils_buf::segmented::{PackedBuf, SegmentedBuf};
 
 /// Whether the first bytes and the last segment of `FOUR` are seen.
 fn sees_first<B: ContiguousBuf + Drop>(buf: &SegmentedBuf<B>) -> bool {
@@ -17,7 +16,7 @@ fn sees_first<B: ContiguousBuf + Drop>(buf: &SegmentedBuf<B>) -> bool {
 #[test]
 fn first_bytes_are_seen(rt: HostRuntime) {
     let buf = held(rt.alloc(), FOUR);
-    assert!(rt; matches!(&buf, Some(buf) if sees_first(buf)));
+    assert_that(&rt, matches!(&buf, Some(buf) if sees_first(buf)));
 }
 
 /// Whether places of `FOUR` are found: in each half, at the borders of its segments, and past its end.
@@ -29,16 +28,22 @@ fn finds_places<B: ContiguousBuf + Drop>(buf: &SegmentedBuf<B>) -> bool {
         && buf.segment_of(11).is_none()
 }
 
+/// The same of a buffer, if it was made.
+fn finds_places_of<B: ContiguousBuf + Drop>(made: Option<SegmentedBuf<B>>) -> bool {
+    match made {
+        Some(buf) => finds_places(&buf),
+        None => false,
+    }
+}
+
 #[test]
 fn places_are_found(rt: HostRuntime) {
-    let bytes = held(rt.alloc(), FOUR);
-    assert!(rt; matches!(&bytes, Some(buf) if finds_places(buf)));
+    assert_that(&rt, finds_places_of(held(rt.alloc(), FOUR)));
 }
 
 #[test]
 fn places_in_other_buffers_are_found(rt: HostRuntime) {
-    let slices = held_slices(rt.alloc(), FOUR);
-    assert!(rt; matches!(&slices, Some(buf) if finds_places(buf)));
-    let packed = hello(rt.alloc());
-    assert!(rt; matches!(&packed, Some(buf) if finds_places(buf.as_segmented())));
+    assert_that(&rt, finds_places_of(held_slices(rt.alloc(), FOUR)));
+    let holds = finds_places_of(hello(rt.alloc()).map(PackedBuf::into_segmented));
+    assert_that(&rt, holds);
 }

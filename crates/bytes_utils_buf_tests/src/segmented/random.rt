@@ -1,5 +1,5 @@
 //! The same bytes read through buffers of different kinds.
-use crate::fixtures::{FIVE, JOINED, gives, lend, slices_of};
+use crate::fixtures::{FIVE, JOINED, assert_some, assert_that, gives, lend, slices_of};
 use bytes::Bytes;
 use bytes_utils_buf::parts::BufParts;
 use bytes_utils_buf::segmented::SegmentedBuf;
@@ -19,15 +19,18 @@ fn gives_pieces<B: BufParts>(alloc: Global, buf: &mut B) -> bool {
     left == 0
 }
 
+/// Reads held buffers, at most five.
+fn reads_held<B: BufParts + Drop>(alloc: Global, mut held: SegmentedBuf<B>) -> bool {
+    (held.segments() <= 5) & gives_pieces(alloc, &mut held)
+}
+
 /// Reads held buffers, and then a clone of them.
 fn reads_twice<B: BufParts + Drop>(
     alloc: Global,
-    mut held: SegmentedBuf<B>,
+    held: SegmentedBuf<B>,
     mut clone: SegmentedBuf<B>,
 ) -> bool {
-    let is_read = held.segments() <= 5 && gives_pieces(alloc, &mut held);
-    drop(held);
-    is_read && gives(alloc, &mut clone, JOINED)
+    reads_held(alloc, held) & gives(alloc, &mut clone, JOINED)
 }
 
 fn reads_collected(alloc: Global) -> Option<bool> {
@@ -39,17 +42,17 @@ fn reads_collected(alloc: Global) -> Option<bool> {
 
 #[test]
 fn random(rt: HostRuntime) {
-    assert!(rt; reads_collected(rt.alloc()) == Some(true));
+    assert_some(&rt, reads_collected(rt.alloc()));
+}
+
+fn reads_lent(rt: &impl Abort, alloc: Global) -> Option<bool> {
+    let mut bufs = slices_of(alloc, FIVE).ok()?;
+    Some(gives_pieces(alloc, &mut lend(rt, &mut bufs)))
 }
 
 #[test]
 fn random_lent_and_bytes(rt: HostRuntime) {
-    let mut bufs = slices_of(rt.alloc(), FIVE);
-    assert!(rt;
-        match &mut bufs {
-            Ok(bufs) => gives_pieces(rt.alloc(), &mut lend(&rt, bufs)),
-            Err(_) => false,
-        }
-    );
-    assert!(rt; gives_pieces(rt.alloc(), &mut Bytes::from_static(JOINED.as_bytes())));
+    assert_some(&rt, reads_lent(&rt, rt.alloc()));
+    let holds = gives_pieces(rt.alloc(), &mut Bytes::from_static(JOINED.as_bytes()));
+    assert_that(&rt, holds);
 }

@@ -1,12 +1,11 @@
 //! Places and ranges of a body; `memory/range` has the bytes of ranges.
 use super::split::{are_shared, two_blocks};
-use crate::fixtures::{FOUR, JOINED, held};
+use crate::fixtures::{FOUR, JOINED, assert_that, held};
 use bytes::Buf;
 use bytes_utils_buf::contiguous::ContiguousBuf;
 use bytes_utils_buf::segmented::SegmentedBuf;
 use std::alloc::Global;
 use std::borrow::CowSlice;
-use std::process::Abort;
 
 fn has_bytes_at_places<B: ContiguousBuf + Drop>(buf: &SegmentedBuf<B>) -> bool {
     buf.byte_at(5) == Some(b' ') && buf.holds_at(3, b"lo W") && buf.eq_bytes(JOINED.as_bytes())
@@ -15,7 +14,7 @@ fn has_bytes_at_places<B: ContiguousBuf + Drop>(buf: &SegmentedBuf<B>) -> bool {
 #[test]
 fn bytes_at_places(rt: HostRuntime) {
     let buf = held(rt.alloc(), FOUR);
-    assert!(rt; matches!(&buf, Some(buf) if has_bytes_at_places(buf)));
+    assert_that(&rt, matches!(&buf, Some(buf) if has_bytes_at_places(buf)));
 }
 
 /// Whether a range is borrowed if it is in one segment, and else is owned.
@@ -34,7 +33,8 @@ fn borrows_in_one<B: ContiguousBuf + Drop>(alloc: Global, buf: &SegmentedBuf<B>)
 #[test]
 fn a_range_in_one_segment_is_borrowed(rt: HostRuntime) {
     let buf = held(rt.alloc(), FOUR);
-    assert!(rt; matches!(&buf, Some(buf) if borrows_in_one(rt.alloc(), buf)));
+    let holds = matches!(&buf, Some(buf) if borrows_in_one(rt.alloc(), buf));
+    assert_that(&rt, holds);
 }
 
 /// Whether a range shares the segments in which it is, and a copy of it does if it is in one segment.
@@ -48,5 +48,6 @@ fn shares_ranges<B: ContiguousBuf + Drop>(alloc: Global, buf: &SegmentedBuf<B>) 
 #[test]
 fn ranges_are_shared(rt: HostRuntime) {
     let buf = two_blocks(rt.alloc());
-    assert!(rt; matches!(&buf, Some(buf) if shares_ranges(rt.alloc(), buf)));
+    let holds = matches!(&buf, Some(buf) if shares_ranges(rt.alloc(), buf));
+    assert_that(&rt, holds);
 }

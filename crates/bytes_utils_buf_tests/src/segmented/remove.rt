@@ -1,8 +1,7 @@
 //! Segments that are taken out whole.
-use crate::fixtures::{FIVE, held};
+use crate::fixtures::{FIVE, assert_that, held, is_next};
 use bytes_utils_buf::contiguous::ContiguousBuf;
 use bytes_utils_buf::segmented::SegmentedBuf;
-use std::process::Abort;
 
 /// Whether the segments are these texts.
 fn yields<B: ContiguousBuf + Drop>(buf: Option<SegmentedBuf<B>>, texts: &str) -> bool {
@@ -11,7 +10,7 @@ fn yields<B: ContiguousBuf + Drop>(buf: Option<SegmentedBuf<B>>, texts: &str) ->
     };
     let mut wanted = texts.split('|');
     for segment in buf {
-        if wanted.next().map(str::as_bytes) != Some(segment.as_contiguous()) {
+        if !is_next(&mut wanted, segment.as_contiguous()) {
             return false;
         }
     }
@@ -20,5 +19,5 @@ fn yields<B: ContiguousBuf + Drop>(buf: Option<SegmentedBuf<B>>, texts: &str) ->
 
 #[test]
 fn into_iter_in_order(rt: HostRuntime) {
-    assert!(rt; yields(held(rt.alloc(), FIVE), "Hello| |World"));
+    assert_that(&rt, yields(held(rt.alloc(), FIVE), "Hello| |World"));
 }

@@ -1,6 +1,8 @@
 //! Reading a `SegmentedSlice`.
 use crate::fixtures::odd::Zeros;
-use crate::fixtures::{FIVE, bytes_of, debugs, lend, reads, reads_nothing, skip};
+use crate::fixtures::{
+    FIVE, assert_that, bytes_of, debugs, is_next, lend, reads, reads_nothing, skip,
+};
 use bytes::{Buf, Bytes};
 use bytes_utils_buf::contiguous::ContiguousBuf;
 use bytes_utils_buf::segmented::SegmentedSlice;
@@ -23,7 +25,7 @@ fn skips<B: Buf>(
 fn hold_texts<B: ContiguousBuf>(bufs: &[B], texts: &str) -> bool {
     let mut wanted = texts.split('|');
     for buf in bufs {
-        if wanted.next().map(str::as_bytes) != Some(buf.as_contiguous()) {
+        if !is_next(&mut wanted, buf.as_contiguous()) {
             return false;
         }
     }
@@ -40,7 +42,7 @@ fn skips_of_five(
     texts: &str,
 ) -> bool {
     match bytes_of(alloc, FIVE) {
-        Ok(mut bufs) => skips(rt, &mut bufs, cnt, left) && hold_texts(&bufs, texts),
+        Ok(mut bufs) => skips(rt, &mut bufs, cnt, left) & hold_texts(&bufs, texts),
         Err(_) => false,
     }
 }
@@ -48,15 +50,15 @@ fn skips_of_five(
 #[test]
 fn slice_advance(rt: HostRuntime) {
     let alloc = rt.alloc();
-    assert!(rt; skips_of_five(&rt, alloc, 0, (11, "Hello"), FIVE));
-    assert!(rt; skips_of_five(&rt, alloc, 3, (8, "lo"), "lo|| ||World"));
-    assert!(rt; skips_of_five(&rt, alloc, 6, (5, "World"), "||||World"));
+    assert_that(&rt, skips_of_five(&rt, alloc, 0, (11, "Hello"), FIVE));
+    assert_that(&rt, skips_of_five(&rt, alloc, 3, (8, "lo"), "lo|| ||World"));
+    assert_that(&rt, skips_of_five(&rt, alloc, 6, (5, "World"), "||||World"));
 }
 
 #[test]
 fn empty_slices(rt: HostRuntime) {
     let mut none: [&[u8]; 0] = [];
-    assert!(rt; reads_nothing(&mut lend(&rt, &mut none)));
+    assert_that(&rt, reads_nothing(&mut lend(&rt, &mut none)));
 }
 
 /// Whether a buffer shows its first chunk, and all of its bytes are read by std's reader.
@@ -64,35 +66,35 @@ fn is_read_to_end<B: Buf + Drop>(alloc: Global, buf: B, chunk: &str, text: &str)
     let is_shown = reads(&buf, text.len(), chunk);
     let mut bytes = Vec::new(alloc);
     let is_read = buf.reader().read_to_end(&mut bytes).is_ok();
-    is_shown && is_read && bytes.as_slice() == text.as_bytes()
+    is_shown & is_read & (bytes.as_slice() == text.as_bytes())
 }
 
 #[test]
 fn sliced_hello(rt: HostRuntime) {
     let mut bufs: [&[u8]; 5] = [b"Hello", b"", b" ", b"", b"World"];
     let all = lend(&rt, &mut bufs);
-    assert!(rt; is_read_to_end(rt.alloc(), all, "Hello", "Hello World"));
+    assert_that(&rt, is_read_to_end(rt.alloc(), all, "Hello", "Hello World"));
 }
 
 #[test]
 fn totals(rt: HostRuntime) {
     let mut bufs = [Zeros { left: usize::MAX }, Zeros { left: 0 }];
-    assert!(rt; SegmentedSlice::total(&bufs) == Some(usize::MAX));
+    assert_that(&rt, SegmentedSlice::total(&bufs) == Some(usize::MAX));
     bufs[1].left = 1;
-    assert!(rt; SegmentedSlice::total(&bufs).is_none());
+    assert_that(&rt, SegmentedSlice::total(&bufs).is_none());
 }
 
 #[test]
 fn has_a_debug_text(rt: HostRuntime) {
     let mut bufs = [b"a".as_slice()];
-    assert!(rt; debugs(rt.alloc(), &lend(&rt, &mut bufs), "SegmentedSlice"));
+    let holds = debugs(rt.alloc(), &lend(&rt, &mut bufs), "SegmentedSlice");
+    assert_that(&rt, holds);
 }
 
 // Ghost fields have no bytes: there are only the borrow, the place and the sum.
 #[test]
 fn ghosts_have_no_bytes(rt: HostRuntime) {
-    assert_eq!(rt;
-        size_of::<SegmentedSlice<'static, Bytes>>(),
-        size_of::<&'static mut [Bytes]>() + 2 * size_of::<usize>()
-    );
+    let len = size_of::<SegmentedSlice<'static, Bytes>>();
+    let holds = len == size_of::<&'static mut [Bytes]>() + 2 * size_of::<usize>();
+    assert_that(&rt, holds);
 }

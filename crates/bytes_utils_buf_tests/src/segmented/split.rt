@@ -1,9 +1,9 @@
 //! The first bytes of held buffers, copied or taken out, which are shared if they can be.
+use crate::fixtures::assert_that;
 use bytes::{Buf, Bytes};
 use bytes_utils_buf::Reason;
 use bytes_utils_buf::segmented::SegmentedBuf;
 use std::alloc::Global;
-use std::process::Abort;
 
 /// Two segments of five and six bytes, each with a block of its own.
 pub(super) fn two_blocks(alloc: Global) -> Option<SegmentedBuf<Bytes>> {
@@ -54,27 +54,32 @@ pub(super) fn cut(
 }
 
 /// Whether the pieces before a place and those after it are shared, by either call that cuts there.
-fn shares_cut(
-    alloc: Global,
-    buf: &SegmentedBuf<Bytes>,
-    at: usize,
-    is_front: bool,
-) -> Result<bool, Reason> {
-    let mut one = buf.try_clone()?;
+fn shares_cut(alloc: Global, buf: &SegmentedBuf<Bytes>, at: usize, is_front: bool) -> bool {
+    let Ok(mut one) = buf.try_clone() else {
+        return false;
+    };
     let is_other_shared = are_shared(cut(alloc, &mut one, at, is_front));
-    Ok(are_shared(Ok(one)) && is_other_shared)
+    are_shared(Ok(one)) & is_other_shared
 }
 
 fn shares_at(alloc: Global, buf: &SegmentedBuf<Bytes>, len: usize) -> bool {
     shares_first(alloc, buf, len)
-        && shares_cut(alloc, buf, len, true) == Ok(true)
-        && shares_cut(alloc, buf, len, false) == Ok(true)
+        && shares_cut(alloc, buf, len, true)
+        && shares_cut(alloc, buf, len, false)
+}
+
+fn shares_everywhere(alloc: Global, buf: &SegmentedBuf<Bytes>) -> bool {
+    for len in 1..=11 {
+        if !shares_at(alloc, buf, len) {
+            return false;
+        }
+    }
+    true
 }
 
 #[test]
 fn first_bytes_are_shared(rt: HostRuntime) {
     let buf = two_blocks(rt.alloc());
-    for len in 1..=11 {
-        assert!(rt; matches!(&buf, Some(buf) if shares_at(rt.alloc(), buf, len)));
-    }
+    let holds = matches!(&buf, Some(buf) if shares_everywhere(rt.alloc(), buf));
+    assert_that(&rt, holds);
 }

@@ -1,5 +1,5 @@
 //! Tables that nested buffers fill with slices.
-use crate::fixtures::{FOUR, fills, held, lend, skip};
+use crate::fixtures::{FOUR, assert_some, fills, held, lend, skip};
 use bytes_utils_buf::parts::BufParts;
 use std::alloc::Global;
 use std::process::Abort;
@@ -16,5 +16,5 @@ fn fills_eight(rt: &impl Abort, alloc: Global) -> Option<bool> {
 
 #[test]
 fn chunk_vectored_nested(rt: HostRuntime) {
-    assert!(rt; fills_eight(&rt, rt.alloc()) == Some(true));
+    assert_some(&rt, fills_eight(&rt, rt.alloc()));
 }

@@ -1,14 +1,16 @@
 //! A decoder with the bytes that it has not taken yet.
 ghost use Rattle.std.specs.Prelude.{◌≡◌, ◌+◌, ◌^◌, ◌≤◌, ◌↔◌, [], length, take, IfErr, IfOk, IsOk, IsTrue, OnErr, OnOk};
+ghost use Rattle.std.specs.Io.KnownBytes.{IsAtEnd, Keeps};
 ghost use Rattle.std.specs.List.{concat};
 ghost use Rattle.bytes_utils_codec.specs.Pushing.{IsPush};
-ghost use Rattle.bytes_utils_codec.specs.Decoding.{Decodes, DecodesAtEnd, decoding, fed, passed};
+ghost use Rattle.bytes_utils_codec.specs.Decoding.{Decodes, DecodesAtEnd, IsFedBy, decoding, fed, passed};
 
 use super::Decoder;
 use bytes::{Buf, Bytes};
 use bytes_utils_buf::segmented::{PackedBuf, SegmentedBuf};
 use bytes_utils_buf::{Reason, Refused};
 use std::alloc::Global;
+use std::io::{self, Read};
 use std::marker::Model;
 
 /// A piece of at most this many bytes is copied to those before it.
@@ -94,6 +96,23 @@ impl<D: Decoder> Framed<D> {
         self.held.push_slice(self.alloc, bytes)
     }
 
+    /// Makes one read of `input`, straight into the room after the held bytes, which is at least 512
+    /// and mostly some 4,096 bytes. Returns the number of bytes that came, which is 0 at the end of
+    /// the input only. Fails with the reader's own error, `Interrupted` too, with `OutOfMemory` if
+    /// memory is refused, or with `FileTooLarge` if the number of held bytes might pass
+    /// `usize::MAX`. Then nothing was read and nothing has changed.
+    pub fn read_from<R: Read>(&mut self, input: &mut R) -> io::Result<usize>
+        ensures read { OnOk result
+            (IsFedBy (R.remaining input.old) (R.remaining input.new) self.old self.new) }
+        ensures count { IfOk result
+            (λ count. length self.new.held ≡ length self.old.held + count) }
+        ensures end { IfOk result (λ count. count ≡ 0 → IsAtEnd (R.remaining input.new)) }
+        ensures err { OnErr result (self.new ≡ self.old) }
+        ensures unread { OnErr result (Keeps (R.remaining input.old) (R.remaining input.new)) }
+    {
+        self.held.read_from(self.alloc, input)
+    }
+
     /// Returns the next item, or `None` if more bytes have to come. Fails as the decoder does; then
     /// the call can be made again.
     pub fn next_item(&mut self, alloc: Global) -> Result<Option<D::Item>, D::Error>
@@ -141,6 +160,17 @@ impl<D: Decoder> Framed<D> {
         let front = self.held.split_to(alloc, len)?;
         self.decoder.restart();
         Ok(front)
+    }
+
+    /// Drops the first `len` bytes, whatever they are, and asks for no memory: the end of a body, or
+    /// one that is too long. The decoder begins at the front of the bytes after them. Requires that
+    /// `len` is at most the number of held bytes (test: `remaining`).
+    pub fn advance(&mut self, len: usize)
+        requires { len ≤ length self.old.held }
+        ensures { self.new ≡ passed D.restarted len self.old }
+    {
+        self.held.advance(len);
+        self.decoder.restart();
     }
 
     /// Returns whether the held bytes start with `prefix`.

@@ -66,7 +66,7 @@ impl fmt::Display for LineFault {
 impl Error for LineFault {}
 
 /// A line, or why there is no text of it.
-pub(super) type Line = Result<Str, LineFault>;
+pub(crate) type Line = Result<Str, LineFault>;
 
 /// A decoder of lines as texts. A line is one of `str::lines`: it ends at a line feed, and one
 /// carriage return directly before this is no part of it.
@@ -339,7 +339,7 @@ pub(super) fn take_line(
 }
 
 /// The text of these bytes.
-fn text_of(bytes: Bytes) -> Line
+pub(crate) fn text_of(bytes: Bytes) -> Line
     ensures { IsTextItem false result bytes }
 {
     Ok(Str::from_inner(bytes)?)

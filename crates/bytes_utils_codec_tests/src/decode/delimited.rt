@@ -1,103 +1,44 @@
 //! Frames that a separator ends, out of pieces: worked cases, limits, and what is shared.
-ghost use Rattle.std.specs.Prelude.{◌<◌, length};
-
-use super::{are_frames, is_frame, is_owned, push_long, push_share, shares_block, waits};
-use crate::decode::rows;
+use super::{cuts, push_share, rows, shares_block, waits};
 use crate::fixtures::{debugs, says};
-use bytes::{Buf, Bytes};
+use bytes::Bytes;
 use bytes_utils::Reason;
 use bytes_utils_codec::decode::{Delimited, FrameTooLong, Framed, decoder_laws};
 use std::alloc::Global;
 
-/// Each line: a separator, a stream, its frames with a stroke after each, and what is left. A frame
-/// of more than two bytes is `long`.
-const CASES: &str = "\
-; ab;cd;;ef ab|cd|| ef
--- a--b---c--d a|b|-c| d
-aab aaabaabaa a|| aa
-; ab;abc ab|long|\x20
-; ab;abc; ab|long|\x20
--- ab--abc ab| abc
--- ab--abc- ab|long|\x20
--- ab--abc--d ab|long| d
--- abc---d long| -d
-; abc;de;fghi;;j long|de|long|| j
-0123456789abcdef- ab0123456789abcdef-abc0123456789abcdef ab|long|\x20
+/// The kind of a reader is its separator.
+const STREAMS: &str = "\
+2 ;: ab;cd;;ef=ab|cd||$ef
+2 --: a--b---c--d=a|b|-c|$d
+2 aab: aaabaabaa=a||$aa
+2 ;: ab;abc=ab|long|$
+2 ;: ab;abc;=ab|long|$
+2 --: ab--abc=ab|$abc
+2 --: ab--abc-=ab|long|$
+2 --: ab--abc--d=ab|long|$d
+2 --: abc---d=long|$-d
+2 ;: abc;de;fghi;;j=long|de|long||$j
+2 0123456789abcdef-: ab0123456789abcdef-abc0123456789abcdef=ab|long|$
 ";
-
-/// A reader of frames of at most `limit` bytes, or `None` if memory is refused, or the separator is
-/// empty.
-fn limited(alloc: Global, separator: &str, limit: usize) -> Option<Framed<Delimited>> {
-    if separator.is_empty() {
-        return None;
-    }
-    let decoder = Delimited::with_limit(alloc, separator.as_bytes(), limit).ok()?;
-    Some(Framed::new(alloc, decoder))
-}
-
-/// Whether both pieces give these frames, and leave this rest.
-fn gives(
-    alloc: Global,
-    reader: &mut Framed<Delimited>,
-    pieces: (&[u8], &[u8]),
-    (frames, rest): (&str, &str),
-) -> bool {
-    are_frames(alloc, reader, pieces, frames.as_bytes())
-        && matches!(reader.last_item(alloc), Ok(None))
-        && reader.pieces().as_segmented().eq_bytes(rest.as_bytes())
-}
-
-/// The same of a stream, wherever it is cut in two.
-fn gives_if_cut(alloc: Global, separator: &str, stream: &str, want: (&str, &str)) -> Option<bool> {
-    for at in 0..=stream.len() {
-        let mut reader = limited(alloc, separator, 2)?;
-        if !gives(alloc, &mut reader, stream.as_bytes().split_at(at), want) {
-            return Some(false);
-        }
-    }
-    Some(true)
-}
-
-/// Whether the stream of a line gives its frames, or `None` if that is no case.
-fn is_right(alloc: Global, case: &str) -> Option<bool> {
-    let (separator, case) = case.split_once(' ')?;
-    let (stream, case) = case.split_once(' ')?;
-    gives_if_cut(alloc, separator, stream, case.split_once(' ')?)
-}
 
 #[test]
 fn streams_that_are_cut_anywhere(rt: HostRuntime) {
     decoder_laws::<Delimited>();
-    for case in CASES.lines() {
-        assert!(rt; is_right(rt.alloc(), case).expect(&rt, "no case"), "{case}");
-    }
+    rows::assert_none(&rt, cuts::first_wrong::<_, Delimited>(rt.alloc(), STREAMS));
 }
 
-/// Rows of a limit; then calls, what the last of them returns, and what is left. The separator is
-/// `[]`.
-const ROWS: &str = "\
-2: ab[ -, ]abc[]d ab,  long,  -, ] -, [] d], ab -, c -, [ long, ] -, [] : -: |\
-2: abc -, [ long,  -, [] -, ]a -: -: ]a|\
-2: abcd long, ef -: -: |\
-2: abcd long, e[]f ?: -: f|\
-0: [] , a[][ long, ] , a -, b long, c -, [ -, ][] : -: |\
-18446744073709551615: ab -, [] ab, c -: -: c";
-
-/// Whether a row is right, or `None` if it is no row.
-fn is_right_row(alloc: Global, row: &str) -> Option<bool> {
-    let (limit, row) = row.split_once(": ")?;
-    let mut reader = limited(alloc, "[]", limit.parse().ok()?)?;
-    rows::is_right(alloc, &mut reader, row)
-}
+const CALLS: &str = "\
+2 []: ab[ -, ]abc[]d ab,  long,  -, ] -, [] d], ab -, c -, [ long, ] -, [] ,  $-,  =
+2 []: abc -, [ long,  -, [] -, ]a -,  $-,  =]a
+2 []: abcd long, ef -,  $-,  =
+2 []: abcd long, e[]f ?,  $-,  =f
+0 []: [] , a[][ long, ] , a -, b long, c -, [ -, ][] ,  $-,  =
+any []: ab -, [] ab, c -,  $-,  =c
+";
 
 #[test]
 fn calls_after_each_piece(rt: HostRuntime) {
-    for row in ROWS.split('|') {
-        assert!(rt;
-            is_right_row(rt.alloc(), row).expect(&rt, "no row"),
-            "{row}"
-        );
-    }
+    rows::assert_none(&rt, rows::first_wrong::<_, Delimited>(rt.alloc(), CALLS));
 }
 
 #[test]
@@ -106,103 +47,74 @@ fn an_error_says_why(rt: HostRuntime) {
     assert!(rt; debugs(rt.alloc(), &FrameTooLong, "FrameTooLong"));
 }
 
-/// A reader of frames that end with this separator.
-fn reader(alloc: Global, separator: &[u8]) -> Result<Framed<Delimited>, Reason>
-    requires { 0 < length separator.now }
-{
-    Ok(Framed::new(alloc, Delimited::new(alloc, separator)?))
-}
-
-/// Whether no frame comes with any of 20,000 pieces, long ones and single bytes in turn.
-fn waits_after_each(alloc: Global, reader: &mut Framed<Delimited>) -> Result<bool, Reason> {
-    for _ in 0..10_000 {
-        reader.push(Bytes::from_static(&[b'a'; 513]))?;
-        let was_waiting = waits(alloc, reader);
-        reader.push_slice(b"b")?;
-        if !was_waiting || !waits(alloc, reader) {
-            return Ok(false);
-        }
-    }
-    Ok(true)
-}
-
-/// Whether the same is so of 400,000 bytes, one at a time.
-fn waits_after_each_byte(alloc: Global, reader: &mut Framed<Delimited>) -> Result<bool, Reason> {
+/// Whether no frame comes with any of 400,000 bytes, one at a time.
+fn waits_after_each_byte(alloc: Global, reader: &mut Framed<Delimited>) -> bool {
     for _ in 0..400_000 {
-        reader.push_slice(b"a")?;
-        if !waits(alloc, reader) {
-            return Ok(false);
+        if reader.push_slice(b"a").is_err() || !waits(alloc, reader) {
+            return false;
         }
     }
-    Ok(true)
+    true
 }
 
-/// Whether a frame of these pieces comes with its end alone, and nothing is left.
-fn comes_at_its_end(alloc: Global, reader: &mut Framed<Delimited>) -> Result<bool, Reason> {
-    if !waits_after_each(alloc, reader)? || !waits_after_each_byte(alloc, reader)? {
-        return Ok(false);
-    }
-    reader.push_slice(b"\r\n")?;
-    Ok(is_owned(reader.next_item(alloc), 5_540_000, true) && reader.remaining() == 0)
+/// Whether a frame comes with its end alone: of long pieces and single bytes in turn, and of the
+/// single bytes after them.
+fn comes_at_its_end(alloc: Global, reader: &mut Framed<Delimited>) -> bool {
+    let piece = Bytes::from_static(&[b'a'; 513]);
+    rows::is_right(alloc, reader, &piece, "10000 times: & -, b -")
+        && waits_after_each_byte(alloc, reader)
+        && rows::is_right(alloc, reader, &piece, "<. *#5540000,  =#0")
 }
 
 // A search that began at the front at each call would pass 200 million segments, and then take
 // minutes.
 #[test]
 fn a_frame_of_many_pieces(rt: HostRuntime) {
-    let mut reader = reader(rt.alloc(), b"\r\n").expect(&rt, "no memory");
-    assert!(rt; comes_at_its_end(rt.alloc(), &mut reader).expect(&rt, "no memory"));
+    let decoder = Delimited::new(rt.alloc(), b"\r\n").expect(&rt, "no memory");
+    let mut reader = Framed::new(rt.alloc(), decoder);
+    assert!(rt; comes_at_its_end(rt.alloc(), &mut reader));
 }
 
-/// Whether an empty frame comes with the last of the separator's pieces.
-fn waits_for(
+/// Whether a row is right with this separator, limit and piece.
+fn is_right(
     alloc: Global,
-    reader: &mut Framed<Delimited>,
     separator: &[u8],
-) -> Result<bool, Reason> {
-    for piece in separator.chunks(1_000) {
-        if !waits(alloc, reader) {
-            return Ok(false);
-        }
-        reader.push_slice(piece)?;
+    limit: usize,
+    piece: &'static [u8],
+    row: &str,
+) -> bool {
+    if separator.is_empty() {
+        return false;
     }
-    Ok(is_frame(alloc, reader, b""))
+    match Delimited::with_limit(alloc, separator, limit) {
+        Ok(decoder) => {
+            let piece = Bytes::from_static(piece);
+            rows::is_right(alloc, &mut Framed::new(alloc, decoder), &piece, row)
+        }
+        Err(_) => false,
+    }
 }
 
 #[test]
 fn a_long_separator(rt: HostRuntime) {
-    let separator = [b'-'; 20_000];
-    let mut reader = reader(rt.alloc(), &separator).expect(&rt, "no memory");
-    assert!(rt; waits_for(rt.alloc(), &mut reader, &separator).expect(&rt, "no memory"));
+    let row = " -; 19 times: _ -; _ ";
+    assert!(rt; is_right(rt.alloc(), &[b'-'; 20_000], usize::MAX, &[b'-'; 1_000], row));
 }
 
-/// Whether a frame of 2,000,000 bytes in 2,000 pieces comes, and one of a byte more, of which the
-/// first is that after the first frame's end of 300 bytes.
-fn reads_long_frames(alloc: Global, reader: &mut Framed<Delimited>) -> Result<bool, Reason> {
-    let mut are_right = true;
-    for len in [2_000_000, 2_000_001] {
-        push_long(reader, 2_000)?;
-        reader.push_slice(&[b'-'; 301])?;
-        are_right = are_right && is_owned(reader.next_item(alloc), len, true);
-    }
-    Ok(are_right && reader.remaining() == 1)
-}
-
-/// Whether a reader within this limit reads these frames.
-fn reads_within(alloc: Global, limit: usize) -> Result<bool, Reason> {
-    let decoder = Delimited::with_limit(alloc, &[b'-'; 300], limit)?;
-    reads_long_frames(alloc, &mut Framed::new(alloc, decoder))
-}
+/// A frame of 2,000,000 bytes in 2,000 pieces, and one of a byte more, of which the first is that
+/// after the first frame's end of 300 bytes.
+const LONG: &str = "2000 times: & ?; 301 times: - ?;  *#2000000; \
+    2000 times: & ?; 301 times: - ?;  *#2000001,  =#1";
 
 // A limit may be the length of the frame, or the greatest number.
 #[test]
 fn a_long_frame_within_a_limit(rt: HostRuntime) {
     for limit in [2_000_001, usize::MAX] {
-        assert!(rt; reads_within(rt.alloc(), limit).expect(&rt, "no memory"));
+        assert!(rt; is_right(rt.alloc(), &[b'-'; 300], limit, &[b'a'; 1_000], LONG));
     }
 }
 
-/// A piece: a frame of one byte, its end, and so many bytes more.
+/// A piece: a frame of one byte, its end, and `rest` bytes more.
 fn piece_before(alloc: Global, rest: usize) -> Result<Bytes, Reason> {
     let mut bytes = Vec::new(alloc);
     bytes.extend_from_slice(b"a-")?;
@@ -212,8 +124,8 @@ fn piece_before(alloc: Global, rest: usize) -> Result<Bytes, Reason> {
     Ok(Bytes::copy_from_slice(alloc, &bytes)?)
 }
 
-/// Whether the frame at the start of the piece shares it, without the reader, and so many bytes
-/// were held.
+/// Whether the frame at the start of the piece shares it, without the reader, and `rest` bytes were
+/// held.
 fn shares_piece(alloc: Global, mut reader: Framed<Delimited>, piece: &Bytes, rest: usize) -> bool {
     let is_put = push_share(&mut reader, piece).is_ok();
     let frame = reader.next_item(alloc);
@@ -223,10 +135,11 @@ fn shares_piece(alloc: Global, mut reader: Framed<Delimited>, piece: &Bytes, res
     is_held && is_shared && piece.is_unique()
 }
 
-/// Whether the frame at the start of a piece with so many bytes more shares it.
+/// Whether the frame at the start of a piece with `rest` bytes more shares it.
 fn is_shared(alloc: Global, rest: usize) -> Result<bool, Reason> {
     let piece = piece_before(alloc, rest)?;
-    Ok(shares_piece(alloc, reader(alloc, b"-")?, &piece, rest))
+    let decoder = Delimited::new(alloc, b"-")?;
+    Ok(shares_piece(alloc, Framed::new(alloc, decoder), &piece, rest))
 }
 
 /// A piece of more than 512 bytes is held as it came, and its frames share it. One of 512 bytes is
@@ -238,37 +151,19 @@ fn frame_in_one_piece_is_shared(rt: HostRuntime) {
     }
 }
 
-/// Whether the last frame of a piece of 513 bytes shares it, and one in two pieces is a copy.
-fn shares_or_copies(alloc: Global, reader: &mut Framed<Delimited>, piece: &Bytes) -> bool {
-    push_share(reader, piece).is_ok()
-        && is_owned(reader.next_item(alloc), 1, false)
-        && push_share(reader, piece).is_ok()
-        && is_owned(reader.next_item(alloc), 512, true)
-        && reader.remaining() == 511
-}
-
-/// A frame in two pieces is one block. The first one holds the piece no more.
+/// The last frame of a piece of 513 bytes shares it, and one in two pieces is one block. The first
+/// one holds the piece no more.
 #[test]
 fn frame_in_two_pieces_is_copied(rt: HostRuntime) {
-    let piece = piece_before(rt.alloc(), 511).expect(&rt, "no memory");
-    let mut reader = reader(rt.alloc(), b"-").expect(&rt, "no memory");
-    assert!(rt; shares_or_copies(rt.alloc(), &mut reader, &piece));
+    let mut piece = [b'b'; 513];
+    piece[..2].copy_from_slice(b"a-");
+    let row = "& &a, & *#512,  =#511";
+    assert!(rt; rows::lets_go::<_, Delimited>(rt.alloc(), "any -", &piece, row));
 }
 
-/// Whether both frames of small pieces come, out of the one block to which these were copied.
-fn shares_small(alloc: Global, reader: &mut Framed<Delimited>) -> Result<bool, Reason> {
-    for piece in "a|b-c|-d".split('|') {
-        reader.push(Bytes::copy_from_slice(alloc, piece.as_bytes())?)?;
-    }
-    Ok(
-        reader.pieces().segments() == 1
-            && is_owned(reader.next_item(alloc), 2, false)
-            && is_owned(reader.next_item(alloc), 1, false),
-    )
-}
-
+/// Frames of small pieces share the one block to which these were copied.
 #[test]
 fn frames_in_small_pieces_are_shared(rt: HostRuntime) {
-    let mut reader = reader(rt.alloc(), b"-").expect(&rt, "no memory");
-    assert!(rt; shares_small(rt.alloc(), &mut reader).expect(&rt, "no memory"));
+    let row = "any -: +a ?, +b-c ?, +-d /1,  &ab,  &c";
+    rows::assert_none(&rt, rows::first_wrong::<_, Delimited>(rt.alloc(), row));
 }

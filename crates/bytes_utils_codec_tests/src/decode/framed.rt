@@ -17,29 +17,36 @@ fn long_piece(alloc: Global, third: u8) -> Result<Bytes, Reason> {
     Ok(Bytes::copy_from_slice(alloc, &bytes)?)
 }
 
-/// Whether a reader holds a share of the piece until it is dropped, or until what it held is.
-fn lets_go(mut reader: Framed<Delimited>, piece: &Bytes, is_finished: bool) -> bool {
-    let is_held = push_share(&mut reader, piece).is_ok() && !piece.is_unique();
-    if !is_finished {
-        drop(reader);
-        return is_held && piece.is_unique();
-    }
-    let (decoder, held) = reader.finish();
-    drop(decoder);
-    let is_left = is_held && !piece.is_unique();
-    drop(held);
-    is_left && piece.is_unique()
+/// A reader that holds a share of the piece.
+fn holding(alloc: Global, piece: &Bytes) -> Result<Framed<Delimited>, Reason> {
+    let mut reader = reader(alloc)?;
+    push_share(&mut reader, piece)?;
+    Ok(reader)
 }
 
-/// Whether both are so.
-fn let_go(alloc: Global, piece: &Bytes) -> Result<bool, Reason> {
-    Ok(lets_go(reader(alloc)?, piece, false) && lets_go(reader(alloc)?, piece, true))
+/// Whether a reader holds a share of the piece until it is dropped.
+fn lets_go(alloc: Global, piece: &Bytes) -> Result<bool, Reason> {
+    let reader = holding(alloc, piece)?;
+    let is_held = !piece.is_unique();
+    drop(reader);
+    Ok(is_held && piece.is_unique())
+}
+
+/// Whether what a finished reader held is a share of the piece until it is dropped.
+fn finished_lets_go(alloc: Global, piece: &Bytes) -> Result<bool, Reason> {
+    let (decoder, held) = holding(alloc, piece)?.finish();
+    drop(decoder);
+    let is_held = !piece.is_unique();
+    drop(held);
+    Ok(is_held && piece.is_unique())
 }
 
 #[test]
 fn pieces_are_let_go(rt: HostRuntime) {
     let piece = long_piece(rt.alloc(), b'b').expect(&rt, "no memory");
-    assert!(rt; let_go(rt.alloc(), &piece).expect(&rt, "no memory"));
+    let is_let_go = matches!(lets_go(rt.alloc(), &piece), Ok(true))
+        && matches!(finished_lets_go(rt.alloc(), &piece), Ok(true));
+    assert!(rt; is_let_go);
 }
 
 /// Whether a copy of 100,000 bytes is held, and the reader returns its decoder.
@@ -56,7 +63,7 @@ fn a_long_slice_is_copied(rt: HostRuntime) {
     assert!(rt; holds_long_copy(&mut reader));
 }
 
-/// Takes so many first bytes. Returns whether they are the only owner of their block as is wanted.
+/// Takes the first `len` bytes. Returns whether they are the only owner of their block as is wanted.
 fn is_first(alloc: Global, reader: &mut Framed<Delimited>, len: usize, is_unique: bool) -> bool {
     if reader.remaining() < len {
         return false;
@@ -86,7 +93,7 @@ fn shares_first_bytes(alloc: Global, reader: &mut Framed<Delimited>) -> Result<b
 #[test]
 fn first_bytes_of_a_piece_are_shared(rt: HostRuntime) {
     let mut reader = reader(rt.alloc()).expect(&rt, "no memory");
-    assert!(rt; shares_first_bytes(rt.alloc(), &mut reader).expect(&rt, "no memory"));
+    assert!(rt; matches!(shares_first_bytes(rt.alloc(), &mut reader), Ok(true)));
 }
 
 /// The first bytes of two shares of the piece, which are segments of their own, or `None` if memory
@@ -104,28 +111,18 @@ fn first_segments(
     reader.split_to(alloc, 700).ok()
 }
 
-/// Whether these are two segments that share the piece.
-fn are_shared(front: &Option<SegmentedBuf<Bytes>>, piece: &Bytes) -> bool {
-    match front {
-        Some(front) => front.segments() == 2 && front.remaining() == 700 && !piece.is_unique(),
-        None => false,
-    }
+/// Whether these are two segments that share the piece, without the reader.
+fn shares_segments(alloc: Global, piece: &Bytes) -> Option<bool> {
+    let front = first_segments(alloc, &mut reader(alloc).ok()?, piece)?;
+    Some(front.segments() == 2 && front.remaining() == 700 && !piece.is_unique())
 }
 
-/// Whether they do without the reader, and let it go.
-fn shares_segments(alloc: Global, mut reader: Framed<Delimited>, piece: &Bytes) -> bool {
-    let front = first_segments(alloc, &mut reader, piece);
-    drop(reader);
-    let are_shared = are_shared(&front, piece);
-    drop(front);
-    are_shared && piece.is_unique()
-}
-
+/// They do, and then let it go.
 #[test]
 fn first_bytes_in_pieces_are_shared(rt: HostRuntime) {
     let piece = long_piece(rt.alloc(), b'b').expect(&rt, "no memory");
-    let reader = reader(rt.alloc()).expect(&rt, "no memory");
-    assert!(rt; shares_segments(rt.alloc(), reader, &piece));
+    let are_shared = matches!(shares_segments(rt.alloc(), &piece), Some(true));
+    assert!(rt; are_shared && piece.is_unique());
 }
 
 /// Two heads, each with its body after it, whose length it is; and the beginning of a third head.
@@ -138,24 +135,36 @@ fn body_len<I: Frame>(head: I) -> Option<usize> {
     Some(usize::from(digit.checked_sub(b'0')?))
 }
 
-/// Takes a body, by one of two calls. Returns `None` if it has not come.
+/// Appends the bytes of the segments.
+fn put_chunks(body: &SegmentedBuf<Bytes>, out: &mut Vec<u8>) -> bool {
+    for chunk in body.chunks() {
+        if out.extend_from_slice(chunk).is_err() {
+            return false;
+        }
+    }
+    true
+}
+
+/// Takes a body, by one of two calls. Returns whether it has come, and no call is refused.
 fn put_body<D: Decoder>(
     alloc: Global,
     reader: &mut Framed<D>,
     (len, is_split): (usize, bool),
     out: &mut Vec<u8>,
-) -> Option<()> {
+) -> bool {
     if reader.remaining() < len {
-        return None;
+        return false;
     }
-    if !is_split {
-        return put_frame(reader.take_bytes(alloc, len).ok()?.as_slice(), out);
+    if is_split {
+        return match reader.split_to(alloc, len) {
+            Ok(body) => put_chunks(&body, out),
+            Err(_) => false,
+        };
     }
-    let body = reader.split_to(alloc, len).ok()?;
-    for chunk in body.chunks() {
-        out.extend_from_slice(chunk).ok()?;
+    match reader.take_bytes(alloc, len) {
+        Ok(body) => out.extend_from_slice(body.as_slice()).is_ok(),
+        Err(_) => false,
     }
-    put_frame(b"", out)
 }
 
 /// Takes the heads and bodies that have come. `missing` is the length of the next body, or 0 before
@@ -171,7 +180,10 @@ fn put_bodies<I: Frame, D: Decoder<Item = I, Error = Reason>>(
             return Some(missing);
         }
         if missing > 0 {
-            put_body(alloc, reader, (missing, is_split), out)?;
+            if !put_body(alloc, reader, (missing, is_split), out) {
+                return None;
+            }
+            put_frame(b"", out)?;
             missing = 0;
         } else if let Some(head) = reader.next_item(alloc).ok()? {
             missing = body_len(head)?;
@@ -221,7 +233,7 @@ fn are_bodies_if_cut(alloc: Global, is_split: bool) -> Result<bool, Reason> {
 #[test]
 fn bodies_after_heads(rt: HostRuntime) {
     for is_split in [false, true] {
-        assert!(rt; are_bodies_if_cut(rt.alloc(), is_split).expect(&rt, "no memory"));
+        assert!(rt; matches!(are_bodies_if_cut(rt.alloc(), is_split), Ok(true)));
     }
 }
 
@@ -241,7 +253,7 @@ fn begins_anew(alloc: Global, reader: &mut Framed<Delimited>) -> Option<bool> {
 #[test]
 fn frames_begin_after_bytes_that_are_taken(rt: HostRuntime) {
     let mut reader = reader(rt.alloc()).expect(&rt, "no memory");
-    assert!(rt; begins_anew(rt.alloc(), &mut reader).expect(&rt, "no memory"));
+    assert!(rt; matches!(begins_anew(rt.alloc(), &mut reader), Some(true)));
 }
 
 /// Whether a frame comes, and some bytes are then held.

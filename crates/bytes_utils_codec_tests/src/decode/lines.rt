@@ -1,7 +1,6 @@
 //! Lines as texts, out of pieces: worked cases, limits, and what is shared.
-use super::put_frame;
+use super::{cuts, is_frame, is_given, rows, waits};
 use crate::fixtures::says;
-use bytes::Bytes;
 use bytes_utils::{Reason, Str};
 use bytes_utils_codec::decode::{Framed, LineFault, Lines};
 use std::alloc::Global;
@@ -9,152 +8,46 @@ use std::alloc::Global;
 /// A text, or why there is none.
 type Item = Result<Str, LineFault>;
 
-/// The text of a line, or a sign for one that is not UTF-8 or too long.
-fn sign_of(item: &Item) -> &[u8] {
-    match item {
-        Ok(text) => text.as_bytes(),
-        Err(LineFault::NotUtf8(_)) => b"?",
-        Err(LineFault::TooLong) => b"!",
-    }
-}
-
-/// Appends the items that have come, each with a stroke after it. Returns `None` if one is refused,
-/// or there are too many.
-fn put_items(alloc: Global, reader: &mut Framed<Lines>, out: &mut Vec<u8>) -> Option<()> {
-    for _ in 0..9 {
-        let Some(item) = reader.next_item(alloc).ok()? else {
-            return Some(());
-        };
-        put_frame(sign_of(&item), out)?;
-    }
-    None
-}
-
-/// Pushes a piece, and appends the items that come.
-fn put_piece(
-    alloc: Global,
-    reader: &mut Framed<Lines>,
-    piece: &[u8],
-    out: &mut Vec<u8>,
-) -> Option<()> {
-    reader.push_slice(piece).ok()?;
-    put_items(alloc, reader, out)
-}
-
-/// Appends a dollar, and then the last line, if there is one.
-fn put_last(alloc: Global, reader: &mut Framed<Lines>, out: &mut Vec<u8>) -> Option<()> {
-    out.push(b'$').ok()?;
-    match reader.last_item(alloc).ok()? {
-        Some(item) => put_frame(sign_of(&item), out),
-        None => Some(()),
-    }
-}
-
-/// Whether nothing is left after the last line.
-fn is_end(alloc: Global, reader: &mut Framed<Lines>) -> bool {
-    matches!(reader.last_item(alloc), Ok(None)) && reader.remaining() == 0
-}
-
-/// Whether these items come of two pieces, and then nothing is left.
-fn gives(
-    alloc: Global,
-    reader: &mut Framed<Lines>,
-    (front, back): (&[u8], &[u8]),
-    want: &[u8],
-) -> bool {
-    let mut out = Vec::new(alloc);
-    put_piece(alloc, reader, front, &mut out).is_some()
-        && put_piece(alloc, reader, back, &mut out).is_some()
-        && put_last(alloc, reader, &mut out).is_some()
-        && out.as_slice() == want
-        && is_end(alloc, reader)
-}
-
-/// Whether these items come of single bytes, and then nothing is left.
-fn gives_of_bytes(alloc: Global, reader: &mut Framed<Lines>, stream: &[u8], want: &[u8]) -> bool {
-    let mut out = Vec::new(alloc);
-    for byte in stream.chunks(1) {
-        if put_piece(alloc, reader, byte, &mut out).is_none() {
-            return false;
-        }
-    }
-    put_last(alloc, reader, &mut out).is_some() && out.as_slice() == want && is_end(alloc, reader)
-}
-
 /// A reader of lines within a limit.
-fn limited(alloc: Global, limit: usize, is_lossy: bool) -> Option<Framed<Lines>> {
-    let lines = Lines::with_limit(alloc, limit).ok()?;
-    let lines = if is_lossy { lines.lossy() } else { lines };
-    Some(Framed::new(alloc, lines))
+fn limited(alloc: Global, limit: usize) -> Result<Framed<Lines>, Reason> {
+    Ok(Framed::new(alloc, Lines::with_limit(alloc, limit)?))
 }
 
-/// Whether these items come of the stream, wherever it is cut in two, and in single bytes.
-fn gives_if_cut(
-    alloc: Global,
-    (limit, is_lossy): (usize, bool),
-    stream: &[u8],
-    want: &[u8],
-) -> Option<bool> {
-    for at in 0..=stream.len() {
-        let mut reader = limited(alloc, limit, is_lossy)?;
-        if !gives(alloc, &mut reader, stream.split_at(at), want) {
-            return Some(false);
-        }
-    }
-    let mut reader = limited(alloc, limit, is_lossy)?;
-    Some(gives_of_bytes(alloc, &mut reader, stream, want))
-}
-
-/// The byte that a sign in a case means.
-fn byte_of(sign: u8) -> u8 {
-    match sign {
-        b'/' => b'\n',
-        b'<' => b'\r',
-        b'~' => 0xFF,
-        _ => sign,
-    }
-}
-
-/// The bytes that a case means.
-fn bytes_of(alloc: Global, case: &str) -> Option<Vec<u8>> {
-    let mut bytes = Vec::new(alloc);
-    for sign in case.bytes() {
-        bytes.push(byte_of(sign)).ok()?;
-    }
-    Some(bytes)
-}
-
-/// Whether the stream of a case gives its items, within this limit, or `None` if that is no case.
-fn is_right(alloc: Global, limit: usize, case: &str) -> Option<bool> {
-    let (stream, want) = case.split_once(' ')?;
-    let stream = bytes_of(alloc, stream)?;
-    let want = bytes_of(alloc, want)?;
-    gives_if_cut(alloc, (limit, false), &stream, &want)
-}
-
-/// Each line: a stream, and its items with a stroke after each; after a dollar the last line. A
-/// slash is a line feed, `<` a carriage return, and a tilde a byte that is in no text. A question
-/// mark is a line that is not UTF-8.
-const CASES: &str = "a<//b/ a||b|$\na< $a<|\n<</ <|$\n/ |$\n $\na<b</ a<b|$\nb $b|\n\
-    a</β/</~/last< a|β||?|$last<|\n~</a~b/~~ ?|?|$?|\nβ~/β</ ?|β|$\n";
+const STREAMS: &str = "\
+any text: a<..b.=a||b|$
+any text: a<=$a<|
+any text: <<.=<|$
+any text: .=|$
+any text: =$
+any text: a<b<.=a<b|$
+any text: b=$b|
+any text: a<.β.<.~.last<=a|β||~|$last<|
+any text: ~<.a~b.~~=~|a~b|$~~|
+any text: β~.β<.=β~|β|$
+";
 
 #[test]
 fn streams_that_are_cut_anywhere(rt: HostRuntime) {
-    for case in CASES.lines() {
-        assert!(rt; is_right(rt.alloc(), usize::MAX, case).expect(&rt, "no case"));
-    }
+    rows::assert_none(&rt, cuts::first_wrong::<_, Lines>(rt.alloc(), STREAMS));
 }
 
-/// The same of lines of at most two bytes. An exclamation mark is one that is too long. Of the last
-/// ones the end doesn't come.
-const LIMITED: &str = "abc/d/ !|d|$\nab/c</ ab|c|$\nab</c !|$c|\nabcdefg/ab/abcd</e !|ab|!|$e|\n\
-    abc/def/~/gh !|!|?|$gh|\nβ/β</b β|!|$b|\nab $ab|\nab< !|$\nabc !|$\na/bcd~~~< a|!|$\n";
+/// Lines of at most two bytes, and others. Of the last ones the end doesn't come.
+const LIMITED: &str = "\
+2 text: abc.d.=long|d|$
+2 text: ab.c<.=ab|c|$
+2 text: ab<.c=long|$c|
+2 text: abcdefg.ab.abcd<.e=long|ab|long|$e|
+2 text: abc.def.~.gh=long|long|~|$gh|
+2 text: β.β<.b=β|long|$b|
+2 text: ab=$ab|
+2 text: ab<=long|$
+2 text: abc=long|$
+2 text: a.bcd~~~<=a|long|$
+";
 
 #[test]
 fn lines_over_the_limit(rt: HostRuntime) {
-    for case in LIMITED.lines() {
-        assert!(rt; is_right(rt.alloc(), 2, case).expect(&rt, "no case"));
-    }
+    rows::assert_none(&rt, cuts::first_wrong::<_, Lines>(rt.alloc(), LIMITED));
 }
 
 /// The case of `String::from_utf8_lossy`'s documentation, the one of the Unicode Standard, section
@@ -170,14 +63,17 @@ const REPLACED: &str = "Hello \u{FFFD}World|a\u{FFFD}\u{FFFD}\u{FFFD}b\u{FFFD}c\
 const FEW: &[u8] = b"\xFF\xFF\nabc\n\xFF\r\na\xFF\r\n\r";
 
 /// The items within that limit, which counts the bytes that came.
-const REPLACED_FEW: &str = "\u{FFFD}\u{FFFD}|!|\u{FFFD}|!|$\r|";
+const REPLACED_FEW: &str = "\u{FFFD}\u{FFFD}|long|\u{FFFD}|long|$\r|";
+
+/// Whether these items come of a stream.
+fn gives(alloc: Global, kind: &str, stream: &[u8], want: &str) -> bool {
+    cuts::gives::<_, Lines>(alloc, kind, stream, want.as_bytes())
+}
 
 #[test]
 fn lossy_lines(rt: HostRuntime) {
-    for (limit, stream, want) in [(usize::MAX, LOSSY, REPLACED), (2, FEW, REPLACED_FEW)] {
-        let is_right = gives_if_cut(rt.alloc(), (limit, true), stream, want.as_bytes());
-        assert!(rt; is_right.expect(&rt, "no memory"));
-    }
+    assert!(rt; gives(rt.alloc(), "any lossy", LOSSY, REPLACED));
+    assert!(rt; gives(rt.alloc(), "2 lossy", FEW, REPLACED_FEW));
 }
 
 /// Whether the line is not UTF-8, and the error has these bytes and says this.
@@ -218,39 +114,123 @@ fn say_why(alloc: Global, reader: &mut Framed<Lines>) -> bool {
 
 #[test]
 fn faults_say_why(rt: HostRuntime) {
-    let mut reader = limited(rt.alloc(), 3, false).expect(&rt, "no memory");
+    let mut reader = limited(rt.alloc(), 3).expect(&rt, "no memory");
     assert!(rt; say_why(rt.alloc(), &mut reader));
 }
 
-/// Whether the next line is `ab`, and whether it shares a block.
-fn is_ab(alloc: Global, reader: &mut Framed<Lines>, is_shared: bool) -> bool {
-    match reader.next_item(alloc) {
-        Ok(Some(Ok(line))) => line.eq_str("ab") && line.inner().is_unique() != is_shared,
-        _ => false,
+const CALLS: &str = "\
+4 text: ab<.abcde.c. ab,  long,  c,  -,  $-,  =
+4 text: abc<.abcd<.abcd. abc,  long,  abcd,  -,  $-,  =
+2 text: a -, < -, .b a,  -, < -, . b,  -, <<. <, <. ,  $-,  =
+3 text: ab -, c -, d long, efg -, h.i -, j -,  $ij,  =
+3 text: abcd.e long, .fghi e,  long,  -, . -, j.k j,  -,  $k,  =
+4 text: a~<. a~, é<.é~. é,  é~,  -, é. é, é~~. é~~, é~~~. long,  -, <~ -,  $<~,  =
+0 text: . ,  -, a long, . -, . , <. long, . , b<. long,  -, b long, c< -,  $-,  =
+2 text: abc long, d -,  $-,  =
+2 text: abc long, d.e ?,  $e,  =
+any text: aé<.b aé,  -, < -,  $b<,  =
+";
+
+#[test]
+fn calls_after_each_piece(rt: HostRuntime) {
+    rows::assert_none(&rt, rows::first_wrong::<_, Lines>(rt.alloc(), CALLS));
+}
+
+/// Texts, of which the last line of most has no line feed.
+const TEXTS: &str = "|a|a\n|a\r|a\r\n\r|\n\r\n|a\nb\r\r\nc\r|é\n\r\r|\n\n\n é";
+
+/// The next line, or the last one.
+fn next_or_last(alloc: Global, reader: &mut Framed<Lines>) -> Result<Option<Item>, Reason> {
+    match reader.next_item(alloc)? {
+        Some(line) => Ok(Some(line)),
+        None => reader.last_item(alloc),
     }
 }
 
-/// A piece of 600 bytes, which is not copied: the end of a line, another, and the beginning of a
-/// third.
-fn long_piece(alloc: Global) -> Result<Bytes, Reason> {
-    let mut bytes = [b'd'; 600];
-    bytes[..6].copy_from_slice(b"b\r\nab\n");
-    Ok(Bytes::copy_from_slice(alloc, &bytes)?)
+/// Whether the lines of the text are those of `str::lines`, and then nothing is left.
+fn are_lines(alloc: Global, reader: &mut Framed<Lines>, text: &str) -> Result<bool, Reason> {
+    reader.push_slice(text.as_bytes())?;
+    for line in text.lines() {
+        if !is_given(next_or_last(alloc, reader), line.as_bytes()) {
+            return Ok(false);
+        }
+    }
+    Ok(is_given(reader.last_item(alloc), b"-") && reader.remaining() == 0)
 }
 
-/// Whether a line in a block of copied bytes shares it, one in two segments has a block of its own,
-/// and one in a long piece shares that.
-fn share(alloc: Global, reader: &mut Framed<Lines>) -> Result<bool, Reason> {
-    reader.push_slice(b"ab\na")?;
-    let is_shared = is_ab(alloc, reader, true);
-    reader.push(long_piece(alloc)?)?;
-    Ok(is_shared && is_ab(alloc, reader, false) && is_ab(alloc, reader, true))
+/// The lines of each text come, one text after another.
+#[test]
+fn all_lines_of_texts(rt: HostRuntime) {
+    let decoder = Lines::new(rt.alloc()).expect(&rt, "no memory");
+    let mut reader = Framed::new(rt.alloc(), decoder);
+    for text in TEXTS.split('|') {
+        assert!(rt; are_lines(rt.alloc(), &mut reader, text).expect(&rt, "no memory"));
+    }
+}
+
+/// Whether a row is right with this piece, which is let go then.
+fn lets_go(alloc: Global, kind: &str, piece: &[u8], row: &str) -> bool {
+    rows::lets_go::<_, Lines>(alloc, kind, piece, row)
+}
+
+/// A line in a block of copied bytes shares it, one in two segments has a block of its own, and one
+/// in a long piece shares that.
+#[test]
+fn a_line_in_one_segment_is_shared(rt: HostRuntime) {
+    let mut piece = [b'd'; 600];
+    piece[..6].copy_from_slice(b"b\r\nab\n");
+    for kind in ["any text", "any lossy"] {
+        assert!(rt; lets_go(rt.alloc(), kind, &piece, "ab.a &ab, & *ab,  &ab"));
+    }
+}
+
+/// A line in one piece and a last one in one share their pieces, and one in two pieces does not.
+#[test]
+fn a_line_in_one_piece_is_shared(rt: HostRuntime) {
+    let mut piece = [b'd'; 600];
+    piece[..4].copy_from_slice(b"ab\r\n");
+    for kind in ["599 text", "any text"] {
+        assert!(rt; lets_go(rt.alloc(), kind, &piece, "& ?, & &#2,  *#598,  $&#596"));
+    }
+}
+
+/// A line of 200,000 bytes in 201 pieces, and a last one of as many in 200.
+const LONG: &str = "200 times: & ?; <. *#200000; 200 times: & ?;  $*#200000";
+
+// A limit may be the length of the line with its carriage return, or the greatest number.
+#[test]
+fn a_long_line_within_a_limit(rt: HostRuntime) {
+    for kind in ["200001 text", "any text"] {
+        assert!(rt; lets_go(rt.alloc(), kind, &[b'a'; 1_000], LONG));
+    }
+}
+
+/// Lines of which each second one is over the limit.
+const MANY: &str = "3 text: 10000 times: ab<.abcd. ?; 10000 times:  ab,  long;  $-,  =#0";
+
+#[test]
+fn many_lines(rt: HostRuntime) {
+    rows::assert_none(&rt, rows::first_wrong::<_, Lines>(rt.alloc(), MANY));
+}
+
+/// Pushes 100,000 bytes, ten at a time. Returns how often the line that they begin is reported as
+/// over the limit, or `None` if more than 1,000 of them are held, or in many segments.
+fn reports_of_long(alloc: Global, reader: &mut Framed<Lines>) -> Option<usize> {
+    let mut reports = 0_usize;
+    for _ in 0..10_000 {
+        reader.push_slice(b"aaaaaaaaaa").ok()?;
+        let is_reported = is_frame(alloc, reader, b"long");
+        if !waits(alloc, reader) || reader.remaining() > 1_000 || reader.pieces().segments() > 5 {
+            return None;
+        }
+        reports = reports.saturating_add(usize::from(is_reported));
+    }
+    Some(reports)
 }
 
 #[test]
-fn a_line_in_one_segment_is_shared(rt: HostRuntime) {
-    for is_lossy in [false, true] {
-        let mut reader = limited(rt.alloc(), usize::MAX, is_lossy).expect(&rt, "no memory");
-        assert!(rt; share(rt.alloc(), &mut reader).expect(&rt, "no memory"));
-    }
+fn a_long_line_is_reported_once_and_not_held(rt: HostRuntime) {
+    let mut reader = limited(rt.alloc(), 1_000).expect(&rt, "no memory");
+    let reports = reports_of_long(rt.alloc(), &mut reader);
+    assert!(rt; reports.expect(&rt, "more is held") == 1);
 }

@@ -64,12 +64,44 @@ fn assert_item<R: Abort + Print, I: Frame, D: Decoder<Item = I, Error = Reason>>
     (call, want): (&str, &[u8]),
 ) {
     let held = reader.remaining();
-    match has_item(alloc, reader, (call, want)) {
-        Ok(is_right) => assert!(rt; is_right),
+    let is_right = match has_item(alloc, reader, (call, want)) {
+        Ok(is_right) => is_right,
         Err(reason) => {
             report(rt, call, reason);
-            assert!(rt; reader.remaining() == held);
-            assert!(rt; matches!(has_item(alloc, reader, (call, want)), Ok(true)));
+            reader.remaining() == held && matches!(has_item(alloc, reader, (call, want)), Ok(true))
         }
+    };
+    assert!(rt; is_right);
+}
+
+/// Asserts the items of calls, unless a piece is refused, which is reported. The first piece is
+/// held as it came, and the others are copied.
+fn assert_items<R: Abort + Print, I: Frame, D: Decoder<Item = I, Error = Reason>>(
+    rt: &R,
+    alloc: Global,
+    reader: &mut Framed<D>,
+    first: &'static [u8],
+    others: &str,
+    items: &[(&str, &[u8])],
+) {
+    if is_held(rt, reader, first) && are_copied(rt, reader, others) {
+        for item in items {
+            assert_item(rt, alloc, reader, *item);
+        }
+    }
+}
+
+/// Makes a reader of the decoder, and asserts its items, unless the decoder was refused.
+fn assert_items_of<R: Abort + Print, I: Frame, D: Decoder<Item = I, Error = Reason>>(
+    rt: &R,
+    alloc: Global,
+    decoder: Option<D>,
+    first: &'static [u8],
+    others: &str,
+    items: &[(&str, &[u8])],
+) {
+    if let Some(decoder) = decoder {
+        let mut reader = Framed::new(alloc, decoder);
+        assert_items(rt, alloc, &mut reader, first, others, items);
     }
 }

@@ -4,11 +4,8 @@ ghost use Rattle.std.specs.Prelude.{◌<◌, length};
 use super::Frame;
 use crate::fixtures::readers::{InterruptedReader, NotingReader, SlowReader};
 use crate::fixtures::{debugs, says, styled};
-use bytes::{Bytes, BytesMut};
-use bytes_utils::{Reason, Refused};
-use bytes_utils_codec::decode::{
-    Decoder, Delimited, Framed, Lines, ReadError, ReadItemError, read_item, read_item_laws,
-};
+use bytes_utils::Reason;
+use bytes_utils_codec::decode::{Decoder, Delimited, Framed, Lines, ReadItemError, read_item_laws};
 use std::alloc::{AllocError, Global};
 use std::io::{self, ErrorKind, Read};
 
@@ -31,27 +28,27 @@ fn is_next<R: Read, I: Frame, D: Decoder<Item = I, Error = Reason>>(
     items: &mut Framed<D>,
     want: &[u8],
 ) -> bool {
-    match read_item(input, items, alloc) {
+    match items.read_item(alloc, input) {
         Ok(Some(item)) => item.into_bytes().as_slice() == want,
         _ => false,
     }
 }
 
-/// Whether the input has ended, and so many bytes are then held.
+/// Whether the input has ended, and this number of bytes is then held.
 fn is_end<R: Read, I: Frame, D: Decoder<Item = I, Error = Reason>>(
     alloc: Global,
     input: &mut R,
     items: &mut Framed<D>,
     held: usize,
 ) -> bool {
-    match read_item(input, items, alloc) {
+    match items.read_item(alloc, input) {
         Ok(None) => items.remaining() == held,
         _ => false,
     }
 }
 
 /// Whether these items come, which have a stroke between them, and then the end of the input, which
-/// stays, with so many bytes held.
+/// stays, with this number of bytes held.
 fn reads_all<R: Read, I: Frame, D: Decoder<Item = I, Error = Reason>>(
     alloc: Global,
     input: &mut R,
@@ -66,7 +63,7 @@ fn reads_all<R: Read, I: Frame, D: Decoder<Item = I, Error = Reason>>(
     is_end(alloc, input, items, held) && is_end(alloc, input, items, held)
 }
 
-/// Whether these frames come, if each read gives so many bytes at most, and one is interrupted.
+/// Whether these frames come, if each read gives at most `most` bytes, and one is interrupted.
 fn reads_frames(alloc: Global, most: usize, interrupted_at: usize) -> Result<bool, Reason>
     requires { 0 < most }
 {
@@ -114,8 +111,8 @@ fn fails<R: Read, I: Frame, D: Decoder<Item = I, Error = Reason>>(
     items: &mut Framed<D>,
     kind: ErrorKind,
 ) -> bool {
-    match read_item(input, items, alloc) {
-        Err(ReadItemError::Read(ReadError::Io(error))) => error.kind() == kind,
+    match items.read_item(alloc, input) {
+        Err(ReadItemError::Io(error)) => error.kind() == kind,
         _ => false,
     }
 }
@@ -155,8 +152,8 @@ fn an_error_is_handed_on_and_the_next_call_reads_on(rt: HostRuntime) {
     }
 }
 
-/// Whether a frame of 10,000 bytes comes, and then the end. The shortest buffer that is read into
-/// has one byte.
+/// Whether a frame of 10,000 bytes comes, and then the end. Each buffer that is read into has 4,096
+/// bytes.
 fn reads_blocks(
     alloc: Global,
     input: &mut NotingReader<'_>,
@@ -164,10 +161,10 @@ fn reads_blocks(
 ) -> bool {
     is_next(alloc, input, items, &[b'a'; 10_000])
         && is_end(alloc, input, items, 96_494)
-        && input.places() == (1, 4_096)
+        && input.places() == (4_096, 4_096)
 }
 
-// The frame and the rest fill 26 blocks but for one byte, into which the last read is made.
+// The frame and the rest fill 26 blocks but for one byte, which is too little room for the last read.
 #[test]
 fn a_frame_and_a_rest_longer_than_a_block(rt: HostRuntime) {
     let mut bytes = [b'a'; 106_495];
@@ -196,7 +193,7 @@ fn fills_a_block<R: Read>(alloc: Global, input: &mut R, items: &mut Framed<Delim
     is_end(alloc, input, items, 4_097) && items.pieces().segments() == 2
 }
 
-// Reads of one byte are copied together: 4,096 fill a block, and the last is in another.
+// Reads of one byte go to one block, while it has room for 512 more.
 #[test]
 fn single_bytes_fill_a_block(rt: HostRuntime) {
     let mut items = frames(rt.alloc(), b"-").expect(&rt, "no memory");
@@ -206,7 +203,7 @@ fn single_bytes_fill_a_block(rt: HostRuntime) {
 
 /// Whether the first of both frames shares its block.
 fn shares_block<R: Read>(alloc: Global, input: &mut R, items: &mut Framed<Delimited>) -> bool {
-    match read_item(input, items, alloc) {
+    match items.read_item(alloc, input) {
         Ok(Some(frame)) => !frame.into_bytes().is_unique() && items.remaining() == 3,
         _ => false,
     }
@@ -235,8 +232,8 @@ fn no_more_is_read_than_a_frame_needs(rt: HostRuntime) {
 /// Whether the call reports that it read too often.
 fn gives_up(alloc: Global, input: &mut InterruptedReader, items: &mut Framed<Delimited>) -> bool {
     matches!(
-        read_item(input, items, alloc),
-        Err(ReadItemError::Read(ReadError::TooManyReads))
+        items.read_item(alloc, input),
+        Err(ReadItemError::TooManyReads)
     ) && input.calls == 65_536
 }
 
@@ -248,76 +245,36 @@ fn too_many_reads_of_an_item(rt: HostRuntime) {
     assert!(rt; gives_up(rt.alloc(), &mut input, &mut items));
 }
 
-/// An error that has these bytes, which were read and not pushed.
-fn unpushed(bytes: &'static [u8]) -> ReadError {
-    let back = Bytes::from_static(bytes);
-    let reason = Reason::TooLong;
-    ReadError::Unpushed(Refused { reason, back })
-}
-
-/// Whether the bytes of errors go back to the reader, so that their frame comes.
-fn puts_back(alloc: Global, items: &mut Framed<Delimited>) -> Result<bool, ReadError> {
-    let of_decoder = ReadItemError::Decoder(Reason::OutOfMemory);
-    of_decoder.put_back(items)?;
-    let of_push: ReadItemError<Reason> = ReadItemError::from(unpushed(b"ab"));
-    of_push.put_back(items)?;
-    let block = BytesMut::copy_from_slice(alloc, b"c-").map_err(Reason::from)?;
-    let of_read: ReadItemError<Reason> = ReadItemError::Read(ReadError::Unshared(block));
-    of_read.put_back(items)?;
-    Ok(is_next(alloc, &mut io::empty(), items, b"abc"))
-}
-
-#[test]
-fn bytes_of_errors_are_put_back(rt: HostRuntime) {
-    let mut items = frames(rt.alloc(), b"-").expect(&rt, "no memory");
-    assert!(rt; puts_back(rt.alloc(), &mut items).expect(&rt, "no memory"));
-}
-
 /// The longest message that an error of a reader may have.
 const MESSAGE: &str =
     "the eighty bytes of this message are as many as the kit keeps of any one, and no";
 
-/// Whether `ReadError` prints what the reader's error does.
+/// Whether the error prints what the reader's own does.
 fn says_the_same(alloc: Global, error: io::Error) -> Result<bool, AllocError> {
     let want = styled(alloc, &error)?;
-    let said = styled(alloc, &ReadError::Io(error))?;
+    let of_item: ReadItemError<Reason> = ReadItemError::from(error);
+    let said = styled(alloc, &of_item)?;
     Ok(said.as_str() == want.as_str())
 }
 
 #[test]
 fn an_error_of_the_reader_says_why(rt: HostRuntime) {
-    let reset = ReadError::Io(io::Error::from(ErrorKind::ConnectionReset));
-    assert!(rt; says(rt.alloc(), &reset, "connection reset"));
+    let reset = io::Error::from(ErrorKind::ConnectionReset);
+    assert!(rt; says_the_same(rt.alloc(), reset).expect(&rt, "no memory"));
     let other = io::Error::other(MESSAGE);
     assert!(rt; says_the_same(rt.alloc(), other).expect(&rt, "no memory"));
 }
 
-/// Whether an error of a read says why, also as that of an item.
-fn says_why(alloc: Global, error: ReadError, text: &str) -> bool {
-    let is_said = says(alloc, &error, text);
-    let of_item: ReadItemError<Reason> = ReadItemError::Read(error);
-    is_said && says(alloc, &of_item, text)
-}
-
 #[test]
 fn other_errors_say_why(rt: HostRuntime) {
-    let alloc = rt.alloc();
-    assert!(rt; says_why(alloc, ReadError::TooManyReads, "too many reads"));
+    let too_many: ReadItemError<Reason> = ReadItemError::TooManyReads;
+    assert!(rt; says(rt.alloc(), &too_many, "too many reads"));
+    assert!(rt; debugs(rt.alloc(), &too_many, "TooManyReads"));
     assert!(rt;
-        says_why(
-            alloc,
-            ReadError::Unshared(BytesMut::new(alloc)),
-            "out of memory"
+        says(
+            rt.alloc(),
+            &ReadItemError::Decoder(Reason::TooLong),
+            "too long"
         )
     );
-    assert!(rt; says_why(alloc, unpushed(b"ab"), "too long"));
-    assert!(rt;
-        says_why(
-            alloc,
-            ReadError::Refused(Reason::OutOfMemory),
-            "out of memory"
-        )
-    );
-    assert!(rt; debugs(alloc, &ReadError::TooManyReads, "TooManyReads"));
-    assert!(rt; says(alloc, &ReadItemError::Decoder(Reason::TooLong), "too long"));
 }

@@ -2,6 +2,7 @@
 //! and what is before a needle only if it is copied.
 ghost use Rattle.std.specs.Prelude.{◌<◌, length};
 
+use crate::fixtures::in_segments;
 use crate::fixtures::refusals::given;
 use bytes::{Buf, Bytes};
 use bytes_utils::Reason;
@@ -12,14 +13,8 @@ use std::alloc::Global;
 use std::io::Print;
 use std::process::Abort;
 
-/// Bytes in two segments, or `None` if memory is refused.
-fn prepared(alloc: Global) -> Option<SegmentedBuf<Bytes>> {
-    let mut buf = SegmentedBuf::new(alloc);
-    for piece in ["xx0123456789", "0123456789-"] {
-        buf.try_push(Bytes::from_static(piece.as_bytes())).ok()?;
-    }
-    Some(buf)
-}
+/// The bytes in which needles are found, in two segments.
+const PIECES: &[&str] = &["xx0123456789", "0123456789-"];
 
 /// Asserts the place of the needle of 17 bytes, unless memory is refused, which is reported.
 fn assert_place<R: Abort + Print>(rt: &R, call: &str, answer: Result<Option<usize>, Reason>) {
@@ -42,7 +37,7 @@ fn assert_found<B: ContiguousBuf + Drop, R: Abort + Print>(
 
 #[test]
 fn long_needle(rt: HostRuntime) {
-    if let Some(buf) = prepared(rt.alloc()) {
+    if let Some(buf) = in_segments(rt.alloc(), PIECES) {
         assert_found(&rt, rt.alloc(), &buf, "01234567890123456");
     }
 }
@@ -61,32 +56,48 @@ fn a_needle_of_many_bytes(rt: HostRuntime) {
 
 #[test]
 fn no_memory_needed_by_short_needles(rt: HostRuntime) {
-    if let Some(buf) = prepared(rt.alloc()) {
+    if let Some(buf) = in_segments(rt.alloc(), PIECES) {
         let place = find::find_short(&buf, 3, "1234567890123456".as_bytes());
         assert!(rt; matches!(place, Some(3)));
     }
 }
 
-/// Takes what is before the needle, in both segments, and asserts it, unless memory is refused.
-fn assert_taken<R: Abort + Print>(rt: &R, alloc: Global, front: &str, needle: &[u8])
+/// Whether this front was taken.
+fn is_front(taken: Option<Bytes>, front: &str) -> bool {
+    match taken {
+        Some(taken) => taken.as_slice() == front.as_bytes(),
+        None => false,
+    }
+}
+
+/// Takes what is before the needle, in both segments, and asserts it, unless memory is refused, which
+/// is reported: then all bytes are left.
+fn assert_taken<R: Abort + Print>(
+    rt: &R,
+    alloc: Global,
+    buf: &mut SegmentedBuf<Bytes>,
+    front: &str,
+    needle: &[u8],
+)
     requires { 0 < length needle.now }
 {
-    let Some(mut buf) = prepared(alloc) else {
-        return;
+    let is_right = match given(rt, "take_until", find::take_until(buf, alloc, needle)) {
+        Some(taken) => is_front(taken, front),
+        None => buf.remaining() == 23,
     };
-    match given(rt, "take_until", find::take_until(&mut buf, alloc, needle)) {
-        Some(Some(taken)) => assert!(rt; taken.as_slice() == front.as_bytes()),
-        Some(None) => assert!(rt; false, "no needle is found"),
-        None => assert!(rt; buf.remaining() == 23),
-    }
+    assert!(rt; is_right);
 }
 
 #[test]
 fn front_of_a_long_needle(rt: HostRuntime) {
-    assert_taken(&rt, rt.alloc(), "xx", b"01234567890123456");
+    if let Some(mut buf) = in_segments(rt.alloc(), PIECES) {
+        assert_taken(&rt, rt.alloc(), &mut buf, "xx", b"01234567890123456");
+    }
 }
 
 #[test]
 fn front_across_segments(rt: HostRuntime) {
-    assert_taken(&rt, rt.alloc(), "xx01234567890123456789", b"-");
+    if let Some(mut buf) = in_segments(rt.alloc(), PIECES) {
+        assert_taken(&rt, rt.alloc(), &mut buf, "xx01234567890123456789", b"-");
+    }
 }

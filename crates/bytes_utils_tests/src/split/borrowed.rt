@@ -1,6 +1,6 @@
 //! Shared helpers: the splitters compared with the methods of `str` of the same names, which borrow
 //! their parts, over the texts of the worked cases and all short texts of a few letters.
-use crate::split::ways::StrWay;
+use crate::split::ways::Way;
 use bytes::Bytes;
 use bytes_utils::Str;
 use std::alloc::{AllocError, Global};
@@ -56,61 +56,40 @@ fn shared(alloc: Global, text: &str) -> Option<Str> {
 }
 
 /// Whether the parts of a text, by a separator, are those that `str` borrows.
-pub(super) fn is_as_str<W: StrWay>(
-    alloc: Global,
-    text: &str,
-    most: usize,
-    separator: &str,
-) -> bool {
+pub(super) fn is_as_str(alloc: Global, way: Way, text: &str, separator: &str) -> bool {
     match shared(alloc, text) {
-        Some(whole) => W::beside(whole, most, separator, text) == Ok(true),
+        Some(whole) => way.beside(whole, separator, text) == Ok(true),
         None => false,
     }
 }
 
-/// Asserts this by each of these separators.
-fn assert_each<W: StrWay>(
-    rt: &impl Abort,
-    alloc: Global,
-    text: &str,
-    most: usize,
-    separators: &str,
-) {
+/// Asserts this by each of the separators.
+fn assert_each(rt: &impl Abort, alloc: Global, way: Way, text: &str, separators: &str) {
     for separator in separators.split('|') {
         assert!(rt;
-            is_as_str::<W>(alloc, text, most, separator),
+            is_as_str(alloc, way, text, separator),
             "{text:?}, {separator:?}"
         );
     }
 }
 
 /// Asserts this of each text of the worked cases, and of this number of counted ones.
-fn assert_of_all<W: StrWay>(
-    rt: &impl Abort,
-    alloc: Global,
-    count: u32,
-    most: usize,
-    separators: &str,
-) {
+fn assert_of_all(rt: &impl Abort, alloc: Global, way: Way, count: u32, separators: &str) {
     for text in TEXTS.split('|') {
-        assert_each::<W>(rt, alloc, text, most, separators);
+        assert_each(rt, alloc, way, text, separators);
     }
     for number in 0..count {
-        match counted(alloc, number) {
-            Ok(text) => assert_each::<W>(rt, alloc, text.as_str(), most, separators),
-            Err(_) => assert!(rt; false, "out of memory"),
-        }
+        let text = counted(alloc, number).expect(rt, "no memory");
+        assert_each(rt, alloc, way, text.as_str(), separators);
     }
 }
 
 /// Asserts it of a way without a limit, and of all texts of at most four of the letters.
-pub(super) fn assert_as_str<W: StrWay>(rt: &impl Abort, alloc: Global, separators: &str) {
-    assert_of_all::<W>(rt, alloc, TEXTS_OF_FOUR, 0, separators);
+pub(super) fn assert_as_str(rt: &impl Abort, alloc: Global, way: Way, separators: &str) {
+    assert_of_all(rt, alloc, way, TEXTS_OF_FOUR, separators);
 }
 
-/// Asserts it of a way with a limit of up to four parts, as many as a text of three letters may have.
-pub(super) fn assert_limited<W: StrWay>(rt: &impl Abort, alloc: Global, separators: &str) {
-    for most in 0..5 {
-        assert_of_all::<W>(rt, alloc, TEXTS_OF_THREE, most, separators);
-    }
+/// Asserts it of a way with a limit, and of all texts of at most three of the letters.
+pub(super) fn assert_limited(rt: &impl Abort, alloc: Global, way: Way) {
+    assert_of_all(rt, alloc, way, TEXTS_OF_THREE, SEPARATORS);
 }

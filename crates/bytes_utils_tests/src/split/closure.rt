@@ -4,28 +4,9 @@ ghost use Rattle.bytes_utils.specs.Walk.{IsLawfulCut};
 ghost use Rattle.bytes_utils.specs.declared.split.direction.Direction.TheVariants.{Forward};
 
 use crate::fixtures::are_taken;
-use crate::split::ways::StrWay;
 use bytes_utils::string::{BytesIter, Direction, Storage, StrInner};
 use bytes_utils::{Reason, Str, StrMut};
 use std::alloc::Global;
-use std::test::Fail;
-
-/// The chunks between commas.
-pub(super) struct Fields;
-
-impl StrWay for Fields {
-    fn beside<S: Storage>(
-        text: StrInner<S>,
-        _most: usize,
-        _separator: &str,
-        same: &str,
-    ) -> Result<bool, Reason> {
-        let mut chunks = BytesIter::new(text, Direction::Forward, |s: &str| {
-            s.find(',').map(|at| (at, at + 1))
-        });
-        are_taken(&mut chunks, same.split(','))
-    }
-}
 
 /// Whether these are the characters, last to first, by `are_taken`.
 fn are_characters<S: Storage>(text: StrInner<S>, wanted: &str) -> Result<bool, Reason> {
@@ -38,10 +19,10 @@ fn are_characters<S: Storage>(text: StrInner<S>, wanted: &str) -> Result<bool, R
 }
 
 #[test]
-fn closure_backward(rt: HostRuntime) -> Result<(), Fail> {
-    assert!(rt; are_characters(Str::from_static("aβ"), "β|a|")?);
-    assert!(rt; are_characters(StrMut::from_str(rt.alloc(), "aβ")?, "β|a|")?);
-    Ok(())
+fn closure_backward(rt: HostRuntime) {
+    assert!(rt; are_characters(Str::from_static("aβ"), "β|a|").expect(&rt, "no memory"));
+    let growing = StrMut::from_str(rt.alloc(), "aβ").expect(&rt, "no memory");
+    assert!(rt; are_characters(growing, "β|a|").expect(&rt, "no memory"));
 }
 
 /// Whether these are the chunks of one, two and three characters and so on, by `are_taken`.
@@ -67,6 +48,6 @@ fn both_grow(alloc: Global, text: &'static str, wanted: &str) -> Result<bool, Re
 
 #[test]
 fn closure_growing(rt: HostRuntime) {
-    assert_eq!(rt; both_grow(rt.alloc(), "abcdef", "a|bc|def|"), Ok(true));
-    assert_eq!(rt; both_grow(rt.alloc(), "αβγδεζ", "α|βγ|δεζ|"), Ok(true));
+    assert!(rt; both_grow(rt.alloc(), "abcdef", "a|bc|def|").expect(&rt, "no memory"));
+    assert!(rt; both_grow(rt.alloc(), "αβγδεζ", "α|βγ|δεζ|").expect(&rt, "no memory"));
 }

@@ -1,4 +1,5 @@
 //! Parts with their places: worked cases.
+use bytes_utils::split::SplitIndicesBytes;
 use bytes_utils::string::{Storage, StrInner};
 use bytes_utils::{Reason, Str};
 
@@ -19,12 +20,11 @@ pub(super) fn is_part<S: Storage>(
 
 /// Whether exactly these parts come, with a bar between them, each at the place after the one before
 /// it and a separator of `between` bytes.
-fn are_parts<S, P>(parts: &mut P, between: usize, wanted: &str) -> Result<bool, Reason>
-where
-    S: Storage,
-    P: Iterator<Item = Result<(usize, StrInner<S>), Reason>>,
-    requires { (s : P) → P.can_next s }
-{
+fn are_parts<S: Storage>(
+    parts: &mut SplitIndicesBytes<'_, S>,
+    between: usize,
+    wanted: &str,
+) -> Result<bool, Reason> {
     let mut place = 0_usize;
     for want in wanted.split('|') {
         if !is_part(parts.next(), place, want)? {
@@ -38,7 +38,7 @@ where
 #[test]
 fn parts_with_their_places(rt: HostRuntime) {
     let mut parts = Str::from_static("a, β, c").split_bytes(", ").indices();
-    assert_eq!(rt; are_parts(&mut parts, 2, "a|β|c"), Ok(true));
+    assert!(rt; are_parts(&mut parts, 2, "a|β|c").expect(&rt, "no memory"));
     let mut parts = Str::from_static("aβ").split_bytes("").indices();
-    assert_eq!(rt; are_parts(&mut parts, 0, "|a|β|"), Ok(true));
+    assert!(rt; are_parts(&mut parts, 0, "|a|β|").expect(&rt, "no memory"));
 }

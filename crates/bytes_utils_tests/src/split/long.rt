@@ -1,15 +1,11 @@
 //! Long separators, and texts of many parts: no split is refused while there is memory.
 use crate::split::borrowed::is_as_str;
-use crate::split::closure::Fields;
-use crate::split::ways::{
-    Lines, RSplit, RSplitN, Split, SplitAsciiWhitespace, SplitInclusive, SplitN, SplitWhitespace,
-};
+use crate::split::ways::Way;
 use bytes_utils::split::SplitIndicesBytes;
 use bytes_utils::string::{Storage, StrInner};
 use bytes_utils::{Reason, Str};
 use std::alloc::{AllocError, Global};
 use std::iter::repeat_n;
-use std::test::Fail;
 
 /// A separator of this many bytes.
 fn separator(alloc: Global, len: usize) -> Result<String, AllocError> {
@@ -23,11 +19,11 @@ fn separator(alloc: Global, len: usize) -> Result<String, AllocError> {
 
 /// Whether the parts are those that `str` borrows, from either end, also with the greatest limit.
 fn is_cut_by(alloc: Global, text: &str, separator: &str) -> bool {
-    is_as_str::<Split>(alloc, text, 0, separator)
-        && is_as_str::<RSplit>(alloc, text, 0, separator)
-        && is_as_str::<SplitN>(alloc, text, usize::MAX, separator)
-        && is_as_str::<RSplitN>(alloc, text, usize::MAX, separator)
-        && is_as_str::<SplitInclusive>(alloc, text, 0, separator)
+    is_as_str(alloc, Way::Split, text, separator)
+        && is_as_str(alloc, Way::RSplit, text, separator)
+        && is_as_str(alloc, Way::SplitN(usize::MAX), text, separator)
+        && is_as_str(alloc, Way::RSplitN(usize::MAX), text, separator)
+        && is_as_str(alloc, Way::SplitInclusive, text, separator)
 }
 
 /// Whether the text begins with `a` and the separator.
@@ -42,35 +38,35 @@ fn ends<S: Storage>(text: StrInner<S>, separator: &str) -> Result<bool, Reason> 
     Ok(last.eq_str("-") && before.is_some())
 }
 
-/// Whether a text is split by this separator. Its last part is the beginning of the separator.
-fn is_long_cut(alloc: Global, separator: &str) -> Result<bool, Reason> {
-    let text = Str::join(alloc, "a||β|-".split('|'), separator)?;
-    let are_halves = begins(text.try_clone()?, separator)? && ends(text.try_clone()?, separator)?;
-    Ok(are_halves && is_cut_by(alloc, text.as_str(), separator))
+/// Whether the text is split once, from either end.
+fn are_halves(text: &Str, separator: &str) -> Result<bool, Reason> {
+    Ok(begins(text.try_clone()?, separator)? && ends(text.try_clone()?, separator)?)
 }
 
+/// The last part of each text is the beginning of the separator.
 #[test]
-fn long_separators(rt: HostRuntime) -> Result<(), Fail> {
+fn long_separators(rt: HostRuntime) {
     for len in [300, 65_536] {
-        let separator = separator(rt.alloc(), len)?;
-        assert!(rt; is_long_cut(rt.alloc(), separator.as_str())?);
+        let separator = separator(rt.alloc(), len).expect(&rt, "no memory");
+        let separator = separator.as_str();
+        let text = Str::join(rt.alloc(), "a||β|-".split('|'), separator).expect(&rt, "no memory");
+        assert!(rt; are_halves(&text, separator).expect(&rt, "no memory"));
+        assert!(rt; is_cut_by(rt.alloc(), text.as_str(), separator));
     }
-    Ok(())
 }
 
 /// Whether the text is split in each of the other ways.
 fn are_pieces(alloc: Global, text: &str) -> bool {
-    is_as_str::<Fields>(alloc, text, 0, ",")
-        && is_as_str::<Lines>(alloc, text, 0, "")
-        && is_as_str::<SplitWhitespace>(alloc, text, 0, "")
-        && is_as_str::<SplitAsciiWhitespace>(alloc, text, 0, "")
+    is_as_str(alloc, Way::Fields, text, ",")
+        && is_as_str(alloc, Way::Lines, text, "")
+        && is_as_str(alloc, Way::SplitWhitespace, text, "")
+        && is_as_str(alloc, Way::SplitAsciiWhitespace, text, "")
 }
 
 #[test]
-fn many_parts(rt: HostRuntime) -> Result<(), Fail> {
-    let text = Str::from_strs(rt.alloc(), repeat_n("a,β\r\n ", 2_000))?;
+fn many_parts(rt: HostRuntime) {
+    let text = Str::from_strs(rt.alloc(), repeat_n("a,β\r\n ", 2_000)).expect(&rt, "no memory");
     assert!(rt; is_cut_by(rt.alloc(), text.as_str(), ",") && are_pieces(rt.alloc(), text.as_str()));
-    Ok(())
 }
 
 /// Whether the parts lie three bytes apart, up to the last, at 6,000.
@@ -86,8 +82,7 @@ fn lie_apart<S: Storage>(parts: &mut SplitIndicesBytes<'_, S>) -> Result<bool, R
 }
 
 #[test]
-fn many_parts_with_places(rt: HostRuntime) -> Result<(), Fail> {
-    let text = Str::from_strs(rt.alloc(), repeat_n("β,", 2_000))?;
-    assert!(rt; lie_apart(&mut text.split_bytes(",").indices())?);
-    Ok(())
+fn many_parts_with_places(rt: HostRuntime) {
+    let text = Str::from_strs(rt.alloc(), repeat_n("β,", 2_000)).expect(&rt, "no memory");
+    assert!(rt; lie_apart(&mut text.split_bytes(",").indices()).expect(&rt, "no memory"));
 }

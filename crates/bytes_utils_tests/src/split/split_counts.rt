@@ -1,11 +1,7 @@
 //! How often a storage is split: once for each cut of a run, and never again after a refusal.
 ghost use Rattle.std.specs.Prelude.{◌≤◌, length};
 
-use crate::split::closure::Fields;
-use crate::split::ways::{
-    Lines, RSplit, RSplitN, Split, SplitAsciiWhitespace, SplitInclusive, SplitN, SplitWhitespace,
-    StrWay,
-};
+use crate::split::ways::Way;
 use bytes::Bytes;
 use bytes_utils::string::{Storage, StrInner};
 use bytes_utils::{Reason, Refused};
@@ -88,24 +84,24 @@ fn text_of<'c>(text: &'static str, splits: &'c Splits) -> Option<StrInner<Counte
 }
 
 /// Whether a run over the text asks for the right number of splits: `cuts` if all are granted, and
-/// none after a refused one. The limit, for a way that has one, is two parts.
-fn asks<W: StrWay>(text: &'static str, separator: &str, cuts: usize, granted: usize) -> bool {
+/// none after a refused one.
+fn asks(way: Way, text: &'static str, separator: &str, cuts: usize, granted: usize) -> bool {
     let asked = Cell::new(0);
     let splits = Splits { asked, granted };
     let Some(counted) = text_of(text, &splits) else {
         return false;
     };
-    let answer = W::beside(counted, 2, separator, text);
+    let answer = way.beside(counted, separator, text);
     answer.is_err() == (granted < cuts)
         && answer != Ok(false)
         && splits.asked.get() == cuts.min(granted.saturating_add(1))
 }
 
 /// Asserts this where few splits are granted, and where all are.
-fn assert_splits<W: StrWay>(rt: &impl Abort, text: &'static str, separator: &str, cuts: usize) {
+fn assert_splits(rt: &impl Abort, way: Way, text: &'static str, separator: &str, cuts: usize) {
     for granted in 0..4 {
         assert!(rt;
-            asks::<W>(text, separator, cuts, granted),
+            asks(way, text, separator, cuts, granted),
             "{text:?}, {granted}"
         );
     }
@@ -113,20 +109,28 @@ fn assert_splits<W: StrWay>(rt: &impl Abort, text: &'static str, separator: &str
 
 #[test]
 fn separated(rt: HostRuntime) {
-    assert_splits::<Split>(&rt, "a,b,c", ",", 2);
-    assert_splits::<RSplit>(&rt, "a,b,c", ",", 2);
-    assert_splits::<SplitN>(&rt, "a,b,c", ",", 1);
-    assert_splits::<RSplitN>(&rt, "a,b,c", ",", 1);
-    assert_splits::<Fields>(&rt, "a,b,c", ",", 2);
-    assert_splits::<Split>(&rt, "αβ", "", 3);
-    assert_splits::<RSplit>(&rt, "αβ", "", 3);
+    for (way, text, separator, cuts) in [
+        (Way::Split, "a,b,c", ",", 2),
+        (Way::RSplit, "a,b,c", ",", 2),
+        (Way::SplitN(2), "a,b,c", ",", 1),
+        (Way::RSplitN(2), "a,b,c", ",", 1),
+        (Way::Fields, "a,b,c", ",", 2),
+        (Way::Split, "αβ", "", 3),
+        (Way::RSplit, "αβ", "", 3),
+    ] {
+        assert_splits(&rt, way, text, separator, cuts);
+    }
 }
 
 /// A part that reaches to the end of the text needs no split.
 #[test]
 fn pieces(rt: HostRuntime) {
-    assert_splits::<SplitInclusive>(&rt, "a,b,", ",", 1);
-    assert_splits::<SplitWhitespace>(&rt, " a b", "", 1);
-    assert_splits::<SplitAsciiWhitespace>(&rt, " a b", "", 1);
-    assert_splits::<Lines>(&rt, "a\nb\n", "", 2);
+    for (way, text, separator, cuts) in [
+        (Way::SplitInclusive, "a,b,", ",", 1),
+        (Way::SplitWhitespace, " a b", "", 1),
+        (Way::SplitAsciiWhitespace, " a b", "", 1),
+        (Way::Lines, "a\nb\n", "", 2),
+    ] {
+        assert_splits(&rt, way, text, separator, cuts);
+    }
 }

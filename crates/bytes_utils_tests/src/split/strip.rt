@@ -1,14 +1,13 @@
 //! A text without what it begins with, or without what it ends with.
 use crate::fixtures::is_shared;
 use crate::split::borrowed::{SEPARATORS, assert_as_str};
-use crate::split::ends::{StripPrefix, StripSuffix};
+use crate::split::ways::Way;
 use bytes_utils::{Reason, Str};
-use std::test::Fail;
 
 #[test]
 fn strip(rt: HostRuntime) {
-    assert_as_str::<StripPrefix>(&rt, rt.alloc(), SEPARATORS);
-    assert_as_str::<StripSuffix>(&rt, rt.alloc(), SEPARATORS);
+    assert_as_str(&rt, rt.alloc(), Way::StripPrefix, SEPARATORS);
+    assert_as_str(&rt, rt.alloc(), Way::StripSuffix, SEPARATORS);
 }
 
 /// The text without the prefix `αβ` and the suffix `β😈`. Neither is one part of a character.
@@ -18,8 +17,8 @@ fn stripped(text: Str) -> Result<Str, Reason> {
 }
 
 #[test]
-fn strip_shares(rt: HostRuntime) -> Result<(), Fail> {
-    let text = Str::from_str(rt.alloc(), "αβ, β😈")?;
-    assert!(rt; is_shared(stripped(text.try_clone()?), ", "));
-    Ok(())
+fn strip_shares(rt: HostRuntime) {
+    let text = Str::from_str(rt.alloc(), "αβ, β😈").expect(&rt, "no memory");
+    let same = text.try_clone().expect(&rt, "no memory");
+    assert!(rt; is_shared(stripped(same), ", "));
 }

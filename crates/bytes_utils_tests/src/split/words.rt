@@ -1,10 +1,9 @@
 //! A text's words.
 use crate::split::borrowed::assert_as_str;
-use crate::split::ways::{SplitAsciiWhitespace, SplitWhitespace};
+use crate::split::ways::Way;
 use bytes_utils::{Reason, Str};
 use std::alloc::Global;
 use std::iter::once;
-use std::test::Fail;
 
 /// The characters with the property White_Space, from the Unicode Character Database's PropList.
 const SPACES: &str =
@@ -19,15 +18,17 @@ fn is_word(alloc: Global, c: char) -> Result<bool, Reason> {
 
 /// Asserts that exactly these characters, of those up to U+3001, make no word.
 #[test]
-fn words_at_each_white_space(rt: HostRuntime) -> Result<(), Fail> {
+fn words_at_each_white_space(rt: HostRuntime) {
     for c in '\0'..='\u{3001}' {
-        assert!(rt; is_word(rt.alloc(), c)? != SPACES.contains(c), "{c:?}");
+        assert!(rt;
+            is_word(rt.alloc(), c).expect(&rt, "no memory") != SPACES.contains(c),
+            "{c:?}"
+        );
     }
-    Ok(())
 }
 
 #[test]
 fn words(rt: HostRuntime) {
-    assert_as_str::<SplitWhitespace>(&rt, rt.alloc(), "");
-    assert_as_str::<SplitAsciiWhitespace>(&rt, rt.alloc(), "");
+    assert_as_str(&rt, rt.alloc(), Way::SplitWhitespace, "");
+    assert_as_str(&rt, rt.alloc(), Way::SplitAsciiWhitespace, "");
 }

@@ -2,7 +2,6 @@
 use crate::fixtures::{is_made, is_text};
 use bytes_utils::{Reason, Str, StrMut};
 use std::alloc::Global;
-use std::test::Fail;
 
 /// Three pieces, pushed one after another.
 fn pushed(alloc: Global) -> Result<StrMut, Reason> {
@@ -24,10 +23,10 @@ fn freeze_built(builder: &mut StrMut) -> Option<Str> {
 }
 
 #[test]
-fn build_and_slice(rt: HostRuntime) -> Result<(), Fail> {
-    let frozen = freeze_built(&mut pushed(rt.alloc())?).ok_or("it isn't built")?;
+fn build_and_slice(rt: HostRuntime) {
+    let mut builder = pushed(rt.alloc()).expect(&rt, "no memory");
+    let frozen = freeze_built(&mut builder).expect(&rt, "a frozen text");
     let str = frozen.as_str();
     assert!(rt; str.is_char_boundary(1) && str.is_char_boundary(5));
     assert!(rt; is_made(frozen.slice(1..5), "ello") && is_text(Some(frozen), "Hello World"));
-    Ok(())
 }

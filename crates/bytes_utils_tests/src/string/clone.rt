@@ -1,11 +1,9 @@
 //! A text copied by std's trait.
 use crate::fixtures::is_shared;
 use bytes_utils::Str;
-use std::test::Fail;
 
 #[test]
-fn copies(rt: HostRuntime) -> Result<(), Fail> {
-    let text = Str::from_str(rt.alloc(), "aβ")?;
+fn copies(rt: HostRuntime) {
+    let text = Str::from_str(rt.alloc(), "aβ").expect(&rt, "no memory");
     assert!(rt; is_shared(text.clone(), "aβ"));
-    Ok(())
 }

@@ -3,7 +3,6 @@ use crate::fixtures::refusing::Refusing;
 use crate::fixtures::{is_text, strings};
 use bytes_utils::string::StrInner;
 use bytes_utils::{Reason, Refused};
-use std::test::Fail;
 
 /// A text whose storage grants two requests.
 type Text = StrInner<Refusing>;
@@ -21,10 +20,9 @@ fn gives_back_a_character(text: &mut Text) -> bool {
 }
 
 #[test]
-fn a_refused_character_comes_back(rt: HostRuntime) -> Result<(), Fail> {
-    let mut text = Text::new(rt.alloc())?;
+fn a_refused_character_comes_back(rt: HostRuntime) {
+    let mut text = Text::new(rt.alloc()).expect(&rt, "no memory");
     assert!(rt; gives_back_a_character(&mut text) && text.eq_str("aβ"));
-    Ok(())
 }
 
 /// Whether the refused item comes back, and a borrowed iterator continues after it.
@@ -34,10 +32,9 @@ fn gives_back_an_item(text: &mut Text) -> bool {
 }
 
 #[test]
-fn a_refused_str_comes_back(rt: HostRuntime) -> Result<(), Fail> {
-    let mut text = Text::new(rt.alloc())?;
+fn a_refused_str_comes_back(rt: HostRuntime) {
+    let mut text = Text::new(rt.alloc()).expect(&rt, "no memory");
     assert!(rt; gives_back_an_item(&mut text) && text.eq_str("one"));
-    Ok(())
 }
 
 /// Whether the refused string comes back, and a borrowed iterator continues after it.
@@ -47,9 +44,8 @@ fn gives_back_a_string(text: &mut Text, strings: Vec<String>) -> bool {
 }
 
 #[test]
-fn a_refused_string_comes_back(rt: HostRuntime) -> Result<(), Fail> {
-    let mut text = Text::new(rt.alloc())?;
-    let strings = strings(rt.alloc(), "a,b,c,d")?;
+fn a_refused_string_comes_back(rt: HostRuntime) {
+    let mut text = Text::new(rt.alloc()).expect(&rt, "no memory");
+    let strings = strings(rt.alloc(), "a,b,c,d").expect(&rt, "no memory");
     assert!(rt; gives_back_a_string(&mut text, strings) && text.eq_str("a,b,"));
-    Ok(())
 }

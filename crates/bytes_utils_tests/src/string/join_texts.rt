@@ -1,7 +1,6 @@
 //! Texts joined with a separator between them.
 use bytes_utils::{Reason, Str};
 use std::alloc::Global;
-use std::test::Fail;
 
 /// Whether the call returned this text, with a block of its own or not.
 fn is_joined(joined: Result<Str, Reason>, want: &str, is_unique: bool) -> bool {
@@ -20,9 +19,8 @@ fn are_joined(alloc: Global, texts: &[Str; 3]) -> bool {
 }
 
 #[test]
-fn join_texts(rt: HostRuntime) -> Result<(), Fail> {
-    let first = Str::from_str(rt.alloc(), "a")?;
+fn join_texts(rt: HostRuntime) {
+    let first = Str::from_str(rt.alloc(), "a").expect(&rt, "no memory");
     let texts = [first, Str::from_static(""), Str::from_static("β")];
     assert!(rt; are_joined(rt.alloc(), &texts));
-    Ok(())
 }

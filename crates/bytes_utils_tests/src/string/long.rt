@@ -4,7 +4,6 @@ use crate::string::text::split_in_two;
 use bytes_utils::{Reason, Str, StrMut, format_bytes, format_bytes_mut};
 use std::alloc::{AllocError, Global};
 use std::fmt::Write;
-use std::test::Fail;
 
 /// Ten thousand items, each with the comma that ends it: 100,000 bytes.
 fn items(alloc: Global) -> Result<String, AllocError> {
@@ -24,30 +23,18 @@ fn is_made_of_items(alloc: Global, want: &str) -> bool {
         && is_made(Str::join(alloc, want.split(','), ","), want)
 }
 
-/// Whether the text is made of its items as strings.
-fn is_made_of_strings(alloc: Global, want: &str) -> Result<bool, AllocError> {
-    let items = strings(alloc, want)?;
-    Ok(is_made(Str::from_strings(alloc, items.into_iter()), want))
-}
-
-/// Whether its characters, its items, and its items as strings are collected into the text.
-fn is_collected(alloc: Global, want: &str) -> Result<bool, AllocError> {
-    let items = strings(alloc, want)?;
-    Ok(
-        is_made::<StrMut, _>(items.into_iter().collect(alloc), want)
-            && is_made::<Str, _>(want.chars().collect(alloc), want)
-            && is_made::<StrMut, _>(want.split_inclusive(',').collect(alloc), want),
-    )
+/// Whether its items as strings, its characters and its items are collected into the text.
+fn is_collected(alloc: Global, strings: Vec<String>, want: &str) -> bool {
+    is_made::<StrMut, _>(strings.into_iter().collect(alloc), want)
+        && is_made::<Str, _>(want.chars().collect(alloc), want)
+        && is_made::<StrMut, _>(want.split_inclusive(',').collect(alloc), want)
 }
 
 /// Whether the items are appended to the text, by each call for many.
-fn extends(alloc: Global, text: &mut StrMut, items: &str) -> Result<bool, AllocError> {
-    let strings = strings(alloc, items)?;
-    Ok(
-        text.extend_strings(strings.into_iter()).is_ok()
-            && text.extend_chars(items.chars()).is_ok()
-            && text.extend_strs(items.split_inclusive(',')).is_ok(),
-    )
+fn extends(text: &mut StrMut, strings: Vec<String>, items: &str) -> bool {
+    text.extend_strings(strings.into_iter()).is_ok()
+        && text.extend_chars(items.chars()).is_ok()
+        && text.extend_strs(items.split_inclusive(',')).is_ok()
 }
 
 /// Whether the items are appended to the text as a whole, by each call for one text.
@@ -55,22 +42,12 @@ fn pushes(text: &mut StrMut, items: &str) -> bool {
     text.push_str(items).is_ok() && text.push('!').is_ok() && text.write_str(items).is_ok()
 }
 
-/// Whether the items are appended to a text, by each call.
-fn are_appended(alloc: Global, items: &str) -> Result<bool, Reason> {
-    let mut text = StrMut::new(alloc)?;
-    let is_extended = extends(alloc, &mut text, items)? && text.len() == 300_000;
-    Ok(is_extended && pushes(&mut text, items) && text.len() == 500_001)
-}
-
 /// Whether the text is made of a text that is borrowed or owned.
-fn is_copied(alloc: Global, want: &str) -> Result<bool, AllocError> {
-    let string = String::from_str(alloc, want)?;
-    Ok(
-        is_made(Str::from_string(alloc, string), want)
-            && is_made(Str::from_str(alloc, want), want)
-            && is_made(format_bytes!(alloc; "{}", want), want)
-            && is_made(format_bytes_mut!(alloc; "{}", want), want),
-    )
+fn is_copied(alloc: Global, string: String, want: &str) -> bool {
+    is_made(Str::from_string(alloc, string), want)
+        && is_made(Str::from_str(alloc, want), want)
+        && is_made(format_bytes!(alloc; "{}", want), want)
+        && is_made(format_bytes_mut!(alloc; "{}", want), want)
 }
 
 /// Whether the text is copied, and split off. What is left can grow again.
@@ -99,22 +76,41 @@ fn is_cut(text: Str, want: &str) -> bool {
 }
 
 #[test]
-fn of_items(rt: HostRuntime) -> Result<(), Fail> {
-    let items = items(rt.alloc())?;
+fn of_items(rt: HostRuntime) {
+    let items = items(rt.alloc()).expect(&rt, "no memory");
     let (alloc, want) = (rt.alloc(), items.as_str());
     assert!(rt; is_made_of_items(alloc, want));
-    assert!(rt; is_made_of_strings(alloc, want)? && is_collected(alloc, want)?);
-    assert!(rt; are_appended(alloc, want)?);
-    Ok(())
+    let list = strings(alloc, want).expect(&rt, "no memory");
+    assert!(rt; is_made(Str::from_strings(alloc, list.into_iter()), want));
+    let list = strings(alloc, want).expect(&rt, "no memory");
+    assert!(rt; is_collected(alloc, list, want));
 }
 
 #[test]
-fn of_a_text(rt: HostRuntime) -> Result<(), Fail> {
-    let items = items(rt.alloc())?;
+fn appended_items(rt: HostRuntime) {
+    let items = items(rt.alloc()).expect(&rt, "no memory");
+    let want = items.as_str();
+    let list = strings(rt.alloc(), want).expect(&rt, "no memory");
+    let mut text = StrMut::new(rt.alloc()).expect(&rt, "no memory");
+    assert!(rt; extends(&mut text, list, want) && text.len() == 300_000);
+    assert!(rt; pushes(&mut text, want) && text.len() == 500_001);
+}
+
+#[test]
+fn of_a_text(rt: HostRuntime) {
+    let items = items(rt.alloc()).expect(&rt, "no memory");
     let (alloc, want) = (rt.alloc(), items.as_str());
-    assert!(rt; is_copied(alloc, want)? && is_frozen(alloc, want)?);
-    assert!(rt; is_given(&mut StrMut::from_str(alloc, want)?, want));
-    let front = want.strip_suffix(',').unwrap_or("");
-    assert!(rt; is_cut(Str::from_str(alloc, want)?, front));
-    Ok(())
+    let string = String::from_str(alloc, want).expect(&rt, "no memory");
+    assert!(rt; is_copied(alloc, string, want));
+    assert!(rt; is_frozen(alloc, want).expect(&rt, "no memory"));
+    let mut growing = StrMut::from_str(alloc, want).expect(&rt, "no memory");
+    assert!(rt; is_given(&mut growing, want));
+}
+
+#[test]
+fn cut_text(rt: HostRuntime) {
+    let items = items(rt.alloc()).expect(&rt, "no memory");
+    let text = Str::from_str(rt.alloc(), items.as_str()).expect(&rt, "no memory");
+    let front = items.as_str().strip_suffix(',').unwrap_or("");
+    assert!(rt; is_cut(text, front));
 }

@@ -6,7 +6,6 @@ use serde_json::{Error, Value, from_str, from_value, to_string};
 use std::alloc::Global;
 use std::convert::AsStr;
 use std::iter::repeat_n;
-use std::test::Fail;
 
 /// A text of characters that JSON escapes, and its JSON.
 const TEXT: &str = "\u{1}\"\\\né😈";
@@ -31,9 +30,9 @@ fn is_read<'j, T: Deserialize<'j> + DeserializeOwned + AsStr>(
 }
 
 #[test]
-fn reads(rt: HostRuntime) -> Result<(), Fail> {
-    assert!(rt; is_read::<Str>(rt.alloc(), JSON)? && is_read::<StrMut>(rt.alloc(), JSON)?);
-    Ok(())
+fn reads(rt: HostRuntime) {
+    assert!(rt; is_read::<Str>(rt.alloc(), JSON).expect(&rt, "JSON"));
+    assert!(rt; is_read::<StrMut>(rt.alloc(), JSON).expect(&rt, "JSON"));
 }
 
 /// Whether the text is read from the JSON that is written of it, which has this length.
@@ -44,8 +43,7 @@ fn comes_back(alloc: Global, text: &Str, length: usize) -> Result<bool, Error> {
 }
 
 #[test]
-fn a_long_text(rt: HostRuntime) -> Result<(), Fail> {
-    let text = Str::from_chars(rt.alloc(), repeat_n('x', 100_000))?;
-    assert!(rt; comes_back(rt.alloc(), &text, 100_002)?);
-    Ok(())
+fn a_long_text(rt: HostRuntime) {
+    let text = Str::from_chars(rt.alloc(), repeat_n('x', 100_000)).expect(&rt, "no memory");
+    assert!(rt; comes_back(rt.alloc(), &text, 100_002).expect(&rt, "JSON"));
 }

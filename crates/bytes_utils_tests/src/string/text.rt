@@ -3,16 +3,14 @@ use crate::fixtures::assert_text;
 use bytes::Bytes;
 use bytes_utils::string::{Storage, StrInner};
 use bytes_utils::{Reason, Str};
-use std::test::Fail;
 
 #[test]
-fn reads_as_its_storage(rt: HostRuntime) -> Result<(), Fail> {
-    let text = Str::from_inner(Bytes::from_static("aβ".as_bytes()))?;
+fn reads_as_its_storage(rt: HostRuntime) {
+    let text = Str::from_inner(Bytes::from_static("aβ".as_bytes())).expect(&rt, "UTF-8");
     assert_text(&rt, text.as_str(), "aβ");
     assert!(rt; text.inner().as_slice() == "aβ".as_bytes());
     let text = Str::from_inner_unchecked(text.into_inner());
     assert_text(&rt, text.as_str(), "aβ");
-    Ok(())
 }
 
 /// Whether the text is split at the place into these two. Fails if the split is refused.

@@ -5,7 +5,6 @@ use bytes_utils::string::{Storage, StrInner, Utf8Error};
 use bytes_utils::{Str, StrMut};
 use std::alloc::{AllocError, Global};
 use std::fmt::Debug;
-use std::test::Fail;
 
 /// Whether the fault begins at this place, and the error reports this.
 fn reports<S: Debug + Drop>(
@@ -44,26 +43,21 @@ fn come_back<S: Storage + Debug>(
 }
 
 #[test]
-fn bytes_that_are_not_utf8_come_back(rt: HostRuntime) -> Result<(), Fail> {
+fn bytes_that_are_not_utf8_come_back(rt: HostRuntime) {
     let alloc = rt.alloc();
-    let growing = BytesMut::copy_from_slice(alloc, &[0, 0, 255])?;
-    assert!(rt; come_back(alloc, StrMut::try_from(growing))?);
+    let growing = BytesMut::copy_from_slice(alloc, &[0, 0, 255]).expect(&rt, "no memory");
+    assert!(rt; come_back(alloc, StrMut::try_from(growing)).expect(&rt, "no memory"));
     let shared = Bytes::from_static(&[0, 0, 255]);
-    assert!(rt; come_back(alloc, Str::from_inner(shared))?);
-    Ok(())
+    assert!(rt; come_back(alloc, Str::from_inner(shared)).expect(&rt, "no memory"));
 }
 
 // The last of the 100,001 bytes is not UTF-8.
 #[test]
-fn a_fault_after_many_bytes(rt: HostRuntime) -> Result<(), Fail> {
-    let mut bytes = vec![in rt.alloc(); b'a'; 100_000]?;
-    bytes.push(255)?;
+fn a_fault_after_many_bytes(rt: HostRuntime) {
+    let mut bytes = vec![in rt.alloc(); b'a'; 100_000].expect(&rt, "no memory");
+    bytes.push(255).expect(&rt, "no memory");
     let text = "invalid utf-8 sequence of 1 bytes from index 100000";
-    match Str::from_inner(Bytes::from_vec(bytes)?) {
-        Ok(_) => Err(Fail::from("a text")),
-        Err(error) => {
-            assert!(rt; reports(rt.alloc(), &error, 100_000, text)?);
-            Ok(())
-        }
-    }
+    let bytes = Bytes::from_vec(bytes).expect(&rt, "no memory");
+    let error = Str::from_inner(bytes).expect_err(&rt, "not UTF-8");
+    assert!(rt; reports(rt.alloc(), &error, 100_000, text).expect(&rt, "no memory"));
 }

@@ -1,14 +1,15 @@
 //! Refused memory: held buffers that are cloned or read.
 use super::{LETTERS, gives_letters, holding};
-use crate::fixtures::{put, reads, skip};
+use crate::fixtures::{assert_that, put, reads, skip};
 use bytes::{Buf, Bytes};
 use bytes_utils_buf::segmented::SegmentedBuf;
-use std::process::Abort;
 
 #[test]
 fn try_clone(rt: HostRuntime) {
     if let Some(buf) = holding(rt.alloc(), LETTERS) {
-        assert!(rt; gives_letters(&rt, "SegmentedBuf::try_clone", buf.try_clone(), LETTERS));
+        let clone = buf.try_clone();
+        let holds = gives_letters(&rt, "SegmentedBuf::try_clone", clone, LETTERS);
+        assert_that(&rt, holds);
     }
 }
 
@@ -25,6 +26,6 @@ fn takes_nothing<B: Buf + Drop>(buf: &mut SegmentedBuf<B>, empty: B) -> bool {
 #[test]
 fn no_memory_needed(rt: HostRuntime) {
     let mut buf: SegmentedBuf<Bytes> = SegmentedBuf::new(rt.alloc());
-    assert!(rt; takes_nothing(&mut buf, Bytes::new()));
-    assert!(rt; buf.into_inner().capacity() == 0);
+    assert_that(&rt, takes_nothing(&mut buf, Bytes::new()));
+    assert_that(&rt, buf.into_inner().capacity() == 0);
 }

@@ -1,11 +1,10 @@
 //! Refused memory: bytes copied out of segmented buffers.
 use crate::fixtures::refusals::{copies_rest, following};
-use crate::fixtures::{FOUR, JOINED, held_slices, lend};
+use crate::fixtures::{FOUR, JOINED, assert_some, held_slices, lend};
 use bytes::Buf;
 use bytes_utils_buf::parts::BufParts;
 use bytes_utils_buf::segmented::{SegmentedBuf, SegmentedSlice};
 use std::alloc::Global;
-use std::process::Abort;
 
 /// Copies the first bytes of `JOINED` by the type's own `copy_to_bytes`, and the rest by `copy_out`.
 fn copies_held<B: BufParts + Drop>(
@@ -25,7 +24,7 @@ fn copies_held<B: BufParts + Drop>(
 #[test]
 fn copy_of_held(rt: HostRuntime) {
     if let Some(mut buf) = held_slices(rt.alloc(), FOUR) {
-        assert!(rt; copies_held(&rt, rt.alloc(), &mut buf) == Some(true));
+        assert_some(&rt, copies_held(&rt, rt.alloc(), &mut buf));
     }
 }
 
@@ -47,5 +46,5 @@ fn copies_lent<B: BufParts>(
 #[test]
 fn copy_of_lent(rt: HostRuntime) {
     let mut bufs: [&[u8]; 3] = [b"Hello", b" ", b"World"];
-    assert!(rt; copies_lent(&rt, rt.alloc(), &mut lend(&rt, &mut bufs)) == Some(true));
+    assert_some(&rt, copies_lent(&rt, rt.alloc(), &mut lend(&rt, &mut bufs)));
 }

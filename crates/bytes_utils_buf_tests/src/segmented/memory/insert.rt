@@ -1,13 +1,12 @@
 //! Refused memory: buffers that are accepted.
 use super::{LETTERS, buffers, holding, holds};
 use crate::fixtures::refusals::reports;
-use crate::fixtures::{fills, put, reads, skip};
+use crate::fixtures::{assert_that, fills, put, reads, skip};
 use bytes::{Buf, Bytes};
 use bytes_utils_buf::Refused;
 use bytes_utils_buf::parts::BufParts;
 use bytes_utils_buf::segmented::SegmentedBuf;
 use std::collections::VecDeque;
-use std::process::Abort;
 
 /// Whether only the first letters are held if the next one was refused, and that can be pushed again.
 fn is_accepted(
@@ -38,13 +37,18 @@ fn accepts(rt: &impl Print, buf: &mut SegmentedBuf<Bytes>, letter: Bytes) -> boo
     }
 }
 
+fn accepts_all(rt: &impl Print, buf: &mut SegmentedBuf<Bytes>) -> bool {
+    for letter in LETTERS.chunks(1) {
+        if !accepts(rt, buf, Bytes::from_static(letter)) {
+            return false;
+        }
+    }
+    holds(buf, LETTERS)
+}
+
 #[test]
 fn push_and_try_push(rt: HostRuntime) {
-    let mut buf = SegmentedBuf::new(rt.alloc());
-    for letter in LETTERS.chunks(1) {
-        assert!(rt; accepts(&rt, &mut buf, Bytes::from_static(letter)));
-    }
-    assert!(rt; holds(&buf, LETTERS));
+    assert_that(&rt, accepts_all(&rt, &mut SegmentedBuf::new(rt.alloc())));
 }
 
 #[test]
@@ -52,7 +56,16 @@ fn extend(rt: HostRuntime) {
     if let Ok(letters) = buffers(rt.alloc(), LETTERS) {
         let mut buf = SegmentedBuf::new(rt.alloc());
         let answer = buf.extend(letters.into_iter());
-        assert!(rt; is_accepted(&rt, "SegmentedBuf::extend", &mut buf, answer));
+        let holds = is_accepted(&rt, "SegmentedBuf::extend", &mut buf, answer);
+        assert_that(&rt, holds);
+    }
+}
+
+/// Whether all letters are held, or the call is refused.
+fn is_collected(rt: &impl Print, answer: Result<SegmentedBuf<Bytes>, Refused<Bytes>>) -> bool {
+    match answer {
+        Ok(buf) => holds(&buf, LETTERS),
+        Err(refused) => reports(rt, "SegmentedBuf::from_iter", refused.reason),
     }
 }
 
@@ -60,12 +73,7 @@ fn extend(rt: HostRuntime) {
 fn from_iter(rt: HostRuntime) {
     if let Ok(letters) = buffers(rt.alloc(), LETTERS) {
         let answer = SegmentedBuf::from_iter(rt.alloc(), letters.into_iter());
-        assert!(rt;
-            match answer {
-                Ok(buf) => holds(&buf, LETTERS),
-                Err(refused) => reports(&rt, "SegmentedBuf::from_iter", refused.reason),
-            }
-        );
+        assert_that(&rt, is_collected(&rt, answer));
     }
 }
 
@@ -74,18 +82,17 @@ fn passes_all_but_one<B: BufParts + Drop>(buf: &mut SegmentedBuf<B>, empty: B) -
     put(buf, empty) && skip(buf, 5) && reads(buf, 1, "f") && fills(buf, 10, "f")
 }
 
+fn holds_deque(letters: VecDeque<Bytes>) -> bool {
+    match SegmentedBuf::from_deque(letters) {
+        Ok(mut buf) => passes_all_but_one(&mut buf, Bytes::new()),
+        Err(_) => false,
+    }
+}
+
 // Vectors and deques are held in their own memory, so this is never refused.
 #[test]
 fn no_memory_needed(rt: HostRuntime) {
-    let Some(letters) = holding(rt.alloc(), LETTERS) else {
-        return;
-    };
-    let letters: VecDeque<Bytes> = letters.into_inner();
-    let held = SegmentedBuf::from_deque(letters);
-    assert!(rt;
-        match held {
-            Ok(mut buf) => passes_all_but_one(&mut buf, Bytes::new()),
-            Err(_) => false,
-        }
-    );
+    if let Some(letters) = holding(rt.alloc(), LETTERS) {
+        assert_that(&rt, holds_deque(letters.into_inner()));
+    }
 }

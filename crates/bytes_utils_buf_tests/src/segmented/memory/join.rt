@@ -1,9 +1,9 @@
 //! Refused memory: buffers put before or after those that are held.
 use super::{LETTERS, holding, holds};
+use crate::fixtures::assert_that;
 use crate::fixtures::refusals::reports;
 use bytes::{Buf, Bytes};
 use bytes_utils_buf::segmented::SegmentedBuf;
-use std::process::Abort;
 
 /// Puts the first letter before the others.
 fn prepends(rt: &impl Print, buf: &mut SegmentedBuf<Bytes>) -> bool {
@@ -21,7 +21,7 @@ fn prepends(rt: &impl Print, buf: &mut SegmentedBuf<Bytes>) -> bool {
 #[test]
 fn prepend(rt: HostRuntime) {
     if let Some(mut buf) = holding(rt.alloc(), &LETTERS[1..]) {
-        assert!(rt; prepends(&rt, &mut buf));
+        assert_that(&rt, prepends(&rt, &mut buf));
     }
 }
 
@@ -46,6 +46,6 @@ fn append(rt: HostRuntime) {
         return;
     };
     if let Some(others) = holding(rt.alloc(), &LETTERS[2..]) {
-        assert!(rt; appends(&rt, &mut buf, others));
+        assert_that(&rt, appends(&rt, &mut buf, others));
     }
 }

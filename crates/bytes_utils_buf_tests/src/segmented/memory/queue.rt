@@ -1,10 +1,11 @@
 //! Refused memory: segments moved to and from a queue.
 use super::{LETTERS, holding, holds};
+use crate::fixtures::assert_that;
 use crate::fixtures::refusals::reports;
 use crate::segmented::queue::{append_queue, drain_into_queue};
 use bytes::{Buf, Bytes, BytesQueue};
 use bytes_utils_buf::segmented::SegmentedBuf;
-use std::process::Abort;
+use std::alloc::Global;
 
 /// Moves the six letters to a queue. Those moved before a refusal are in it, and the others are held.
 fn drains(rt: &impl Print, buf: &mut SegmentedBuf<Bytes>, queue: &mut BytesQueue) -> bool {
@@ -32,18 +33,24 @@ fn appends(rt: &impl Print, buf: &mut SegmentedBuf<Bytes>, queue: &mut BytesQueu
         && append_queue(buf, queue).is_ok()
 }
 
+/// The same of a queue of the six letters, and whether they are held then.
+fn appends_all(rt: &impl Print, buf: &mut SegmentedBuf<Bytes>, queue: &mut BytesQueue) -> bool {
+    queue.len() == 6
+        && queue.chunk() == b"a".as_slice()
+        && appends(rt, buf, queue)
+        && holds(buf, LETTERS)
+}
+
+/// Moves the letters to a queue, and from there to a buffer that holds nothing.
+fn moves(rt: &impl Print, alloc: Global, letters: &mut SegmentedBuf<Bytes>) -> bool {
+    let mut queue = BytesQueue::new(alloc);
+    let is_drained = drains(rt, letters, &mut queue);
+    appends_all(rt, &mut SegmentedBuf::new(alloc), &mut queue) & is_drained
+}
+
 #[test]
 fn letters_are_moved(rt: HostRuntime) {
-    let Some(mut letters) = holding(rt.alloc(), LETTERS) else {
-        return;
-    };
-    let mut queue = BytesQueue::new(rt.alloc());
-    let mut others = SegmentedBuf::new(rt.alloc());
-    assert!(rt;
-        drains(&rt, &mut letters, &mut queue)
-            && queue.len() == 6
-            && queue.chunk() == b"a".as_slice()
-            && appends(&rt, &mut others, &mut queue)
-            && holds(&others, LETTERS)
-    );
+    if let Some(mut letters) = holding(rt.alloc(), LETTERS) {
+        assert_that(&rt, moves(&rt, rt.alloc(), &mut letters));
+    }
 }

@@ -1,10 +1,10 @@
 //! Refused memory: ranges of a body.
 use super::{LETTERS, gives_letters, holding};
+use crate::fixtures::assert_that;
 use crate::fixtures::refusals::{gives_bytes, reports};
 use bytes::{Buf, Bytes};
 use bytes_utils_buf::segmented::SegmentedBuf;
 use std::alloc::Global;
-use std::process::Abort;
 
 /// Whether ranges of the six letters are returned, or refused.
 fn gives_ranges(rt: &impl Print, alloc: Global, buf: &SegmentedBuf<Bytes>) -> bool {
@@ -28,6 +28,6 @@ fn reads_range(rt: &impl Print, alloc: Global, buf: &SegmentedBuf<Bytes>) -> boo
 #[test]
 fn ranges(rt: HostRuntime) {
     if let Some(buf) = holding(rt.alloc(), LETTERS) {
-        assert!(rt; gives_ranges(&rt, rt.alloc(), &buf));
+        assert_that(&rt, gives_ranges(&rt, rt.alloc(), &buf));
     }
 }

@@ -1,27 +1,23 @@
 //! Refused memory: the first bytes, and a body that is cut in two. `refusals.txt` has the most bytes
 //! that a request for long segments may ask for.
 use super::{LETTERS, gives_letters, holding, holds};
+use crate::fixtures::assert_that;
 use crate::fixtures::refusals::{gives_bytes, reports};
 use bytes::{Buf, Bytes};
 use bytes_utils_buf::segmented::SegmentedBuf;
 use std::alloc::Global;
-use std::process::Abort;
 
 fn gives_first(rt: &impl Print, alloc: Global, buf: &SegmentedBuf<Bytes>) -> bool {
+    let call = ["SegmentedBuf::prefix", "SegmentedBuf::peek_bytes"];
     buf.remaining() >= 6
-        && gives_letters(rt, "SegmentedBuf::prefix", buf.prefix(alloc, 6), LETTERS)
-        && gives_bytes(
-            rt,
-            "SegmentedBuf::peek_bytes",
-            buf.peek_bytes(alloc, 6),
-            "abcdef",
-        )
+        && gives_letters(rt, call[0], buf.prefix(alloc, 6), LETTERS)
+        && gives_bytes(rt, call[1], buf.peek_bytes(alloc, 6), "abcdef")
 }
 
 #[test]
 fn first_bytes(rt: HostRuntime) {
     if let Some(buf) = holding(rt.alloc(), LETTERS) {
-        assert!(rt; gives_first(&rt, rt.alloc(), &buf));
+        assert_that(&rt, gives_first(&rt, rt.alloc(), &buf));
     }
 }
 
@@ -39,7 +35,7 @@ fn splits_off(rt: &impl Print, alloc: Global, buf: &mut SegmentedBuf<Bytes>) -> 
 #[test]
 fn split_off(rt: HostRuntime) {
     if let Some(mut buf) = holding(rt.alloc(), LETTERS) {
-        assert!(rt; splits_off(&rt, rt.alloc(), &mut buf));
+        assert_that(&rt, splits_off(&rt, rt.alloc(), &mut buf));
     }
 }
 
@@ -56,7 +52,7 @@ fn splits_to(rt: &impl Print, alloc: Global, buf: &mut SegmentedBuf<Bytes>) -> b
 #[test]
 fn split_to(rt: HostRuntime) {
     if let Some(mut buf) = holding(rt.alloc(), LETTERS) {
-        assert!(rt; splits_to(&rt, rt.alloc(), &mut buf));
+        assert_that(&rt, splits_to(&rt, rt.alloc(), &mut buf));
     }
 }
 
@@ -83,7 +79,7 @@ fn shares_long(rt: &impl Print, alloc: Global, buf: &SegmentedBuf<Bytes>) -> boo
 #[test]
 fn long_segment_is_shared(rt: HostRuntime) {
     if let Some(buf) = long(rt.alloc(), 1) {
-        assert!(rt; shares_long(&rt, rt.alloc(), &buf));
+        assert_that(&rt, shares_long(&rt, rt.alloc(), &buf));
     }
 }
 
@@ -101,6 +97,6 @@ fn copies_long(rt: &impl Print, alloc: Global, buf: &SegmentedBuf<Bytes>) -> boo
 #[test]
 fn long_segments_are_copied(rt: HostRuntime) {
     if let Some(buf) = long(rt.alloc(), 2) {
-        assert!(rt; copies_long(&rt, rt.alloc(), &buf));
+        assert_that(&rt, copies_long(&rt, rt.alloc(), &buf));
     }
 }

@@ -1,59 +1,34 @@
 //! Lines as texts.
-use super::{are_copied, assert_item, is_held};
+use super::assert_items_of;
 use crate::fixtures::refusals::given;
-use bytes_utils_codec::decode::{Framed, Lines};
-use std::alloc::Global;
-use std::io::Print;
-use std::process::Abort;
+use bytes_utils_codec::decode::Lines;
 
-/// Asserts a line whose carriage return is in the second piece, and a last one, unless a piece is
-/// refused.
-fn assert_lines<R: Abort + Print>(rt: &R, alloc: Global, lines: &mut Framed<Lines>) {
-    if is_held(rt, lines, b"a") && are_copied(rt, lines, "b\r|\nc") {
-        assert_item(rt, alloc, lines, ("Lines at next_item", b"ab"));
-        assert_item(rt, alloc, lines, ("Lines at last_item", b"c"));
-    }
-}
+/// A line whose carriage return is in the second piece, and a last one.
+const LINES: &[(&str, &[u8])] = &[("Lines at next_item", b"ab"), ("Lines at last_item", b"c")];
 
 #[test]
 fn lines(rt: HostRuntime) {
-    if let Some(decoder) = given(&rt, "Lines::new", Lines::new(rt.alloc())) {
-        assert_lines(&rt, rt.alloc(), &mut Framed::new(rt.alloc(), decoder));
-    }
+    let decoder = given(&rt, "Lines::new", Lines::new(rt.alloc()));
+    assert_items_of(&rt, rt.alloc(), decoder, b"a", "b\r|\nc", LINES);
 }
 
-/// Asserts the last line, of two pieces that are held apart, unless one of these is refused.
-fn assert_last<R: Abort + Print>(rt: &R, alloc: Global, lines: &mut Framed<Lines>) {
-    if is_held(rt, lines, &[b'a'; 600]) && is_held(rt, lines, &[b'a'; 600]) {
-        assert_item(rt, alloc, lines, ("Lines at last_item", &[b'a'; 1_200]));
-    }
-}
+/// The last line, of two pieces that are held apart.
+const LAST: &[(&str, &[u8])] = &[("Lines at last_item", &[b'a'; 601])];
 
 #[test]
 fn last_line(rt: HostRuntime) {
-    let made = Lines::with_limit(rt.alloc(), 1_200);
-    if let Some(decoder) = given(&rt, "Lines::with_limit", made) {
-        assert_last(&rt, rt.alloc(), &mut Framed::new(rt.alloc(), decoder));
-    }
+    let decoder = given(&rt, "Lines::with_limit", Lines::with_limit(rt.alloc(), 601));
+    assert_items_of(&rt, rt.alloc(), decoder, &[b'a'; 600], "a", LAST);
 }
 
-/// Asserts a line and a last one, each with a U+FFFD, unless the piece is refused.
-fn assert_lossy<R: Abort + Print>(rt: &R, alloc: Global, lines: &mut Framed<Lines>) {
-    if is_held(rt, lines, b"a\xFF\r\n\xFFb") {
-        let text = "a\u{FFFD}".as_bytes();
-        assert_item(rt, alloc, lines, ("lossy Lines at next_item", text));
-        let text = "\u{FFFD}b".as_bytes();
-        assert_item(rt, alloc, lines, ("lossy Lines at last_item", text));
-    }
-}
+/// A line and a last one, each with a U+FFFD.
+const LOSSY: &[(&str, &[u8])] = &[
+    ("lossy Lines at next_item", b"a\xEF\xBF\xBD"),
+    ("lossy Lines at last_item", b"\xEF\xBF\xBDb"),
+];
 
 #[test]
 fn lossy_lines(rt: HostRuntime) {
-    if let Some(decoder) = given(&rt, "Lines::new", Lines::new(rt.alloc())) {
-        assert_lossy(
-            &rt,
-            rt.alloc(),
-            &mut Framed::new(rt.alloc(), decoder.lossy()),
-        );
-    }
+    let decoder = given(&rt, "Lines::new", Lines::new(rt.alloc())).map(Lines::lossy);
+    assert_items_of(&rt, rt.alloc(), decoder, b"a\xFF\r\n\xFFb", "", LOSSY);
 }

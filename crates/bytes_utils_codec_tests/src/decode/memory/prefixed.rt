@@ -1,19 +1,17 @@
 //! Frames after their lengths.
-use super::{are_copied, assert_item, is_held};
-use bytes_utils_codec::decode::{Framed, LengthPrefixed};
+use super::assert_items_of;
+use bytes_utils_codec::decode::LengthPrefixed;
 
 #[test]
 fn next_item(rt: HostRuntime) {
-    let mut reader = Framed::new(rt.alloc(), LengthPrefixed::new(1));
-    if is_held(&rt, &mut reader, b"\0\0\0\x01a") {
-        assert_item(&rt, rt.alloc(), &mut reader, ("Framed::next_item", b"a"));
-    }
+    let decoder = Some(LengthPrefixed::new(1));
+    let items = [("Framed::next_item", b"a".as_slice())];
+    assert_items_of(&rt, rt.alloc(), decoder, b"\0\0\0\x01a", "", &items);
 }
 
 #[test]
 fn last_item(rt: HostRuntime) {
-    let mut reader = Framed::new(rt.alloc(), LengthPrefixed::new(1));
-    if are_copied(&rt, &mut reader, "\0\0|\0\x01a") {
-        assert_item(&rt, rt.alloc(), &mut reader, ("Framed::last_item", b"a"));
-    }
+    let decoder = Some(LengthPrefixed::new(1));
+    let items = [("Framed::last_item", b"a".as_slice())];
+    assert_items_of(&rt, rt.alloc(), decoder, b"\0", "\0|\0\x01a", &items);
 }

@@ -1,47 +1,27 @@
 //! Lines with three ends.
-use super::{are_copied, assert_item, is_held};
-use bytes_utils_codec::decode::{Framed, UniversalLines};
-use std::alloc::Global;
-use std::io::Print;
-use std::process::Abort;
+use super::assert_items_of;
+use bytes_utils_codec::decode::UniversalLines;
 
-/// Asserts a line that is in two segments, and a last one, unless a piece is refused.
-fn assert_lines<R: Abort + Print>(rt: &R, alloc: Global, lines: &mut Framed<UniversalLines>) {
-    if is_held(rt, lines, &[b'a'; 600]) && are_copied(rt, lines, "a|\rc") {
-        assert_item(
-            rt,
-            alloc,
-            lines,
-            ("UniversalLines at next_item", &[b'a'; 601]),
-        );
-        assert_item(rt, alloc, lines, ("UniversalLines at last_item", b"c"));
-    }
-}
+/// A line that is in two segments, and a last one.
+const LINES: &[(&str, &[u8])] = &[
+    ("UniversalLines at next_item", &[b'a'; 601]),
+    ("UniversalLines at last_item", b"c"),
+];
 
 #[test]
 fn universal_lines(rt: HostRuntime) {
-    assert_lines(
-        &rt,
-        rt.alloc(),
-        &mut Framed::new(rt.alloc(), UniversalLines::new()),
-    );
+    let decoder = Some(UniversalLines::new());
+    assert_items_of(&rt, rt.alloc(), decoder, &[b'a'; 600], "a|\rc", LINES);
 }
 
-/// Asserts a line and a last one, each with a U+FFFD, unless the piece is refused.
-fn assert_lossy<R: Abort + Print>(rt: &R, alloc: Global, lines: &mut Framed<UniversalLines>) {
-    if is_held(rt, lines, b"a\xFF\n\xFFb") {
-        let text = "a\u{FFFD}".as_bytes();
-        assert_item(rt, alloc, lines, ("UniversalLines at next_item", text));
-        let text = "\u{FFFD}b".as_bytes();
-        assert_item(rt, alloc, lines, ("UniversalLines at last_item", text));
-    }
-}
+/// A line and a last one, each with a U+FFFD.
+const LOSSY: &[(&str, &[u8])] = &[
+    ("UniversalLines at next_item", b"a\xEF\xBF\xBD"),
+    ("UniversalLines at last_item", b"\xEF\xBF\xBDb"),
+];
 
 #[test]
 fn lossy_universal_lines(rt: HostRuntime) {
-    assert_lossy(
-        &rt,
-        rt.alloc(),
-        &mut Framed::new(rt.alloc(), UniversalLines::new().lossy()),
-    );
+    let decoder = Some(UniversalLines::new().lossy());
+    assert_items_of(&rt, rt.alloc(), decoder, b"a\xFF\n\xFFb", "", LOSSY);
 }

@@ -1,8 +1,8 @@
 //! The chunks by a closure.
-use crate::split::closure::Fields;
 use crate::split::memory::assert_next;
+use crate::split::ways::Way;
 
 #[test]
 fn by_a_closure(rt: HostRuntime) {
-    assert_next::<Fields>(&rt, rt.alloc(), "BytesIter::next", "a,b,c");
+    assert_next(&rt, rt.alloc(), Way::Fields, "BytesIter::next", "a,b,c");
 }

@@ -1,9 +1,9 @@
 //! Parts with their separators.
 use crate::split::memory::assert_next;
-use crate::split::ways::SplitInclusive;
+use crate::split::ways::Way;
 
 #[test]
 fn split_inclusive(rt: HostRuntime) {
     let call = "SplitInclusiveBytes::next";
-    assert_next::<SplitInclusive>(&rt, rt.alloc(), call, "a,b,");
+    assert_next(&rt, rt.alloc(), Way::SplitInclusive, call, "a,b,");
 }

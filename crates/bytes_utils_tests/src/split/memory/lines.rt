@@ -1,8 +1,8 @@
 //! Lines.
 use crate::split::memory::assert_next;
-use crate::split::ways::Lines;
+use crate::split::ways::Way;
 
 #[test]
 fn lines(rt: HostRuntime) {
-    assert_next::<Lines>(&rt, rt.alloc(), "LinesBytes::next", "a\r\nb\n");
+    assert_next(&rt, rt.alloc(), Way::Lines, "LinesBytes::next", "a\r\nb\n");
 }

@@ -1,12 +1,12 @@
 //! The splitters by a separator.
 use crate::split::memory::assert_next;
-use crate::split::ways::{RSplit, RSplitN, Split, SplitN};
+use crate::split::ways::Way;
 
 #[test]
 fn separated(rt: HostRuntime) {
     let alloc = rt.alloc();
-    assert_next::<Split>(&rt, alloc, "SplitBytes::next", "a,b,c");
-    assert_next::<RSplit>(&rt, alloc, "RSplitBytes::next", "a,b,c");
-    assert_next::<SplitN>(&rt, alloc, "SplitNBytes::next", "a,b,c");
-    assert_next::<RSplitN>(&rt, alloc, "RSplitNBytes::next", "a,b,c");
+    assert_next(&rt, alloc, Way::Split, "SplitBytes::next", "a,b,c");
+    assert_next(&rt, alloc, Way::RSplit, "RSplitBytes::next", "a,b,c");
+    assert_next(&rt, alloc, Way::SplitN(2), "SplitNBytes::next", "a,b,c");
+    assert_next(&rt, alloc, Way::RSplitN(2), "RSplitNBytes::next", "a,b,c");
 }

@@ -2,7 +2,7 @@ use Rattle.std.proofs.Common.{◌≡◌, ap, refl, subst, ◌∙◌, true, Ok, E
 use Rattle.bytes_utils_codec.specs.Decoding.{Decoding, Item, decoding}
 use Rattle.bytes_utils_codec.specs.LineItems.{LineReading, gives_line}
 use Rattle.bytes_utils_codec.specs.declared.decode.lines.LineFault.TheVariants.{TooLong}
-use Rattle.bytes_utils_codec.proofs.LineItemsLemmas.{gives_lossy, gives_over}
+use Rattle.bytes_utils_codec.proofs.LineItemsLemmas.{gives_lossy}
 use Rattle.bytes_utils_codec.proofs.decode.lines.Lines.take_lossy.Goals as goal
 
 pub returns-in-Some-Err-clause-step : goal.returns-in-Some-Err-clause-step
@@ -12,7 +12,7 @@ returns-in-Some-Err-clause-step c =
     let new : Decoding LineReading = decoding (record { frames = c.next_frame.new.self; lossy = inside.lossy }) c.next_frame.new.held in
     let finds = rw c.in-Some-Err.field-0-is at c.in-Some-Err.ensures.finds in
     subst (λ (r : LineReading). gives_line (decoding r c.args.held.now) (Item (Err TooLong)) new) c.self.view_is
-    (gives_over old new c.in-Some-Err.field-0-0 finds refl)
+    (Err c.in-Some-Err.field-0-0, finds, refl, refl)
 
 pub returns-in_ok-take_text-in-Some-Ok-clause-step : goal.returns-in_ok-take_text-in-Some-Ok-clause-step
 returns-in_ok-take_text-in-Some-Ok-clause-step c =
