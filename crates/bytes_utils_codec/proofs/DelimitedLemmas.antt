@@ -11,7 +11,7 @@ use Rattle.bytes_utils.proofs.Boundaries.{HasNeedleAt-from_occurs, OccursAt-fits
 use Rattle.bytes_utils_codec.specs.StreamRuns.{Pushed, Taken, AreFirst, IsRunOver}
 use Rattle.bytes_utils_codec.specs.Frames.{AreFrames, TakesFrame}
 use Rattle.bytes_utils_codec.specs.Search.{NoneBegins}
-use Rattle.bytes_utils_codec.specs.Decoding.{AreItems, Decoding, Item, Last, fed}
+use Rattle.bytes_utils_codec.specs.Decoding.{AreItems, Decoding, Item, Last, fed, starting}
 use Rattle.bytes_utils_codec.specs.Delimited.{Delimiting, GivesFrame, delimiting, ready, TakesFrameFrom, LacksSeparator, PassesSkipped, Passes, AwaitsSeparator, IsOverLimit, skipping_from, DropsSkipped, AwaitsFrame, gives_delimited, keeps_delimited, within, begun, AreReports, left_of, DelimitedFramesLaw, DelimitedWholeLaw, DelimitedEvent, IsDelimitedCall, DelimitedHeldLaw}
 use Rattle.bytes_utils_codec.specs.DelimitedLaws.{occurs_in_front, occurs_after, IsOverLimit-more, Passes-same, SkipsOn-passes}
 use Rattle.bytes_utils_codec.specs.declared.decode.too_long.FrameTooLong.{FrameTooLong}
@@ -47,12 +47,16 @@ module _ (p held : List ℕ) (from : ℕ) (some : 0 < length p) where
 
 module _ (s : Decoding Delimiting) (some : 0 < length s.decoder.separator) where
   pub passed_found : (at : ℕ) (new : Decoding Delimiting) → FindsNeedle s.held s.decoder.separator s.decoder.searched (Some at) → s.decoder.skipping ≡ true
-      → new.held ≡ drop (length s.decoder.separator) (drop at s.held) → new.decoder ≡ ready s.decoder → Passes s new
-  passed_found at new found skipping rest begins =
+      → new ≡ record s { decoder = ready s.decoder; held = drop (length s.decoder.separator) (drop at s.held) } → Passes s new
+  passed_found at new found skipping is =
+      let rest = ap (λ (t : Decoding Delimiting). t.held) is in
       let p = s.decoder.separator in
       let takes = found_from p s.held s.decoder.searched some at found in
-      subst (λ b. PassesSkipped b s new) (sym skipping)
-      (take at s.held, subst (TakesFrameFrom p s.decoder.searched s.held (take at s.held)) (sym (rest ∙ drop-drop (length p) at s.held)) takes, begins)
+      subst (λ b. PassesSkipped b s new) (sym skipping) (
+        take at s.held,
+        subst (TakesFrameFrom p s.decoder.searched s.held (take at s.held)) (sym (rest ∙ drop-drop (length p) at s.held)) takes,
+        is ∙ ap (λ l. record s { decoder = ready s.decoder; held = l }) (sym rest),
+      )
 
   module _ (missed : FindsNeedle s.held s.decoder.separator s.decoder.searched None) where
     pub lacks_missed : LacksSeparator s
@@ -72,14 +76,14 @@ module _ (s : Decoding Delimiting) (some : 0 < length s.decoder.separator) where
       same_missed short = omega (arith, is, short)
 
       pub drops_missed : (new : Decoding Delimiting) → begun ≤ length s.held → s.decoder.skipping ≡ true → new.held ≡ drop begun s.held
-          → new.decoder ≡ record s.decoder { searched = 0 } → DropsSkipped s new
-      drops_missed new fits skipping rest decoder =
+          → new ≡ record s { decoder = record s.decoder { searched = 0 }; held = new.held } → DropsSkipped s new
+      drops_missed new fits skipping rest begins =
           let size : length (take begun s.held) ≡ begun = length-take-le begun s.held fits in
           record {
             gone = take begun s.held;
             bytes = sym (take-append-drop begun s.held) ∙ ap (λ l. take begun s.held ++ l) (sym rest);
             skipping = skipping;
-            decoder = decoder;
+            is = begins;
             none = λ more k low here. omega (arith, size, none_begun more k low here);
             low = omega (arith, size, is);
             few = omega (arith, ap length rest, length-drop begun s.held, is, some);
@@ -95,16 +99,16 @@ module _ (s : Decoding Delimiting) (some : 0 < length s.decoder.separator) where
 -- ---- the frames of a new decoder
 
 -- a decoder at the front of a frame, or of one over the limit that was reported
-abbrev front : List ℕ → ℕ → Bool → List ℕ → Decoding Delimiting
-front p limit false bytes = record { decoder = delimiting p limit; held = bytes }
-front p limit true bytes = record { decoder = skipping_from (delimiting p limit); held = bytes }
+abbrev front : List ℕ → ℕ → ℕ → Bool → List ℕ → Decoding Delimiting
+front p limit threshold false bytes = fed (starting (delimiting p limit) threshold) bytes
+front p limit threshold true bytes = fed (starting (skipping_from (delimiting p limit)) threshold) bytes
 
 abbrev Gives : Decoding Delimiting → Result (List ℕ) FrameTooLong → Decoding Delimiting → Type 0
 Gives old item new = gives_delimited old (Item item) new
 
 -- these items are reported of the bytes, and then this state comes
-abbrev Reaches : List ℕ → ℕ → List ℕ → List (Result (List ℕ) FrameTooLong) → Decoding Delimiting → Type 0
-Reaches p limit bytes items end = (reports : AreReports p limit bytes items) × (end ≡ front p limit reports.over reports.rest)
+abbrev Reaches : List ℕ → ℕ → ℕ → List ℕ → List (Result (List ℕ) FrameTooLong) → Decoding Delimiting → Type 0
+Reaches p limit threshold bytes items end = (reports : AreReports p limit bytes items) × (end ≡ front p limit threshold reports.over reports.rest)
 
 -- this is reported of the bytes, and what is left then has no separator, and is not over the limit
 pub record Ends (p : List ℕ) (limit : ℕ) (bytes : List ℕ) (items : List (Result (List ℕ) FrameTooLong)) (after : Decoding Delimiting) : Type 0 where
@@ -135,14 +139,14 @@ module _ (p : List ℕ) where
   takes_first : (bytes frame rest : List ℕ) → TakesFrameFrom p 0 bytes frame rest → TakesFrame p bytes frame rest
   takes_first bytes frame rest takes = takes_long bytes 0 frame rest (λ more k here. omega arith) takes
 
-module _ (p : List ℕ) (limit : ℕ) where
-  none_begins : (bytes : List ℕ) → IsOverLimit (front p limit false bytes) → NoneBegins p bytes (suc limit)
+module _ (p : List ℕ) (limit threshold : ℕ) where
+  none_begins : (bytes : List ℕ) → IsOverLimit (front p limit threshold false bytes) → NoneBegins p bytes (suc limit)
   none_begins bytes over more k here =
-      omega (arith, (IsOverLimit-more (front p limit false bytes) more over).none k (omega arith) here)
+      omega (arith, (IsOverLimit-more (front p limit threshold false bytes) more over).none k (omega arith) here)
 
   -- one more frame, before the others
   reaches_next : (bytes frame rest : List ℕ) (item : Result (List ℕ) FrameTooLong) (items : List (Result (List ℕ) FrameTooLong)) (end : Decoding Delimiting)
-      → TakesFrame p bytes frame rest → item ≡ within limit frame → Reaches p limit rest items end → Reaches p limit bytes (item ∷ items) end
+      → TakesFrame p bytes frame rest → item ≡ within limit frame → Reaches p limit threshold rest items end → Reaches p limit threshold bytes (item ∷ items) end
   reaches_next bytes frame rest item items end takes is (reports, there) = (
     record {
       frames = frame ∷ reports.frames;
@@ -155,37 +159,34 @@ module _ (p : List ℕ) (limit : ℕ) where
     there,
   )
 
-  mid_is : (mid : Decoding Delimiting) → mid.decoder ≡ delimiting p limit → mid ≡ front p limit false mid.held
-  mid_is mid is = (λ i. record { decoder = is i; held = mid.held })
-
   -- the frame that is skipped is passed
   record IsPast (bytes : List ℕ) (mid : Decoding Delimiting) : Type 0 where
     gone : List ℕ
     takes : TakesFrame p bytes gone mid.held
     said : Err (record {}) ≡ within limit gone
-    is : mid ≡ front p limit false mid.held
+    is : mid ≡ front p limit threshold false mid.held
 
   passes_long : (bytes : List ℕ) (mid : Decoding Delimiting) → NoneBegins p bytes (suc limit)
-      → Passes (front p limit true bytes) mid → IsPast bytes mid
+      → Passes (front p limit threshold true bytes) mid → IsPast bytes mid
   passes_long bytes mid none (gone, takes, begins) = record {
     gone = gone;
     takes = takes_long p bytes (suc limit) gone mid.held none takes;
     said = sym (within-long limit gone (omega (arith, takes.low)));
-    is = mid_is mid begins;
+    is = begins;
   }
 
   -- the items of a state are reported, after that of the frame that is skipped
   abbrev Reaching : List (Result (List ℕ) FrameTooLong) → Decoding Delimiting → Type 0
-  Reaching items end = (b : Bool) (bytes : List ℕ) → OnTrue b (NoneBegins p bytes (suc limit)) → AreFirst Gives (front p limit b bytes) items end
-      → Reaches p limit bytes (begun b ++ items) end
+  Reaching items end = (b : Bool) (bytes : List ℕ) → OnTrue b (NoneBegins p bytes (suc limit)) → AreFirst Gives (front p limit threshold b bytes) items end
+      → Reaches p limit threshold bytes (begun b ++ items) end
 
   reaches_front : (bytes : List ℕ) (item : Result (List ℕ) FrameTooLong)
       (items : List (Result (List ℕ) FrameTooLong)) (next end : Decoding Delimiting)
-      → GivesFrame (front p limit false bytes) (Item item) next → AreFirst Gives next items end
-      → Reaching items end → Reaches p limit bytes (item ∷ items) end
+      → GivesFrame (front p limit threshold false bytes) (Item item) next → AreFirst Gives next items end
+      → Reaching items end → Reaches p limit threshold bytes (item ∷ items) end
   reaches_front bytes (Ok frame) items next end (takes, fits, begins) later reaching =
       reaches_next bytes frame next.held (Ok frame) items end (takes_first p bytes frame next.held takes) (sym (within-short limit frame fits))
-      (reaching false next.held tt (subst (λ s. AreFirst Gives s items end) (mid_is next begins) later))
+      (reaching false next.held tt (subst (λ s. AreFirst Gives s items end) begins later))
   reaches_front bytes (Err e) items next end (over, is) later reaching =
       reaching true bytes (none_begins bytes over) (subst (λ s. AreFirst Gives s items end) is later)
 
@@ -202,7 +203,7 @@ module _ (p : List ℕ) (limit : ℕ) where
 
   -- what comes at the end of the stream
   ends_front : (bytes : List ℕ) (items : List (Result (List ℕ) FrameTooLong)) (frames : List (List ℕ)) (rest : List ℕ) (after : Decoding Delimiting)
-      → AreFrames p bytes frames rest → items ≡ map (within limit) frames → GivesFrame (front p limit false rest) (Last None) after
+      → AreFrames p bytes frames rest → items ≡ map (within limit) frames → GivesFrame (front p limit threshold false rest) (Last None) after
       → Ends p limit bytes items after
   ends_front bytes items frames rest after are reported (awaits, left) =
       let all = reported ∙ sym (append-nil (map (within limit) frames)) in
@@ -216,7 +217,7 @@ module _ (p : List ℕ) (limit : ℕ) where
 
   ends : (bytes : List ℕ) (items : List (Result (List ℕ) FrameTooLong)) (after : Decoding Delimiting)
       (reports : AreReports p limit bytes items) (over : Bool)
-      → reports.over ≡ over → gives_delimited (front p limit over reports.rest) (Last None) after → Ends p limit bytes items after
+      → reports.over ≡ over → gives_delimited (front p limit threshold over reports.rest) (Last None) after → Ends p limit bytes items after
   ends bytes items after reports false is (inl g) = absurd (false≢true g.0.0)
   ends bytes items after reports false is (inr (mid, here, g)) =
       let none = reports.reported ∙ ap (λ b. map (within limit) reports.frames ++ begun b) is ∙ append-nil (map (within limit) reports.frames) in
@@ -240,18 +241,18 @@ module _ (p : List ℕ) (limit : ℕ) where
       (subst (λ s. GivesFrame s (Last None) after) past.is g)
 
 pub delimited_frames_law : DelimitedFramesLaw
-delimited_frames_law p limit bytes items end are = (reaches p limit items are.rest false bytes tt are.are).0
+delimited_frames_law p limit threshold bytes items end are = (reaches p limit threshold items are.rest false bytes tt are.are).0
 
-pub delimited_ends : (p : List ℕ) (limit : ℕ) (bytes : List ℕ) (items : List (Result (List ℕ) FrameTooLong)) (end after : Decoding Delimiting)
-    → AreItems gives_delimited (front p limit false bytes) items end → gives_delimited end (Last None) after → Ends p limit bytes items after
-delimited_ends p limit bytes items end after are last =
-    let there = reaches p limit items are.rest false bytes tt are.are in
+pub delimited_ends : (p : List ℕ) (limit threshold : ℕ) (bytes : List ℕ) (items : List (Result (List ℕ) FrameTooLong)) (end after : Decoding Delimiting)
+    → AreItems gives_delimited (front p limit threshold false bytes) items end → gives_delimited end (Last None) after → Ends p limit bytes items after
+delimited_ends p limit threshold bytes items end after are last =
+    let there = reaches p limit threshold items are.rest false bytes tt are.are in
     let now = (SameNext-now gives_delimited are.rest end are.same (Last None) after).1 last in
-    ends p limit bytes items after there.0 there.0.over refl (subst (λ s. gives_delimited s (Last None) after) there.1 now)
+    ends p limit threshold bytes items after there.0 there.0.over refl (subst (λ s. gives_delimited s (Last None) after) there.1 now)
 
 pub delimited_whole_law : DelimitedWholeLaw
-delimited_whole_law p limit bytes items end after are last =
-    let whole = delimited_ends p limit bytes items end after are last in
+delimited_whole_law p limit threshold bytes items end after are last =
+    let whole = delimited_ends p limit threshold bytes items end after are last in
     (whole.reports, whole.lacks, whole.left)
 
 -- ---- how many bytes are held
@@ -264,9 +265,12 @@ record Kept (p : List ℕ) (limit : ℕ) (s : Decoding Delimiting) : Type 0 wher
 
 module _ (p : List ℕ) (limit : ℕ) where
   -- it looks for separators from the first byte on
-  kept_ready : (b : Bool) (s t : Decoding Delimiting) → Kept p limit s → t.decoder ≡ record s.decoder { searched = 0; skipping = b } → Kept p limit t
-  kept_ready b s t kept is =
-      record { begins = ap ready is ∙ kept.begins; searched = omega (arith, ap (λ (d : Delimiting). d.searched) is) }
+  kept_ready : (b : Bool) (s t : Decoding Delimiting) → Kept p limit s
+      → t ≡ record s { decoder = record s.decoder { searched = 0; skipping = b }; held = t.held } → Kept p limit t
+  kept_ready b s t kept is = record {
+    begins = ap (λ (u : Decoding Delimiting). ready u.decoder) is ∙ kept.begins;
+    searched = omega (arith, ap (λ (u : Decoding Delimiting). u.decoder.searched) is);
+  }
 
   kept_passed : (b : Bool) (s mid : Decoding Delimiting) → Kept p limit s → PassesSkipped b s mid → Kept p limit mid
   kept_passed false s mid kept passes = subst (Kept p limit) (sym passes) kept
@@ -276,7 +280,7 @@ module _ (p : List ℕ) (limit : ℕ) where
   kept_passes s mid kept passes = kept_passed s.decoder.skipping s mid kept passes
 
   kept_left : (old new : Decoding Delimiting) → Kept p limit old → keeps_delimited old new → Kept p limit new
-  kept_left old new kept (inl (inl drops)) = kept_ready old.decoder.skipping old new kept drops.decoder
+  kept_left old new kept (inl (inl drops)) = kept_ready old.decoder.skipping old new kept drops.is
   kept_left old new kept (inl (inr same)) = subst (Kept p limit) (sym same.1) kept
   kept_left old new kept (inr (mid, passes, inl is)) = subst (Kept p limit) (sym is) (kept_passes old mid kept passes)
   kept_left old new kept (inr (mid, passes, inr (awaits, is))) =
@@ -317,6 +321,6 @@ module _ (p : List ℕ) (limit : ℕ) where
       omega (arith, few_awaited mid (kept_passes old mid kept passes) awaits, ap (λ (s : Decoding Delimiting). length s.held) is)
 
 pub delimited_held_law : DelimitedHeldLaw
-delimited_held_law p limit events before end some run call =
-    let kept = kept_run p limit events (front p limit false []) before (record { begins = refl; searched = omega arith }) run in
+delimited_held_law p limit threshold events before end some run call =
+    let kept = kept_run p limit events (front p limit threshold false []) before (record { begins = refl; searched = omega arith }) run in
     few_held p limit before end some kept call.0 call.1

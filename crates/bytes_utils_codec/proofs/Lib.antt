@@ -19,4 +19,3 @@ pub mod CharacterCompletes
 pub mod FaultLen
 pub mod LossyFronts
 pub mod StreamTextsLemmas
-pub mod LossyTextsLemmas

@@ -10,11 +10,13 @@ use Rattle.bytes_utils_buf.specs.declared.refused.Reason.{Reason}
 use Rattle.bytes_utils.specs.Lines.{IsWithoutReturn, carriage_return, line_feed, lines}
 use Rattle.bytes_utils.specs.Occurrence.{Occurs}
 use Rattle.bytes_utils.proofs.LinesLemmas.{lines-whole}
-use Rattle.bytes_utils_codec.specs.Decoding.{AreItems, Decoding, Item, Last, DecodesAtEnd}
+use Rattle.bytes_utils_codec.specs.Decoding.{AreItems, Decoding, Item, Last, DecodesAtEnd, fed, starting}
 use Rattle.bytes_utils_codec.specs.Delimited.{Delimiting, FindsNext, StopsAt, begun, delimiting, gives_delimited, left_of, ready, within}
+use Rattle.bytes_utils_codec.specs.DelimitedLaws.{keeps_threshold}
 use Rattle.bytes_utils_codec.specs.Frames.{AreFrames}
-use Rattle.bytes_utils_codec.specs.LineItems.{AreItemsOf, IsItemOf, IsLastOf, IsLeft, IsLineOf, IsTextItem, LineItem, LineItemsLaw, LineReading, TakesLast, TakesLineItem, WholeLinesLaw, begun_line, fails_line, frames_of, gives_line, keeps_line}
+use Rattle.bytes_utils_codec.specs.LineItems.{AreItemsOf, IsItemOf, IsLastOf, IsLeft, IsLineOf, IsTextItem, LineItem, LineItemsLaw, LineReading, TakesLast, TakesLineItem, WholeLinesLaw, begun_line, fails_line, frames_of, gives_line, keeps_line, ready_line}
 use Rattle.bytes_utils_codec.specs.Search.{NoneBegins}
+use Rattle.bytes_utils_codec.specs.Skipping.{ended}
 use Rattle.bytes_utils_codec.specs.StreamLines.{AreFirstLines, last_line}
 use Rattle.bytes_utils_codec.specs.StreamRuns.{AreFirst}
 use Rattle.bytes_utils_codec.specs.declared.decode.too_long.FrameTooLong.{FrameTooLong}
@@ -26,24 +28,26 @@ use Rattle.bytes_utils_codec.proofs.StreamLinesLemmas.{TakesLine-framed, before_
 -- ---- the end of the stream
 
 ends_at : (b : Bool) (old new : Decoding Delimiting) → StopsAt b old new
-    → gives_delimited old (Last None) (record { decoder = ready new.decoder; held = left_of b new.held })
-ends_at true old new (skips, inl drops) = inl (skips, refl, (λ i. record { decoder = ready (drops.decoder i); held = [] }))
-ends_at true old new (skips, inr (short, same)) =
-    inl (skips, refl, ap (λ (s : Decoding Delimiting). record { decoder = ready s.decoder; held = [] }) same)
+    → gives_delimited old (Last None) (record new { decoder = ready new.decoder; held = left_of b new.held })
+ends_at true old new (skips, inl drops) = inl (skips, refl, ap (ended ready) drops.is)
+ends_at true old new (skips, inr (short, same)) = inl (skips, refl, ap (ended ready) same)
 ends_at false old new (mid, passes, awaits, is) =
-    inr (mid, passes, (awaits, ap (λ (s : Decoding Delimiting). record { decoder = ready s.decoder; held = s.held }) is))
+    inr (mid, passes, (awaits, ap (λ (s : Decoding Delimiting). record s { decoder = ready s.decoder }) is))
 
 module _ (s mid t : Decoding LineReading) (took : TakesLineItem s (Ok None) mid) where
   abbrev at_end : Decoding Delimiting
-  at_end = record { decoder = ready mid.decoder.frames; held = left_of mid.decoder.frames.skipping mid.held }
+  at_end = record (frames_of mid) { decoder = ready mid.decoder.frames; held = left_of mid.decoder.frames.skipping mid.held }
 
-  left : t ≡ record { decoder = record mid.decoder { frames = ready mid.decoder.frames }; held = [] }
-      → IsLeft s (left_of mid.decoder.frames.skipping mid.held) t
+  left : t ≡ ended ready_line mid → IsLeft s (left_of mid.decoder.frames.skipping mid.held) t
   left is = (
     at_end,
     ends_at mid.decoder.frames.skipping (frames_of s) (frames_of mid) took.0,
     refl,
-    is ∙ (λ i. record { decoder = record { frames = ready mid.decoder.frames; lossy = took.2.1 i }; held = [] }),
+    is ∙ (λ i. record {
+      decoder = record { frames = ready mid.decoder.frames; lossy = took.2.1 i };
+      held = [];
+      threshold = keeps_threshold (frames_of s) (frames_of mid) took.2.0 i;
+    }),
   )
 
   last : (line : Option LineItem) → TakesLast mid (Ok line) t → gives_line s (Last line) t
@@ -72,7 +76,11 @@ module _ (s mid t : Decoding LineReading) (took : TakesLineItem s (Ok None) mid)
 
 pub gives_lossy : (s t : Decoding LineReading) (mid : Decoding Delimiting) (len : ℕ) (text : List ℕ) → s.decoder.lossy ≡ true
     → FindsNext (frames_of s) (Some (Ok len)) mid → IsLineOf true (Ok text) (Ok (take len mid.held))
-    → t ≡ record { decoder = record { frames = ready mid.decoder; lossy = s.decoder.lossy }; held = drop (len + length mid.decoder.separator) mid.held }
+    → t ≡ record {
+      decoder = record { frames = ready mid.decoder; lossy = s.decoder.lossy };
+      held = drop (len + length mid.decoder.separator) mid.held;
+      threshold = mid.threshold;
+    }
     → gives_line s (Item (Ok text)) t
 gives_lossy s t mid len text lossy finds is ends = (
   Ok (take len mid.held),
@@ -203,8 +211,8 @@ module _ (lossy : Bool) (limit : ℕ) where
 
 -- ---- the items of a new decoder
 
-abbrev new_lines : Bool → ℕ → List ℕ → Decoding LineReading
-new_lines lossy limit bytes = record { decoder = record { frames = delimiting (line_feed ∷ []) limit; lossy = lossy }; held = bytes }
+abbrev new_lines : Bool → ℕ → ℕ → List ℕ → Decoding LineReading
+new_lines lossy limit threshold bytes = fed (starting (record { frames = delimiting (line_feed ∷ []) limit; lossy = lossy }) threshold) bytes
 
 -- the frames up to a state, and no more
 frames_up_to : (s rest : Decoding LineReading) (items : List LineItem) (of : FramesOf s items rest)
@@ -212,10 +220,10 @@ frames_up_to : (s rest : Decoding LineReading) (items : List LineItem) (of : Fra
 frames_up_to s rest items of = record { rest = frames_of rest; are = of.are; same = SameNext-refl gives_delimited (frames_of rest) }
 
 pub line_items_law : LineItemsLaw
-line_items_law lossy limit bytes items end are =
-    let s = new_lines lossy limit bytes in
+line_items_law lossy limit threshold bytes items end are =
+    let s = new_lines lossy limit threshold bytes in
     let of = frames_of_items items s are.rest are.are in
-    let reports = delimited_frames_law (line_feed ∷ []) limit bytes of.frames (frames_of are.rest) (frames_up_to s are.rest items of) in
+    let reports = delimited_frames_law (line_feed ∷ []) limit threshold bytes of.frames (frames_of are.rest) (frames_up_to s are.rest items of) in
     let got = items_of_frames lossy limit reports.frames reports.over items (subst (AreLinesOf lossy items) reports.reported of.lines) in
     record {
       given = got.given;
@@ -259,12 +267,12 @@ module _ (lossy : Bool) (limit : ℕ) where
   many_over false rest long = tt
 
 pub whole_lines_law : WholeLinesLaw
-whole_lines_law lossy limit bytes items end last after are gives =
-    let s = new_lines lossy limit bytes in
+whole_lines_law lossy limit threshold bytes items end last after are gives =
+    let s = new_lines lossy limit threshold bytes in
     let of = frames_of_items items s are.rest are.are in
     let ends = (SameNext-now gives_line are.rest end are.same (Last last) after).1 gives in
     let mid = ends.1.0 in
-    let whole = delimited_ends (line_feed ∷ []) limit bytes of.frames (frames_of are.rest) mid (frames_up_to s are.rest items of) ends.1.1 in
+    let whole = delimited_ends (line_feed ∷ []) limit threshold bytes of.frames (frames_of are.rest) mid (frames_up_to s are.rest items of) ends.1.1 in
     let reports = whole.reports in
     let over = reports.over in
     let rest = reports.rest in

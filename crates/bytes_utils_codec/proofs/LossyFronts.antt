@@ -71,13 +71,13 @@ no_text bs none some =
     = ap (λ m. drop (m + utf8_invalid_len (drop m bs)) bs) none ∙ ap (λ m. drop m bs) (zero-add (utf8_invalid_len bs)) in
     utf8_lossy_step bs (λ e. omega (arith, e, none, some)) ∙ (λ i. take (none i) bs ++ (replacement_bytes ++ utf8_lossy (after i)))
 
-lossy_fault : (bs : List ℕ) (n : ℕ) → utf8_valid_len bs ≡ 0 → utf8_error_len bs ≡ Some n → utf8_lossy bs ≡ replacement_bytes ++ utf8_lossy (drop n bs)
+pub lossy_fault : (bs : List ℕ) (n : ℕ) → utf8_valid_len bs ≡ 0 → utf8_error_len bs ≡ Some n → utf8_lossy bs ≡ replacement_bytes ++ utf8_lossy (drop n bs)
 lossy_fault bs n none is =
     no_text bs none (omega (arith, fault_some bs n is, fault_within bs n is))
     ∙ ap (λ o. replacement_bytes ++ utf8_lossy (drop (unwrap_or o (length bs)) bs)) is
 
 -- no text begins there, whatever follows
-none_more : (bs following : List ℕ) → utf8_valid_len bs ≡ 0 → IsFaulty bs → utf8_valid_len (bs ++ following) ≡ 0
+pub none_more : (bs following : List ℕ) → utf8_valid_len bs ≡ 0 → IsFaulty bs → utf8_valid_len (bs ++ following) ≡ 0
 none_more bs following none faulty =
     let all = bs ++ following in
     let m = utf8_valid_len all in

@@ -26,27 +26,28 @@ use Rattle.bytes_utils_codec.proofs.UniversalLinesLemmas.{all_universal_law}
 -- ---- the parts of a call
 
 -- a line feed is passed, and then a line that is skipped
-passes_then : (limit from : ℕ) (lossy : Bool) (place : Place) (held : List ℕ) (mid : State)
-    → PassesLong (after_feed (state limit from lossy place held)) mid
-    → Reaches (state limit from lossy place held) mid
-passes_then limit from lossy LongLine held mid (len, ends, is) =
-    record { ending = after_end len (state limit from lossy LongLine held); ends = (len, ends, refl); is = is }
-passes_then limit from lossy AfterReturn (c ∷ t) mid is = record { ending = state limit from lossy AfterReturn (c ∷ t); ends = refl; is = is }
-passes_then limit from lossy place held mid is = record { ending = state limit from lossy place held; ends = refl; is = is }
+passes_then : (limit threshold from : ℕ) (lossy : Bool) (place : Place) (held : List ℕ) (mid : State)
+    → PassesLong (after_feed (state limit threshold from lossy place held)) mid
+    → Reaches (state limit threshold from lossy place held) mid
+passes_then limit threshold from lossy LongLine held mid (len, ends, is) =
+    record { ending = after_end len (state limit threshold from lossy LongLine held); ends = (len, ends, refl); is = is }
+passes_then limit threshold from lossy AfterReturn (c ∷ t) mid is =
+    record { ending = state limit threshold from lossy AfterReturn (c ∷ t); ends = refl; is = is }
+passes_then limit threshold from lossy place held mid is = record { ending = state limit threshold from lossy place held; ends = refl; is = is }
 
 pub reaches_then : (s fed : State) → fed ≡ after_feed s → (mid : State) → PassesLong fed mid → Reaches s mid
 reaches_then s fed is mid passes =
-    passes_then s.decoder.max_length s.decoder.searched s.decoder.lossy s.decoder.place s.held mid (subst (λ t. PassesLong t mid) is passes)
+    passes_then s.decoder.max_length s.threshold s.decoder.searched s.decoder.lossy s.decoder.place s.held mid
+    (subst (λ t. PassesLong t mid) is passes)
 
--- an end is passed
-pub after_end_is : (s ending : State) (len : ℕ) → ending.held ≡ drop 1 (drop len s.held)
-    → ending.decoder ≡ record s.decoder { searched = 0; place = place_after (slice_index (drop len s.held) 0) } → ending ≡ after_end len s
-after_end_is s ending len rest begins =
+-- a line is dropped, and then its end
+pub after_end_is : (s : State) (len : ℕ) → after_end 0 (record s { held = drop len s.held }) ≡ after_end len s
+after_end_is s len =
     let next : suc len ≡ len + 1 = omega arith in
-    let held : ending.held ≡ drop (suc len) s.held = rest ∙ drop-drop 1 len s.held ∙ ap (λ n. drop n s.held) (sym next) in
+    let held : drop 1 (drop len s.held) ≡ drop (suc len) s.held = drop-drop 1 len s.held ∙ ap (λ n. drop n s.held) (sym next) in
     let whole : len + 0 ≡ len = omega arith in
     let byte : slice_index (drop len s.held) 0 ≡ slice_index s.held len = get_or-drop len s.held 0 0 ∙ ap (slice_index s.held) whole in
-    (λ i. record { decoder = (begins ∙ ap (λ c. record s.decoder { searched = 0; place = place_after c }) byte) i; held = held i })
+    (λ i. record s { decoder = record s.decoder { searched = 0; place = place_after (byte i) }; held = held i })
 
 -- a line that is skipped, whose end has come or has not
 passes_long : (place : Place) (s mid : State) (len : ℕ) → place ≡ LongLine → FindsEnd s.held s.decoder.searched (Some len) → mid ≡ after_feed (after_end len s)
@@ -55,18 +56,16 @@ passes_long LongLine s mid len is found there = (len, found, there)
 passes_long place s mid len is found there = absurd cc
 
 module _ (s : State) (long : s.decoder.place ≡ LongLine) where
-  pub long_found : (ending mid : State) (len : ℕ) → FindsEnd s.held s.decoder.searched (Some len) → ending.held ≡ drop 1 (drop len s.held)
-      → ending.decoder ≡ record s.decoder { searched = 0; place = place_after (slice_index (drop len s.held) 0) } → mid ≡ after_feed ending → PassesLong s mid
-  long_found ending mid len found rest begins is =
-      passes_long s.decoder.place s mid len long found (is ∙ ap after_feed (after_end_is s ending len rest begins))
+  pub long_found : (ending mid : State) (len : ℕ) → FindsEnd s.held s.decoder.searched (Some len)
+      → ending ≡ after_end 0 (record s { held = drop len s.held }) → mid ≡ after_feed ending → PassesLong s mid
+  long_found ending mid len found ends is =
+      passes_long s.decoder.place s mid len long found (is ∙ ap after_feed (ends ∙ after_end_is s len))
 
-  pub long_missed : (new : State) (len : ℕ) → FindsEnd s.held s.decoder.searched None → len ≡ length s.held → new.held ≡ drop len s.held
-      → new.decoder ≡ record s.decoder { searched = s.decoder.searched - len } → SkipsOn s × (new ≡ dropped s)
-  long_missed new len missed all rest begins =
-      let none : new.held ≡ [] = rest ∙ drop_all len s.held (omega (arith, all)) in (
-        (long, missed),
-        (λ i. record { decoder = (begins ∙ ap (λ n. record s.decoder { searched = s.decoder.searched - n }) all) i; held = none i }),
-      )
+  pub long_missed : (new : State) (len : ℕ) → FindsEnd s.held s.decoder.searched None → len ≡ length s.held
+      → new ≡ record s { decoder = record s.decoder { searched = s.decoder.searched - len }; held = drop len s.held } → SkipsOn s × (new ≡ dropped s)
+  long_missed new len missed all is =
+      let none : drop len s.held ≡ [] = drop_all len s.held (omega (arith, all)) in
+      ((long, missed), is ∙ (λ i. record s { decoder = record s.decoder { searched = s.decoder.searched - all i }; held = none i }))
 
 pub finds_then : (s mid : State) (r : Option (Result ℕ FrameTooLong)) (new : State) → Reaches s mid → IsComing mid r new → FindsUniversal s r new
 finds_then s mid (Some (Ok len)) new reaches coming =
@@ -120,15 +119,15 @@ first_line bytes len found =
 abbrev Gives : State → LineItem → State → Type 0
 Gives old item new = gives_universal old (Item item) new
 
-module _ (lossy : Bool) (limit : ℕ) where
+module _ (lossy : Bool) (limit threshold : ℕ) where
   -- what was read so far: all lines up to the front of one, or up to one that was reported to be too long
   data Front : Type 0 where
     AtFront : (place : Place) → IsPassed place → List ℕ → Front
     InLong : (bytes : List ℕ) → limit < length bytes → Nowhere (IsEndAt bytes) 0 (suc limit) → Front
 
   abbrev state_at : Front → State
-  state_at (AtFront place passed held) = state limit 0 lossy place held
-  state_at (InLong bytes many none) = state limit (suc limit) lossy LongLine bytes
+  state_at (AtFront place passed held) = state limit threshold 0 lossy place held
+  state_at (InLong bytes many none) = state limit threshold (suc limit) lossy LongLine bytes
 
   -- the bytes from there on
   abbrev rest_at : Front → List ℕ
@@ -198,7 +197,7 @@ module _ (lossy : Bool) (limit : ℕ) where
     reports : Reports front items last
 
   next_front : (place : Place) (passed : IsPassed place) (held : List ℕ) (item : LineItem) (next : State)
-      → GivesFrom (after_feed (state limit 0 lossy place held)) (Item item) next → Ends (AtFront place passed held) (item ∷ []) next
+      → GivesFrom (after_feed (state limit threshold 0 lossy place held)) (Item item) next → Ends (AtFront place passed held) (item ∷ []) next
   next_front place passed held item next (inl (len, has, text, is)) =
       let bytes = (feed_passed place held).1 in
       let line : IsItemOf lossy limit item (take len bytes) (take len bytes) =
@@ -218,7 +217,7 @@ module _ (lossy : Bool) (limit : ℕ) where
     place : Place
     passed : IsPassed place
     held : List ℕ
-    is : mid ≡ after_feed (state limit 0 lossy place held)
+    is : mid ≡ after_feed (state limit threshold 0 lossy place held)
     reports : Reports front [] (AtFront place passed held)
 
   reached_by : (front : Front) (mid : State) → Reaches (state_at front) mid → Reached front mid
@@ -226,7 +225,7 @@ module _ (lossy : Bool) (limit : ℕ) where
     place = place;
     passed = passed;
     held = held;
-    is = Reaches-one (state limit 0 lossy place held) mid _ reaches (Reaches-feed (state limit 0 lossy place held) passed);
+    is = Reaches-one (state limit threshold 0 lossy place held) mid _ reaches (Reaches-feed (state limit threshold 0 lossy place held) passed);
     reports = none_more (AtFront place passed held);
   }
   reached_by (InLong bytes many none) mid reaches =
@@ -265,7 +264,7 @@ module _ (lossy : Bool) (limit : ℕ) where
   long_at (AtFront place passed held) = tt
   long_at (InLong bytes many none) = (many, lacks_before bytes (suc limit) none)
 
-  items_of : (bytes : List ℕ) (items : List LineItem) (end : State) → AreUniversalItems lossy limit bytes items end
+  items_of : (bytes : List ℕ) (items : List LineItem) (end : State) → AreUniversalItems lossy limit threshold bytes items end
       → AreFirstUniversalItems lossy limit bytes items
   items_of bytes items end are =
       let all = ends_after items (AtFront Line tt bytes) are.rest are.are in
@@ -320,7 +319,7 @@ module _ (lossy : Bool) (limit : ℕ) where
         all_given front whole (lacks_all rest waits.lacks)
         (last_items lossy limit false last rest (subst (λ (t : State). IsLastOf t.decoder.lossy last t.held) at.is ends) tt waits.few)
 
-    whole_of : (end after : State) → AreUniversalItems lossy limit bytes items end → gives_universal end (Last last) after → AreAll
+    whole_of : (end after : State) → AreUniversalItems lossy limit threshold bytes items end → gives_universal end (Last last) after → AreAll
     whole_of end after are gives =
         let all = ends_after items (AtFront Line tt bytes) are.rest are.are in
         let ends = (SameNext-now gives_universal are.rest end are.same (Last last) after).1 gives in
@@ -330,4 +329,4 @@ pub universal_items_law : UniversalItemsLaw
 universal_items_law = items_of
 
 pub whole_universal_law : WholeUniversalLaw
-whole_universal_law lossy limit bytes items end last after are gives = whole_of lossy limit bytes items last end after are gives
+whole_universal_law lossy limit threshold bytes items end last after are gives = whole_of lossy limit threshold bytes items last end after are gives

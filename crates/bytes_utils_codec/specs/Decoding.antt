@@ -5,13 +5,18 @@ use Rattle.std.specs.List.{concat, flat_map}
 use Rattle.bytes_utils_buf.specs.Packing.{Packing}
 use Rattle.bytes_utils_codec.specs.StreamRuns.{StreamEvent, IsRunOver, pushed_by, given_by, AreFirst}
 
--- a decoder D, and the bytes that it has not taken yet
+-- a decoder D, the bytes that it has not taken yet, and the greatest length of a piece that is copied to those before it
 pub record Decoding (D : Type 0) : Type 0 where
   pub decoder : D
   pub held : List ℕ
+  pub threshold : ℕ
 
 abbrev pub decoding : {D : Type 0} → D → Packing → Decoding D
-decoding decoder pieces = record { decoder = decoder; held = concat pieces.held.segments }
+decoding decoder pieces = record { decoder = decoder; held = concat pieces.held.segments; threshold = pieces.threshold }
+
+-- a decoder that holds no bytes
+abbrev pub starting : {D : Type 0} → D → ℕ → Decoding D
+starting decoder threshold = record { decoder = decoder; held = []; threshold = threshold }
 
 -- what comes next: an item, or the last item or none, if no byte follows those held
 pub data Next (A : Type 0) : Type 0 where
@@ -58,7 +63,7 @@ DecodesAtEnd gives fails keeps old (Err error) new = fails old error × keeps ol
 
 -- the first bytes are gone, and the decoder begins at the front of those after them
 abbrev pub passed : {D : Type 0} → (D → D) → ℕ → Decoding D → Decoding D
-passed restarted len s = record { decoder = restarted s.decoder; held = drop len s.held }
+passed restarted len s = record s { decoder = restarted s.decoder; held = drop len s.held }
 
 -- bytes that follow change no item that is there
 abbrev pub IsStable : {D A : Type 0} → Gives D A → Type 0

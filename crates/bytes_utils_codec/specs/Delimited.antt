@@ -8,7 +8,7 @@ use Rattle.bytes_utils.specs.Occurrence.{Occurs, OccursAt}
 use Rattle.bytes_utils_codec.specs.Skipping.{gives_skipping}
 use Rattle.bytes_utils_codec.specs.Frames.{AreFrames}
 use Rattle.bytes_utils_codec.specs.Search.{NoneBegins}
-use Rattle.bytes_utils_codec.specs.Decoding.{Decoding, Gives, Item, Last, AreItems, Decodes, fed}
+use Rattle.bytes_utils_codec.specs.Decoding.{Decoding, Gives, Item, Last, AreItems, Decodes, fed, passed, starting}
 use Rattle.bytes_utils_codec.specs.StreamRuns.{StreamEvent, IsRunOver}
 use Rattle.bytes_utils_codec.specs.declared.decode.too_long.FrameTooLong.{FrameTooLong}
 
@@ -46,7 +46,7 @@ LacksSeparator s = (k : ℕ) → s.decoder.searched ≤ k → ¬ OccursAt s.deco
 -- the frame that is skipped, if there is one, is passed with its separator
 abbrev pub PassesSkipped : Bool → Decoding Delimiting → Decoding Delimiting → Type 0
 PassesSkipped false old new = new ≡ old
-PassesSkipped true old new = (gone : List ℕ) × Takes old gone new.held × (new.decoder ≡ ready old.decoder)
+PassesSkipped true old new = (gone : List ℕ) × Takes old gone new.held × (new ≡ record old { decoder = ready old.decoder; held = new.held })
 
 abbrev pub Passes : Decoding Delimiting → Decoding Delimiting → Type 0
 Passes old new = PassesSkipped old.decoder.skipping old new
@@ -76,7 +76,8 @@ AwaitsFrame s = SkipsOn s ⊎ ((mid : Decoding Delimiting) × Passes s mid × Aw
 -- What comes next at the front of a frame: it, if it is within the limit, or that it is longer. At the end of the stream
 -- none, and what is held is left.
 abbrev pub GivesFrame : Gives Delimiting (Result (List ℕ) FrameTooLong)
-GivesFrame s (Item (Ok frame)) new = Takes s frame new.held × (length frame ≤ s.decoder.max_length) × (new.decoder ≡ ready s.decoder)
+GivesFrame s (Item (Ok frame)) new = Takes s frame new.held × (length frame ≤ s.decoder.max_length)
+    × (new ≡ record s { decoder = ready s.decoder; held = new.held })
 GivesFrame s (Item (Err e)) new = IsOverLimit s × (new ≡ record s { decoder = skipping_from s.decoder })
 GivesFrame s (Last None) new = AwaitsSeparator s × (new ≡ record s { decoder = ready s.decoder })
 GivesFrame s (Last (Some item)) new = ⊥
@@ -97,7 +98,7 @@ pub record DropsSkipped (old new : Decoding Delimiting) : Type 0 where
   pub gone : List ℕ
   pub bytes : old.held ≡ gone ++ new.held
   pub skipping : old.decoder.skipping ≡ true
-  pub decoder : new.decoder ≡ record old.decoder { searched = 0 }
+  pub is : new ≡ record old { decoder = record old.decoder { searched = 0 }; held = new.held }
   pub none : (more : List ℕ) (k : ℕ) → old.decoder.searched ≤ k → OccursAt old.decoder.separator (old.held ++ more) k → length gone ≤ k
   pub low : old.decoder.searched ≤ length gone
   pub few : length new.held < length old.decoder.separator
@@ -129,8 +130,7 @@ Stops old new = StopsAt new.decoder.skipping old new
 -- what a call that finds the next frame did, by what it returned: the frame can be taken then, by its length
 abbrev pub FindsNext : Decoding Delimiting → Option (Result ℕ FrameTooLong) → Decoding Delimiting → Type 0
 FindsNext old (Some (Ok len)) new = keeps_delimited old new × (len + length new.decoder.separator ≤ length new.held)
-    × gives_delimited old (Item (Ok (take len new.held)))
-    (record { decoder = ready new.decoder; held = drop (len + length new.decoder.separator) new.held })
+    × gives_delimited old (Item (Ok (take len new.held))) (passed ready (len + length new.decoder.separator) new)
 FindsNext old (Some (Err over)) new = gives_delimited old (Item (Err over)) new
 FindsNext old None new = Stops old new × AwaitsFrame old × keeps_delimited old new
 
@@ -155,8 +155,8 @@ pub record AreReports (separator : List ℕ) (limit : ℕ) (bytes : List ℕ) (i
 
 -- The items of a new decoder are reported of the bytes.
 abbrev pub DelimitedFramesLaw : Type 0
-DelimitedFramesLaw = (separator : List ℕ) (limit : ℕ) (bytes : List ℕ) (items : List (Result (List ℕ) FrameTooLong)) (end : Decoding Delimiting)
-    → AreItems gives_delimited (record { decoder = delimiting separator limit; held = bytes }) items end → AreReports separator limit bytes items
+DelimitedFramesLaw = (separator : List ℕ) (limit threshold : ℕ) (bytes : List ℕ) (items : List (Result (List ℕ) FrameTooLong)) (end : Decoding Delimiting)
+    → AreItems gives_delimited (fed (starting (delimiting separator limit) threshold) bytes) items end → AreReports separator limit bytes items
 
 -- what is left of the bytes after the last frame: none, if they were reported to be too many
 abbrev pub left_of : Bool → List ℕ → List ℕ
@@ -166,8 +166,8 @@ left_of false rest = rest
 -- If no item comes after them at the end of the stream, then the frames are all of the bytes: after them there is no
 -- separator.
 abbrev pub DelimitedWholeLaw : Type 0
-DelimitedWholeLaw = (separator : List ℕ) (limit : ℕ) (bytes : List ℕ) (items : List (Result (List ℕ) FrameTooLong)) (end after : Decoding Delimiting)
-    → AreItems gives_delimited (record { decoder = delimiting separator limit; held = bytes }) items end → gives_delimited end (Last None) after
+DelimitedWholeLaw = (separator : List ℕ) (limit threshold : ℕ) (bytes : List ℕ) (items : List (Result (List ℕ) FrameTooLong)) (end after : Decoding Delimiting)
+    → AreItems gives_delimited (fed (starting (delimiting separator limit) threshold) bytes) items end → gives_delimited end (Last None) after
     → (reports : AreReports separator limit bytes items) × (¬ Occurs separator reports.rest) × (after.held ≡ left_of reports.over reports.rest)
 
 -- what a call on a new decoder and the bytes that came returned, or a piece that came
@@ -180,6 +180,6 @@ IsDelimitedCall old result new = Decodes gives_delimited AwaitsFrame fails_delim
 -- Whatever the pieces are, after a call of a new decoder's that returned nothing fewer bytes are held than the limit
 -- and the separator have together.
 abbrev pub DelimitedHeldLaw : Type 0
-DelimitedHeldLaw = (separator : List ℕ) (limit : ℕ) (events : List DelimitedEvent) (before end : Decoding Delimiting) → 0 < length separator
-    → IsRunOver fed IsDelimitedCall (record { decoder = delimiting separator limit; held = [] }) events before → IsDelimitedCall before (Ok None) end
+DelimitedHeldLaw = (separator : List ℕ) (limit threshold : ℕ) (events : List DelimitedEvent) (before end : Decoding Delimiting) → 0 < length separator
+    → IsRunOver fed IsDelimitedCall (starting (delimiting separator limit) threshold) events before → IsDelimitedCall before (Ok None) end
     → length end.held < limit + length separator

@@ -5,7 +5,7 @@ use Rattle.std.proofs.lemmas.List.{take-append-le, drop-append-le, take_at, drop
 use Rattle.bytes_utils_buf.proofs.Lists.{drop-append_past}
 use Rattle.bytes_utils.specs.Occurrence.{OccursAt}
 use Rattle.bytes_utils_codec.specs.Decoding.{Decoding, Next, Item, Last, fed, HasSameNext, IsStable, IsSingle, WaitsForItem, KeepsNext}
-use Rattle.bytes_utils_codec.specs.Skipping.{AreFronts, Leads, skipping_single, skipping_stable, skipping_waits, same_front, same_next, same_trans}
+use Rattle.bytes_utils_codec.specs.Skipping.{AreFronts, Leads, ended, skipping_single, skipping_stable, skipping_waits, same_front, same_next, same_trans}
 use Rattle.bytes_utils_codec.specs.Delimited.{Delimiting, GivesFrame, ready, TakesFrameFrom, Takes, LacksSeparator, PassesSkipped, Passes, AwaitsSeparator, IsOverLimit, SkipsOn, AwaitsFrame, gives_delimited, DropsSkipped, all_searched, keeps_delimited}
 use Rattle.bytes_utils_codec.specs.declared.decode.too_long.FrameTooLong.{FrameTooLong}
 
@@ -54,8 +54,7 @@ passed_same : (b : Bool) (s x y : Decoding Delimiting) → PassesSkipped b s x �
 passed_same false s x y a b = a ∙ sym b
 passed_same true s x y a b =
     let same = TakesFrameFrom-same s.decoder.separator s.decoder.searched s.held a.0 b.0 x.held y.held a.1 b.1 in
-    let decoders : x.decoder ≡ y.decoder = a.2 ∙ sym b.2 in
-    (λ i. record { decoder = decoders i; held = same.1 i })
+    a.2 ∙ ap (λ l. record s { decoder = ready s.decoder; held = l }) same.1 ∙ sym b.2
 
 pub Passes-same : (s x y : Decoding Delimiting) → Passes s x → Passes s y → x ≡ y
 Passes-same s x y a b = passed_same s.decoder.skipping s x y a b
@@ -63,26 +62,39 @@ Passes-same s x y a b = passed_same s.decoder.skipping s x y a b
 passed_more : (b : Bool) (s mid : Decoding Delimiting) (more : List ℕ) → PassesSkipped b s mid → PassesSkipped b (fed s more) (fed mid more)
 passed_more false s mid more passes = ap (λ t. fed t more) passes
 passed_more true s mid more passes =
-    (passes.0, TakesFrameFrom-more s.decoder.separator s.decoder.searched s.held passes.0 mid.held passes.1 more, passes.2)
+    (passes.0, TakesFrameFrom-more s.decoder.separator s.decoder.searched s.held passes.0 mid.held passes.1 more, ap (λ t. fed t more) passes.2)
 
 pub Passes-more : (s mid : Decoding Delimiting) (more : List ℕ) → Passes s mid → Passes (fed s more) (fed mid more)
 Passes-more s mid more passes = passed_more s.decoder.skipping s mid more passes
 
-passed_ready : (b : Bool) (s mid : Decoding Delimiting) → PassesSkipped b s mid → ready mid.decoder ≡ ready s.decoder
-passed_ready false s mid passes = ap (λ (t : Decoding Delimiting). ready t.decoder) passes
-passed_ready true s mid passes = ap ready passes.2
+passed_ready : (b : Bool) (s mid : Decoding Delimiting) → PassesSkipped b s mid → ended ready mid ≡ ended ready s
+passed_ready false s mid passes = ap (ended ready) passes
+passed_ready true s mid passes = ap (ended ready) passes.2
 
-pub Passes-ready : (s mid : Decoding Delimiting) → Passes s mid → ready mid.decoder ≡ ready s.decoder
+pub Passes-ready : (s mid : Decoding Delimiting) → Passes s mid → ended ready mid ≡ ended ready s
 Passes-ready s mid passes = passed_ready s.decoder.skipping s mid passes
 
 passed_front : (b : Bool) (s mid : Decoding Delimiting) → s.decoder.skipping ≡ b → PassesSkipped b s mid → mid.decoder.skipping ≡ false
 passed_front false s mid is passes = ap (λ (t : Decoding Delimiting). t.decoder.skipping) passes ∙ is
-passed_front true s mid is passes = ap (λ (d : Delimiting). d.skipping) passes.2
+passed_front true s mid is passes = ap (λ (t : Decoding Delimiting). t.decoder.skipping) passes.2
 
 passed_not : (b : Bool) (s mid : Decoding Delimiting) → b ≡ true → LacksSeparator s → PassesSkipped b s mid → ⊥
 passed_not false s mid is lacks passes = false≢true is
 passed_not true s mid is lacks passes =
     lacks (length passes.0) passes.1.low (occurs_after s.decoder.separator s.decoder.searched s.held passes.0 mid.held passes.1)
+
+-- a call that gives no item keeps the threshold
+passed_threshold : (b : Bool) (s mid : Decoding Delimiting) → PassesSkipped b s mid → mid.threshold ≡ s.threshold
+passed_threshold false s mid passes = ap (λ (t : Decoding Delimiting). t.threshold) passes
+passed_threshold true s mid passes = ap (λ (t : Decoding Delimiting). t.threshold) passes.2
+
+pub keeps_threshold : (old new : Decoding Delimiting) → keeps_delimited old new → new.threshold ≡ old.threshold
+keeps_threshold old new (inl (inl drops)) = ap (λ (t : Decoding Delimiting). t.threshold) drops.is
+keeps_threshold old new (inl (inr waits)) = ap (λ (t : Decoding Delimiting). t.threshold) waits.1
+keeps_threshold old new (inr (mid, passes, inl is)) =
+    ap (λ (t : Decoding Delimiting). t.threshold) is ∙ passed_threshold old.decoder.skipping old mid passes
+keeps_threshold old new (inr (mid, passes, inr (awaits, is))) =
+    ap (λ (t : Decoding Delimiting). t.threshold) is ∙ passed_threshold old.decoder.skipping old mid passes
 
 pub SkipsOn-passes : (s mid : Decoding Delimiting) → SkipsOn s → ¬ Passes s mid
 SkipsOn-passes s mid skips passes = passed_not s.decoder.skipping s mid skips.0 skips.1 passes
@@ -99,7 +111,8 @@ IsOverLimit-more s more over = record {
 
 frame_more : (s new : Decoding Delimiting) (item : Result (List ℕ) FrameTooLong) (more : List ℕ) → GivesFrame s (Item item) new
     → GivesFrame (fed s more) (Item item) (fed new more)
-frame_more s new (Ok frame) more g = (TakesFrameFrom-more s.decoder.separator s.decoder.searched s.held frame new.held g.0 more, g.1, g.2)
+frame_more s new (Ok frame) more g =
+    (TakesFrameFrom-more s.decoder.separator s.decoder.searched s.held frame new.held g.0 more, g.1, ap (λ t. fed t more) g.2)
 frame_more s new (Err e) more g = (IsOverLimit-more s more g.0, ap (λ t. fed t more) g.1)
 
 -- ---- at most one thing comes next
@@ -116,8 +129,7 @@ over_not_taken s frame rest takes fits over =
 frame_single : IsSingle GivesFrame
 frame_single s (Item (Ok f)) (Item (Ok g)) x y a b =
     let same = TakesFrameFrom-same s.decoder.separator s.decoder.searched s.held f g x.held y.held a.0 b.0 in
-    let decoders : x.decoder ≡ y.decoder = a.2 ∙ sym b.2 in
-    ((λ i. Item (Ok (same.0 i))), (λ i. record { decoder = decoders i; held = same.1 i }))
+    ((λ i. Item (Ok (same.0 i))), a.2 ∙ ap (λ l. record s { decoder = ready s.decoder; held = l }) same.1 ∙ sym b.2)
 frame_single s (Item (Ok f)) (Item (Err e)) x y a b = absurd (over_not_taken s f x.held a.0 a.1 b.0)
 frame_single s (Item (Err e)) (Item (Ok g)) x y a b = absurd (over_not_taken s g y.held b.0 b.1 a.0)
 frame_single s (Item (Err e)) (Item (Err d)) x y a b = (refl, a.1 ∙ sym b.1)
@@ -147,8 +159,12 @@ delimited_single = skipping_single fronts
 
 -- ---- after a call that gave no item
 
-abbrev state : List ℕ → ℕ → ℕ → Bool → List ℕ → Decoding Delimiting
-state p limit from b held = record { decoder = record { separator = p; max_length = limit; searched = from; skipping = b }; held = held }
+abbrev state : List ℕ → ℕ → ℕ → ℕ → Bool → List ℕ → Decoding Delimiting
+state p limit threshold from b held = record {
+  decoder = record { separator = p; max_length = limit; searched = from; skipping = b };
+  held = held;
+  threshold = threshold;
+}
 
 -- two places from which the same separators are found
 module _ (p bytes : List ℕ) (from n : ℕ) (on : (k : ℕ) → OccursAt p bytes k → from ≤ k → n ≤ k) (back : (k : ℕ) → OccursAt p bytes k → n ≤ k → from ≤ k) where
@@ -159,19 +175,19 @@ module _ (p bytes : List ℕ) (from n : ℕ) (on : (k : ℕ) → OccursAt p byte
     first = λ k low here. takes.first k (back k here low) here;
   }
 
-  frame_searched : (limit : ℕ) (next : Next (Result (List ℕ) FrameTooLong)) (after : Decoding Delimiting)
-      → GivesFrame (state p limit from false bytes) next after → GivesFrame (state p limit n false bytes) next after
-  frame_searched limit (Item (Ok frame)) after g = (takes_searched frame after.held g.0, g.1, g.2)
-  frame_searched limit (Item (Err e)) after g = (record { many = g.0.many; none = λ k low here. g.0.none k (back k here low) here }, g.1)
-  frame_searched limit (Last None) after g = (record { lacks = λ k low here. g.0.lacks k (back k here low) here; few = g.0.few }, g.1)
-  frame_searched limit (Last (Some item)) after g = g
+  frame_searched : (limit threshold : ℕ) (next : Next (Result (List ℕ) FrameTooLong)) (after : Decoding Delimiting)
+      → GivesFrame (state p limit threshold from false bytes) next after → GivesFrame (state p limit threshold n false bytes) next after
+  frame_searched limit threshold (Item (Ok frame)) after g = (takes_searched frame after.held g.0, g.1, g.2)
+  frame_searched limit threshold (Item (Err e)) after g = (record { many = g.0.many; none = λ k low here. g.0.none k (back k here low) here }, g.1)
+  frame_searched limit threshold (Last None) after g = (record { lacks = λ k low here. g.0.lacks k (back k here low) here; few = g.0.few }, g.1)
+  frame_searched limit threshold (Last (Some item)) after g = g
 
-  leads_searched : (limit : ℕ) → Leads Passes SkipsOn ready GivesFrame (state p limit from false bytes) (state p limit n false bytes)
-  leads_searched limit = record {
+  leads_searched : (limit threshold : ℕ) → Leads Passes SkipsOn ready GivesFrame (state p limit threshold from false bytes) (state p limit threshold n false bytes)
+  leads_searched limit threshold = record {
     passes = λ mid is.
-        (state p limit n false bytes, refl, λ next after given. frame_searched limit next after (subst (λ t. GivesFrame t next after) is given));
+        (state p limit threshold n false bytes, refl, λ next after given. frame_searched limit threshold next after (subst (λ t. GivesFrame t next after) is given));
     skips = λ skips. absurd (false≢true skips.0);
-    decoder = refl;
+    ends = refl;
   }
 
 -- a separator that is not there isn't empty
@@ -180,18 +196,18 @@ some_from_lacking [] held from lacks = absurd (lacks from (omega arith) refl)
 some_from_lacking (b ∷ p) held from lacks = omega arith
 
 -- all held bytes are searched, and no separator is there
-same_searched : (p : List ℕ) (limit from : ℕ) (held : List ℕ) → ((k : ℕ) → from ≤ k → ¬ OccursAt p held k)
-    → HasSameNext gives_delimited (state p limit from false held) (all_searched (state p limit from false held))
-same_searched p limit from held lacks =
+same_searched : (p : List ℕ) (limit threshold from : ℕ) (held : List ℕ) → ((k : ℕ) → from ≤ k → ¬ OccursAt p held k)
+    → HasSameNext gives_delimited (state p limit threshold from false held) (all_searched (state p limit threshold from false held))
+same_searched p limit threshold from held lacks =
     let some = some_from_lacking p held from lacks in
     let n = max from (length held - (length p - 1)) in
-    same_next fronts (state p limit from false held) (state p limit n false held) (λ more.
+    same_next fronts (state p limit threshold from false held) (state p limit threshold n false held) (λ more.
     let bytes = held ++ more in
     let further : (k : ℕ) → OccursAt p bytes k → from ≤ k → n ≤ k =
     λ k here low. ⊎_elim (λ below. absurd (lacks k low (occurs_in_front p held more k here (omega (arith, below, low, some))))) (λ above. above)
     (cases_lt k n) in
     let back : (k : ℕ) → OccursAt p bytes k → n ≤ k → from ≤ k = λ k here low. omega arith in
-    (leads_searched p bytes from n further back limit, leads_searched p bytes n from back further limit))
+    (leads_searched p bytes from n further back limit threshold, leads_searched p bytes n from back further limit threshold))
 
 -- the first bytes of the frame that is skipped are gone
 module _ (p gone bytes : List ℕ) (from : ℕ) (low : from ≤ length gone) (none : (k : ℕ) → from ≤ k → OccursAt p (gone ++ bytes) k → length gone ≤ k) where
@@ -222,41 +238,42 @@ module _ (p gone bytes : List ℕ) (from : ℕ) (low : from ≤ length gone) (no
             omega (arith, size, above, takes.first (k - length gone) (omega arith) (occurs_from_after k above here));
       }
 
-  leads_dropped : (limit : ℕ) → Leads Passes SkipsOn ready GivesFrame (state p limit from true (gone ++ bytes)) (state p limit 0 true bytes)
-      × Leads Passes SkipsOn ready GivesFrame (state p limit 0 true bytes) (state p limit from true (gone ++ bytes))
-  leads_dropped limit = (
+  leads_dropped : (limit threshold : ℕ) → Leads Passes SkipsOn ready GivesFrame (state p limit threshold from true (gone ++ bytes)) (state p limit threshold 0 true bytes)
+      × Leads Passes SkipsOn ready GivesFrame (state p limit threshold 0 true bytes) (state p limit threshold from true (gone ++ bytes))
+  leads_dropped limit threshold = (
     record {
       passes = λ mid passes. (mid, (drop (length gone) passes.0, takes_dropped passes.0 mid.held passes.1, passes.2), λ next after given. given);
       skips = λ skips. (refl, λ k on here. skips.1 (length gone + k) (omega (arith, low)) (occurs_following k here));
-      decoder = refl;
+      ends = refl;
     },
     record {
       passes = λ mid passes. (mid, (gone ++ passes.0, takes_whole passes.0 mid.held passes.1, passes.2), λ next after given. given);
       skips = λ skips. (refl, λ k on here. skips.1 (k - length gone) (omega arith) (occurs_from_after k (none k on here) here));
-      decoder = refl;
+      ends = refl;
     },
   )
 
-same_dropped : (p : List ℕ) (limit from : ℕ) (gone held : List ℕ) → from ≤ length gone
+same_dropped : (p : List ℕ) (limit threshold from : ℕ) (gone held : List ℕ) → from ≤ length gone
     → ((more : List ℕ) (k : ℕ) → from ≤ k → OccursAt p ((gone ++ held) ++ more) k → length gone ≤ k)
-    → HasSameNext gives_delimited (state p limit from true (gone ++ held)) (state p limit 0 true held)
-same_dropped p limit from gone held low none =
-    same_next fronts (state p limit from true (gone ++ held)) (state p limit 0 true held) (λ more.
+    → HasSameNext gives_delimited (state p limit threshold from true (gone ++ held)) (state p limit threshold 0 true held)
+same_dropped p limit threshold from gone held low none =
+    same_next fronts (state p limit threshold from true (gone ++ held)) (state p limit threshold 0 true held) (λ more.
     let joined : (gone ++ held) ++ more ≡ gone ++ (held ++ more) = append_assoc gone held more in
     let there = subst (λ l. (k : ℕ) → from ≤ k → OccursAt p l k → length gone ≤ k) joined (none more) in
-    rw joined (leads_dropped p gone (held ++ more) from low there limit))
+    rw joined (leads_dropped p gone (held ++ more) from low there limit threshold))
 
 SameNext-dropped : (old new : Decoding Delimiting) → DropsSkipped old new → HasSameNext gives_delimited old new
 SameNext-dropped old new drops =
     let d = old.decoder in
-    let before : state d.separator d.max_length d.searched true (drops.gone ++ new.held) ≡ old =
-    (λ i. state d.separator d.max_length d.searched (sym drops.skipping i) (sym drops.bytes i)) in
-    let after : state d.separator d.max_length 0 true new.held ≡ new =
-    (λ i. record { decoder = (ap (λ b. record d { searched = 0; skipping = b }) (sym drops.skipping) ∙ sym drops.decoder) i; held = new.held }) in
+    let n = old.threshold in
+    let before : state d.separator d.max_length n d.searched true (drops.gone ++ new.held) ≡ old =
+    (λ i. state d.separator d.max_length n d.searched (sym drops.skipping i) (sym drops.bytes i)) in
+    let after : state d.separator d.max_length n 0 true new.held ≡ new =
+    ap (λ b. state d.separator d.max_length n 0 b new.held) (sym drops.skipping) ∙ sym drops.is in
     let none = subst (λ l. (more : List ℕ) (k : ℕ) → d.searched ≤ k → OccursAt d.separator (l ++ more) k → length drops.gone ≤ k) drops.bytes drops.none in
-    let same = same_dropped d.separator d.max_length d.searched drops.gone new.held drops.low none in
+    let same = same_dropped d.separator d.max_length n d.searched drops.gone new.held drops.low none in
     subst (λ t. HasSameNext gives_delimited t new) before
-    (subst (HasSameNext gives_delimited (state d.separator d.max_length d.searched true (drops.gone ++ new.held))) after same)
+    (subst (HasSameNext gives_delimited (state d.separator d.max_length n d.searched true (drops.gone ++ new.held))) after same)
 
 -- the frame that is skipped is passed
 SameNext-passed : (s mid : Decoding Delimiting) → Passes s mid → HasSameNext gives_delimited s mid
@@ -272,7 +289,7 @@ delimited_same old new (inr (mid, passes, inl is)) = subst (HasSameNext gives_de
 delimited_same old new (inr (mid, passes, inr (awaits, is))) =
     let d = mid.decoder in
     let front = passed_front old.decoder.skipping old mid refl passes in
-    let searched = subst (λ b. HasSameNext gives_delimited (state d.separator d.max_length d.searched b mid.held)
-    (all_searched (state d.separator d.max_length d.searched b mid.held))) (sym front)
-    (same_searched d.separator d.max_length d.searched mid.held awaits.lacks) in
+    let searched = subst (λ b. HasSameNext gives_delimited (state d.separator d.max_length mid.threshold d.searched b mid.held)
+    (all_searched (state d.separator d.max_length mid.threshold d.searched b mid.held))) (sym front)
+    (same_searched d.separator d.max_length mid.threshold d.searched mid.held awaits.lacks) in
     subst (HasSameNext gives_delimited old) (sym is) (same_trans fronts old mid (all_searched mid) (SameNext-passed old mid passes) searched)

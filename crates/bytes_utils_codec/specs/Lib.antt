@@ -5,7 +5,6 @@ pub mod StreamLines
 pub mod Cursor
 pub mod UniversalLines
 pub mod StreamTexts
-pub mod LossyTexts
 pub mod Pushing
 pub mod Decoding
 pub mod Taking

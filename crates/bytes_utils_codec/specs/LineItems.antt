@@ -9,7 +9,8 @@ use Rattle.bytes_utils_buf.specs.declared.refused.Reason.TheVariants.{OutOfMemor
 use Rattle.bytes_utils.specs.Errors.{IsFaultOf, fault_of, refused_storage, utf8_error_text}
 use Rattle.bytes_utils.specs.Lines.{IsWithoutReturn, line_feed, lines}
 use Rattle.bytes_utils.specs.Occurrence.{Occurs}
-use Rattle.bytes_utils_codec.specs.Decoding.{Decoding, Gives, Item, Last, AreItems}
+use Rattle.bytes_utils_codec.specs.Decoding.{Decoding, Gives, Item, Last, AreItems, fed, starting}
+use Rattle.bytes_utils_codec.specs.Skipping.{ended}
 use Rattle.bytes_utils_codec.specs.Delimited.{AwaitsFrame, Delimiting, Stops, delimiting, fails_delimited, gives_delimited, keeps_delimited, left_of, ready}
 use Rattle.bytes_utils_codec.specs.Frames.{AreFrames}
 use Rattle.bytes_utils_codec.specs.Search.{NoneBegins}
@@ -34,7 +35,7 @@ ready_line d = record d { frames = ready d.frames }
 
 -- the frames that come next
 abbrev pub frames_of : Decoding LineReading → Decoding Delimiting
-frames_of s = record { decoder = s.decoder.frames; held = s.held }
+frames_of s = record { decoder = s.decoder.frames; held = s.held; threshold = s.threshold }
 
 -- a text, or why there is none
 abbrev pub LineItem : Type 0
@@ -63,7 +64,7 @@ IsLastOf lossy (Some item) bytes = (0 < length bytes) × IsTextItem lossy item b
 abbrev pub IsLeft : Decoding LineReading → List ℕ → Decoding LineReading → Type 0
 IsLeft old bytes new =
     (mid : Decoding Delimiting) × gives_delimited (frames_of old) (Last None) mid × (mid.held ≡ bytes)
-    × (new ≡ record { decoder = record old.decoder { frames = mid.decoder }; held = [] })
+    × (new ≡ record old { decoder = record old.decoder { frames = mid.decoder }; held = [] })
 
 -- What comes next: the line of a frame; or at the end of the stream the bytes that are left, as they are, if there are
 -- any.
@@ -98,7 +99,7 @@ TakesLineItem old (Err reason) new = fails_delimited (frames_of old) reason × k
 -- what a call for the last line did, by what it returned
 abbrev pub TakesLast : Decoding LineReading → Result (Option LineItem) Reason → Decoding LineReading → Type 0
 TakesLast old (Ok last) new = IsLastOf old.decoder.lossy last (left_of old.decoder.frames.skipping old.held)
-    × (new ≡ record { decoder = ready_line old.decoder; held = [] })
+    × (new ≡ ended ready_line old)
 TakesLast old (Err reason) new = (reason ≡ OutOfMemory) × (0 < length old.held) × (old.decoder.frames.skipping ≡ false) × (new ≡ old)
 
 -- the text of a `LineFault`
@@ -140,20 +141,20 @@ pub record AreFirstItems (lossy : Bool) (limit : ℕ) (bytes : List ℕ) (items 
   pub long : OnTrue over (NoneBegins (line_feed ∷ []) rest (suc limit))
 
 -- these are the items of these bytes, of a new decoder
-abbrev pub AreLineItems : Bool → ℕ → List ℕ → List LineItem → Decoding LineReading → Type 0
-AreLineItems lossy limit bytes items end =
-    AreItems gives_line (record { decoder = record { frames = delimiting (line_feed ∷ []) limit; lossy = lossy }; held = bytes }) items end
+abbrev pub AreLineItems : Bool → ℕ → ℕ → List ℕ → List LineItem → Decoding LineReading → Type 0
+AreLineItems lossy limit threshold bytes items end =
+    AreItems gives_line (fed (starting (record { frames = delimiting (line_feed ∷ []) limit; lossy = lossy }) threshold) bytes) items end
 
 -- The items are those for the first lines of the bytes.
 abbrev pub LineItemsLaw : Type 0
-LineItemsLaw = (lossy : Bool) (limit : ℕ) (bytes : List ℕ) (items : List LineItem) (end : Decoding LineReading) → AreLineItems lossy limit bytes items end
-    → AreFirstItems lossy limit bytes items
+LineItemsLaw = (lossy : Bool) (limit threshold : ℕ) (bytes : List ℕ) (items : List LineItem) (end : Decoding LineReading)
+    → AreLineItems lossy limit threshold bytes items end → AreFirstItems lossy limit bytes items
 
 -- With the last item at the end of the stream, if there is one, they are those for all lines of the bytes. The frames
 -- are those of the lines that a line feed ends, and the bytes after these.
 abbrev pub WholeLinesLaw : Type 0
-WholeLinesLaw = (lossy : Bool) (limit : ℕ) (bytes : List ℕ) (items : List LineItem) (end : Decoding LineReading)
+WholeLinesLaw = (lossy : Bool) (limit threshold : ℕ) (bytes : List ℕ) (items : List LineItem) (end : Decoding LineReading)
     (last : Option LineItem) (after : Decoding LineReading)
-    → AreLineItems lossy limit bytes items end → gives_line end (Last last) after
+    → AreLineItems lossy limit threshold bytes items end → gives_line end (Last last) after
     → (frames : List (List ℕ)) × (rest : List ℕ) × AreFrames (line_feed ∷ []) bytes frames rest × (¬ Occurs (line_feed ∷ []) rest)
     × AreItemsOf lossy limit (items ++ option_to_list last) (lines bytes) (frames ++ last_line rest)

@@ -7,7 +7,7 @@ use Rattle.bytes_utils.specs.Errors.{fault_of, refused_storage}
 use Rattle.bytes_utils.specs.Lines.{IsWithoutReturn, carriage_return}
 use Rattle.bytes_utils_codec.specs.Decoding.{Decoding, Item, Last, fed, IsStable, IsSingle, WaitsForItem, KeepsNext, Next}
 use Rattle.bytes_utils_codec.specs.Delimited.{Delimiting, gives_delimited}
-use Rattle.bytes_utils_codec.specs.DelimitedLaws.{delimited_same, delimited_single, delimited_stable, delimited_waits}
+use Rattle.bytes_utils_codec.specs.DelimitedLaws.{delimited_same, delimited_single, delimited_stable, delimited_waits, keeps_threshold}
 use Rattle.bytes_utils_codec.specs.LineItems.{AwaitsLine, IsLastOf, IsLineOf, IsTextItem, LineItem, LineReading, frames_of, gives_line, keeps_line}
 use Rattle.bytes_utils_codec.specs.declared.decode.too_long.FrameTooLong.{FrameTooLong}
 use Rattle.bytes_utils_codec.specs.declared.decode.lines.LineFault.TheVariants.{NotUtf8, TooLong}
@@ -69,7 +69,7 @@ line_single s (Item m) (Item n) x y a b =
     let lossy : x.decoder.lossy ≡ y.decoder.lossy = a.3 ∙ sym b.3 in
     let rest = same.1 in (
       ap Item (IsLineOf-same s.decoder.lossy m n b.0 (subst (IsLineOf s.decoder.lossy m) frames a.2) b.2),
-      (λ i. record { decoder = record { frames = (rest i).decoder; lossy = lossy i }; held = (rest i).held }),
+      (λ i. record { decoder = record { frames = (rest i).decoder; lossy = lossy i }; held = (rest i).held; threshold = (rest i).threshold }),
     )
 line_single s (Item m) (Last n) x y a b = absurd (not_both s m n x y a b)
 line_single s (Last m) (Item n) x y a b = absurd (not_both s n m y x b a)
@@ -78,25 +78,32 @@ line_single s (Last m) (Last n) x y a b =
     let mids : a.1.0 ≡ b.1.0 = same.1 in
     let bytes : a.0 ≡ b.0 = sym a.1.2 ∙ ap (λ (d : Decoding Delimiting). d.held) mids ∙ b.1.2 in (
       ap Last (IsLastOf-same s.decoder.lossy m n b.0 (subst (IsLastOf s.decoder.lossy m) bytes a.2) b.2),
-      a.1.3 ∙ (λ i. record { decoder = record { frames = (mids i).decoder; lossy = s.decoder.lossy }; held = [] }) ∙ sym b.1.3,
+      a.1.3 ∙ (λ i. record s { decoder = record s.decoder { frames = (mids i).decoder }; held = [] }) ∙ sym b.1.3,
     )
 
 -- two states whose frames give the same
 line_next : (s t : Decoding LineReading)
     → ((next : Next (Result (List ℕ) FrameTooLong)) (after : Decoding Delimiting)
     → gives_delimited (frames_of s) next after → gives_delimited (frames_of t) next after)
-    → s.decoder.lossy ≡ t.decoder.lossy → (next : Next LineItem) (after : Decoding LineReading) → gives_line s next after → gives_line t next after
-line_next s t there lossy (Item item) after g =
+    → s.decoder.lossy ≡ t.decoder.lossy → s.threshold ≡ t.threshold → (next : Next LineItem) (after : Decoding LineReading)
+    → gives_line s next after → gives_line t next after
+line_next s t there lossy threshold (Item item) after g =
     (g.0, there (Item g.0) (frames_of after) g.1, subst (λ b. IsLineOf b item g.0) lossy g.2, g.3 ∙ lossy)
-line_next s t there lossy (Last last) after (bytes, (mid, ends, held, is), given) = (
+line_next s t there lossy threshold (Last last) after (bytes, (mid, ends, held, is), given) = (
   bytes,
-  (mid, there (Last None) mid ends, held, is ∙ (λ i. record { decoder = record { frames = mid.decoder; lossy = lossy i }; held = [] })),
+  (
+    mid,
+    there (Last None) mid ends,
+    held,
+    is ∙ (λ i. record { decoder = record { frames = mid.decoder; lossy = lossy i }; held = []; threshold = threshold i }),
+  ),
   subst (λ b. IsLastOf b last bytes) lossy given,
 )
 
 pub line_same : KeepsNext gives_line keeps_line
 line_same old new keeps more next after =
-    let same = delimited_same (frames_of old) (frames_of new) keeps.0 more in (
-      line_next (fed old more) (fed new more) (λ n a. (same n a).0) (sym keeps.1) next after,
-      line_next (fed new more) (fed old more) (λ n a. (same n a).1) keeps.1 next after,
+    let same = delimited_same (frames_of old) (frames_of new) keeps.0 more in
+    let threshold : new.threshold ≡ old.threshold = keeps_threshold (frames_of old) (frames_of new) keeps.0 in (
+      line_next (fed old more) (fed new more) (λ n a. (same n a).0) (sym keeps.1) (sym threshold) next after,
+      line_next (fed new more) (fed old more) (λ n a. (same n a).1) keeps.1 threshold next after,
     )

@@ -96,11 +96,11 @@ fails_front s OutOfMemory = (n : ℕ) × IsWithinLimit s.decoder s.held n × (he
 
 -- the frame over the limit was reported: its head is gone, and n bytes after it are skipped
 abbrev pub skipping : ℕ → Decoding Prefixing → Decoding Prefixing
-skipping n s = record { decoder = record s.decoder { skipped = n }; held = drop (head_len s.decoder) s.held }
+skipping n s = record s { decoder = record s.decoder { skipped = n }; held = drop (head_len s.decoder) s.held }
 
 abbrev pub gives_front : Gives Prefixing (Result (List ℕ) FrameTooLong)
 gives_front old (Item (Ok frame)) new =
-    (old.decoder.skipped ≡ 0) × TakesPrefixed old.decoder old.held frame new.held × (new.decoder ≡ old.decoder)
+    (old.decoder.skipped ≡ 0) × TakesPrefixed old.decoder old.held frame new.held × (new ≡ record old { held = new.held })
 gives_front old (Item (Err e)) new =
     (old.decoder.skipped ≡ 0) × ((n : ℕ) × IsOverLimit old.decoder old.held n × (new ≡ skipping n old))
 gives_front old (Last None) new = awaits_front old × (new ≡ record old { decoder = ready old.decoder })
@@ -110,7 +110,7 @@ gives_front old (Last (Some item)) new = ⊥
 
 -- the bytes that are skipped are dropped, as many of them as are held
 abbrev pub after_skipped : Decoding Prefixing → Decoding Prefixing
-after_skipped s = record {
+after_skipped s = record s {
   decoder = record s.decoder { skipped = s.decoder.skipped - length s.held };
   held = drop s.decoder.skipped s.held;
 }

@@ -43,7 +43,7 @@ takes-more d old frame rest more takes =
     }
 
 front_stable : IsStable gives_front
-front_stable old (Ok frame) new more given = (given.0, takes-more old.decoder old.held frame new.held more given.1, given.2)
+front_stable old (Ok frame) new more given = (given.0, takes-more old.decoder old.held frame new.held more given.1, ap (λ s. fed s more) given.2)
 front_stable old (Err e) new more given =
     let n = given.1.0 in
     let over = given.1.1 in (
@@ -87,8 +87,7 @@ front_waits s (inr (inr part)) (Err e) after given = not_both s.decoder s.held p
 front_single : IsSingle gives_front
 front_single s (Item (Ok f)) (Item (Ok g)) x y a b =
     let same = takes_same s.decoder s.held f g x.held y.held a.1 b.1 in
-    let decoders : x.decoder ≡ y.decoder = a.2 ∙ sym b.2 in
-    ((λ i. Item (Ok (same.0 i))), (λ i. record { decoder = decoders i; held = same.1 i }))
+    ((λ i. Item (Ok (same.0 i))), a.2 ∙ ap (λ l. record s { held = l }) same.1 ∙ sym b.2)
 front_single s (Item (Ok f)) (Item (Err e)) x y a b = absurd (not_both s.decoder s.held a.1.len b.1.0 a.1.within b.1.1)
 front_single s (Item (Err e)) (Item (Ok g)) x y a b = absurd (not_both s.decoder s.held b.1.len a.1.0 b.1.within a.1.1)
 front_single s (Item (Err e)) (Item (Err f)) x y a b =
@@ -117,7 +116,7 @@ after_skipped-fed s more =
     let k = s.decoder.skipped in
     let skipped : (k - length s.held) - length (drop k s.held ++ more) ≡ k - length (s.held ++ more) =
     omega (arith, length-append (drop k s.held) more, length-append s.held more, length-drop k s.held) in
-    (λ i. record { decoder = record s.decoder { skipped = skipped i }; held = drop-split k s.held more i })
+    (λ i. record s { decoder = record s.decoder { skipped = skipped i }; held = drop-split k s.held more i })
 
 -- with all of them gone, they are bytes like any other
 after_skipped-more : (s : Decoding Prefixing) (more : List ℕ) → (after_skipped s).decoder.skipped ≡ 0 → after_skipped (fed s more) ≡ fed (after_skipped s) more
@@ -125,7 +124,7 @@ after_skipped-more s more gone =
     let k = s.decoder.skipped in
     let skipped : k - length (s.held ++ more) ≡ k - length s.held = omega (arith, gone, length-append s.held more) in
     let held : drop k (s.held ++ more) ≡ drop k s.held ++ more = drop-append-le k s.held more (omega (arith, gone)) in
-    (λ i. record { decoder = record s.decoder { skipped = skipped i }; held = held i })
+    (λ i. record s { decoder = record s.decoder { skipped = skipped i }; held = held i })
 
 -- ---- the laws of the decoder
 

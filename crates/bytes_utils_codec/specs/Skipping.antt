@@ -5,10 +5,14 @@ use Rattle.std.specs.Prelude.{◌≡◌, ◌⊎◌, ℕ, List, [], None}
 use Rattle.std.proofs.Common.{inl, inr, ap, ◌∙◌, sym, subst}
 use Rattle.bytes_utils_codec.specs.Decoding.{Decoding, Gives, Next, Item, Last, fed, HasSameNext, IsStable, IsSingle, WaitsForItem}
 
+-- of what is skipped up to the end of the stream nothing is left
+abbrev pub ended : {D : Type 0} → (D → D) → Decoding D → Decoding D
+ended restarted s = record s { decoder = restarted s.decoder; held = [] }
+
 module _ {D A : Type 0} (Passes : Decoding D → Decoding D → Type 0) (Skips : Decoding D → Type 0) (restarted : D → D) (From : Gives D A) where
-  -- what comes next: that of the front. Of what is skipped up to the end of the stream nothing is left.
+  -- what comes next: that of the front, or at the end of the stream nothing
   abbrev pub gives_skipping : Gives D A
-  gives_skipping old next new = (Skips old × (next ≡ Last None) × (new ≡ record { decoder = restarted old.decoder; held = [] }))
+  gives_skipping old next new = (Skips old × (next ≡ Last None) × (new ≡ ended restarted old))
       ⊎ ((mid : Decoding D) × Passes old mid × From mid next new)
 
   -- the facts from which the laws of the decoder follow
@@ -28,7 +32,7 @@ module _ {D A : Type 0} (Passes : Decoding D → Decoding D → Type 0) (Skips :
     pub passes : (mid : Decoding D) → Passes s mid
         → (there : Decoding D) × Passes t there × ((next : Next A) (after : Decoding D) → From mid next after → From there next after)
     pub skips : Skips s → Skips t
-    pub decoder : restarted s.decoder ≡ restarted t.decoder
+    pub ends : ended restarted s ≡ ended restarted t
 
 -- ---- the laws of the decoder
 
@@ -42,7 +46,7 @@ module _ {D A : Type 0} {Passes : Decoding D → Decoding D → Type 0} {Skips :
 
   leads_next : (s t : Decoding D) → Leading s t → (next : Next A) (after : Decoding D) → gives s next after → gives t next after
   leads_next s t leads next after (inl (skips, last, is)) =
-      inl (leads.skips skips, last, is ∙ ap (λ (d : D). record { decoder = d; held = [] }) leads.decoder)
+      inl (leads.skips skips, last, is ∙ leads.ends)
   leads_next s t leads next after (inr (mid, passes, given)) =
       let there = leads.passes mid passes in
       inr (there.0, there.1, there.2 next after given)
@@ -76,14 +80,14 @@ module _ {D A : Type 0} {Passes : Decoding D → Decoding D → Type 0} {Skips :
       facts.lacks mid (subst Awaits (facts.one s front mid there passes) awaits) item after given
 
   -- two states that lead to the same front
-  one_leads : (s t mid : Decoding D) → Passes s mid → Passes t mid → restarted s.decoder ≡ restarted t.decoder → Leading s t
+  one_leads : (s t mid : Decoding D) → Passes s mid → Passes t mid → ended restarted s ≡ ended restarted t → Leading s t
   one_leads s t mid from to is = record {
     passes = λ front passes. (front, subst (Passes t) (facts.one s mid front from passes) to, λ next after given. given);
     skips = λ skips. absurd (facts.none s mid skips from);
-    decoder = is;
+    ends = is;
   }
 
-  pub same_front : (s t : Decoding D) → restarted s.decoder ≡ restarted t.decoder
+  pub same_front : (s t : Decoding D) → ended restarted s ≡ ended restarted t
       → ((more : List ℕ) → (mid : Decoding D) × Passes (fed s more) mid × Passes (fed t more) mid) → HasSameNext gives s t
   same_front s t is front =
       same_next s t (λ more.

@@ -1,19 +1,43 @@
 -- Texts of a stream of bytes that comes in pieces, which may be cut inside a character.
-use Rattle.std.specs.Prelude.{◌≡◌, ℕ, ◌≤◌, ◌<◌, List, [], ◌++◌, length, take, IsUtf8, Some, None, codes}
+use Rattle.std.specs.Prelude.{◌≡◌, ◌⊎◌, ℕ, ◌≤◌, ◌<◌, Bool, true, false, List, [], ◌++◌, length, map, take, IsUtf8, Some, None, Result, Ok, Err}
 use Rattle.std.specs.List.{concat}
-use Rattle.std.specs.Str.Lossy.{utf8_valid_len, utf8_error_len}
-use Rattle.bytes_utils_codec.specs.StreamRuns.{StreamEvent, IsStreamRun, pushed_by, given_by}
-use Rattle.bytes_utils_buf.specs.Refusals.{reason_text}
+use Rattle.std.specs.Str.Lossy.{replacement_bytes, utf8_lossy, utf8_valid_len, utf8_error_len}
+use Rattle.bytes_utils.specs.Errors.{IsFaultOf, fault_of, refused_storage}
+use Rattle.bytes_utils.specs.declared.string.utf8_error.Utf8Error.{Utf8Error}
+use Rattle.bytes_utils_codec.specs.StreamRuns.{StreamEvent, IsRunOver, AreFirst, pushed_by, given_by}
 use Rattle.bytes_utils_codec.specs.declared.texts.Front.{Front}
 use Rattle.bytes_utils_codec.specs.declared.texts.Front.TheVariants.{Text, Fault, Unfinished}
-use Rattle.bytes_utils_codec.specs.declared.texts.TextError.{TextError}
-use Rattle.bytes_utils_codec.specs.declared.texts.TextError.TheVariants.{Refused, NotUtf8}
 
--- a text that isn't empty is taken off the front
+-- What clauses see of a `Texts`: the bytes that were pushed and not yet taken, and whether bytes that are no text become U+FFFD.
+pub record TextReading : Type 0 where
+  pub held : List ℕ
+  pub lossy : Bool
+
+-- a reader that holds no bytes
+abbrev pub text_reading : Bool → TextReading
+text_reading lossy = record { held = []; lossy = lossy }
+
+-- a piece is appended
+abbrev pub text_fed : TextReading → List ℕ → TextReading
+text_fed r piece = record r { held = r.held ++ piece }
+
+-- a text, or an error that has bytes that are none
+abbrev pub TextItem : Type 0
+TextItem = Result (List ℕ) (Utf8Error (List ℕ))
+
+-- ---- what is taken off the front of the held bytes
+
+-- a text that isn't empty
 pub record TakesText (old text rest : List ℕ) : Type 0 where
   pub bytes : old ≡ text ++ rest
   pub some : 0 < length text
   pub utf8 : IsUtf8 text
+
+-- bytes that are no character, whatever follows them: as many as one U+FFFD replaces
+pub record TakesFault (old fault rest : List ℕ) : Type 0 where
+  pub bytes : old ≡ fault ++ rest
+  pub none : utf8_valid_len old ≡ 0
+  pub size : utf8_error_len old ≡ Some (length fault)
 
 -- whatever follows them, the bytes aren't UTF-8
 abbrev pub IsFaulty : List ℕ → Type 0
@@ -25,31 +49,77 @@ pub record IsUnfinished (bytes : List ℕ) : Type 0 where
   pub may_end : (following : List ℕ) × IsUtf8 (bytes ++ following)
   pub few : length bytes ≤ 3
 
--- what the bytes begin with: a text; a fault, whose bytes begin no character whatever follows; or no byte, or the first of a character
+-- the item for bytes that are no text: an error that has them, or U+FFFD
+abbrev pub IsFaultItem : Bool → TextItem → List ℕ → Type 0
+IsFaultItem true item bytes = item ≡ Ok replacement_bytes
+IsFaultItem false (Ok text) bytes = ⊥
+IsFaultItem false (Err fault) bytes = (refused_storage fault ≡ bytes) × IsFaultOf (fault_of fault) bytes
+
+-- the next item is taken: a text, or the item for bytes that are none
+pub record TakesItem (old : TextReading) (item : TextItem) (new : TextReading) : Type 0 where
+  pub lossy : new.lossy ≡ old.lossy
+  pub taken : ((text : List ℕ) × (item ≡ Ok text) × TakesText old.held text new.held)
+      ⊎ ((fault : List ℕ) × IsFaultItem old.lossy item fault × TakesFault old.held fault new.held)
+
+-- the same at the end of the stream, where the bytes of a character that isn't whole are no text, too
+abbrev pub TakesLast : TextReading → TextItem → TextReading → Type 0
+TakesLast old item new = TakesItem old item new
+    ⊎ (IsUnfinished old.held × (0 < length old.held) × IsFaultItem old.lossy item old.held × (new ≡ record old { held = [] }))
+
+-- the next item asks for memory: a text, or bytes that are none, if these are given
+abbrev pub asks_for : TextReading → Type 0
+asks_for r = (0 < utf8_valid_len r.held) ⊎ ((r.lossy ≡ false) × ((n : ℕ) × (utf8_error_len r.held ≡ Some n)))
+
+-- the same at the end of the stream
+abbrev pub asks_at_end : TextReading → Type 0
+asks_at_end r = (0 < utf8_valid_len r.held) ⊎ ((r.lossy ≡ false) × (0 < length r.held))
+
+-- What the bytes begin with: a text; bytes that are none, whatever follows; or no byte, or the first of a character.
 abbrev pub IsFront : List ℕ → Front → Type 0
 IsFront bytes (Text len) = (0 < len) × (len ≤ length bytes) × IsUtf8 (take len bytes)
 IsFront bytes (Fault len) = (utf8_valid_len bytes ≡ 0) × (utf8_error_len bytes ≡ Some len)
 IsFront bytes Unfinished = (utf8_valid_len bytes ≡ 0) × (utf8_error_len bytes ≡ None)
 
--- these events lead from the held bytes to the bytes held at the end
-abbrev pub IsTextRun : List ℕ → List (StreamEvent (List ℕ)) → List ℕ → Type 0
-IsTextRun held events end = IsStreamRun TakesText held events end
+-- what a fault is taken off is no UTF-8, whatever follows
+abbrev pub TextFaultLaw : Type 0
+TextFaultLaw = (old fault rest : List ℕ) → TakesFault old fault rest → IsFaulty old
 
--- Whatever the pieces are and whenever texts are asked for: in a run from an empty reader to one whose bytes begin with no text, the texts given are the longest
--- text at the start of the joined pieces, and what is held is the rest.
-abbrev pub TextRunLaw : Type 0
-TextRunLaw = (events : List (StreamEvent (List ℕ))) (end : List ℕ) → IsTextRun [] events end → utf8_valid_len end ≡ 0
-    → (concat (given_by events) ≡ take (utf8_valid_len (pushed_by events)) (pushed_by events)) × (pushed_by events ≡ concat (given_by events) ++ end)
+-- ---- runs of a reader that is new
 
--- what is faulty stays so: then the joined pieces are faulty, too
-abbrev pub FaultyRunLaw : Type 0
-FaultyRunLaw = (events : List (StreamEvent (List ℕ))) (end : List ℕ) → IsTextRun [] events end → IsFaulty end → IsFaulty (pushed_by events)
+-- these events lead from a reader that holds no bytes to this one
+abbrev pub IsTextRun : Bool → List (StreamEvent TextItem) → TextReading → Type 0
+IsTextRun lossy events end = IsRunOver text_fed TakesItem (text_reading lossy) events end
 
--- if the joined pieces are UTF-8, so are the bytes held at the end
-abbrev pub WholeRunLaw : Type 0
-WholeRunLaw = (events : List (StreamEvent (List ℕ))) (end : List ℕ) → IsTextRun [] events end → IsUtf8 (pushed_by events) → IsUtf8 end
+-- the bytes of an item
+abbrev pub bytes_of : TextItem → List ℕ
+bytes_of (Ok text) = text
+bytes_of (Err fault) = refused_storage fault
 
--- the text of a `TextError`
-abbrev pub text_error_text : TextError → List ℕ
-text_error_text (Refused reason) = reason_text reason
-text_error_text NotUtf8 = codes "not UTF-8"
+-- Whatever the pieces are and whenever items are asked for: no byte is lost. Of the bytes of a text only texts come.
+pub record AreTextItems (events : List (StreamEvent TextItem)) (end : TextReading) : Type 0 where
+  pub all : pushed_by events ≡ concat (map bytes_of (given_by events)) ++ end.held
+  pub texts : IsUtf8 (pushed_by events) → ((texts : List (List ℕ)) × (given_by events ≡ map Ok texts)) × IsUtf8 end.held
+
+abbrev pub TextItemsLaw : Type 0
+TextItemsLaw = (events : List (StreamEvent TextItem)) (end : TextReading) → IsTextRun false events end → AreTextItems events end
+
+-- If only texts have come, and what is held begins with none, they are the longest text at the start of the joined pieces.
+abbrev pub TextFrontLaw : Type 0
+TextFrontLaw = (events : List (StreamEvent TextItem)) (end : TextReading) (texts : List (List ℕ)) → IsTextRun false events end
+    → given_by events ≡ map Ok texts → utf8_valid_len end.held ≡ 0 → concat texts ≡ take (utf8_valid_len (pushed_by events)) (pushed_by events)
+
+-- the text of an item, with U+FFFD for bytes that are none
+abbrev pub text_of : TextItem → List ℕ
+text_of (Ok text) = text
+text_of (Err fault) = replacement_bytes
+
+-- Of any bytes `utf8_lossy` is the text that Rust's `String::from_utf8_lossy` makes of them. Whatever the pieces are, wherever they are cut and whenever
+-- items are asked for: the texts of the items, and then the lossy text of what is held, are the lossy text of the joined pieces.
+abbrev pub LossyRunLaw : Type 0
+LossyRunLaw = (lossy : Bool) (events : List (StreamEvent TextItem)) (end : TextReading) → IsTextRun lossy events end
+    → utf8_lossy (pushed_by events) ≡ concat (map text_of (given_by events)) ++ utf8_lossy end.held
+
+-- If the items at the end of the stream are taken too, until no byte is held, then the texts of all items are the lossy text of the joined pieces.
+abbrev pub WholeLossyLaw : Type 0
+WholeLossyLaw = (lossy : Bool) (events : List (StreamEvent TextItem)) (end after : TextReading) (last : List TextItem) → IsTextRun lossy events end
+    → AreFirst TakesLast end last after → after.held ≡ [] → utf8_lossy (pushed_by events) ≡ concat (map text_of (given_by events)) ++ concat (map text_of last)

@@ -6,8 +6,8 @@ use Rattle.memchr.specs.Find.{Nowhere}
 use Rattle.bytes_utils_buf.specs.declared.refused.Reason.{Reason}
 use Rattle.bytes_utils_buf.specs.declared.refused.Reason.TheVariants.{OutOfMemory}
 use Rattle.bytes_utils.specs.Lines.{line_feed, carriage_return}
-use Rattle.bytes_utils_codec.specs.Decoding.{Decoding, Gives, Next, Item, Last, AreItems}
-use Rattle.bytes_utils_codec.specs.Skipping.{gives_skipping}
+use Rattle.bytes_utils_codec.specs.Decoding.{Decoding, Gives, Next, Item, Last, AreItems, fed, starting}
+use Rattle.bytes_utils_codec.specs.Skipping.{ended, gives_skipping}
 use Rattle.bytes_utils_codec.specs.LineItems.{LineItem, IsTextItem, IsLastOf, AreItemsOf, begun_line}
 use Rattle.bytes_utils_codec.specs.UniversalLines.{AreFirstUniversal, FindsEnd, IsEndAt, LacksEnds, universal_lines}
 use Rattle.bytes_utils_codec.specs.declared.decode.too_long.FrameTooLong.{FrameTooLong}
@@ -50,7 +50,7 @@ feed_passed place held = (place, held)
 abbrev pub after_feed : Decoding UniversalReading → Decoding UniversalReading
 after_feed s =
     let passed = feed_passed s.decoder.place s.held in
-    record { decoder = record s.decoder { place = passed.0 }; held = passed.1 }
+    record s { decoder = record s.decoder { place = passed.0 }; held = passed.1 }
 
 -- where the bytes begin that come after this end
 abbrev pub place_after : ℕ → Place
@@ -59,7 +59,7 @@ place_after c = if c == carriage_return then AfterReturn else Line
 -- the state after a line of this length, and the byte that ends it
 abbrev pub after_end : ℕ → Decoding UniversalReading → Decoding UniversalReading
 after_end len s =
-    record { decoder = record s.decoder { searched = 0; place = place_after (slice_index s.held len) }; held = drop (suc len) s.held }
+    record s { decoder = record s.decoder { searched = 0; place = place_after (slice_index s.held len) }; held = drop (suc len) s.held }
 
 -- of the ends that are looked for the first one is there; or none is there
 abbrev pub EndsAt : Decoding UniversalReading → ℕ → Type 0
@@ -93,7 +93,7 @@ SkipsOn s = (s.decoder.place ≡ LongLine) × LacksEnd s
 
 -- its bytes that have come are dropped
 abbrev pub dropped : Decoding UniversalReading → Decoding UniversalReading
-dropped s = record { decoder = record s.decoder { searched = s.decoder.searched - length s.held }; held = [] }
+dropped s = record s { decoder = record s.decoder { searched = s.decoder.searched - length s.held }; held = [] }
 
 -- ---- a line
 
@@ -112,16 +112,12 @@ pub record HasLineOf (s : Decoding UniversalReading) (len : ℕ) : Type 0 where
   pub ends : EndsAt s len
   pub fits : len ≤ s.decoder.max_length
 
--- at the end of the stream no byte is left
-abbrev pub ended : Decoding UniversalReading → Decoding UniversalReading
-ended s = record { decoder = ready_universal s.decoder; held = [] }
-
 -- What comes next at the front of a line: the line, that it is longer than the limit, or at the end of the stream the bytes that are left.
 abbrev pub GivesFrom : Decoding UniversalReading → Next LineItem → Decoding UniversalReading → Type 0
 GivesFrom s (Item item) new =
     ((len : ℕ) × HasLineOf s len × IsTextItem s.decoder.lossy item (take len s.held) × (new ≡ after_end len s))
     ⊎ ((item ≡ Err TooLong) × IsOverLimit s × (new ≡ record s { decoder = skipping_line s.decoder }))
-GivesFrom s (Last last) new = AwaitsEnd s × IsLastOf s.decoder.lossy last s.held × (new ≡ ended s)
+GivesFrom s (Last last) new = AwaitsEnd s × IsLastOf s.decoder.lossy last s.held × (new ≡ ended ready_universal s)
 
 -- What comes next: that of the next line. Of a line that is skipped up to the end of the stream nothing is left.
 abbrev pub gives_universal : Gives UniversalReading LineItem
@@ -191,17 +187,17 @@ pub record AreFirstUniversalItems (lossy : Bool) (limit : ℕ) (bytes : List ℕ
   pub long : OnTrue over ((limit < length rest) × LacksEnds (take (suc limit) rest))
 
 -- these are the items of these bytes, of a new decoder
-abbrev pub AreUniversalItems : Bool → ℕ → List ℕ → List LineItem → Decoding UniversalReading → Type 0
-AreUniversalItems lossy limit bytes items end =
-    AreItems gives_universal (record { decoder = record (universal_reading limit) { lossy = lossy }; held = bytes }) items end
+abbrev pub AreUniversalItems : Bool → ℕ → ℕ → List ℕ → List LineItem → Decoding UniversalReading → Type 0
+AreUniversalItems lossy limit threshold bytes items end =
+    AreItems gives_universal (fed (starting (record (universal_reading limit) { lossy = lossy }) threshold) bytes) items end
 
 -- The items are those for the first lines of the bytes.
 abbrev pub UniversalItemsLaw : Type 0
-UniversalItemsLaw = (lossy : Bool) (limit : ℕ) (bytes : List ℕ) (items : List LineItem) (end : Decoding UniversalReading)
-    → AreUniversalItems lossy limit bytes items end → AreFirstUniversalItems lossy limit bytes items
+UniversalItemsLaw = (lossy : Bool) (limit threshold : ℕ) (bytes : List ℕ) (items : List LineItem) (end : Decoding UniversalReading)
+    → AreUniversalItems lossy limit threshold bytes items end → AreFirstUniversalItems lossy limit bytes items
 
 -- With the last item at the end of the stream, if there is one, they are those for all lines of the bytes.
 abbrev pub WholeUniversalLaw : Type 0
-WholeUniversalLaw = (lossy : Bool) (limit : ℕ) (bytes : List ℕ) (items : List LineItem) (end : Decoding UniversalReading) (last : Option LineItem)
-    (after : Decoding UniversalReading) → AreUniversalItems lossy limit bytes items end → gives_universal end (Last last) after
+WholeUniversalLaw = (lossy : Bool) (limit threshold : ℕ) (bytes : List ℕ) (items : List LineItem) (end : Decoding UniversalReading) (last : Option LineItem)
+    (after : Decoding UniversalReading) → AreUniversalItems lossy limit threshold bytes items end → gives_universal end (Last last) after
     → AreItemsOf lossy limit (items ++ option_to_list last) (universal_lines bytes) (universal_lines bytes)

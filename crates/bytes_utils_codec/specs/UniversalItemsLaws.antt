@@ -5,7 +5,7 @@ use Rattle.std.proofs.lemmas.List.{get_or_append_left, drop-append-le, take-appe
 use Rattle.bytes_utils_buf.proofs.Lists.{drop-append_past}
 use Rattle.memchr.specs.Find.{Nowhere}
 use Rattle.bytes_utils_codec.specs.Decoding.{Decoding, Next, Item, Last, fed, HasSameNext, IsStable, IsSingle, WaitsForItem, KeepsNext}
-use Rattle.bytes_utils_codec.specs.Skipping.{AreFronts, Leads, skipping_single, skipping_stable, skipping_waits, same_front, same_next, same_trans}
+use Rattle.bytes_utils_codec.specs.Skipping.{AreFronts, Leads, ended, skipping_single, skipping_stable, skipping_waits, same_front, same_next, same_trans}
 use Rattle.bytes_utils_codec.specs.LineItems.{LineItem, IsTextItem}
 use Rattle.bytes_utils_codec.specs.LineItemsLaws.{IsTextItem-same, IsLastOf-same}
 use Rattle.bytes_utils_codec.specs.UniversalItems.{AwaitsEnd, AwaitsUniversal, EndsLongBy, GivesFrom, HasLineOf, IsOverLimit, LacksEnd, Reaches, SkipsOn, UniversalReading, after_end, after_feed, all_searched, dropped, feed_passed, gives_universal, keeps_universal, place_after, ready_universal, without_feed}
@@ -17,9 +17,12 @@ use Rattle.bytes_utils_codec.specs.declared.decode.universal_lines.Place.TheVari
 abbrev pub State : Type 0
 State = Decoding UniversalReading
 
-abbrev pub state : ℕ → ℕ → Bool → Place → List ℕ → State
-state limit from lossy place held =
-    record { decoder = record { max_length = limit; searched = from; place = place; lossy = lossy }; held = held }
+abbrev pub state : ℕ → ℕ → ℕ → Bool → Place → List ℕ → State
+state limit threshold from lossy place held = record {
+  decoder = record { max_length = limit; searched = from; place = place; lossy = lossy };
+  held = held;
+  threshold = threshold;
+}
 
 -- ---- the first end, of bytes after which others come
 
@@ -140,7 +143,7 @@ feed_le AfterReturn (c ∷ t) = without_feed-le c t
 feed_le place held = omega arith
 
 abbrev begun : State → Place × List ℕ → State
-begun s p = state s.decoder.max_length s.decoder.searched s.decoder.lossy p.0 p.1
+begun s p = record s { decoder = record s.decoder { place = p.0 }; held = p.1 }
 
 after_feed-more : (s : State) (more : List ℕ) → 0 < length (after_feed s).held → after_feed (fed s more) ≡ fed (after_feed s) more
 after_feed-more s more some = ap (begun s) (feed_more s.decoder.place s.held more some)
@@ -154,7 +157,7 @@ after_end-more : (s : State) (more : List ℕ) (len : ℕ) → len < length s.he
 after_end-more s more len inside =
     let byte = index-more s.held more len inside in
     let rest = drop-append-le (suc len) s.held more (omega (arith, inside)) in
-    (λ i. state s.decoder.max_length 0 s.decoder.lossy (place_after (byte i)) (rest i))
+    (λ i. record s { decoder = record s.decoder { searched = 0; place = place_after (byte i) }; held = rest i })
 
 pub if_passed : (b : Bool) → IsPassed (if b then AfterReturn else Line)
 if_passed true = tt
@@ -183,9 +186,9 @@ ends_le : (place : Place) (s ending : State) → EndsLongBy place s ending → l
 ends_le LongLine s ending ends = omega (arith, ap (λ (t : State). length t.held) ends.2, length-drop (suc ends.0) s.held)
 ends_le place s ending is = omega (arith, ap (λ (t : State). length t.held) is)
 
-ends_ready : (place : Place) (s ending : State) → EndsLongBy place s ending → ready_universal ending.decoder ≡ ready_universal s.decoder
-ends_ready LongLine s ending ends = ap (λ (t : State). ready_universal t.decoder) ends.2
-ends_ready place s ending is = ap (λ (t : State). ready_universal t.decoder) is
+ends_ready : (place : Place) (s ending : State) → EndsLongBy place s ending → ended ready_universal ending ≡ ended ready_universal s
+ends_ready LongLine s ending ends = ap (ended ready_universal) ends.2
+ends_ready place s ending is = ap (ended ready_universal) is
 
 ends_already : (place : Place) (s : State) → IsPassed place → EndsLongBy place s s
 ends_already LongLine s passed = absurd passed
@@ -215,9 +218,8 @@ Reaches-passed s mid reaches =
 pub Reaches-none : (s mid : State) → SkipsOn s → ¬ Reaches s mid
 Reaches-none s mid skips reaches = ends_none s.decoder.place s reaches.ending skips.0 skips.1 reaches.ends
 
-pub Reaches-ready : (s mid : State) → Reaches s mid → ready_universal s.decoder ≡ ready_universal mid.decoder
-Reaches-ready s mid reaches =
-    sym (ap (λ (t : State). ready_universal t.decoder) reaches.is ∙ ends_ready s.decoder.place s reaches.ending reaches.ends)
+pub Reaches-ready : (s mid : State) → Reaches s mid → ended ready_universal s ≡ ended ready_universal mid
+Reaches-ready s mid reaches = sym (ap (ended ready_universal) reaches.is ∙ ends_ready s.decoder.place s reaches.ending reaches.ends)
 
 Reaches-le : (s mid : State) → Reaches s mid → length mid.held ≤ length s.held
 Reaches-le s mid reaches =
@@ -301,12 +303,12 @@ same_reached s mid reaches =
     ))
 
 -- the bytes of a line that is skipped are dropped, and no end that is looked for is among them
-module _ (limit from : ℕ) (lossy : Bool) (held : List ℕ) (lacks : FindsEnd held from None) (more : List ℕ) where
+module _ (limit threshold from : ℕ) (lossy : Bool) (held : List ℕ) (lacks : FindsEnd held from None) (more : List ℕ) where
   abbrev whole : State
-  whole = state limit from lossy LongLine (held ++ more)
+  whole = state limit threshold from lossy LongLine (held ++ more)
 
   abbrev short : State
-  short = state limit (from - length held) lossy LongLine more
+  short = state limit threshold (from - length held) lossy LongLine more
 
   after_held : IsAfter (held ++ more) more (length held) from (from - length held)
   after_held = record {
@@ -320,7 +322,7 @@ module _ (limit from : ℕ) (lossy : Bool) (held : List ℕ) (lacks : FindsEnd h
   after_rest j k is =
       let byte = ap (slice_index (held ++ more)) is ∙ after_held.at k in
       let rest = drop-append_past held more (suc k) (suc j) (omega (arith, is)) in
-      (λ i. state limit 0 lossy (place_after (byte i)) (rest i))
+      (λ i. state limit threshold 0 lossy (place_after (byte i)) (rest i))
 
   ends_short : (ending : State) → EndsLongBy LongLine whole ending → EndsLongBy LongLine short ending
   ends_short ending (n, found, is) =
@@ -337,49 +339,49 @@ module _ (limit from : ℕ) (lossy : Bool) (held : List ℕ) (lacks : FindsEnd h
     record {
       passes = λ mid to. (mid, record { ending = to.ending; ends = ends_short to.ending to.ends; is = to.is }, λ next after given. given);
       skips = λ skips. (refl, none_on after_held (length (held ++ more)) (length more) after_held.size skips.1);
-      decoder = refl;
+      ends = refl;
     },
     record {
       passes = λ mid to. (mid, record { ending = to.ending; ends = ends_whole to.ending to.ends; is = to.is }, λ next after given. given);
       skips = λ skips. (refl, none_back after_held (length (held ++ more)) (length more) after_held.size skips.1);
-      decoder = refl;
+      ends = refl;
     },
   )
 
-same_dropped : (limit from : ℕ) (lossy : Bool) (place : Place) (held : List ℕ) → place ≡ LongLine → FindsEnd held from None
-    → HasSameNext gives_universal (state limit from lossy place held) (dropped (state limit from lossy place held))
-same_dropped limit from lossy LongLine held is lacks =
-    same_next fronts (state limit from lossy LongLine held) (dropped (state limit from lossy LongLine held))
-    (leads_dropped limit from lossy held lacks)
-same_dropped limit from lossy place held is lacks = absurd cc
+same_dropped : (limit threshold from : ℕ) (lossy : Bool) (place : Place) (held : List ℕ) → place ≡ LongLine → FindsEnd held from None
+    → HasSameNext gives_universal (state limit threshold from lossy place held) (dropped (state limit threshold from lossy place held))
+same_dropped limit threshold from lossy LongLine held is lacks =
+    same_next fronts (state limit threshold from lossy LongLine held) (dropped (state limit threshold from lossy LongLine held))
+    (leads_dropped limit threshold from lossy held lacks)
+same_dropped limit threshold from lossy place held is lacks = absurd cc
 
 -- two places from which the same ends are found
-module _ (limit : ℕ) (lossy : Bool) (bytes : List ℕ) (from n : ℕ) (finds : (j : ℕ) → FindsEnd bytes from (Some j) → FindsEnd bytes n (Some j))
+module _ (limit threshold : ℕ) (lossy : Bool) (bytes : List ℕ) (from n : ℕ) (finds : (j : ℕ) → FindsEnd bytes from (Some j) → FindsEnd bytes n (Some j))
     (none : (j : ℕ) → Nowhere (IsEndAt bytes) from j → Nowhere (IsEndAt bytes) n j) where
-  from_searched : (next : Next LineItem) (after : State) → GivesFrom (state limit from lossy Line bytes) next after
-      → GivesFrom (state limit n lossy Line bytes) next after
+  from_searched : (next : Next LineItem) (after : State) → GivesFrom (state limit threshold from lossy Line bytes) next after
+      → GivesFrom (state limit threshold n lossy Line bytes) next after
   from_searched (Item item) after (inl (len, has, text, is)) = inl (len, record { ends = finds len has.ends; fits = has.fits }, text, is)
   from_searched (Item item) after (inr (long, over, is)) = inr (long, record { many = over.many; none = none (suc limit) over.none }, is)
   from_searched (Last last) after (awaits, is, end) = (record { lacks = none (length bytes) awaits.lacks; few = awaits.few }, is, end)
 
-  leads_searched : Leads Reaches SkipsOn ready_universal GivesFrom (state limit from lossy Line bytes) (state limit n lossy Line bytes)
+  leads_searched : Leads Reaches SkipsOn ready_universal GivesFrom (state limit threshold from lossy Line bytes) (state limit threshold n lossy Line bytes)
   leads_searched = record {
     passes = λ mid to.
-        let there = state limit n lossy Line bytes in
+        let there = state limit threshold n lossy Line bytes in
         let is = to.is ∙ ap after_feed to.ends in
         (there, Reaches-feed there tt, λ next after given. from_searched next after (subst (λ t. GivesFrom t next after) is given));
     skips = λ skips. absurd (line_not_long skips.0);
-    decoder = refl;
+    ends = refl;
   }
     where
       line_not_long : Line ≡ LongLine → ⊥
       line_not_long is = absurd cc
 
-same_line : (limit from : ℕ) (lossy : Bool) (held : List ℕ) → FindsEnd held from None
-    → HasSameNext gives_universal (state limit from lossy Line held) (all_searched (state limit from lossy Line held))
-same_line limit from lossy held lacks =
+same_line : (limit threshold from : ℕ) (lossy : Bool) (held : List ℕ) → FindsEnd held from None
+    → HasSameNext gives_universal (state limit threshold from lossy Line held) (all_searched (state limit threshold from lossy Line held))
+same_line limit threshold from lossy held lacks =
     let n = max from (length held) in
-    same_next fronts (state limit from lossy Line held) (state limit n lossy Line held) (λ more.
+    same_next fronts (state limit threshold from lossy Line held) (state limit threshold n lossy Line held) (λ more.
     let bytes = held ++ more in
     let after : IsAfter bytes bytes 0 from n = record {
       at = λ k. ap (slice_index bytes) (zero-add k);
@@ -387,29 +389,29 @@ same_line limit from lossy held lacks =
       back = omega arith;
       on = λ k low here. omega (arith, low, past_held held more from lacks k low here);
     } in (
-      leads_searched limit lossy bytes from n (λ j. finds_on after j j (omega arith)) (λ j. none_on after j j (omega arith)),
-      leads_searched limit lossy bytes n from (λ j. finds_back after j j (omega arith)) (λ j. none_back after j j (omega arith)),
+      leads_searched limit threshold lossy bytes from n (λ j. finds_on after j j (omega arith)) (λ j. none_on after j j (omega arith)),
+      leads_searched limit threshold lossy bytes n from (λ j. finds_back after j j (omega arith)) (λ j. none_back after j j (omega arith)),
     ))
 
-same_searched : (limit from : ℕ) (lossy : Bool) (place : Place) (held : List ℕ) → IsPassed place
-    → LacksEnd (after_feed (state limit from lossy place held))
-    → HasSameNext gives_universal (after_feed (state limit from lossy place held)) (all_searched (after_feed (state limit from lossy place held)))
-same_searched limit from lossy LongLine held passed lacks = absurd passed
-same_searched limit from lossy Line held passed lacks = same_line limit from lossy held lacks
-same_searched limit from lossy AfterReturn (c ∷ t) passed lacks = same_line limit from lossy (without_feed (c ∷ t)) lacks
-same_searched limit from lossy AfterReturn [] passed lacks =
+same_searched : (limit threshold from : ℕ) (lossy : Bool) (place : Place) (held : List ℕ) → IsPassed place
+    → LacksEnd (after_feed (state limit threshold from lossy place held))
+    → HasSameNext gives_universal (after_feed (state limit threshold from lossy place held)) (all_searched (after_feed (state limit threshold from lossy place held)))
+same_searched limit threshold from lossy LongLine held passed lacks = absurd passed
+same_searched limit threshold from lossy Line held passed lacks = same_line limit threshold from lossy held lacks
+same_searched limit threshold from lossy AfterReturn (c ∷ t) passed lacks = same_line limit threshold from lossy (without_feed (c ∷ t)) lacks
+same_searched limit threshold from lossy AfterReturn [] passed lacks =
     let same : from ≡ max from 0 = omega arith in
-    subst (λ n. HasSameNext gives_universal (state limit from lossy AfterReturn []) (state limit n lossy AfterReturn [])) same
+    subst (λ n. HasSameNext gives_universal (state limit threshold from lossy AfterReturn []) (state limit threshold n lossy AfterReturn [])) same
     (λ more next after. ((λ g. g), (λ g. g)))
 
 pub universal_same : KeepsNext gives_universal keeps_universal
 universal_same old new (inl (inl (skips, is))) =
     subst (HasSameNext gives_universal old) (sym is)
-    (same_dropped old.decoder.max_length old.decoder.searched old.decoder.lossy old.decoder.place old.held skips.0 skips.1)
+    (same_dropped old.decoder.max_length old.threshold old.decoder.searched old.decoder.lossy old.decoder.place old.held skips.0 skips.1)
 universal_same old new (inl (inr (mid, reaches, awaits, is))) =
     let d = reaches.ending.decoder in
     let passed = ends_passed old.decoder.place old reaches.ending refl reaches.ends in
-    let searched = same_searched d.max_length d.searched d.lossy d.place reaches.ending.held passed (subst LacksEnd reaches.is awaits.lacks) in
+    let searched = same_searched d.max_length reaches.ending.threshold d.searched d.lossy d.place reaches.ending.held passed (subst LacksEnd reaches.is awaits.lacks) in
     subst (HasSameNext gives_universal old) (sym is)
     (same_trans fronts old mid (all_searched mid) (same_reached old mid reaches)
     (subst (λ t. HasSameNext gives_universal t (all_searched t)) (sym reaches.is) searched))

@@ -1,7 +1,7 @@
 //! Reading on in a buffer that is only borrowed.
 ghost use Rattle.std.specs.Prelude.{◌≡◌, ◌≢◌, ℕ, ◌+◌, ◌<◌, ◌≤◌, ◌↔◌, List, ◌++◌, [], ◌∷◌, length, take, drop, false, IsTrue, IsOk, IfOk, IfErr, IfSome, IfNone, OnErr};
 ghost use Rattle.std.specs.List.{concat, slice_get};
-ghost use Rattle.bytes_utils_codec.specs.Cursor.{IsBegun, IsFirstWithin, NeverBegins, NeverEndsWithin, OneReplyLaw, SameReadLaw, StaysReadLaw, StaysWrongLaw, TakesFirst, TakesUpTo, passed_on, unread};
+ghost use Rattle.bytes_utils_codec.specs.Cursor.{IsBegun, IsFirstWithin, NeverBegins, NeverEndsWithin, OneReplyLaw, ReadsPart, SameReadLaw, StaysReadLaw, StaysWrongLaw, TakesFirst, TakesUpTo, passed_on, unread};
 ghost use Rattle.bytes_utils_codec.specs.Frames.{HasFrame, HasFrameWithin, TakesFrame};
 ghost use Rattle.bytes_utils.specs.Lines.{line_feed};
 ghost use Rattle.bytes_utils.specs.Occurrence.{Occurs, OccursAt, OccursFirstAt};
@@ -165,12 +165,8 @@ impl<'a, B: ContiguousBuf + Drop> Cursor<'a, B> {
     /// `OutOfMemory` if memory is refused, never for no bytes. The cursor then stays, as with
     /// `None`.
     pub fn take(&mut self, alloc: Global, len: usize) -> Result<Option<Bytes>, Reason>
-        ensures bytes { IfOk result (λ next. IfSome next (λ bytes.
-            TakesFirst len (unread self.old) bytes (unread self.new))) }
-        ensures waits { IfOk result (λ next. IfNone next
-            ((self.new ≡ self.old) × (length (unread self.old) < len))) }
-        ensures all { self.new.all ≡ self.old.all }
-        ensures err { OnErr result (self.new ≡ self.old) }
+        ensures gives { ReadsPart (λ part old new. TakesFirst len old part new)
+            (λ bytes. length bytes < len) self.old self.new result }
         ensures reason { IfErr result (λ reason. reason ≡ Reason.OutOfMemory) }
         ensures none { len ≡ 0 → IsOk result }
     {
@@ -187,12 +183,8 @@ impl<'a, B: ContiguousBuf + Drop> Cursor<'a, B> {
         alloc: Global,
         len: usize,
     ) -> Result<Option<SegmentedBuf<Bytes>>, Reason>
-        ensures bytes { IfOk result (λ next. IfSome next (λ part.
-            TakesFirst len (unread self.old) (concat part.segments) (unread self.new))) }
-        ensures waits { IfOk result (λ next. IfNone next
-            ((self.new ≡ self.old) × (length (unread self.old) < len))) }
-        ensures all { self.new.all ≡ self.old.all }
-        ensures err { OnErr result (self.new ≡ self.old) }
+        ensures gives { ReadsPart (λ part old new. TakesFirst len old (concat part.segments) new)
+            (λ bytes. length bytes < len) self.old self.new result }
         ensures reason { IfErr result (λ reason. reason ≡ Reason.OutOfMemory) }
         ensures none { len ≡ 0 → IsOk result }
     {
@@ -210,12 +202,8 @@ impl<'a, B: ContiguousBuf + Drop> Cursor<'a, B> {
     /// only that for the bytes before it. The cursor then stays, as with `None`.
     pub fn take_until(&mut self, alloc: Global, needle: &[u8]) -> Result<Option<Bytes>, Reason>
         requires { 0 < length needle.now }
-        ensures bytes { IfOk result (λ next. IfSome next (λ front.
-            TakesFrame needle.now (unread self.old) front (unread self.new))) }
-        ensures waits { IfOk result (λ next. IfNone next
-            ((self.new ≡ self.old) × (¬ Occurs needle.now (unread self.old)))) }
-        ensures all { self.new.all ≡ self.old.all }
-        ensures err { OnErr result (self.new ≡ self.old) }
+        ensures gives { ReadsPart (λ part old new. TakesFrame needle.now old part new)
+            (λ bytes. ¬ Occurs needle.now bytes) self.old self.new result }
         ensures reason { IfErr result (λ reason. reason ≡ Reason.OutOfMemory) }
         ensures due { length needle.now ≤ 16 → OnErr result (HasFrame needle.now (unread self.old)) }
     {
@@ -240,15 +228,11 @@ impl<'a, B: ContiguousBuf + Drop> Cursor<'a, B> {
         most: usize,
     ) -> Result<Option<Bytes>, Reason>
         requires { 0 < length needle.now }
-        ensures bytes { IfOk result (λ next. IfSome next (λ front.
-            TakesFrame needle.now (unread self.old) front (unread self.new))) }
+        ensures gives { ReadsPart (λ part old new. TakesFrame needle.now old part new)
+            (λ bytes. ¬ Occurs needle.now bytes) self.old self.new result }
         ensures within { IfOk result (λ next. IfSome next (λ front. length front ≤ most)) }
-        ensures waits { IfOk result (λ next. IfNone next
-            ((self.new ≡ self.old) × (¬ Occurs needle.now (unread self.old)))) }
         ensures few { IfOk result (λ next. IfNone next
             (length (unread self.old) < most + length needle.now)) }
-        ensures all { self.new.all ≡ self.old.all }
-        ensures err { OnErr result (self.new ≡ self.old) }
         ensures too_long { IfErr result (λ reason. reason ≡ Reason.TooLong
             → NeverEndsWithin most needle.now (unread self.old)) }
         ensures due { IfErr result (λ reason. reason ≡ Reason.OutOfMemory
@@ -336,12 +320,8 @@ impl<'a, B: ContiguousBuf + Drop> Cursor<'a, B> {
     /// As `take_until`, but the needle isn't passed: the cursor is at its first byte then.
     pub fn take_to(&mut self, alloc: Global, needle: &[u8]) -> Result<Option<Bytes>, Reason>
         requires { 0 < length needle.now }
-        ensures bytes { IfOk result (λ next. IfSome next (λ front.
-            TakesUpTo needle.now (unread self.old) front (unread self.new))) }
-        ensures waits { IfOk result (λ next. IfNone next
-            ((self.new ≡ self.old) × (¬ Occurs needle.now (unread self.old)))) }
-        ensures all { self.new.all ≡ self.old.all }
-        ensures err { OnErr result (self.new ≡ self.old) }
+        ensures gives { ReadsPart (λ part old new. TakesUpTo needle.now old part new)
+            (λ bytes. ¬ Occurs needle.now bytes) self.old self.new result }
         ensures reason { IfErr result (λ reason. reason ≡ Reason.OutOfMemory) }
         ensures due { length needle.now ≤ 16 → OnErr result (HasFrame needle.now (unread self.old)) }
     {
@@ -379,12 +359,9 @@ impl<'a, B: ContiguousBuf + Drop> Cursor<'a, B> {
     /// Fails with `OutOfMemory` if memory for a line that has come is refused. The cursor then
     /// stays, as with `None`.
     pub fn line(&mut self, alloc: Global) -> Result<Option<Result<Str, LineFault>>, Reason>
-        ensures line { IfOk result (λ next. IfSome next (λ item. (line : List ℕ)
-            × TakesLine (unread self.old) line (unread self.new) × IsTextItem false item line)) }
-        ensures waits { IfOk result (λ next. IfNone next
-            ((self.new ≡ self.old) × (¬ Occurs (line_feed ∷ []) (unread self.old)))) }
-        ensures all { self.new.all ≡ self.old.all }
-        ensures err { OnErr result (self.new ≡ self.old) }
+        ensures gives { ReadsPart
+            (λ item old new. (line : List ℕ) × TakesLine old line new × IsTextItem false item line)
+            (λ bytes. ¬ Occurs (line_feed ∷ []) bytes) self.old self.new result }
         ensures reason { IfErr result (λ reason. reason ≡ Reason.OutOfMemory) }
         ensures due { OnErr result (HasFrame (line_feed ∷ []) (unread self.old)) }
     {

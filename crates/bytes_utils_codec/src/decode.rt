@@ -80,8 +80,7 @@ pub trait Decoder: Sized + Drop {
         held: &mut PackedBuf,
     ) -> Result<Option<Self::Item>, Self::Error>
         ensures step { Decodes gives waits fails keeps (decoding self.old held.old) result
-            (decoding self.new held.new) }
-        ensures threshold { held.new.threshold ≡ held.old.threshold };
+            (decoding self.new held.new) };
 
     /// Takes the next item at the end of the stream: also one that is ended by that alone. Returns
     /// `None` if there is none.
@@ -91,8 +90,7 @@ pub trait Decoder: Sized + Drop {
         held: &mut PackedBuf,
     ) -> Result<Option<Self::Item>, Self::Error>
         ensures step { DecodesAtEnd gives fails keeps (decoding self.old held.old) result
-            (decoding self.new held.new) }
-        ensures threshold { held.new.threshold ≡ held.old.threshold };
+            (decoding self.new held.new) };
 
     /// Begins at the front of the held bytes, some of which the caller has taken.
     fn restart(&mut self)

@@ -166,7 +166,7 @@ pub(crate) fn find_prepared<B: ContiguousBuf + Drop>(
     if buf.remaining().saturating_sub(from) < finder.needle().len() {
         return None;
     }
-    find_from_segment(buf, buf.segment_of(from)?, from, finder, window)
+    find_from_segment(buf, from, finder, buf.segment_of(from)?, window)
 }
 
 /// As `find_prepared`, for a needle that is not prepared and may be empty.
@@ -183,7 +183,7 @@ fn find_by<B: ContiguousBuf + Drop>(
         return (start <= buf.remaining()).then_some(start);
     }
     let finder = Finder::new(needle);
-    find_from_segment(buf, buf.segment_of(start)?, start, &finder, window)
+    find_from_segment(buf, start, &finder, buf.segment_of(start)?, window)
 }
 
 /// The first place of the needle from `start` on, if it is in the first segment and
@@ -222,9 +222,9 @@ fn find_near<B: ContiguousBuf + Drop>(
 /// at `start`, and looks at none before it: `first` is its index, and that of the byte in it.
 fn find_from_segment<B: ContiguousBuf + Drop>(
     buf: &SegmentedBuf<B>,
-    first: (usize, usize),
     start: usize,
     finder: &Finder,
+    first: (usize, usize),
     window: &mut [u8],
 ) -> Option<usize>
     requires some { 0 < length finder.now }

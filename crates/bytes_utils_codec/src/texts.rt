@@ -1,69 +1,21 @@
 //! Texts of a stream that comes in pieces.
-ghost use Rattle.std.specs.Prelude.{◌≡◌, ◌<◌, ◌≤◌, [], ◌++◌, length, take, drop, IsUtf8, IfOk, IfErr, IfSome, IfNone, OnOk, OnErr};
+ghost use Rattle.std.specs.Prelude.{◌≡◌, ◌<◌, ◌≤◌, [], length, take, drop, false, true, IsUtf8, IfOk, IfErr, IfSome, IfNone, OnOk, OnErr};
 ghost use Rattle.std.specs.List.{concat};
 ghost use Rattle.std.specs.Str.Lossy.{utf8_valid_len, utf8_error_len};
-ghost use Rattle.bytes_utils_codec.specs.LossyTexts.{LossyRunLaw, TextLossyLaw, WholeLossyLaw};
 ghost use Rattle.bytes_utils_codec.specs.Pushing.{IsPush};
-ghost use Rattle.bytes_utils_codec.specs.StreamTexts.{FaultyRunLaw, IsFaulty, IsFront, IsUnfinished, TakesText, TextRunLaw, WholeRunLaw};
-
-mod lossy;
+ghost use Rattle.bytes_utils_codec.specs.StreamTexts.{IsFaultItem, IsFront, IsUnfinished, LossyRunLaw, TakesItem, TakesLast, TextFaultLaw, TextFrontLaw, TextItemsLaw, WholeLossyLaw, asks_at_end, asks_for, text_fed, text_reading};
 
 use bytes::{Buf, Bytes};
 use bytes_utils::split::character::first_end;
-use bytes_utils::string::Str;
+use bytes_utils::string::{Str, Utf8Error};
 use bytes_utils_buf::segmented::SegmentedBuf;
 use bytes_utils_buf::{Reason, Refused};
 use std::alloc::Global;
-use std::error::Error;
 use std::marker::Model;
-use std::{fmt, str};
+use std::str;
 
-/// Why a reader of texts returned no text.
-#[derive(Clone, Copy, Debug, Eq, PartialEq)]
-pub enum TextError {
-    /// A call was refused. From `next_text` the reason is `OutOfMemory`.
-    Refused(Reason),
-    /// The stream is not UTF-8, whatever comes after the held bytes, or it ended in a character.
-    NotUtf8,
-}
-
-impl From<Reason> for TextError {
-    ghost use Rattle.bytes_utils_codec.specs.declared.texts.TextError.TheVariants.{Refused};
-
-    ghost from_gives = { λ reason error. error ≡ Refused reason };
-
-    fn from(reason: Reason) -> TextError {
-        TextError::Refused(reason)
-    }
-}
-
-/// Keeps the reason and drops the piece.
-impl From<Refused<Bytes>> for TextError {
-    ghost use Rattle.bytes_utils_codec.specs.declared.texts.TextError.TheVariants.{Refused};
-
-    ghost from_gives = { λ refused error. error ≡ Refused refused.reason };
-
-    fn from(refused: Refused<Bytes>) -> TextError {
-        TextError::Refused(refused.reason)
-    }
-}
-
-/// Writes the text of the reason, or `not UTF-8`.
-impl fmt::Display for TextError {
-    ghost use Rattle.std.specs.Prelude.{Some};
-    ghost use Rattle.bytes_utils_codec.specs.StreamTexts.{text_error_text};
-
-    ghost output = { λ error. Some (text_error_text error) };
-
-    fn fmt<W: fmt::Write>(&self, f: &mut fmt::Formatter<W>) -> fmt::Result {
-        match self {
-            TextError::Refused(reason) => write!(f, "{reason}"),
-            TextError::NotUtf8 => write!(f, "not UTF-8"),
-        }
-    }
-}
-
-impl Error for TextError {}
+/// A text, or bytes that are none.
+type Item = Result<Str, Utf8Error<Bytes>>;
 
 /// What the held bytes begin with.
 enum Front {
@@ -81,41 +33,56 @@ enum Front {
 /// ```text
 /// let mut texts = Texts::new(alloc);
 /// texts.push(first)?;              // a `Bytes` of `caf` and the first byte of `é`
-/// texts.next_text(alloc)?          // `caf`
-/// texts.next_text(alloc)?          // `None`: one byte is held
+/// texts.next_item(alloc)?          // `Ok(caf)`
+/// texts.next_item(alloc)?          // `None`: one byte is held
 /// texts.push(second)?;             // the second byte of `é`, and ` au lait`
-/// texts.next_text(alloc)?          // `é`, and then ` au lait`
-/// texts.end()?;                    // no byte is held
+/// texts.next_item(alloc)?          // `Ok(é)`, and then `Ok( au lait)`
+/// texts.last_item(alloc)?          // `None`: the stream may end here
 /// ```
 ///
-/// For a stream that may have other bytes, too, take `next_lossy` in place of `next_text`.
+/// Bytes that are no text are an item that has them, and the next item is that of the bytes after
+/// them: the longest first bytes of a character that what follows doesn't make one, or else a single
+/// byte (the Unicode Standard, section 3.9). With `lossy` the item is U+FFFD.
 ///
-/// A text shares the block of its piece. Only a character that is cut is copied, of at most four
-/// bytes, as a text of its own.
+/// A text shares the block of its piece, and so do bytes that are none. Only a character that is
+/// cut, or a fault, is copied, of at most four bytes.
 ///
-/// A piece is held as it is until its last text is taken. So take all texts, up to `None`, before
+/// A piece is held as it is until its last text is taken. So take all items, up to `None`, before
 /// the next `push`: then at most three bytes are held between two pieces.
 #[derive(Debug, Drop)]
 pub struct Texts {
     pieces: SegmentedBuf<Bytes>,
+    lossy: bool,
 }
 
 impl Model for Texts {
-    ghost use Rattle.std.specs.Prelude.{ℕ, List};
     ghost use Rattle.std.specs.List.{concat};
+    ghost use Rattle.bytes_utils_codec.specs.StreamTexts.{TextReading};
 
-    ghost Value = { List ℕ };
+    ghost Value = { TextReading };
 
-    ghost view = { λ t. concat t.pieces.segments };
+    ghost view = { λ t. record { held = concat t.pieces.segments; lossy = t.lossy } };
 }
 
 impl Texts {
     /// Makes a reader that holds no bytes.
     pub fn new(alloc: Global) -> Texts
-        ensures { result ≡ [] }
+        ensures { result ≡ text_reading false }
     {
         Texts {
             pieces: SegmentedBuf::new(alloc),
+            lossy: false,
+        }
+    }
+
+    /// Makes it lossy: bytes that are no text become U+FFFD, as `String::from_utf8_lossy` makes of
+    /// them. Then each item is a text.
+    pub fn lossy(self) -> Texts
+        ensures { result ≡ record self { lossy = true } }
+    {
+        Texts {
+            pieces: self.pieces,
+            lossy: true,
         }
     }
 
@@ -123,40 +90,57 @@ impl Texts {
     /// `usize::MAX`, and with `OutOfMemory` if memory is refused; then nothing has changed and
     /// `piece` comes back.
     pub fn push(&mut self, piece: Bytes) -> Result<(), Refused<Bytes>>
-        ensures pushed { IsPush self.old piece result
-            (self.new ≡ self.old ++ piece) (self.new ≡ self.old) }
+        ensures pushed { IsPush self.old.held piece result
+            (self.new ≡ text_fed self.old piece) (self.new ≡ self.old) }
     {
         self.pieces.try_push(piece)
     }
 
-    /// Returns the next text: whole characters, up to where a piece ends or isn't UTF-8, or the
-    /// character over a border. Returns `None` while the held bytes are the beginning of a
-    /// character, or none. Fails with `NotUtf8` if they begin with no text, and can't whatever
-    /// follows: as early as that is certain, and again at each further call. Fails with `Refused`
-    /// if memory is refused, and only if the held bytes begin with a text. Then nothing has changed.
-    pub fn next_text(&mut self, alloc: Global) -> Result<Option<Str>, TextError>
-        ensures text { IfOk result
-            (λ next. IfSome next (λ text. TakesText self.old text self.new)) }
+    /// Returns the next item: a text of whole characters, up to where a piece ends or isn't UTF-8,
+    /// or the character over a border; or bytes that are no text, as early as that is certain.
+    /// Returns `None` while the held bytes are the beginning of a character, or none. Fails with
+    /// `OutOfMemory` if memory is refused, which is asked for only if an item has come; then nothing
+    /// has changed.
+    pub fn next_item(&mut self, alloc: Global) -> Result<Option<Item>, Reason>
+        ensures item { IfOk result
+            (λ next. IfSome next (λ item. TakesItem self.old item self.new)) }
         ensures waits { IfOk result (λ next. IfNone next
-            ((self.new ≡ self.old) × IsUnfinished self.old)) }
+            ((self.new ≡ self.old) × IsUnfinished self.old.held)) }
         ensures err { OnErr result (self.new ≡ self.old) }
-        ensures not_utf8 { IfErr result (λ e. e ≡ TextError.NotUtf8 → IsFaulty self.old) }
-        ensures front { IfErr result (λ e. e ≡ TextError.NotUtf8 → utf8_valid_len self.old ≡ 0) }
-        ensures some { IfErr result
-            (λ e. (reason : _) → e ≡ TextError.Refused reason → 0 < utf8_valid_len self.old) }
-        ensures reason { IfErr result
-            (λ e. (reason : _) → e ≡ TextError.Refused reason → reason ≡ Reason.OutOfMemory) }
+        ensures asks { OnErr result (asks_for self.old) }
+        ensures reason { IfErr result (λ reason. reason ≡ Reason.OutOfMemory) }
     {
         match self.front() {
-            Front::Text(len) => Ok(Some(self.take_text(alloc, len)?)),
-            Front::Fault(_) => Err(TextError::NotUtf8),
+            Front::Text(len) => Ok(Some(Ok(self.take_text(alloc, len)?))),
+            Front::Fault(len) => Ok(Some(self.take_fault(alloc, len)?)),
             Front::Unfinished => Ok(None),
         }
     }
 
+    /// As `next_item`, at the end of the stream: the bytes of a character that isn't whole are no
+    /// text, too. Returns `None` if no byte is held.
+    pub fn last_item(&mut self, alloc: Global) -> Result<Option<Item>, Reason>
+        ensures item { IfOk result
+            (λ next. IfSome next (λ item. TakesLast self.old item self.new)) }
+        ensures none { IfOk result
+            (λ next. IfNone next ((self.old.held ≡ []) × (self.new ≡ self.old))) }
+        ensures err { OnErr result (self.new ≡ self.old) }
+        ensures asks { OnErr result (asks_at_end self.old) }
+        ensures reason { IfErr result (λ reason. reason ≡ Reason.OutOfMemory) }
+    {
+        if let Some(item) = self.next_item(alloc)? {
+            return Ok(Some(item));
+        }
+        let held = self.remaining();
+        if held == 0 {
+            return Ok(None);
+        }
+        Ok(Some(self.take_fault(alloc, held)?))
+    }
+
     /// Returns what the held bytes begin with.
     fn front(&self) -> Front
-        ensures { IsFront self.now result }
+        ensures { IsFront self.now.held result }
     {
         let len = front_len(self.pieces.chunk());
         if len > 0 {
@@ -169,10 +153,10 @@ impl Texts {
 
     /// Takes the text of the first `len` bytes.
     fn take_text(&mut self, alloc: Global, len: usize) -> Result<Str, Reason>
-        requires within { len ≤ length self.old }
-        requires utf8 { IsUtf8 (take len self.old) }
-        ensures ok { IfOk result (λ text. text ≡ take len self.old) }
-        ensures rest { OnOk result (self.new ≡ drop len self.old) }
+        requires within { len ≤ length self.old.held }
+        requires utf8 { IsUtf8 (take len self.old.held) }
+        ensures ok { IfOk result (λ text. text ≡ take len self.old.held) }
+        ensures rest { OnOk result (self.new ≡ record self.old { held = drop len self.old.held }) }
         ensures err { OnErr result (self.new ≡ self.old) }
         ensures reason { IfErr result (λ reason. reason ≡ Reason.OutOfMemory) }
     {
@@ -181,36 +165,44 @@ impl Texts {
         Ok(Str::from_inner_unchecked(text))
     }
 
-    /// Asserts that the stream may end here: call it at its end, after `next_text` has returned
-    /// `None`. Fails with `NotUtf8` if a byte is held, as the last character isn't whole then.
-    pub fn end(&self) -> Result<(), TextError>
-        ensures ok { OnOk result (self.now ≡ []) }
-        ensures err { IfErr result (λ e. (e ≡ TextError.NotUtf8) × (0 < length self.now)) }
+    /// Takes the first `len` bytes, which are no text, as they are or as U+FFFD.
+    fn take_fault(&mut self, alloc: Global, len: usize) -> Result<Item, Reason>
+        requires within { len ≤ length self.old.held }
+        requires no_text { ¬ IsUtf8 (take len self.old.held) }
+        ensures item { IfOk result
+            (λ item. IsFaultItem self.old.lossy item (take len self.old.held)) }
+        ensures rest { OnOk result (self.new ≡ record self.old { held = drop len self.old.held }) }
+        ensures err { OnErr result (self.new ≡ self.old) }
+        ensures strict { OnErr result (self.old.lossy ≡ false) }
+        ensures reason { IfErr result (λ reason. reason ≡ Reason.OutOfMemory) }
     {
-        if self.remaining() > 0 {
-            return Err(TextError::NotUtf8);
+        if self.lossy {
+            self.pieces.advance(len);
+            return Ok(Ok(Str::from_static("\u{FFFD}")));
         }
-        Ok(())
+        let fault = self.pieces.peek_bytes(alloc, len)?;
+        self.pieces.advance(len);
+        Ok(Str::from_inner(fault))
     }
 
     /// Returns the number of held bytes: those pushed and not yet taken.
     pub fn remaining(&self) -> usize
-        ensures { result ≡ length self.now }
+        ensures { result ≡ length self.now.held }
     {
         self.pieces.remaining()
     }
 
-    /// Returns the held bytes. After `next_text` has returned `None` they are the beginning of a
-    /// character, or none; after `NotUtf8` they begin with the fault.
+    /// Returns the held bytes. After `next_item` has returned `None` they are the beginning of a
+    /// character, or none.
     pub fn finish(self) -> SegmentedBuf<Bytes>
-        ensures { concat result.segments ≡ self }
+        ensures { concat result.segments ≡ self.held }
     {
-        let Texts { pieces } = self;
+        let Texts { pieces, .. } = self;
         pieces
     }
 }
 
-/// Returns how many first bytes are the longest text at the start.
+/// Returns the number of bytes of the longest text at the start.
 fn front_len(bytes: &[u8]) -> usize
     ensures value { result ≡ utf8_valid_len bytes.now }
     ensures within { result ≤ length bytes.now }
@@ -263,13 +255,13 @@ fn front_of_few(bytes: &[u8]) -> Front
 }
 
 /// The laws of a run of calls: what is given depends on the joined pieces alone, wherever these are
-/// cut and whenever texts are asked for. It is the longest text at their start, or with
-/// `Texts::next_lossy` the text that `String::from_utf8_lossy` makes of them.
+/// cut and whenever items are asked for. No byte is lost. Until bytes come that are no text, the
+/// texts are the longest text at the start of the pieces. With U+FFFD for such bytes, all items are
+/// the text that `String::from_utf8_lossy` makes of the pieces.
 pub fn text_laws()
-    ensures run { TextRunLaw }
-    ensures faulty { FaultyRunLaw }
-    ensures whole { WholeRunLaw }
+    ensures items { TextItemsLaw }
+    ensures front { TextFrontLaw }
+    ensures faulty { TextFaultLaw }
     ensures lossy { LossyRunLaw }
     ensures whole_lossy { WholeLossyLaw }
-    ensures lossy_text { TextLossyLaw }
 {}

@@ -3,16 +3,4 @@
 #![tactic(auto)]
 
 #[cfg(test)]
-mod cursor;
-#[cfg(test)]
-mod decode;
-#[cfg(test)]
-mod find;
-#[cfg(test)]
-mod fixtures;
-#[cfg(test)]
-mod readme;
-#[cfg(test)]
-mod search;
-#[cfg(test)]
-mod texts;
+mod cases;

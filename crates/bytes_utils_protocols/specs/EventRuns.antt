@@ -2,6 +2,7 @@
 use Rattle.std.specs.Prelude.{List, [], Option, None, Some, Result, true}
 use Rattle.std.specs.List.{flat_map}
 use Rattle.std.specs.Option.{option_to_list}
+use Rattle.bytes_utils_codec.specs.Decoding.{starting}
 use Rattle.bytes_utils_codec.specs.StreamRuns.{AreFirst, IsRunOver, SameFirstLaw, StreamEvent, given_by, pushed_by}
 use Rattle.bytes_utils_codec.specs.UniversalItems.{universal_reading}
 use Rattle.bytes_utils_protocols.specs.Events.{Eventing, GivesItem, LosesNothing, Waits, WaitsTooLarge, nothing_told, pushed}
@@ -12,7 +13,7 @@ use Rattle.bytes_utils_protocols.specs.declared.events.Limits.{Limits}
 -- before any byte
 abbrev pub nothing_held : Limits → Eventing
 nothing_held limits = record {
-  lines = record { decoder = universal_reading limits.line; held = [] };
+  lines = starting (universal_reading limits.line) 512;
   waiting = None;
   at_start = true;
   told = nothing_told;

@@ -25,7 +25,7 @@ NoNetstring bytes = (text rest : List ℕ) → ¬ TakesNetstring bytes text rest
 
 -- the next text, and what is left
 abbrev pub takes_netstring : {D : Type 0} → Taking D (List ℕ)
-takes_netstring old text new = (new.decoder ≡ old.decoder) × TakesNetstring old.held text new.held
+takes_netstring old text new = (new ≡ record old { held = new.held }) × TakesNetstring old.held text new.held
 
 -- no whole netstring has come
 abbrev pub awaits_netstring : {D : Type 0} → Decoding D → Type 0

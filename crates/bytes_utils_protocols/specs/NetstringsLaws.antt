@@ -2,6 +2,7 @@
 use Rattle.std.proofs.Common.{◌≡◌, ℕ, List, [], ◌∷◌, ◌++◌, length, ap, ◌∙◌, sym, append_assoc}
 use Rattle.std.proofs.lemmas.List.{append_cancel_left}
 use Rattle.std.specs.Str.Parse.{digits_value}
+use Rattle.bytes_utils_codec.specs.Decoding.{fed}
 use Rattle.bytes_utils_codec.specs.Taking.{AreTaken}
 use Rattle.bytes_utils_codec.proofs.FramesLemmas.{TakesFrame-more, TakesFrame-same}
 use Rattle.bytes_utils.proofs.Joins.{append_same}
@@ -26,10 +27,9 @@ netstring_same old f g x y s t =
 
 pub netstring_facts : {D : Type 0} → AreTaken (takes_netstring {D = D}) awaits_netstring
 netstring_facts = record {
-  more = λ old text new more takes. (takes.0, netstring_more old.held text new.held more takes.1);
+  more = λ old text new more takes. (ap (λ s. fed s more) takes.0, netstring_more old.held text new.held more takes.1);
   same = λ s f g x y a b.
       let same = netstring_same s.held f g x.held y.held a.1 b.1 in
-      let decoders : x.decoder ≡ y.decoder = a.0 ∙ sym b.0 in
-      (same.0, (λ i. record { decoder = decoders i; held = same.1 i }));
+      (same.0, a.0 ∙ ap (λ l. record s { held = l }) same.1 ∙ sym b.0);
   lacks = λ s none text after takes. none text after.held takes.1;
 }

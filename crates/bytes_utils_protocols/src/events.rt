@@ -3,10 +3,10 @@ ghost use Rattle.std.specs.Prelude.{◌≡◌, ◌≢◌, ◌+◌, ◌^◌, ◌<
 ghost use Rattle.std.specs.Option.{option_or};
 ghost use Rattle.bytes_utils.specs.Lines.{line_feed};
 ghost use Rattle.bytes_utils_codec.specs.Pushing.{IsPush};
-ghost use Rattle.bytes_utils_codec.specs.UniversalItems.{AwaitsUniversal, universal_reading};
+ghost use Rattle.bytes_utils_codec.specs.UniversalItems.{AwaitsUniversal};
 ghost use Rattle.bytes_utils_protocols.specs.EventData.{text_if_any, text_of};
-ghost use Rattle.bytes_utils_protocols.specs.EventRuns.{EventRunLaw, LargeEventLaw, NoEventLaw, SameEventLaw};
-ghost use Rattle.bytes_utils_protocols.specs.Events.{DoesLine, EndsEvent, Gives, IsEndOf, IsTooLarge, Keeps, LosesNothing, PassesFault, TakesFault, TakesNext, Waits, WaitsTooLarge, after_field, content, text_len, field_name, field_value, left_to_read, nothing_told, number_of, pushed, some_name, with_line, without_space};
+ghost use Rattle.bytes_utils_protocols.specs.EventRuns.{EventRunLaw, LargeEventLaw, NoEventLaw, SameEventLaw, nothing_held};
+ghost use Rattle.bytes_utils_protocols.specs.Events.{DoesLine, EndsEvent, Gives, IsEndOf, IsTooLarge, Keeps, LosesNothing, PassesFault, TakesFault, TakesNext, Waits, WaitsTooLarge, after_field, content, text_len, field_name, field_value, left_to_read, number_of, pushed, some_name, with_line, without_space};
 
 use crate::number::number;
 use bytes::Bytes;
@@ -129,13 +129,7 @@ impl Model for EventReader {
 impl EventReader {
     /// Makes a reader that holds no bytes.
     pub fn new(alloc: Global, limits: Limits) -> EventReader
-        ensures { result ≡ record {
-          lines = record { decoder = universal_reading limits.line; held = [] };
-          waiting = None;
-          at_start = true;
-          told = nothing_told;
-          max_data = limits.data;
-        } }
+        ensures { result ≡ nothing_held limits }
     {
         EventReader {
             lines: Framed::new(alloc, UniversalLines::with_limit(limits.line)),

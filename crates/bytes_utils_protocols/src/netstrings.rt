@@ -52,7 +52,6 @@ impl Netstrings {
             × (decoding self held.new ≡ decoding self held.old))) }
         ensures err { IfErr result (λ error. fails_netstring (decoding self held.old) error
             × (decoding self held.new ≡ decoding self held.old)) }
-        ensures threshold { held.new.threshold ≡ held.old.threshold }
     {
         let mut cursor = Cursor::new(held.as_segmented());
         let Some(digits) = cursor.take_until_within(alloc, b":", 20)? else {

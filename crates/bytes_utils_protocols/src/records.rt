@@ -1,6 +1,6 @@
 //! Records of a stream, each followed by an empty line, with a limit of length.
 ghost use Rattle.std.specs.Prelude.{◌≡◌, [], length, IfErr, IfNone, IfOk, IfSome};
-ghost use Rattle.bytes_utils_codec.specs.Decoding.{fed};
+ghost use Rattle.bytes_utils_codec.specs.Decoding.{fed, starting};
 ghost use Rattle.bytes_utils_codec.specs.Delimited.{AwaitsFrame, delimiting, fails_delimited, keeps_delimited};
 ghost use Rattle.bytes_utils_codec.specs.Pushing.{IsPush};
 ghost use Rattle.bytes_utils_protocols.specs.Records.{GivesRecord, IsTextOf, record_end};
@@ -46,10 +46,7 @@ impl Records {
     /// Makes a reader for records of at most `max_length` bytes. Fails with `OutOfMemory` if
     /// memory is refused.
     pub fn new(alloc: Global, max_length: usize) -> Result<Records, Reason>
-        ensures ok { IfOk result (λ r. r ≡ record {
-          decoder = delimiting record_end max_length;
-          held = [];
-        }) }
+        ensures ok { IfOk result (λ r. r ≡ starting (delimiting record_end max_length) 512) }
         ensures reason { IfErr result (λ reason. reason ≡ Reason.OutOfMemory) }
     {
         let decoder = Delimited::with_limit(alloc, b"\r\n\r\n", max_length)?;

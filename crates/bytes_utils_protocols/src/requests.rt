@@ -4,7 +4,7 @@
 ghost use Rattle.std.specs.Prelude.{◌≡◌, ◌≢◌, ℕ, ◌<◌, ◌≤◌, ◌↔◌, List, [], length, take, IfOk, IfErr, IfSome, IfNone, OnErr, IsSomeAnd};
 ghost use Rattle.std.specs.List.{concat, prefix_len, suffix_len};
 ghost use Rattle.std.specs.Option.{option_or};
-ghost use Rattle.bytes_utils_codec.specs.Decoding.{Decodes, fed, passed};
+ghost use Rattle.bytes_utils_codec.specs.Decoding.{Decodes, fed, passed, starting};
 ghost use Rattle.bytes_utils_codec.specs.Delimited.{AwaitsFrame, delimiting, fails_delimited, gives_delimited, keeps_delimited, ready};
 ghost use Rattle.bytes_utils_codec.specs.Pushing.{IsPush};
 ghost use Rattle.bytes_utils_protocols.specs.Digits.{WriteNumber};
@@ -65,10 +65,7 @@ impl Requests {
     /// Makes a reader of heads of at most `max_head` bytes. Fails with `OutOfMemory` if memory is
     /// refused.
     pub fn new(alloc: Global, max_head: usize) -> Result<Requests, Reason>
-        ensures ok { IfOk result (λ requests. requests ≡ record {
-          decoder = delimiting head_end max_head;
-          held = [];
-        }) }
+        ensures ok { IfOk result (λ r. r ≡ starting (delimiting head_end max_head) 512) }
         ensures reason { IfErr result (λ reason. reason ≡ Reason.OutOfMemory) }
     {
         let decoder = Delimited::with_limit(alloc, b"\r\n\r\n", max_head)?;

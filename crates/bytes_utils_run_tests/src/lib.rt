@@ -3,14 +3,4 @@
 #![tactic(auto)]
 
 #[cfg(test)]
-mod calls;
-#[cfg(test)]
-mod cut;
-#[cfg(test)]
-mod fakes;
-#[cfg(test)]
-mod laws;
-#[cfg(test)]
-mod odd;
-#[cfg(test)]
-mod program;
+mod cases;

@@ -2,10 +2,4 @@
 #![tactic(auto)]
 
 #[cfg(test)]
-mod fixtures;
-#[cfg(test)]
-mod json;
-#[cfg(test)]
-mod split;
-#[cfg(test)]
-mod string;
+mod cases;

@@ -1,7 +1,7 @@
 //! Frames that a separator ends.
 ghost use Rattle.std.specs.Prelude.{◌≡◌, ◌↔◌, ◌+◌, ◌<◌, ◌≤◌, length, take, drop, IfErr, IfOk, IfNone, IfSome, IsTrue, MatchBool, not, OnErr, OnOk, false};
 ghost use Rattle.std.specs.List.{concat};
-ghost use Rattle.bytes_utils_codec.specs.Decoding.{Decodes, decoding};
+ghost use Rattle.bytes_utils_codec.specs.Decoding.{Decodes, decoding, passed};
 ghost use Rattle.bytes_utils_codec.specs.Delimited.{AwaitsFrame, AwaitsSeparator, DelimitedFramesLaw, DelimitedHeldLaw, DelimitedWholeLaw, FindsNext, IsOverLimit, Passes, SkipsMore, SkipsOn, Stops, TakesFrameFrom, all_searched, delimiting, fails_delimited, gives_delimited, keeps_delimited, left_of, ready, skipping_from};
 ghost use Rattle.bytes_utils_codec.specs.DelimitedLaws.{delimited_same, delimited_single, delimited_stable, delimited_waits};
 
@@ -112,7 +112,6 @@ impl Delimited {
     /// No byte of the frame is taken.
     pub(super) fn next_frame(&mut self, held: &mut PackedBuf) -> Option<Result<usize, FrameTooLong>>
         ensures finds { FindsNext (decoding self.old held.old) result (decoding self.new held.new) }
-        ensures threshold { held.new.threshold ≡ held.old.threshold }
     {
         if !self.pass_skipped(held) {
             return None;
@@ -128,7 +127,6 @@ impl Delimited {
     ) -> Result<Option<Frame>, Reason>
         ensures step { Decodes gives_delimited AwaitsFrame fails_delimited keeps_delimited
             (decoding self.old held.old) result (decoding self.new held.new) }
-        ensures threshold { held.new.threshold ≡ held.old.threshold }
         ensures stops { IfOk result (λ next. IfNone next
             (Stops (decoding self.old held.old) (decoding self.new held.new))) }
 
@@ -151,7 +149,6 @@ impl Delimited {
             (SkipsOn (decoding self.old held.old)
             × SkipsMore (decoding self.old held.old) (decoding self.new held.new)) }
         ensures skipping { self.new.skipping ≡ not result }
-        ensures threshold { held.new.threshold ≡ held.old.threshold }
     {
         if !self.skipping {
             return true;
@@ -204,13 +201,11 @@ impl Delimited {
     ) -> Result<Bytes, Reason>
         requires { len + length self.old.separator ≤ length (concat held.old.held.segments) }
         ensures frame { IfOk result (λ frame. frame ≡ take len (concat held.old.held.segments)) }
-        ensures rest { OnOk result (concat held.new.held.segments
-            ≡ drop (len + length self.old.separator) (concat held.old.held.segments)) }
-        ensures ok { OnOk result (self.new ≡ ready self.old) }
+        ensures ok { OnOk result (decoding self.new held.new
+            ≡ passed ready (len + length self.old.separator) (decoding self.old held.old)) }
         ensures err { OnErr result (decoding self.new held.new ≡ decoding self.old held.old) }
         ensures reason { IfErr result (λ reason. reason ≡ Reason.OutOfMemory) }
         ensures some { OnErr result (0 < len) }
-        ensures threshold { held.new.threshold ≡ held.old.threshold }
     {
         let frame = held.take_bytes(alloc, len)?;
         self.pass_separator(held);
@@ -220,10 +215,8 @@ impl Delimited {
     /// Drops the separator, with which the held bytes begin. The next frame is after it.
     pub(super) fn pass_separator(&mut self, held: &mut PackedBuf)
         requires { length self.old.separator ≤ length (concat held.old.held.segments) }
-        ensures bytes { concat held.new.held.segments
-            ≡ drop (length self.old.separator) (concat held.old.held.segments) }
-        ensures ready { self.new ≡ ready self.old }
-        ensures threshold { held.new.threshold ≡ held.old.threshold }
+        ensures { decoding self.new held.new
+            ≡ passed ready (length self.old.separator) (decoding self.old held.old) }
     {
         held.advance(self.separator().len());
         self.ready();
@@ -232,10 +225,10 @@ impl Delimited {
     /// Drops the bytes of a frame that is skipped whose end does not come. Begins at the front of a
     /// frame.
     pub(super) fn pass_end(&mut self, held: &mut PackedBuf)
-        ensures ready { self.new ≡ ready self.old }
-        ensures bytes { concat held.new.held.segments
-            ≡ left_of self.old.skipping (concat held.old.held.segments) }
-        ensures threshold { held.new.threshold ≡ held.old.threshold }
+        ensures { decoding self.new held.new ≡ record (decoding self.old held.old) {
+          decoder = ready self.old;
+          held = left_of self.old.skipping (concat held.old.held.segments);
+        } }
     {
         if self.skipping {
             let len = held.remaining();

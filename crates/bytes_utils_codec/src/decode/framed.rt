@@ -3,7 +3,7 @@ ghost use Rattle.std.specs.Prelude.{◌≡◌, ◌+◌, ◌^◌, ◌≤◌, ◌�
 ghost use Rattle.std.specs.Io.KnownBytes.{IsAtEnd, Keeps};
 ghost use Rattle.std.specs.List.{concat};
 ghost use Rattle.bytes_utils_codec.specs.Pushing.{IsPush};
-ghost use Rattle.bytes_utils_codec.specs.Decoding.{Decodes, DecodesAtEnd, IsFedBy, decoding, fed, passed};
+ghost use Rattle.bytes_utils_codec.specs.Decoding.{Decodes, DecodesAtEnd, IsFedBy, decoding, fed, passed, starting};
 
 use super::Decoder;
 use bytes::{Buf, Bytes};
@@ -26,9 +26,9 @@ const SMALL: usize = 512;
 /// frames.next_item(alloc)?         // `Ok(abc)`; two bytes are left
 /// ```
 ///
-/// Pieces of at most 512 bytes are copied together, so that a peer that sends single bytes doesn't
-/// fill the memory with blocks: see [`PackedBuf`]. How many bytes are held at most is up to the
-/// decoder.
+/// Pieces of at most 512 bytes, or of another threshold, are copied together, so that a peer that
+/// sends single bytes doesn't fill the memory with blocks: see [`PackedBuf`]. How many bytes are
+/// held at most is up to the decoder.
 #[derive(Drop)]
 pub struct Framed<D: Decoder> {
     alloc: Global,
@@ -37,33 +37,32 @@ pub struct Framed<D: Decoder> {
 }
 
 impl<D: Decoder> Model for Framed<D> {
-    ghost use Rattle.std.specs.Prelude.{◌≡◌};
     ghost use Rattle.bytes_utils_codec.specs.Decoding.{Decoding, decoding};
 
     ghost Value = { Decoding D };
 
     ghost view = { λ d. decoding d.decoder d.held };
-
-    ghost invariant = { λ d. d.held.threshold ≡ 512 };
 }
 
 impl<D: Decoder> Framed<D> {
-    /// Makes a reader that holds no bytes.
+    /// Makes a reader that holds no bytes, and copies pieces of at most 512 bytes together.
     pub fn new(alloc: Global, decoder: D) -> Framed<D>
-        ensures { result ≡ record { decoder = decoder; held = [] } }
+        ensures { result ≡ starting decoder 512 }
     {
-        Framed {
-            alloc,
-            decoder,
-            held: PackedBuf::new(alloc, SMALL),
-        }
+        Framed::with_threshold(alloc, decoder, SMALL)
+    }
+
+    /// As `new`, but copies pieces of at most `threshold` bytes together. With 0 each piece is held
+    /// as it is, so the caller has to bound their number.
+    pub fn with_threshold(alloc: Global, decoder: D, threshold: usize) -> Framed<D>
+        ensures { result ≡ starting decoder threshold }
+    {
+        Framed::from_parts(alloc, decoder, PackedBuf::new(alloc, threshold))
     }
 
     /// Makes a reader that holds these bytes, such as those that another one returned by `finish`:
-    /// this decoder goes on over them. Requires that `held` copies pieces of at most 512 bytes, as
-    /// those that `finish` returns do.
+    /// this decoder goes on over them.
     pub fn from_parts(alloc: Global, decoder: D, held: PackedBuf) -> Framed<D>
-        requires { held.threshold ≡ 512 }
         ensures { result ≡ decoding decoder held }
     {
         Framed {
@@ -73,8 +72,8 @@ impl<D: Decoder> Framed<D> {
         }
     }
 
-    /// Appends `piece`. If it has at most 512 bytes, it is copied to the end of those before it; if
-    /// not, it is held as it is. Fails with `TooLong` if the number of held bytes would pass
+    /// Appends `piece`. If it is not longer than the threshold, it is copied to the end of those
+    /// before it; if it is, it is held as it is. Fails with `TooLong` if the number of held bytes would pass
     /// `usize::MAX`, and with `OutOfMemory` if memory is refused; then nothing has changed and
     /// `piece` comes back.
     pub fn push(&mut self, piece: Bytes) -> Result<(), Refused<Bytes>>
@@ -188,10 +187,10 @@ impl<D: Decoder> Framed<D> {
     }
 
     /// Returns the held bytes as they are held. There are at most two segments, and one more for
-    /// each 256 bytes (clause `few` of `PackedBuf::segments`).
+    /// each 256 bytes, or half of another threshold (clause `few` of `PackedBuf::segments`).
     pub fn pieces(&self) -> &PackedBuf
         ensures bytes { concat result.now.held.segments ≡ self.now.held }
-        ensures threshold { result.now.threshold ≡ 512 }
+        ensures threshold { result.now.threshold ≡ self.now.threshold }
     {
         &self.held
     }
@@ -207,7 +206,7 @@ impl<D: Decoder> Framed<D> {
     pub fn finish(self) -> (D, PackedBuf)
         ensures decoder { result.0 ≡ self.decoder }
         ensures bytes { concat result.1.held.segments ≡ self.held }
-        ensures threshold { result.1.threshold ≡ 512 }
+        ensures threshold { result.1.threshold ≡ self.threshold }
     {
         let Framed { decoder, held, .. } = self;
         (decoder, held)

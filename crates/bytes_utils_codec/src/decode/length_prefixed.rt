@@ -137,7 +137,6 @@ impl LengthPrefixed {
     fn take_frame(&mut self, alloc: Global, held: &mut PackedBuf) -> Result<Option<Frame>, Reason>
         ensures step { Decodes gives_prefixed awaits_prefixed fails_prefixed keeps_prefixed
             (decoding self.old held.old) result (decoding self.new held.new) }
-        ensures threshold { held.new.threshold ≡ held.old.threshold }
     {
         self.drop_skipped(held);
         self.take_front(alloc, held)
@@ -145,8 +144,7 @@ impl LengthPrefixed {
 
     /// Drops the bytes that are skipped, as many of them as are held.
     fn drop_skipped(&mut self, held: &mut PackedBuf)
-        ensures state { decoding self.new held.new ≡ after_skipped (decoding self.old held.old) }
-        ensures threshold { held.new.threshold ≡ held.old.threshold }
+        ensures { decoding self.new held.new ≡ after_skipped (decoding self.old held.old) }
     {
         let here = self.skipped.min(held.remaining() as u128);
         held.advance(here as usize);
@@ -158,7 +156,6 @@ impl LengthPrefixed {
     fn take_front(&mut self, alloc: Global, held: &mut PackedBuf) -> Result<Option<Frame>, Reason>
         ensures step { Decodes gives_front awaits_front fails_front keeps_same
             (decoding self.old held.old) result (decoding self.new held.new) }
-        ensures threshold { held.new.threshold ≡ held.old.threshold }
     {
         if self.skipped > 0 {
             return Ok(None);
@@ -243,7 +240,6 @@ impl LengthPrefixed {
         requires front { self.now.skipped ≡ 0 }
         ensures step { Decodes gives_front awaits_front fails_front keeps_same
             (decoding self.now held.old) result (decoding self.now held.new) }
-        ensures threshold { held.new.threshold ≡ held.old.threshold }
     {
         if held.remaining() - head < len {
             return Ok(None);

@@ -3,7 +3,7 @@ ghost use Rattle.std.specs.Prelude.{◌≡◌, ◌+◌, ◌<◌, ◌≤◌, [], 
 ghost use Rattle.std.specs.List.{concat};
 ghost use Rattle.std.specs.Str.Lossy.{utf8_lossy};
 ghost use Rattle.bytes_utils.specs.Lines.{IsWithoutReturn};
-ghost use Rattle.bytes_utils_codec.specs.Decoding.{Decodes, decoding};
+ghost use Rattle.bytes_utils_codec.specs.Decoding.{Decodes, decoding, passed};
 ghost use Rattle.bytes_utils_codec.specs.Delimited.{fails_delimited};
 ghost use Rattle.bytes_utils_codec.specs.LineItems.{AwaitsLine, IsLastOf, IsLineOf, IsTextItem, LineItemsLaw, TakesLast, TakesLineItem, WholeLinesLaw, fails_line, frames_of, gives_line, keeps_line, line_reading, ready_line};
 ghost use Rattle.bytes_utils_codec.specs.StreamLines.{FirstLinesLaw, SameLinesLaw, TextLinesLaw};
@@ -142,9 +142,8 @@ impl Lines {
 
     /// Takes the next line, if its line feed has come.
     fn take_line(&mut self, alloc: Global, held: &mut PackedBuf) -> Result<Option<Line>, Reason>
-        ensures step { TakesLineItem (decoding self.old held.old) result
+        ensures { TakesLineItem (decoding self.old held.old) result
             (decoding self.new held.new) }
-        ensures threshold { held.new.threshold ≡ held.old.threshold }
     {
         if self.lossy {
             self.take_lossy(alloc, held)
@@ -156,9 +155,8 @@ impl Lines {
     /// Takes the next line, as its bytes.
     fn take_strict(&mut self, alloc: Global, held: &mut PackedBuf) -> Result<Option<Line>, Reason>
         requires { self.old.lossy ≡ false }
-        ensures step { TakesLineItem (decoding self.old held.old) result
+        ensures { TakesLineItem (decoding self.old held.old) result
             (decoding self.new held.new) }
-        ensures threshold { held.new.threshold ≡ held.old.threshold }
     {
         let Some(frame) = self.frames.take_frame(alloc, held)? else {
             return Ok(None);
@@ -169,9 +167,8 @@ impl Lines {
     /// Takes the next line, with U+FFFD for bytes that are no character.
     fn take_lossy(&mut self, alloc: Global, held: &mut PackedBuf) -> Result<Option<Line>, Reason>
         requires { self.old.lossy ≡ true }
-        ensures step { TakesLineItem (decoding self.old held.old) result
+        ensures { TakesLineItem (decoding self.old held.old) result
             (decoding self.new held.new) }
-        ensures threshold { held.new.threshold ≡ held.old.threshold }
     {
         match self.frames.next_frame(held) {
             None => Ok(None),
@@ -187,13 +184,12 @@ impl Lines {
         requires { len + length self.old.frames.separator ≤ length (concat held.old.held.segments) }
         ensures text { IfOk result
             (λ text. IsLineOf true (Ok text) (Ok (take len (concat held.old.held.segments)))) }
-        ensures rest { OnOk result (concat held.new.held.segments
-            ≡ drop (len + length self.old.frames.separator) (concat held.old.held.segments)) }
-        ensures ok { OnOk result (self.new ≡ ready_line self.old) }
+        ensures ok { OnOk result (decoding self.new held.new
+            ≡ passed ready_line (len + length self.old.frames.separator)
+            (decoding self.old held.old)) }
         ensures err { OnErr result (decoding self.new held.new ≡ decoding self.old held.old) }
         ensures some { OnErr result (0 < len) }
         ensures reason { IfErr result (λ reason. reason ≡ Reason.OutOfMemory) }
-        ensures threshold { held.new.threshold ≡ held.old.threshold }
     {
         if is_text_in_one(held, len) {
             let mut line = self.frames.take(alloc, held, len)?;
@@ -211,8 +207,7 @@ impl Lines {
     /// Takes all bytes as the last line, if there are any and they are not those of a line that is
     /// skipped.
     fn take_last(&mut self, alloc: Global, held: &mut PackedBuf) -> Result<Option<Line>, Reason>
-        ensures taken { TakesLast (decoding self.old held.old) result (decoding self.new held.new) }
-        ensures threshold { held.new.threshold ≡ held.old.threshold }
+        ensures { TakesLast (decoding self.old held.old) result (decoding self.new held.new) }
     {
         if self.frames.is_skipping() {
             self.frames.pass_end(held);
@@ -242,7 +237,6 @@ impl Decoder for Lines {
     fn decode(&mut self, alloc: Global, held: &mut PackedBuf) -> Result<Option<Line>, Reason>
         ensures step { Decodes gives_line AwaitsLine fails_line keeps_line
             (decoding self.old held.old) result (decoding self.new held.new) }
-        ensures threshold { held.new.threshold ≡ held.old.threshold }
 
         // Before the end of the stream memory is asked for only for a line that has come.
         ensures before_end { IfErr result
@@ -300,8 +294,8 @@ pub(super) fn take_rest(
     ensures err { OnErr result
         (concat held.new.held.segments ≡ concat held.old.held.segments) }
     ensures some { OnErr result (0 < length (concat held.old.held.segments)) }
-    ensures reason { IfErr result (λ reason. reason ≡ Reason.OutOfMemory) }
     ensures threshold { held.new.threshold ≡ held.old.threshold }
+    ensures reason { IfErr result (λ reason. reason ≡ Reason.OutOfMemory) }
 {
     let len = held.remaining();
     if len == 0 {
@@ -326,8 +320,8 @@ pub(super) fn take_line(
     ensures err { OnErr result
         (concat held.new.held.segments ≡ concat held.old.held.segments) }
     ensures some { OnErr result (0 < len) }
-    ensures reason { IfErr result (λ reason. reason ≡ Reason.OutOfMemory) }
     ensures threshold { held.new.threshold ≡ held.old.threshold }
+    ensures reason { IfErr result (λ reason. reason ≡ Reason.OutOfMemory) }
 {
     if !lossy || is_text_in_one(held, len) {
         return Ok(text_of(held.take_bytes(alloc, len)?));

@@ -2,7 +2,7 @@
 ghost use Rattle.std.specs.Prelude.{◌≡◌, ◌<◌, true, IfErr, IfOk, IfNone, IfSome, MatchBool, OnErr, OnOk, length, take, drop, slice_index};
 ghost use Rattle.std.specs.List.{concat};
 ghost use Rattle.bytes_utils_codec.specs.Decoding.{Decodes, decoding};
-ghost use Rattle.bytes_utils_codec.specs.UniversalItems.{AwaitsUniversal, FindsUniversal, HasLine, IsComing, PassesLong, SkipsOn, StopsUniversal, TakesUniversal, UniversalItemsLaw, WholeUniversalLaw, after_feed, dropped, fails_universal, gives_universal, keeps_universal, place_after, ready_universal, skipping_line, universal_reading};
+ghost use Rattle.bytes_utils_codec.specs.UniversalItems.{AwaitsUniversal, FindsUniversal, HasLine, IsComing, PassesLong, SkipsOn, StopsUniversal, TakesUniversal, UniversalItemsLaw, WholeUniversalLaw, after_end, after_feed, dropped, fails_universal, gives_universal, keeps_universal, ready_universal, skipping_line, universal_reading};
 ghost use Rattle.bytes_utils_codec.specs.UniversalItemsLaws.{universal_same, universal_single, universal_stable, universal_waits};
 ghost use Rattle.bytes_utils_codec.specs.UniversalLines.{AllUniversalLaw, SameUniversalLaw, TextUniversalLaw};
 
@@ -117,9 +117,8 @@ impl UniversalLines {
 
     /// Takes the next line, if its end has come.
     fn take_line(&mut self, alloc: Global, held: &mut PackedBuf) -> Result<Option<Line>, Reason>
-        ensures step { TakesUniversal (decoding self.old held.old) result
+        ensures { TakesUniversal (decoding self.old held.old) result
             (decoding self.new held.new) }
-        ensures threshold { held.new.threshold ≡ held.old.threshold }
     {
         match self.next_len(held) {
             None => Ok(None),
@@ -135,9 +134,8 @@ impl UniversalLines {
     /// Finds the next line, and returns its length, or reports that it is longer than the limit. No
     /// byte of the line is taken.
     fn next_len(&mut self, held: &mut PackedBuf) -> Option<Result<usize, FrameTooLong>>
-        ensures finds { FindsUniversal (decoding self.old held.old) result
+        ensures { FindsUniversal (decoding self.old held.old) result
             (decoding self.new held.new) }
-        ensures threshold { held.new.threshold ≡ held.old.threshold }
     {
         self.pass_feed(held);
         if !self.pass_long(held) {
@@ -149,8 +147,7 @@ impl UniversalLines {
     /// Drops a line feed that belongs to the end of the line before. If no byte is held, it may
     /// still come.
     fn pass_feed(&mut self, held: &mut PackedBuf)
-        ensures passed { decoding self.new held.new ≡ after_feed (decoding self.old held.old) }
-        ensures threshold { held.new.threshold ≡ held.old.threshold }
+        ensures { decoding self.new held.new ≡ after_feed (decoding self.old held.old) }
     {
         let Place::AfterReturn = self.place else {
             return;
@@ -167,11 +164,10 @@ impl UniversalLines {
     /// Drops the line that is skipped, or those of its bytes that have come. Returns whether no line
     /// is skipped any more.
     fn pass_long(&mut self, held: &mut PackedBuf) -> bool
-        ensures passed { MatchBool result
+        ensures { MatchBool result
             (PassesLong (decoding self.old held.old) (decoding self.new held.new))
             (SkipsOn (decoding self.old held.old)
             × (decoding self.new held.new ≡ dropped (decoding self.old held.old))) }
-        ensures threshold { held.new.threshold ≡ held.old.threshold }
     {
         let Place::LongLine = self.place else {
             return true;
@@ -221,12 +217,7 @@ impl UniversalLines {
     /// Drops the byte that ends a line, with which the held bytes begin.
     fn pass_end(&mut self, held: &mut PackedBuf)
         requires { 0 < length (concat held.old.held.segments) }
-        ensures bytes { concat held.new.held.segments ≡ drop 1 (concat held.old.held.segments) }
-        ensures begins { self.new ≡ record self.old {
-          searched = 0;
-          place = place_after (slice_index (concat held.old.held.segments) 0);
-        } }
-        ensures threshold { held.new.threshold ≡ held.old.threshold }
+        ensures { decoding self.new held.new ≡ after_end 0 (decoding self.old held.old) }
     {
         self.place = if held.as_segmented().starts_with(b"\r") {
             Place::AfterReturn
@@ -264,7 +255,6 @@ impl Decoder for UniversalLines {
     fn decode(&mut self, alloc: Global, held: &mut PackedBuf) -> Result<Option<Line>, Reason>
         ensures step { Decodes gives_universal AwaitsUniversal fails_universal keeps_universal
             (decoding self.old held.old) result (decoding self.new held.new) }
-        ensures threshold { held.new.threshold ≡ held.old.threshold }
 
         // Before the end of the stream memory is asked for only for a line that has come.
         ensures before_end { IfErr result (λ reason. HasLine (decoding self.old held.old)) }

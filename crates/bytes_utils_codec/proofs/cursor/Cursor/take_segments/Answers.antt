@@ -1,14 +1,20 @@
 use Rattle.std.proofs.Common.{◌≡◌, ◌-◌, ◌+◌, take, drop, arith, ap, ◌∙◌}
 use Rattle.std.specs.List.{concat}
+use Rattle.bytes_utils_codec.specs.Cursor.{Reading}
 use Rattle.bytes_utils_codec.proofs.CursorLemmas.{TakesFirst-passed}
 use Rattle.bytes_utils_codec.proofs.cursor.Cursor.take_segments.Goals as goal
 
-pub returns-clause-bytes : goal.returns-clause-bytes
-returns-clause-bytes g c =
+pub returns-clause-gives : goal.returns-clause-gives
+returns-clause-gives g c =
     let q = c.self.inside in
     let len = c.args.len in
     let rest = drop q.at (concat q.buf.now.segments) in
     let size : (q.at + len) - q.at ≡ len = omega arith in
     let front : concat c.in_ok-part.part.segments ≡ take len rest = c.in_ok-part.ensures.bytes ∙ ap (λ n. take n rest) size in
     let some = rw (← c.self.view_is) at c.remaining.ensures in
-    rw (← c.self.view_is, front) (TakesFirst-passed (record { all = concat q.buf.now.segments; at = q.at }) len (omega (arith, some)))
+    record {
+      bytes = rw (← c.self.view_is, front) (TakesFirst-passed (record { all = concat q.buf.now.segments; at = q.at }) len (omega (arith, some)));
+      waits = tt;
+      all = ap (λ (r : Reading). r.all) c.self.view_is;
+      err = tt;
+    }

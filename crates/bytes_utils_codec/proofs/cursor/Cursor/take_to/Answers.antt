@@ -1,16 +1,8 @@
-use Rattle.std.proofs.Common.{arith}
 use Rattle.std.proofs.lemmas.Result.{err_from_is_err_and}
 use Rattle.bytes_utils_codec.specs.Cursor.{unread}
 use Rattle.bytes_utils_codec.proofs.FramesLemmas.{some_from_refused}
-use Rattle.bytes_utils_codec.proofs.CursorLemmas.{HasFrame-first, TakesUpTo-passed}
+use Rattle.bytes_utils_codec.proofs.CursorLemmas.{HasFrame-first}
 use Rattle.bytes_utils_codec.proofs.cursor.Cursor.take_to.Goals as goal
-
-pub returns-clause-bytes : goal.returns-clause-bytes
-returns-clause-bytes g c =
-    let within = rw c.in-Some.is at c.in_ok-place.ensures.within in
-    let found = rw c.in-Some.is at c.in_ok-place.ensures.found in
-    rw (c.in_ok-take_bytes.ensures.bytes, c.in_ok-take_bytes.ensures.passed)
-    (TakesUpTo-passed c.args.self.now c.in-Some.place c.args.needle.now (omega (arith, within)) found)
 
 pub returns-in_err-take_bytes-clause-due : goal.returns-in_err-take_bytes-clause-due
 returns-in_err-take_bytes-clause-due g c few =

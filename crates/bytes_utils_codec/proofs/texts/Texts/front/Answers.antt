@@ -1,7 +1,7 @@
 use Rattle.std.proofs.Common.{◌≡◌, length, min, take, ap, ◌∙◌, subst, arith, take_at, length-take}
 use Rattle.std.proofs.lemmas.List.{take_min}
 use Rattle.std.specs.List.{concat}
-use Rattle.bytes_utils_codec.specs.StreamTexts.{IsFront}
+use Rattle.bytes_utils_codec.specs.StreamTexts.{IsFront, TextReading}
 use Rattle.bytes_utils_codec.proofs.StreamTextsLemmas.{front_of_four}
 use Rattle.bytes_utils_codec.proofs.texts.Texts.front.Goals as goal
 
@@ -10,8 +10,8 @@ pub returns : goal.returns
 returns c =
     let all = concat c.self.inside.pieces.segments in
     let size : c.peek-count.result ≡ min 4 (length all) = c.peek-count.ensures.count in
-    let seen : take c.peek-count.result c.peek-count.new.dst ≡ take 4 c.args.self.now
+    let seen : take c.peek-count.result c.peek-count.new.dst ≡ take 4 c.args.self.now.held
     = ap (take c.peek-count.result) c.peek-count.ensures.bytes
     ∙ take_at (take c.peek-count.result all) _ c.peek-count.result (length-take c.peek-count.result all ∙ omega (arith, size))
-    ∙ ap (λ n. take n all) size ∙ take_min 4 all ∙ ap (take 4) c.self.view_is in
-    front_of_four c.args.self.now _ (subst (λ l. IsFront l c.front_of_few.result) seen c.front_of_few.ensures)
+    ∙ ap (λ n. take n all) size ∙ take_min 4 all ∙ ap (λ (r : TextReading). take 4 r.held) c.self.view_is in
+    front_of_four c.args.self.now.held _ (subst (λ l. IsFront l c.front_of_few.result) seen c.front_of_few.ensures)

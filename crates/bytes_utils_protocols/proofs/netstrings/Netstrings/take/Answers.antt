@@ -18,7 +18,7 @@ returns-in_default-2-clause-none c =
     let after = unread c.take_until_within.new.self in
     let front : TakesFrame (colon ∷ []) held c.in-Some.digits after = search rules in
     let number : WriteNumber c.in-Some.digits c.in-Some-number.len = search rules in
-    let few = rw c.in_default-2.is at c.in_ok-text.ensures.waits in
+    let few = rw c.in_default-2.is at c.in_ok-text.ensures.gives.waits in
     (too_few held c.in-Some.digits after front c.in-Some-number.len number (omega (arith, few.1)), refl)
 
 pub returns-in-Ok-None-clause-none : goal.returns-in-Ok-None-clause-none
@@ -27,7 +27,7 @@ returns-in-Ok-None-clause-none c =
     let after = unread c.take_until_within.new.self in
     let front : TakesFrame (colon ∷ []) held c.in-Some.digits after = search rules in
     let number : WriteNumber c.in-Some.digits c.in-Some-number.len = search rules in
-    let first = rw c.in-Some-2.is at c.in_ok-text.ensures.bytes in
+    let first = rw c.in-Some-2.is at c.in_ok-text.ensures.gives.bytes in
     let begun = rw c.in-Ok-None.field-0-is at c.in-Ok-None.ensures.waits in
     (no_comma held c.in-Some.digits after front c.in-Some-number.len number c.in-Some-2.text (unread c.take.new.self) first begun.1, refl)
 
@@ -37,5 +37,5 @@ returns-in-Err-clause-err c =
     let after = unread c.take_until_within.new.self in
     let front : TakesFrame (colon ∷ []) held c.in-Some.digits after = search rules in
     let number : WriteNumber c.in-Some.digits c.in-Some-number.len = search rules in
-    let first = rw c.in-Some-2.is at c.in_ok-text.ensures.bytes in
+    let first = rw c.in-Some-2.is at c.in_ok-text.ensures.gives.bytes in
     (wrong_comma held c.in-Some.digits after front c.in-Some-number.len number c.in-Some-2.text (unread c.take.new.self) first c.in-Err.ensures.wrong, refl)

@@ -1,7 +1,8 @@
-use Rattle.std.proofs.Common.{◌∙◌, ap, sym, arith, ℕ, ◌+◌, ◌<◌, ◌≤◌, Bool, List, length, ⊎_elim}
+use Rattle.std.proofs.Common.{◌∙◌, ap, sym, arith, ℕ, ◌+◌, ◌<◌, ◌≤◌, Bool, length, ⊎_elim}
 use Rattle.std.proofs.lemmas.Bool.{cases_lt, false≢true}
 use Rattle.std.specs.List.{concat}
-use Rattle.bytes_utils_codec.specs.Decoding.{Decoding}
+use Rattle.bytes_utils_buf.specs.Packing.{Packing}
+use Rattle.bytes_utils_codec.specs.Decoding.{Decoding, decoding}
 use Rattle.bytes_utils_codec.specs.Delimited.{Delimiting}
 use Rattle.bytes_utils_codec.specs.Search.{Searching}
 use Rattle.bytes_utils_codec.proofs.DelimitedLemmas.{found_from, awaits_missed, over_missed, over_found}
@@ -9,9 +10,9 @@ use Rattle.bytes_utils_codec.proofs.decode.delimited.Delimited.next_len.Goals as
 use Rattle.bytes_utils_codec.proofs.decode.delimited.Delimited.next_len.Goals.{in_default-via-in-Some+else-len-self, in_default-via-in-None+else-not-is_overlong}
 
 -- a decoder, and what is held
-abbrev state : Searching → ℕ → Bool → List ℕ → Decoding Delimiting
+abbrev state : Searching → ℕ → Bool → Packing → Decoding Delimiting
 state search limit skipping held =
-    record { decoder = record { separator = search.needle; max_length = limit; searched = search.searched; skipping = skipping }; held = held }
+    decoding (record { separator = search.needle; max_length = limit; searched = search.searched; skipping = skipping }) held
 
 pub returns-in-Some-clause-frame : goal.returns-in-Some-clause-frame
 returns-in-Some-clause-frame c =
@@ -29,13 +30,13 @@ returns-in-None-clause-waits c =
     ⊎_elim (λ below. below)
     (λ many. absurd (false≢true (sym c.if-not-is_overlong.true ∙ c.is_overlong.ensures.1 (omega (arith, many, same, c.remaining.ensures)))))
     (cases_lt (length held) (q.max_length + length q.search.needle)) in
-    rw (← c.self.view_is) (awaits_missed (state q.search q.max_length q.skipping held) c.in-None.ensures.needle missed few)
+    rw (← c.self.view_is) (awaits_missed (state q.search q.max_length q.skipping c.args.held.now) c.in-None.ensures.needle missed few)
 
 pub returns-in_default-clause-over : goal.returns-in_default-clause-over
 returns-in_default-clause-over c =
     let q = c.self.inside in
     let held = concat c.args.held.now.held.segments in
-    let s = state q.search q.max_length q.skipping held in
+    let s = state q.search q.max_length q.skipping c.args.held.now in
     rw (← c.self.view_is) (elim c.in_default.branch [
       | in_default-via-in-Some+else-len-self w ↦
           let found = rw c.as_segmented.ensures at w.in-Some.ensures.found in

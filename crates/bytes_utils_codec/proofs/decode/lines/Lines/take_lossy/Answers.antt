@@ -5,8 +5,8 @@ use Rattle.bytes_utils_codec.specs.declared.decode.lines.LineFault.TheVariants.{
 use Rattle.bytes_utils_codec.proofs.LineItemsLemmas.{gives_lossy}
 use Rattle.bytes_utils_codec.proofs.decode.lines.Lines.take_lossy.Goals as goal
 
-pub returns-in-Some-Err-clause-step : goal.returns-in-Some-Err-clause-step
-returns-in-Some-Err-clause-step c =
+pub returns-in-Some-Err : goal.returns-in-Some-Err
+returns-in-Some-Err c =
     let inside = c.self.inside in
     let old : Decoding LineReading = decoding (record { frames = inside.frames; lossy = inside.lossy }) c.args.held.now in
     let new : Decoding LineReading = decoding (record { frames = c.next_frame.new.self; lossy = inside.lossy }) c.next_frame.new.held in
@@ -14,8 +14,8 @@ returns-in-Some-Err-clause-step c =
     subst (λ (r : LineReading). gives_line (decoding r c.args.held.now) (Item (Err TooLong)) new) c.self.view_is
     (Err c.in-Some-Err.field-0-0, finds, refl, refl)
 
-pub returns-in_ok-take_text-in-Some-Ok-clause-step : goal.returns-in_ok-take_text-in-Some-Ok-clause-step
-returns-in_ok-take_text-in-Some-Ok-clause-step c =
+pub returns-in_ok-take_text-in-Some-Ok : goal.returns-in_ok-take_text-in-Some-Ok
+returns-in_ok-take_text-in-Some-Ok c =
     let inside = c.self.inside in
     let took = c.in_ok-take_text-in-Some-Ok.ensures in
     let old : Decoding LineReading = decoding (record { frames = inside.frames; lossy = inside.lossy }) c.args.held.now in
@@ -25,4 +25,4 @@ returns-in_ok-take_text-in-Some-Ok-clause-step c =
     let lossy : inside.lossy ≡ true = ap (λ (r : LineReading). r.lossy) c.self.view_is ∙ c.requires in
     let text = c.in_ok-take_text-in-Some-Ok.field-0 in
     subst (λ (r : LineReading). gives_line (decoding r c.args.held.now) (Item (Ok text)) new) c.self.view_is
-    (gives_lossy old new mid c.in-Some-Ok.len text lossy finds took.text (λ i. record { decoder = took.ok i; held = took.rest i }))
+    (gives_lossy old new mid c.in-Some-Ok.len text lossy finds took.text took.ok)

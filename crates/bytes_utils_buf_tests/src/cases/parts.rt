@@ -1,0 +1,23 @@
+//! `BufParts` of buffers that are not segmented.
+mod memory;
+
+use crate::cases::fixtures::reading::assert_reads;
+use crate::cases::fixtures::{assert_that, block, long};
+use bytes::Bytes;
+use bytes_utils_buf::parts::copy_out_of;
+use std::process::Abort;
+
+#[test]
+fn copies_of_bytes_are_shared(rt: HostRuntime) {
+    assert_reads(&rt, &mut block(&rt), "share Hello");
+}
+
+// No copy of many bytes is refused while there is memory.
+#[test]
+fn long_copies_of_slices(rt: HostRuntime) {
+    assert_reads(&rt, &mut long(), "count 100000");
+    let mut slice = long();
+    let len = slice.len();
+    let copy = copy_out_of(&mut slice, rt.alloc(), len);
+    assert_that(&rt, matches!(&copy, Ok(copy) if copy.len() == 100_000));
+}

@@ -1,0 +1,194 @@
+//! How often buffers are advanced and looked at.
+use crate::cases::fixtures::odd::Asked;
+use crate::cases::fixtures::{assert_that, hold, lend, put, put_first, take_out};
+use bytes::Buf;
+use bytes_utils_buf::contiguous::ContiguousBuf;
+use bytes_utils_buf::parts::BufParts;
+use bytes_utils_buf::segmented::{SegmentedBuf, SegmentedSlice};
+use std::alloc::Global;
+use std::process::Abort;
+
+/// A thousand buffers of one byte each.
+fn thousand(rt: &(impl Abort + Alloc<A = Global>)) -> Vec<Asked> {
+    let mut bufs = Vec::with_capacity(rt.alloc(), 1000).expect(rt, "memory");
+    for _ in 0..1000 {
+        assert!(rt; bufs.push(Asked::of("x")).is_ok());
+    }
+    bufs
+}
+
+/// Whether each buffer was advanced or copied from at least `least` times and at most `most` times,
+/// and looked at at most `looks` times.
+fn are_asked(bufs: &[Asked], (least, most): (usize, usize), looks: usize) -> bool {
+    for buf in bufs {
+        if buf.advanced < least || buf.advanced > most || buf.looks.get() > looks {
+            return false;
+        }
+    }
+    true
+}
+
+/// Skips `cnt` bytes of borrowed buffers, `times` times, by the call of the type or by that of the
+/// trait. Returns whether there are as many.
+fn walks_lent<B: Buf>(
+    all: &mut SegmentedSlice<'_, B>,
+    is_own: bool,
+    times: usize,
+    cnt: usize,
+) -> bool {
+    for _ in 0..times {
+        if all.remaining() < cnt {
+            return false;
+        }
+        if is_own {
+            SegmentedSlice::advance(all, cnt);
+        } else {
+            Buf::advance(all, cnt);
+        }
+    }
+    true
+}
+
+/// Fails the test unless each of a thousand buffers is advanced once by that.
+fn assert_walks(rt: &(impl Abort + Alloc<A = Global>), is_own: bool, times: usize, cnt: usize) {
+    let mut bufs = thousand(rt);
+    let mut all = lend(rt, &mut bufs);
+    assert_that(rt, walks_lent(&mut all, is_own, times, cnt));
+    assert_that(rt, are_asked(all.into_lent(), (1, 1), 32));
+}
+
+/// Skips all held buffers but the last, and returns whether there are as many.
+fn walks_held<B: Buf + Drop>(buf: &mut SegmentedBuf<B>, is_own: bool) -> bool {
+    for _ in 0..999 {
+        if buf.remaining() == 0 {
+            return false;
+        }
+        if is_own {
+            SegmentedBuf::advance(buf, 1);
+        } else {
+            Buf::advance(buf, 1);
+        }
+    }
+    true
+}
+
+/// Fails the test unless one buffer is left of a thousand, which was hardly looked at.
+fn assert_leaves_one(rt: &(impl Abort + Alloc<A = Global>), is_own: bool) {
+    let buf = SegmentedBuf::from_vec(rt.alloc(), thousand(rt));
+    let mut buf = buf.ok().expect(rt, "memory");
+    assert_that(rt, walks_held(&mut buf, is_own));
+    let left = buf.into_inner().into_vec();
+    assert_that(rt, left.len() == 1 && are_asked(&left, (0, 2), 32));
+}
+
+#[test]
+fn walks_once(rt: HostRuntime) {
+    assert_walks(&rt, true, 1000, 1);
+    assert_walks(&rt, false, 1000, 1);
+    assert_walks(&rt, true, 1, 1000);
+    assert_leaves_one(&rt, true);
+    assert_leaves_one(&rt, false);
+}
+
+/// Shows a chunk, and a table of two slices.
+fn shows_two<B: BufParts>(buf: &B) -> bool {
+    let mut table: [&[u8]; 2] = [b"-"; 2];
+    for _ in 0..10 {
+        if buf.chunk().is_empty() || buf.remaining() < 2 || buf.chunks_into(&mut table) != 2 {
+            return false;
+        }
+    }
+    true
+}
+
+/// Does the same, and then copies as many bytes out as each of these numbers in turn says.
+fn copies<B: BufParts>(alloc: Global, buf: &mut B, lens: &[u8]) -> bool {
+    if !shows_two(buf) {
+        return false;
+    }
+    for &len in lens {
+        if take_out(alloc, buf, usize::from(len)).is_none() {
+            return false;
+        }
+    }
+    true
+}
+
+/// Ten bytes are copied. The buffer after them may be looked at, to see that it isn't empty.
+const TEN: &[u8] = b"\x01\x01\x02\x01\x03\x01\x01";
+
+/// Puts a buffer after the others and one before them, appends one, takes the first out, and shows the
+/// next one.
+fn moves_ends<B: ContiguousBuf + Drop>(
+    buf: &mut SegmentedBuf<B>,
+    (first, last): (B, B),
+    others: SegmentedBuf<B>,
+) -> bool {
+    put(buf, last)
+        && put_first(buf, first)
+        && buf.fits(others.remaining())
+        && buf.append(others).is_ok()
+        && buf.pop().is_some()
+        && buf.segment(0).is_some()
+}
+
+/// Peeks at ten bytes, and shares them.
+fn sees_ten<B: ContiguousBuf + Drop>(alloc: Global, buf: &SegmentedBuf<B>) -> bool {
+    buf.peek(&mut [0; 10]) == 10
+        && buf.starts_with(b"xxxxxxxxxx")
+        && buf.segments() >= 10
+        && buf.remaining() >= 10
+        && buf.peek_bytes(alloc, 10).is_ok()
+        && buf.prefix(alloc, 10).is_ok()
+}
+
+// Neither buffers that are accepted, many at once or one after another, nor a read looks at the other
+// segments.
+#[test]
+fn held_are_not_looked_at(rt: HostRuntime) {
+    let mut buf = SegmentedBuf::new(rt.alloc());
+    assert_that(&rt, buf.extend(thousand(&rt).into_iter()).is_ok());
+    for _ in 0..20 {
+        let both = (Asked::of("x"), Asked::of("x"));
+        assert_that(&rt, moves_ends(&mut buf, both, hold(&rt, Asked::of("x"))));
+    }
+    assert_that(&rt, sees_ten(rt.alloc(), &buf));
+    assert_that(&rt, copies(rt.alloc(), &mut buf, TEN));
+    let bufs = buf.into_inner().into_vec();
+    assert_that(
+        &rt,
+        matches!(bufs.get(1..), Some(rest) if are_asked(rest, (0, 0), 3)),
+    );
+}
+
+/// Copies out of borrowed buffers. Returns whether none after the first few was advanced or copied
+/// from, and each was looked at when it was accepted, and hardly again.
+fn copies_lent(
+    rt: &(impl Abort + Alloc<A = Global>),
+    bufs: &mut [Asked],
+    lens: &[u8],
+    few: usize,
+) -> bool {
+    let mut all = lend(rt, bufs);
+    copies(rt.alloc(), &mut all, lens)
+        && matches!(all.into_lent().get(few..), Some(rest) if are_asked(rest, (0, 0), 3))
+}
+
+// A copy takes a whole chunk by one call, with no call for zero bytes before it.
+#[test]
+fn lent_are_not_looked_at(rt: HostRuntime) {
+    assert_that(&rt, copies_lent(&rt, &mut thousand(&rt), TEN, 11));
+    let mut bufs = [Asked::of("abc"), Asked::of("defghi")];
+    assert_that(&rt, copies_lent(&rt, &mut bufs, b"\x01\x07", 2));
+    assert_that(&rt, bufs[0].advanced == 2 && bufs[1].advanced == 1);
+}
+
+// Copies across the end of the first of two buffers, and twice out of the second alone.
+#[test]
+fn held_are_advanced_once_a_call(rt: HostRuntime) {
+    let mut buf = hold(&rt, Asked::of("abc"));
+    assert_that(&rt, put(&mut buf, Asked::of("defghi")));
+    assert_that(&rt, copies(rt.alloc(), &mut buf, b"\x05\x01\x01"));
+    let left = buf.into_inner().into_vec();
+    assert_that(&rt, left.len() == 1 && are_asked(&left, (3, 3), usize::MAX));
+}

@@ -1,0 +1,8 @@
+//! The tests, and what they share.
+mod cursor;
+mod decode;
+mod find;
+mod fixtures;
+mod readme;
+mod search;
+mod texts;

@@ -1,0 +1,49 @@
+//! What each call returns if a request for memory is refused, and that the cursor stays then.
+use super::{Run, is_right_of};
+use crate::cases::fixtures::rows::Called;
+use crate::cases::fixtures::{assert_row, in_segments};
+use bytes_utils_codec::cursor::Cursor;
+
+/// Bytes in two segments.
+const PIECES: &[&[u8]] = &[b"0123456789", b"0123456789\nab"];
+
+/// Rows of new cursors.
+const ROWS: &str = "\
+take 12 012345678901, at 12
+take_until 12345678901234567 0, at 18
+take_until_within 89. 18 012345678901234567, at 21
+take_to . 01234567890123456789, at 20
+read 12 012345678901, at 12
+read_until 12345678901234567 0, at 18
+read_until_within 89. 18 012345678901234567, at 21
+find 12345678901234567 1, rest 01234567890123456789.ab in 2, take_segments 12 012345678901 in 2
+line 01234567890123456789
+";
+
+#[test]
+fn calls(rt: HostRuntime) {
+    if let Some(buf) = in_segments(rt.alloc(), PIECES) {
+        for row in ROWS.lines() {
+            let holds = is_right_of(&rt, &buf, row);
+            assert_row(&rt, row, holds);
+        }
+    }
+}
+
+/// A search within a limit asks for no memory if that is refused: none of these calls fails for memory.
+const LIMITED: &str = "take_until_within 12345678901234567 0 long, \
+    take_until_within 678901234567890.abc 100 none, take_until_within 12345678901234567 1 0, at 18";
+
+#[test]
+fn a_limit_without_memory(rt: HostRuntime) {
+    if let Some(buf) = in_segments(rt.alloc(), PIECES) {
+        let mut run = Run {
+            alloc: rt.alloc(),
+            cursor: Cursor::new(&buf),
+        };
+        for call in LIMITED.split(", ") {
+            let holds = matches!(run.make(call), Ok(true));
+            assert_row(&rt, call, holds);
+        }
+    }
+}

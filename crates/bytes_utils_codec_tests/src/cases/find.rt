@@ -1,0 +1,211 @@
+//! Rows of calls that look for a needle in the bytes of segments, with which a row begins: `--: +a-, find none`.
+//!
+//! | call | |
+//! |---|---|
+//! | `+ab` | pushes a copy of these bytes as a segment of its own |
+//! | `find 2`, `find none` | the place of the needle |
+//! | `find_from 1 2`, `find_short 1 2` | its place from the first byte on |
+//! | `take_until ab`, `take_until none` | what is before the needle is taken off |
+//! | `=ab` | these bytes are left |
+//! | `new` | a new search for the needle |
+//! | `search 2`, `search none` | the place that the search finds |
+//! | `search_from 2`, `restart` | it goes on from the second byte, or from the front |
+//! | `searched 2` | it goes on there |
+//! | `needle ab` | it is for this needle |
+mod memory;
+
+use crate::cases::fixtures::rows::{Called, Refusal, is_right, named};
+use crate::cases::fixtures::signs::{are_bytes, are_in, is_like, is_number, is_place, meant};
+use crate::cases::fixtures::{assert_row, assert_that, in_segments};
+use bytes::{Buf, Bytes};
+use bytes_utils::{Reason, SegmentedBuf};
+use bytes_utils_codec::find::{find, find_from, find_short, take_until};
+use bytes_utils_codec::search::Search;
+use std::alloc::Global;
+use std::io::Print;
+use std::process::Abort;
+
+/// The bytes in which calls look for a needle.
+#[derive(Drop)]
+struct Run<'a> {
+    alloc: Global,
+    needle: &'a [u8],
+    buf: SegmentedBuf<Bytes>,
+    search: Option<Search>,
+}
+
+impl Run<'_> {
+    /// Pushes a copy of these bytes.
+    fn push(&mut self, bytes: &[u8]) -> Result<bool, Reason> {
+        self.buf
+            .try_push(Bytes::copy_from_slice(self.alloc, bytes)?)?;
+        Ok(true)
+    }
+
+    /// Makes a call of the search.
+    fn search(&mut self, name: &str, want: &str) -> bool {
+        let Some(search) = &mut self.search else {
+            return false;
+        };
+        match name {
+            "search" => is_place(search.find(&self.buf), want),
+            "searched" => is_number(want, search.searched()),
+            "needle" => are_bytes(search.needle(), want),
+            "restart" => {
+                search.restart();
+                true
+            }
+            _ => {
+                search.search_from(want.parse().unwrap_or(0));
+                name == "search_from"
+            }
+        }
+    }
+
+    /// Looks for the needle from a place on. A needle of at most 16 bytes is looked for without memory, too.
+    fn find_from(&self, name: &str, rest: &str) -> Result<bool, Refusal> {
+        let (start, want) = rest.split_once(' ').unwrap_or(("", rest));
+        let start = start.parse().unwrap_or(0);
+        if name == "find_short" {
+            let is_short = self.needle.len() <= 16;
+            return Ok(is_short && is_place(find_short(&self.buf, start, self.needle), want));
+        }
+        let place = find_from(&self.buf, self.alloc, start, self.needle);
+        Ok(is_place(named("find_from", "", place)?, want))
+    }
+
+    /// Takes what is before the needle.
+    fn take_until(&mut self, want: &str) -> Result<bool, Refusal> {
+        if self.needle.is_empty() {
+            return Ok(false);
+        }
+        let taken = take_until(&mut self.buf, self.alloc, self.needle);
+        match named("take_until", "", taken)? {
+            Some(front) => Ok(is_like(&front, want)),
+            None => Ok(want == "none"),
+        }
+    }
+
+    /// Makes a new search.
+    fn renew(&mut self) -> Result<bool, Refusal> {
+        if self.needle.is_empty() {
+            return Ok(false);
+        }
+        let search = named("Search::", "new", Search::new(self.alloc, self.needle))?;
+        self.search = Some(search);
+        Ok(true)
+    }
+}
+
+impl Called for Run<'_> {
+    fn make(&mut self, call: &str) -> Result<bool, Refusal> {
+        if let Some(bytes) = call.strip_prefix("+") {
+            return named("a copy", "", self.push(meant(bytes).as_slice()));
+        }
+        if let Some(want) = call.strip_prefix("=") {
+            return Ok(are_in(&self.buf, want));
+        }
+        let (name, rest) = call.split_once(' ').unwrap_or((call, ""));
+        match name {
+            "find" => {
+                let place = find(&self.buf, self.alloc, self.needle);
+                Ok(is_place(named("find", "", place)?, rest))
+            }
+            "find_from" | "find_short" => self.find_from(name, rest),
+            "take_until" => self.take_until(rest),
+            "new" => self.renew(),
+            _ => Ok(self.search(name, rest)),
+        }
+    }
+
+    fn bytes(&self) -> usize {
+        self.buf.remaining()
+    }
+}
+
+/// Whether calls for a needle are right of these bytes.
+fn is_right_of<R: Abort + Print + AllocGlobal>(
+    rt: &R,
+    buf: SegmentedBuf<Bytes>,
+    needle: &[u8],
+    calls: &str,
+) -> bool {
+    let mut run = Run {
+        alloc: rt.alloc(),
+        needle,
+        buf,
+        search: None,
+    };
+    is_right(rt, &mut run, calls)
+}
+
+/// Asserts each of the rows, of these bytes, unless memory for their segments is refused.
+pub(super) fn assert_rows<R: Abort + Print + AllocGlobal>(
+    rt: &R,
+    pieces: &[&'static [u8]],
+    rows: &str,
+) {
+    for row in rows.lines() {
+        let (needle, calls) = row.split_once(": ").unwrap_or(("", row));
+        if let Some(buf) = in_segments(rt.alloc(), pieces) {
+            let holds = is_right_of(rt, buf, meant(needle).as_slice(), calls);
+            assert_row(rt, row, holds);
+        }
+    }
+}
+
+/// What is before each needle, and what is left. A front in one segment is shared, and one in two is copied.
+#[test]
+fn a_front_in_one_segment_is_shared(rt: HostRuntime) {
+    let row = "-: +ab-cd, +e-f, take_until &ab, take_until *cde, take_until none, =f";
+    assert_rows(&rt, &[], row);
+}
+
+/// 40,000 bytes and a needle of 65,536 bytes, in pieces of 1,000 bytes and a last one of 536.
+fn body(alloc: Global, needle: &[u8]) -> Result<SegmentedBuf<Bytes>, Reason> {
+    let mut body = SegmentedBuf::new(alloc);
+    for _ in 0..40 {
+        body.try_push(Bytes::from_static(&[b'x'; 1_000]))?;
+    }
+    for piece in needle.chunks(1_000) {
+        body.try_push(Bytes::copy_from_slice(alloc, piece)?)?;
+    }
+    Ok(body)
+}
+
+/// The needle is found, and not again after its first byte.
+#[test]
+fn a_long_needle(rt: HostRuntime) {
+    let mut needle = [b'x'; 65_536];
+    needle[0] = b'y';
+    let body = body(rt.alloc(), &needle).expect(&rt, "no memory");
+    let holds = is_right_of(&rt, body, &needle, "find 40000, find_from 40001 none");
+    assert_that(&rt, holds);
+}
+
+/// Texts, the needle that each has, and what is before each needle, and what is left.
+const FRONTS: [(&[u8], &str); 4] = [
+    (
+        b"a--bc----d-",
+        "--: take_until a, take_until bc, take_until #0, take_until none, =d-",
+    ),
+    (
+        b"GET /\r\nHost: a\r\n\r\r\n",
+        "<.: take_until GET_/, take_until Host:_a, take_until <, take_until none, =",
+    ),
+    (b"aab", "ab: take_until a, take_until none, ="),
+    (
+        b"01230123456789abcdefgy0123456789abcdef",
+        "0123456789abcdefg: take_until 0123, take_until none, =y0123456789abcdef",
+    ),
+];
+
+#[test]
+fn fronts_wherever_the_text_is_cut(rt: HostRuntime) {
+    for (text, row) in FRONTS {
+        for place in 0..text.len() {
+            let (front, back) = text.split_at(place);
+            assert_rows(&rt, &[front, back], row);
+        }
+    }
+}

@@ -1,0 +1,32 @@
+//! Places of needles. Only the search for a needle of more than 16 bytes makes a request for memory,
+//! and what is before a needle only if it is copied.
+use super::{assert_rows, is_right_of};
+use crate::cases::fixtures::{assert_that, in_segments};
+
+/// The bytes in which needles are found, in two segments.
+const PIECES: &[&[u8]] = &[b"xx0123456789", b"0123456789-"];
+
+/// A long needle, and a front in both segments.
+const ROWS: &str = "\
+01234567890123456: find 2, find_from 2 2, take_until xx, =789-
+-: take_until xx01234567890123456789, =
+";
+
+#[test]
+fn calls(rt: HostRuntime) {
+    assert_rows(&rt, PIECES, ROWS);
+}
+
+// It asks for a block of twice the needle's length, and for no more; `refusals.txt` has that number.
+#[test]
+fn a_needle_of_many_bytes(rt: HostRuntime) {
+    if let Some(buf) = in_segments(rt.alloc(), &[&[b'x'; 10_000]]) {
+        let holds = is_right_of(&rt, buf, &[b'x'; 10_000], "find 0");
+        assert_that(&rt, holds);
+    }
+}
+
+#[test]
+fn no_memory_needed_by_short_needles(rt: HostRuntime) {
+    assert_rows(&rt, PIECES, "1234567890123456: find_short 3 3");
+}

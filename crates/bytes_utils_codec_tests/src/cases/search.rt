@@ -1,0 +1,96 @@
+//! Places of a needle in bytes that come in pieces, and how often these are looked at.
+ghost use Rattle.std.specs.Prelude.{◌<◌, length};
+
+mod memory;
+
+use super::find::assert_rows;
+use super::fixtures::assert_that;
+use bytes::{Buf, Bytes};
+use bytes_utils::SegmentedBuf;
+use bytes_utils::contiguous::ContiguousBuf;
+use bytes_utils_codec::search::Search;
+use std::alloc::Global;
+use std::cell::Cell;
+
+/// The place of the needle after each piece. In the last row the search goes on where it stopped, from a place that is
+/// given, or from the front.
+const ROWS: &str = "\
+<.: new, +GET_/_HTTP/1-1<, search none, +.Host, search 14
+--: new, +a-, search none, +b, search none, +-, search none, +-c, search 3
+--: new, +-, search none, +, search none, +-, search 0
+;: new, +ab, search none, +;c, search 2, +;, search 2
+aab: new, +aaa, search none, +b, search 1, +aab, search 1
+-+-+: new, +-+, search none, +-, search none, ++-, search 0
+0123456789abcdef-: new, +xx0123456789, search none, +abcdef, search none, +-, search 2
+--: new, +a--b--, search 1, search_from 2, search 4, search_from 5, search none, searched 5, \
+    restart, searched 0, needle --, search 1
+";
+
+#[test]
+fn places_after_each_piece(rt: HostRuntime) {
+    assert_rows(&rt, &[], ROWS);
+}
+
+/// A byte that counts how often it is looked at.
+#[derive(Drop)]
+struct Watched<'c> {
+    byte: Bytes,
+    looks: &'c Cell<usize>,
+}
+
+impl<'c> Buf for Watched<'c> {
+    ghost unread = { λ w. w.byte };
+
+    fn remaining(&self) -> usize {
+        self.byte.remaining()
+    }
+
+    fn chunk(&self) -> &[u8] {
+        self.byte.chunk()
+    }
+
+    fn advance(&mut self, cnt: usize) {
+        self.byte.advance(cnt);
+    }
+}
+
+impl<'c> ContiguousBuf for Watched<'c> {
+    fn as_contiguous(&self) -> &[u8] {
+        self.looks.set(self.looks.get().saturating_add(1));
+        self.byte.as_slice()
+    }
+}
+
+/// Searches after each of 1,000 bytes, in segments of their own. Returns whether the needle was
+/// never there, or `None` if memory is refused.
+fn is_nowhere<'c>(
+    search: &mut Search,
+    held: &mut SegmentedBuf<Watched<'c>>,
+    looks: &'c Cell<usize>,
+) -> Option<bool> {
+    for _ in 0..1_000 {
+        let byte = Bytes::from_static(b"-");
+        held.try_push(Watched { byte, looks }).ok()?;
+        if search.find(held).is_some() {
+            return Some(false);
+        }
+    }
+    Some(true)
+}
+
+/// Returns how often these bytes are looked at, or `None` if the needle is there.
+fn looks(alloc: Global, needle: &[u8]) -> Option<usize>
+    requires { 0 < length needle.now }
+{
+    let looks = Cell::new(0);
+    let mut search = Search::new(alloc, needle).ok()?;
+    is_nowhere(&mut search, &mut SegmentedBuf::new(alloc), &looks)?.then_some(looks.get())
+}
+
+// A search that began at the front at each call would look 500,000 times.
+#[test]
+fn bytes_that_wait_are_not_looked_at_again(rt: HostRuntime) {
+    let looks_for_one = looks(rt.alloc(), b"+").unwrap_or(usize::MAX);
+    let looks_for_two = looks(rt.alloc(), b"-+").unwrap_or(usize::MAX);
+    assert_that(&rt, looks_for_one <= 8_000 && looks_for_two <= 8_000);
+}

@@ -1,0 +1,15 @@
+//! The tests, a file for each protocol; `long`, `memory` and `shared` span several. Most are tables of
+//! rows (`rows`, `notation`), along which `walks` takes the reader of any protocol (`readers`).
+mod events;
+mod long;
+mod memory;
+mod multipart;
+mod netstrings;
+mod notation;
+mod readers;
+mod records;
+mod redis;
+mod requests;
+mod rows;
+mod shared;
+mod walks;

@@ -1,0 +1,87 @@
+//! Each call whose request for memory is refused. With enough memory none is; a run that refuses one
+//! prints a line for it. The same call is then made again, and all comes as if none had been refused.
+use super::readers::Protocol;
+use super::walks::{Way, assert_row};
+use bytes_utils_protocols::{events, multipart, redis};
+
+const REDIS: Protocol = Protocol::Redis(redis::Limits {
+    line: 9,
+    bulk: 9,
+    items: 9,
+});
+
+const EVENTS: Protocol = Protocol::Events(events::Limits { line: 9, data: 9 });
+
+const PARTS: Protocol = Protocol::Multipart(
+    b"b",
+    multipart::Limits {
+        head: 99,
+        body: 9_000,
+    },
+);
+
+const REPLY: &str = r#"*1\r\n$5\r\nHello\r\n => [Array(Some(1)), Bulk(Some(b"Hello"))]"#;
+
+const EVENT: &str = r#"
+id: 1\nevent: a\ndata: b\n
+data: c\n\n => Event { name: Some("a"), data: "b\nc", id: Some("1") }
+"#;
+
+const PART: &str = r#"
+--b\r\n
+Content-Disposition: form-data; name="a"\r\n
+\r\n
+Hello\r\n
+--b => "Content-Disposition: form-data; name=\"a\"" Some("a") None b"Hello"
+--
+end: ended
+"#;
+
+/// A part in two blocks.
+const LARGE_PART: &str = r#"--b\r\n\r\n<4608 a>\r\n--b => "" None None b"<4608 a>""#;
+
+const RECORD: &str = r#"Hello\r\n\r\n => Ok("Hello")"#;
+
+const REQUEST: &str = r#"
+P\r\nContent-Length: 5\r\n\r\n => Ok(b"P\r\nContent-Length: 5")
+World => b"World"
+"#;
+
+#[test]
+fn pieces(rt: HostRuntime) {
+    let way = Way {
+        first: 10,
+        second: 10,
+        by_slice: false,
+        is_late: false,
+    };
+    for (protocol, row) in [
+        (REDIS, REPLY),
+        (EVENTS, EVENT),
+        (PARTS, PART),
+        (Protocol::Records(9), RECORD),
+        (Protocol::Requests(20), REQUEST),
+    ] {
+        assert_row(&rt, rt.alloc(), protocol, row, way);
+    }
+    let way = Way {
+        first: 512,
+        second: 512,
+        is_late: true,
+        ..way
+    };
+    assert_row(&rt, rt.alloc(), PARTS, LARGE_PART, way);
+}
+
+#[test]
+fn slices(rt: HostRuntime) {
+    let way = Way {
+        first: usize::MAX,
+        second: usize::MAX,
+        by_slice: true,
+        is_late: true,
+    };
+    for (protocol, row) in [(REDIS, REPLY), (EVENTS, EVENT), (PARTS, LARGE_PART)] {
+        assert_row(&rt, rt.alloc(), protocol, row, way);
+    }
+}

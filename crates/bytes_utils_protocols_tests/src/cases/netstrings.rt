@@ -1,0 +1,65 @@
+//! Netstrings in pieces, and from a reader. The first two are the examples of their definition.
+use super::readers::Protocol;
+use super::walks::assert_rows;
+use bytes_utils_codec::decode::Framed;
+use bytes_utils_protocols::netstrings::Netstrings;
+use std::alloc::Global;
+
+const ROWS: &str = r#"
+12:hello world!, => b"hello world!"
+0:, => b""
+5:hello, => b"hello"
+5:hel
+end: 5 held
+
+1:a, => b"a"
+
+1:a
+end: 3 held
+
+12:
+
+13: => always Refused(TooLong)
+
+# no colon among the first 21 bytes
+123456789012345678901 => always Refused(TooLong)
+
+1:a; => always Malformed
+
++1: => always Malformed
+a,
+
+: => always Malformed
+,
+"#;
+
+#[test]
+fn rows(rt: HostRuntime) {
+    assert_rows(&rt, rt.alloc(), Protocol::Netstrings(12), "", ROWS);
+}
+
+/// Whether the next text is this one. A dash is none: the input has ended.
+fn is_next(alloc: Global, input: &mut &[u8], texts: &mut Framed<Netstrings>, wanted: &str) -> bool {
+    match texts.read_item(alloc, input) {
+        Ok(Some(text)) => text.as_slice() == wanted.as_bytes(),
+        Ok(None) => wanted == "-",
+        Err(_) => false,
+    }
+}
+
+/// Whether all texts are read, and then the end, after which five bytes are left.
+fn are_read(alloc: Global, texts: &mut Framed<Netstrings>) -> bool {
+    let mut input = "12:hello world!,0:,5:hello,5:hel".as_bytes();
+    for wanted in ["hello world!", "", "hello", "-"] {
+        if !is_next(alloc, &mut input, texts, wanted) {
+            return false;
+        }
+    }
+    texts.remaining() == 5
+}
+
+#[test]
+fn from_a_reader(rt: HostRuntime) {
+    let decoder = Netstrings { max_length: 12 };
+    assert!(rt; are_read(rt.alloc(), &mut Framed::new(rt.alloc(), decoder)));
+}

@@ -1,0 +1,5 @@
+//! What no clause says, by subject.
+mod fixtures;
+mod json;
+mod split;
+mod string;

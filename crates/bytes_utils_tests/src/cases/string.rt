@@ -1,0 +1,15 @@
+//! What no clause says: that calls succeed with enough memory, what is shared, printed text, and
+//! worked cases.
+mod calls;
+mod compare;
+mod convert;
+mod format;
+mod items;
+mod join_texts;
+mod long;
+mod memory;
+mod show;
+mod slice;
+mod steps;
+mod storage;
+mod utf8_error;
