@@ -17,7 +17,7 @@ fn append_times(bytes: &mut Vec<u8>, count: &str, text: &str) -> Option<()> {
     Some(())
 }
 
-/// Appends a text that may begin with what stands between `<` and `>`.
+/// Appends a text that may begin with a part between `<` and `>`, which is repeated.
 fn append_part(bytes: &mut Vec<u8>, part: &str) -> Option<()> {
     let Some((repeated, rest)) = part.split_once('>') else {
         return bytes.extend_from_slice(part.as_bytes()).ok();

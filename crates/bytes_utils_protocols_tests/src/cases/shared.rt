@@ -61,7 +61,7 @@ fn next_after(alloc: Global, reader: &mut Reader, lines: &str) -> Option<(Return
     Some((reader.next(alloc).1, pieces))
 }
 
-/// The same of a reader that is gone then.
+/// The same of a reader that is dropped after it.
 fn taken_after(alloc: Global, protocol: Protocol, lines: &str) -> Option<(Returned, Vec<Bytes>)> {
     match Reader::new(alloc, protocol) {
         Ok(mut reader) => {
@@ -80,8 +80,8 @@ fn shares_all(alloc: Global, returned: Returned, pieces: &[Bytes], wanted: &str)
     is_shared & (unique(pieces) == pieces.len())
 }
 
-/// Whether the message that comes after some lines is this one and shares the long pieces, when the
-/// reader is gone.
+/// Whether the message that comes after some lines is this one and shares the long pieces, after the
+/// reader is dropped.
 fn is_shared(alloc: Global, protocol: Protocol, lines: &str, wanted: &str) -> bool {
     match taken_after(alloc, protocol, lines) {
         Some((returned, pieces)) => shares_all(alloc, returned, &pieces, wanted),

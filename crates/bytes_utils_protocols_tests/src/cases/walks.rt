@@ -42,7 +42,7 @@ impl Walk {
         })
     }
 
-    /// Pushes a piece, and returns whether it is taken. If it is refused for want of memory, what
+    /// Pushes a piece, and returns whether it is taken. If it is refused, out of memory, what
     /// came back is pushed again. Returns `None` if memory is refused for the piece itself.
     fn takes(&mut self, piece: &[u8]) -> Option<bool> {
         let piece = Bytes::copy_from_slice(self.alloc, piece).ok()?;

@@ -2,7 +2,7 @@
 //!
 //! A row is a threshold, `: `, and calls with `, ` between them. A call is its name, the bytes that
 //! it adds or takes off, the number of segments that are held then, and what else is wanted. The
-//! held bytes are compared after each call. At the end of a row may stand ` = ` and an end.
+//! held bytes are compared after each call. A row may end with ` = ` and an end.
 //!
 //! A call whose memory is refused prints its name. It has to change nothing, and is made again.
 //!
