@@ -8,6 +8,8 @@ sys.path.append(f"{ROOT}/.ci")
 from kit import build, counted, tried_on
 
 MIB = 1 << 20
+# how a column is named that has ratios, or multiples of the bytes held
+RATIO = re.compile("of the |of Rust|ratio|all / half|`Framed`|`SegmentedBuf`|in Rust")
 DEBIAN = ["source.crates-io.replace-with='debian'", "source.debian.directory='/usr/share/cargo/registry'"]
 
 
@@ -46,13 +48,32 @@ def line_of(cells):
     return f"| {' | '.join(cells)} |".replace("|  |", "| |").replace("|  |", "| |")
 
 
+def cells_of(line):
+    return [it.strip() for it in line.strip().strip("|").split("|")]
+
+
+def ratios_of(heads, line):
+    """The numbers of a row in the columns of ratios."""
+    cells = [cell for head, cell in zip(cells_of(heads), cells_of(line)) if RATIO.search(head)]
+    return [float(it) for cell in cells for it in re.findall(r"[\d.]+", cell)]
+
+
+def kept(heads, rows, text):
+    """The rows that docs/SPEED.md has, by their first cells, and each other one with a ratio beyond theirs."""
+    names = [cells_of(it)[0] for it in re.findall(r"^\|.*$", text, re.M)]
+    here = [it for it in rows if cells_of(it)[0] in names] or rows
+    spans = [(min(it), max(it)) for it in zip(*(ratios_of(heads, it) for it in here))]
+    is_within = lambda row: all(low <= it <= high for it, (low, high) in zip(ratios_of(heads, row), spans))
+    return [it for it in rows if it in here or not is_within(it)]
+
+
 def write(lines):
     """Puts a table into docs/SPEED.md, in place of the one that has the same columns."""
     text = open(SPEED, encoding="utf-8").read()
     place = re.escape(f"{lines[0]}\n") + r"(?:\|.*\n)+"
     if len(re.findall(place, text)) != 1:
         sys.exit(f"docs/SPEED.md has no such table, or two: {lines[0]}")
-    table = "".join(f"{it}\n" for it in lines)
+    table = "".join(f"{it}\n" for it in [*lines[:2], *kept(lines[0], lines[2:], re.search(place, text)[0])])
     open(SPEED, "w", encoding="utf-8").write(re.sub(place, lambda _: table, text))
 
 

@@ -4,8 +4,8 @@ use Rattle.std.specs.List.{All}
 use Rattle.std.proofs.lemmas.List.{reverse-reverse, length-reverse, length-map, drop-drop, drop_at, take_all, reverse-append}
 use Rattle.std.proofs.lemmas.List.Elements.{All-nil, All-cons, All-head, All-tail, All-append, All-map, All-weaker}
 use Rattle.std.proofs.lemmas.Bool.{cases_lt}
-use Rattle.bytes_utils.specs.Occurrence.{OccursAt, Occurs, OccursFirstAt, NoneOverlap}
-use Rattle.bytes_utils.specs.Parts.{join, EachButLast, OfLast, AreForwardParts, AreBackwardParts}
+use Rattle.bytes_utils.specs.Occurrence.{OccursAt, Occurs, OccursFirstAt, NoOccurrencesOverlap}
+use Rattle.bytes_utils.specs.Parts.{join, EachPartButLast, OfLastPart, AreForwardParts, AreBackwardParts}
 use Rattle.bytes_utils.proofs.Boundaries.{OccursAt-fits}
 use Rattle.bytes_utils.proofs.OccurrenceLemmas.{OccursAt-between, OccursAt-append, OccursAt-front}
 use Rattle.bytes_utils.proofs.Mirror.{replaced, length-some_reverse, reversed_twice, map-reverse, join-reversed, lacks-reverse, OccursAt-from_reverse, AreForwardParts-from_mirror, AreBackwardParts-from_mirror}
@@ -22,7 +22,7 @@ lacks-from_first p part some first = λ occurs.
     omega (arith, first.none_before occurs.0 (OccursAt-append p part p occurs.0 some occurs.1), OccursAt-fits p part occurs.0 some occurs.1, some)
 
 none_hold_p : {X : Type 0} (p : List X) → 0 < length p → (parts : List (List X))
-    → EachButLast (λ part. OccursFirstAt p (part ++ p) (length part)) parts → OfLast (λ part. ¬ Occurs p part) parts → All (λ part. ¬ Occurs p part) parts
+    → EachPartButLast (λ part. OccursFirstAt p (part ++ p) (length part)) parts → OfLastPart (λ part. ¬ Occurs p part) parts → All (λ part. ¬ Occurs p part) parts
 none_hold_p p some [] cut last = All-nil (λ part. ¬ Occurs p part)
 none_hold_p p some (part ∷ []) cut last = All-cons (λ q. ¬ Occurs p q) part [] last (All-nil (λ q. ¬ Occurs p q))
 none_hold_p p some (part ∷ next ∷ parts) cut last =
@@ -36,13 +36,13 @@ plain-from_forward t p parts some are = record {
 }
 
 -- For a part, p, and a rest, joined, in which no two occurrences of p overlap.
-module _ {X : Type 0} (p part rest : List X) (some : 0 < length p) (apart : NoneOverlap p (part ++ (p ++ rest))) where
+module _ {X : Type 0} (p part rest : List X) (some : 0 < length p) (apart : NoOccurrencesOverlap p (part ++ (p ++ rest))) where
   -- what occurs in the rest occurs in the whole
   OccursAt-following : (i : ℕ) → OccursAt p rest i → OccursAt p (part ++ (p ++ rest)) (length part + length p + i)
   OccursAt-following i here =
       rw (← append_assoc part p rest, ← drop-drop i (length part + length p) ((part ++ p) ++ rest), drop_at (part ++ p) rest (length part + length p) (length-append part p)) here
 
-  apart_after : NoneOverlap p rest
+  apart_after : NoOccurrencesOverlap p rest
   apart_after i j here there less =
       omega (arith, apart (length part + length p + i) (length part + length p + j) (OccursAt-following i here) (OccursAt-following j there) (omega arith))
 
@@ -60,8 +60,8 @@ module _ {X : Type 0} (p part rest : List X) (some : 0 < length p) (apart : None
           let fits = apart j (length part) in_whole (OccursAt-between part p rest) less in
           absurd (lacks (j, OccursAt-front p part p j there fits))
 
-cut_at_first-from_plain : {X : Type 0} (p : List X) → 0 < length p → (parts : List (List X)) → NoneOverlap p (join p parts)
-    → All (λ part. ¬ Occurs p part) parts → EachButLast (λ part. OccursFirstAt p (part ++ p) (length part)) parts × OfLast (λ part. ¬ Occurs p part) parts
+cut_at_first-from_plain : {X : Type 0} (p : List X) → 0 < length p → (parts : List (List X)) → NoOccurrencesOverlap p (join p parts)
+    → All (λ part. ¬ Occurs p part) parts → EachPartButLast (λ part. OccursFirstAt p (part ++ p) (length part)) parts × OfLastPart (λ part. ¬ Occurs p part) parts
 cut_at_first-from_plain p some [] apart lack = (tt, tt)
 cut_at_first-from_plain p some (part ∷ []) apart lack = (tt, All-head (λ q. ¬ Occurs p q) part [] lack)
 cut_at_first-from_plain p some (part ∷ next ∷ parts) apart lack =
@@ -70,9 +70,9 @@ cut_at_first-from_plain p some (part ∷ next ∷ parts) apart lack =
     let more = cut_at_first-from_plain p some (next ∷ parts) (apart_after p part rest some apart) (All-tail (λ q. ¬ Occurs p q) part (next ∷ parts) lack) in
     ((first, more.0), more.1)
 
-forward-from_plain : {X : Type 0} (t p : List X) (parts : List (List X)) → 0 < length p → NoneOverlap p t → ArePlainParts t p parts → AreForwardParts t p None parts
+forward-from_plain : {X : Type 0} (t p : List X) (parts : List (List X)) → 0 < length p → NoOccurrencesOverlap p t → ArePlainParts t p parts → AreForwardParts t p None parts
 forward-from_plain t p parts some apart plain =
-    let cut = cut_at_first-from_plain p some parts (subst (NoneOverlap p) (sym plain.joined) apart) plain.none_hold in
+    let cut = cut_at_first-from_plain p some parts (subst (NoOccurrencesOverlap p) (sym plain.joined) apart) plain.none_hold in
     record {
       some = plain.some;
       few = tt;
@@ -89,7 +89,7 @@ All-reverse P (x ∷ xs) all =
     subst (All P) (sym (reverse-append (x ∷ []) xs))
     (All-append P (reverse xs) (x ∷ []) (All-reverse P xs (All-tail P x xs all)) (All-cons P x [] (All-head P x xs all) (All-nil P)))
 
-apart-reverse : {X : Type 0} (p t : List X) → 0 < length p → NoneOverlap p t → NoneOverlap (reverse p) (reverse t)
+apart-reverse : {X : Type 0} (p t : List X) → 0 < length p → NoOccurrencesOverlap p t → NoOccurrencesOverlap (reverse p) (reverse t)
 apart-reverse p t some apart i j here there less =
     let fits = OccursAt-fits (reverse p) (reverse t) i (length-some_reverse p some) here in
     let also = OccursAt-fits (reverse p) (reverse t) j (length-some_reverse p some) there in
@@ -112,7 +112,7 @@ plain-from_reverse t p parts plain =
     ap (map reverse) (sym (map-reverse reverse (reverse parts)) ∙ ap (map reverse) (reverse-reverse parts)) ∙ reversed_twice parts in
     replaced ArePlainParts (reverse-reverse t) (reverse-reverse p) twice (plain-reverse (reverse t) (reverse p) (map reverse (reverse parts)) plain)
 
-module _ {X : Type 0} (t p : List X) (parts : List (List X)) (some : 0 < length p) (apart : NoneOverlap p t) where
+module _ {X : Type 0} (t p : List X) (parts : List (List X)) (some : 0 < length p) (apart : NoOccurrencesOverlap p t) where
   backward-from_forward : AreForwardParts t p None parts → AreBackwardParts t p None (reverse parts)
   backward-from_forward are =
       AreBackwardParts-from_mirror t p None (reverse parts) some

@@ -6,7 +6,7 @@ use Rattle.std.proofs.lemmas.List.{take_at, drop_at}
 use Rattle.std.proofs.lemmas.Bool.{cases_eq}
 use Rattle.bytes_utils.specs.Occurrence.{Occurs, OccursLastAt}
 use Rattle.bytes_utils.specs.Parts.{AreForwardParts, AreBackwardParts}
-use Rattle.bytes_utils.specs.Splitting.{one_less}
+use Rattle.bytes_utils.specs.Splitting.{limit_after_split}
 use Rattle.bytes_utils.proofs.Forward.{AreForwardParts-more, forward_parts}
 use Rattle.bytes_utils.proofs.Mirror.{length-some_reverse, reversed_twice, reverse_cut, reverse_place, OccursFirstAt-reverse, AreForwardParts-from_mirror, AreBackwardParts-from_mirror}
 
@@ -27,9 +27,9 @@ module _ {X : Type 0} (p t : List X) (i : ℕ) (some : 0 < length p) (last : Occ
 
   -- a part split off at the last occurrence comes before the parts of what is before that occurrence
   pub AreBackwardParts-more : (limit : Option ℕ) → IfSome limit (λ most. 1 < most) → (parts : List (List X))
-      → AreBackwardParts (take i t) p (one_less limit) parts → AreBackwardParts t p limit (drop (i + length p) t ∷ parts)
+      → AreBackwardParts (take i t) p (limit_after_split limit) parts → AreBackwardParts t p limit (drop (i + length p) t ∷ parts)
   AreBackwardParts-more limit room parts are =
-      let before = subst (λ z. AreForwardParts z (reverse p) (one_less limit) (map reverse parts)) (sym others) (AreForwardParts-from_mirror (take i t) p (one_less limit) parts some are) in
+      let before = subst (λ z. AreForwardParts z (reverse p) (limit_after_split limit) (map reverse parts)) (sym others) (AreForwardParts-from_mirror (take i t) p (limit_after_split limit) parts some are) in
       let whole = AreForwardParts-more (reverse p) (reverse t) (length t - (i + length p)) (length-some_reverse p some) (OccursFirstAt-reverse p t i some last) limit room (map reverse parts) before in
       AreBackwardParts-from_mirror t p limit (drop (i + length p) t ∷ parts) some (subst (λ z. AreForwardParts (reverse t) (reverse p) limit (z ∷ map reverse parts)) first_part whole)
 

@@ -9,8 +9,8 @@ use Rattle.std.specs.Str.{chars, encode_utf8_all as encodes, all_scalars as scal
 use Rattle.std.specs.Char.{IsScalar, InScalarRange, encode_utf8 as encode}
 use Rattle.memchr.specs.Find.{OccursAt as HasNeedleAt}
 use Rattle.memchr.proofs.lemmas.MatchLemmas.{OccursAt-from_part, OccursAt-split}
-use Rattle.bytes_utils.specs.Text.{AreCharacters, byte_place}
-use Rattle.bytes_utils.specs.Occurrence.{OccursAt, BoundariesLaw}
+use Rattle.bytes_utils.specs.Characters.{AreCharacters, character_place}
+use Rattle.bytes_utils.specs.Occurrence.{OccursAt, OccurrenceBoundariesLaw}
 
 -- an occurrence of a list that isn't empty ends within the list that was searched
 pub OccursAt-fits : {X : Type 0} (p t : List X) (i : ℕ) → 0 < length p → OccursAt p t i → i + length p ≤ length t
@@ -48,7 +48,7 @@ module _ (p t : List ℕ) (some : 0 < length p) (p_is : scalars p ≡ true) (t_i
   sep_is : IsUtf8 (encodes p)
   sep_is = (p, (p_is, refl))
 
-  pub chars_at : (k : ℕ) → HasNeedleAt (encodes t) (encodes p) k → (i : ℕ) × (k ≡ byte_place t i) × OccursAt p t i
+  pub chars_at : (k : ℕ) → HasNeedleAt (encodes t) (encodes p) k → (i : ℕ) × (k ≡ character_place t i) × OccursAt p t i
   chars_at k occurs =
       let long = length-le-encodes p in
       let boundary = boundary_at (encodes t) (encodes p) sep_is (omega arith) k occurs in
@@ -67,7 +67,7 @@ module _ (p t : List ℕ) (some : 0 < length p) (p_is : scalars p ≡ true) (t_i
         ap (λ z. take (length p) (drop (length front) z)) whole ∙ ap (take (length p)) (drop_at front _ (length front) refl) ∙ take_at p begins.0 (length p) refl,
       )
 
-  pub bytes_at : (k i : ℕ) → k ≡ byte_place t i → OccursAt p t i → OccursAt (encodes p) (encodes t) k
+  pub bytes_at : (k i : ℕ) → k ≡ character_place t i → OccursAt p t i → OccursAt (encodes p) (encodes t) k
   bytes_at k i place here =
       let front = take i t in
       let back = drop (length p) (drop i t) in
@@ -77,5 +77,5 @@ module _ (p t : List ℕ) (some : 0 < length p) (p_is : scalars p ≡ true) (t_i
       let after : drop k (encodes t) ≡ encodes p ++ encodes back = ap (drop k) bytes ∙ drop_at (encodes front) _ k (sym place) in
       ap (take (length (encodes p))) after ∙ take_at (encodes p) (encodes back) (length (encodes p)) refl
 
-pub boundaries_law : BoundariesLaw
+pub boundaries_law : OccurrenceBoundariesLaw
 boundaries_law p t k some p_is t_is = grind (arith, HasNeedleAt-from_occurs, bytes_at, chars_at, length-le-encodes, scalars-from_characters)

@@ -4,18 +4,18 @@ use Rattle.std.proofs.lemmas.Bool.{cases_lt}
 use Rattle.std.proofs.lemmas.List.{drop_all}
 use Rattle.std.proofs.lemmas.Str.{encodes-chars, chars-nil}
 use Rattle.std.specs.Str.{chars, encode_utf8_all as encodes}
-use Rattle.bytes_utils.specs.Text.{byte_place}
+use Rattle.bytes_utils.specs.Characters.{character_place}
 use Rattle.bytes_utils.specs.Halves.{AreHalvesAtFirst, AreHalvesAtLast}
 use Rattle.bytes_utils.specs.Occurrence.{OccursAt, Occurs, OccursFirstAt}
 use Rattle.bytes_utils.proofs.Boundaries.{OccursAt-fits}
 use Rattle.bytes_utils.proofs.HalvesLemmas.{AreHalvesAtFirst-at, AreHalvesAtLast-at, IsFoundLast}
-use Rattle.bytes_utils.proofs.Places.{byte_place-less}
+use Rattle.bytes_utils.proofs.Places.{character_place-less}
 use Rattle.bytes_utils.proofs.SearchLemmas.{chars-some, law}
 
-place_le : (t : List ℕ) (i j : ℕ) → i ≤ j → j ≤ length t → byte_place t i ≤ byte_place t j
+place_le : (t : List ℕ) (i j : ℕ) → i ≤ j → j ≤ length t → character_place t i ≤ character_place t j
 place_le t i j le within = ⊎_elim
-    (λ (less : i < j). omega (arith, byte_place-less t i j less within))
-    (λ (more : j ≤ i). omega (arith, ap (byte_place t) (same more)))
+    (λ (less : i < j). omega (arith, character_place-less t i j less within))
+    (λ (more : j ≤ i). omega (arith, ap (character_place t) (same more)))
     (cases_lt i j)
   where
     same : j ≤ i → i ≡ j
@@ -30,16 +30,16 @@ module _ (text sep : List ℕ) (text_is : IsUtf8 text) (sep_is : IsUtf8 sep) (so
   to_encoded k here =
       subst (λ z. OccursAt (encodes (chars sep)) z k) (sym (encodes-chars text text_is)) (subst (λ z. OccursAt z text k) (sym (encodes-chars sep sep_is)) here)
 
-  occurs_in_bytes : (at i : ℕ) → at ≡ byte_place (chars text) i → OccursAt (chars sep) (chars text) i → OccursAt sep text at
+  occurs_in_bytes : (at i : ℕ) → at ≡ character_place (chars text) i → OccursAt (chars sep) (chars text) i → OccursAt sep text at
   occurs_in_bytes at i at_is here = from_encoded at ((law text sep text_is sep_is some at).1 (i, at_is, here))
 
-  occurs_in_chars : (k : ℕ) → OccursAt sep text k → (i : ℕ) × (k ≡ byte_place (chars text) i) × OccursAt (chars sep) (chars text) i
+  occurs_in_chars : (k : ℕ) → OccursAt sep text k → (i : ℕ) × (k ≡ character_place (chars text) i) × OccursAt (chars sep) (chars text) i
   occurs_in_chars k here = (law text sep text_is sep_is some k).0 (to_encoded k here)
 
   within : (i : ℕ) → OccursAt (chars sep) (chars text) i → i ≤ length (chars text)
   within i here = omega (arith, OccursAt-fits (chars sep) (chars text) i (chars-some sep sep_is some) here)
 
-  module _ (at i : ℕ) (at_is : at ≡ byte_place (chars text) i) where
+  module _ (at i : ℕ) (at_is : at ≡ character_place (chars text) i) where
     none_before_in_bytes : ((j : ℕ) → OccursAt (chars sep) (chars text) j → i ≤ j) → (k : ℕ) → OccursAt sep text k → at ≤ k
     none_before_in_bytes none_before k there =
         let other = occurs_in_chars k there in
@@ -56,12 +56,12 @@ lacks_in_bytes text (b ∷ sep) text_is sep_is lacks = λ occurs.
     let found = occurs_in_chars text (b ∷ sep) text_is sep_is (omega arith) occurs.0 occurs.1 in
     lacks (found.0, found.2)
 
-pub first_in_bytes : (text sep : List ℕ) → IsUtf8 text → IsUtf8 sep → (at i : ℕ) → at ≡ byte_place (chars text) i → OccursFirstAt (chars sep) (chars text) i
+pub first_in_bytes : (text sep : List ℕ) → IsUtf8 text → IsUtf8 sep → (at i : ℕ) → at ≡ character_place (chars text) i → OccursFirstAt (chars sep) (chars text) i
     → OccursFirstAt sep text at
 first_in_bytes text [] text_is sep_is at i at_is first =
     let at_start : i ≤ 0 = first.none_before 0 (rw chars-nil refl) in
     let zero : i ≡ 0 = omega (arith, at_start) in
-    record { here = refl; none_before = λ j there. omega (arith, at_is, ap (byte_place (chars text)) zero) }
+    record { here = refl; none_before = λ j there. omega (arith, at_is, ap (character_place (chars text)) zero) }
 first_in_bytes text (b ∷ sep) text_is sep_is at i at_is first = record {
   here = occurs_in_bytes text (b ∷ sep) text_is sep_is (omega arith) at i at_is first.here;
   none_before = none_before_in_bytes text (b ∷ sep) text_is sep_is (omega arith) at i at_is first.none_before;
@@ -76,7 +76,7 @@ slice_there text part at here = ap (λ n. take n (drop at text)) (size at (lengt
 
 -- the halves of a text are also those of its bytes
 module _ (text sep : List ℕ) (text_is : IsUtf8 text) (sep_is : IsUtf8 sep) (at : ℕ) (before following : List ℕ) (before_is : before ≡ take at text) (after_is : following ≡ drop (at + length sep) text) where
-  pub byte_halves_at_first : (i : ℕ) → at ≡ byte_place (chars text) i → OccursFirstAt (chars sep) (chars text) i → AreHalvesAtFirst text sep before following
+  pub byte_halves_at_first : (i : ℕ) → at ≡ character_place (chars text) i → OccursFirstAt (chars sep) (chars text) i → AreHalvesAtFirst text sep before following
   byte_halves_at_first i at_is found =
       let first = first_in_bytes text sep text_is sep_is at i at_is found in
       AreHalvesAtFirst-at text sep before following at first.here before_is after_is first.none_before

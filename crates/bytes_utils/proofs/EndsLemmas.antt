@@ -4,7 +4,7 @@ use Rattle.std.proofs.lemmas.Bool.{cases_lt}
 use Rattle.std.proofs.lemmas.List.{drop_all, drop-take}
 use Rattle.std.proofs.lemmas.Str.{IsCharBoundary-from_drop, IsCharBoundary-from_take, IsCharBoundary-from_rest}
 use Rattle.std.specs.Str.{IsCharBoundary, IsTrimStart, IsTrimEnd}
-use Rattle.bytes_utils.specs.Ends.{IsBetweenSpace}
+use Rattle.bytes_utils.specs.Ends.{IsBetweenSpaceAtEnds}
 
 module _ (s r : List ℕ) (utf8 : IsUtf8 r) (is : IsTrimStart s r) where
   -- what is left begins as many bytes before the end of the text as it has, also if it is empty
@@ -33,7 +33,7 @@ module _ (s following part : List ℕ) (following_utf8 : IsUtf8 following) (part
   pub start_in_front : IsCharBoundary (take (length s - length following + length part) s) (length s - length following)
   start_in_front = grind (arith, IsCharBoundary-from_drop, length-take, part_end, part_is)
 
-  pub between : IsBetweenSpace part s
+  pub between : IsBetweenSpaceAtEnds part s
   between = (
     take start.0 s,
     drop end.0 following,

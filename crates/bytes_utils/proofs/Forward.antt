@@ -6,18 +6,18 @@ use Rattle.std.proofs.lemmas.List.{length-take-le}
 use Rattle.std.proofs.lemmas.Bool.{cases_eq}
 use Rattle.bytes_utils.specs.Occurrence.{Occurs, OccursFirstAt}
 use Rattle.bytes_utils.specs.Parts.{AreForwardParts}
-use Rattle.bytes_utils.specs.Splitting.{one_less}
+use Rattle.bytes_utils.specs.Splitting.{limit_after_split}
 use Rattle.bytes_utils.proofs.Boundaries.{OccursAt-fits}
 use Rattle.bytes_utils.proofs.OccurrenceLemmas.{cut_whole, OccursFirstAt-front, FirstOrNowhere, first_or_nowhere}
 
 -- what is left of a limit after one part, by the limit
-pub less : (limit : Option ℕ) (P : ℕ → Type 0) → IfSome limit (λ most. P (most - 1)) ↔ IfSome (one_less limit) P
+pub less : (limit : Option ℕ) (P : ℕ → Type 0) → IfSome limit (λ most. P (most - 1)) ↔ IfSome (limit_after_split limit) P
 less None P = (λ _. tt, λ _. tt)
 less (Some most) P = (λ holds. holds, λ holds. holds)
 
 -- a part whose first p is right after it comes before the parts of what follows that p
 pub AreForwardParts-led : {X : Type 0} (p part rest : List X) (limit : Option ℕ) → OccursFirstAt p (part ++ p) (length part)
-    → (parts : List (List X)) → AreForwardParts rest p (one_less limit) parts → AreForwardParts (part ++ (p ++ rest)) p limit (part ∷ parts)
+    → (parts : List (List X)) → AreForwardParts rest p (limit_after_split limit) parts → AreForwardParts (part ++ (p ++ rest)) p limit (part ∷ parts)
 AreForwardParts-led p part rest limit first h are = grind (arith, IfSome_then, less)
 
 module _ {X : Type 0} (p t : List X) (i : ℕ) (some : 0 < length p) (first : OccursFirstAt p t i) where
@@ -34,7 +34,7 @@ module _ {X : Type 0} (p t : List X) (i : ℕ) (some : 0 < length p) (first : Oc
 
   -- a part split off at the first occurrence comes before the parts of what is after it
   pub AreForwardParts-more : (limit : Option ℕ) → IfSome limit (λ most. 1 < most) → (parts : List (List X))
-      → AreForwardParts (drop (i + length p) t) p (one_less limit) parts → AreForwardParts t p limit (take i t ∷ parts)
+      → AreForwardParts (drop (i + length p) t) p (limit_after_split limit) parts → AreForwardParts t p limit (take i t ∷ parts)
   AreForwardParts-more limit room parts are = grind (arith, AreForwardParts-led, cut_whole, first_in_part)
 
 -- a text in which p doesn't occur is its only part
@@ -63,7 +63,7 @@ module _ {X : Type 0} (same : (x y : X) → (x ≡ y) ⊎ (¬ (x ≡ y))) (p : L
   cut_or_last t limit room (inl found) later =
       let fits = OccursAt-fits p t found.0 some found.1.here in
       let rest = drop (found.0 + length p) t in
-      let more = later rest (one_less limit) ((less limit _).0 (IfSome_then limit room (λ most room. omega arith))) (omega (arith, length-drop (found.0 + length p) t, some)) in
+      let more = later rest (limit_after_split limit) ((less limit _).0 (IfSome_then limit room (λ most room. omega arith))) (omega (arith, length-drop (found.0 + length p) t, some)) in
       (take found.0 t ∷ more.0, AreForwardParts-more p t found.0 some found.1 limit room more.0 more.1)
 
   whole_or_cut : (t : List X) (limit : Option ℕ) → (limit ≡ Some 1) ⊎ IfSome limit (λ most. 1 < most) → ShorterHave t → HasForwardParts p t limit

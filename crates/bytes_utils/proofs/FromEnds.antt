@@ -3,15 +3,15 @@ use Rattle.std.proofs.Common.{◌≡◌, ◌↔◌, refl, ℕ, zero, suc, ◌<�
 use Rattle.std.specs.Option.{IfSome}
 use Rattle.std.proofs.lemmas.Option.{IfSome_then}
 use Rattle.bytes_utils.specs.Parts.{AreForwardParts, AreBackwardParts, ArePartsFromFront, ArePartsFromBack}
-use Rattle.bytes_utils.specs.EmptySeparator.{by_element, by_element_backward}
-use Rattle.bytes_utils.specs.Splitting.{LeavesMore, one_less}
+use Rattle.bytes_utils.specs.EmptySeparator.{by_empty_separator, by_empty_separator_backward}
+use Rattle.bytes_utils.specs.Splitting.{LeavesMoreToSplit, limit_after_split}
 use Rattle.bytes_utils.proofs.Forward.{less, has_forward_parts}
 use Rattle.bytes_utils.proofs.Backward.{has_backward_parts}
 
-pub positive : (limit : Option ℕ) → LeavesMore limit → IfSome limit (λ most. 0 < most)
+pub positive : (limit : Option ℕ) → LeavesMoreToSplit limit → IfSome limit (λ most. 0 < most)
 positive limit more = IfSome_then limit more (λ most more. omega arith)
 
-pub positive-less : (limit : Option ℕ) → LeavesMore limit → IfSome (one_less limit) (λ most. 0 < most)
+pub positive-less : (limit : Option ℕ) → LeavesMoreToSplit limit → IfSome (limit_after_split limit) (λ most. 0 < most)
 positive-less limit more = (less limit _).0 (IfSome_then limit more (λ most more. omega arith))
 
 module _ {X : Type 0} (t : List X) where
@@ -42,14 +42,14 @@ module _ {X : Type 0} (t : List X) where
 
 -- every text has parts from the front, for every separator and every limit
 pub has_front : (t p : List ℕ) (limit : Option ℕ) → (parts : List (List ℕ)) × ArePartsFromFront t p limit parts
-has_front t [] limit = (by_element t limit, refl)
+has_front t [] limit = (by_empty_separator t limit, refl)
 has_front t (x ∷ p) (Some zero) = ([], refl)
 has_front t (x ∷ p) None = has_forward_parts (x ∷ p) t None (omega arith) tt
 has_front t (x ∷ p) (Some (suc most)) = has_forward_parts (x ∷ p) t (Some (suc most)) (omega arith) (omega arith)
 
 -- and from the back
 pub has_back : (t p : List ℕ) (limit : Option ℕ) → (parts : List (List ℕ)) × ArePartsFromBack t p limit parts
-has_back t [] limit = (by_element_backward t limit, refl)
+has_back t [] limit = (by_empty_separator_backward t limit, refl)
 has_back t (x ∷ p) (Some zero) = ([], refl)
 has_back t (x ∷ p) None = has_backward_parts (x ∷ p) t None (omega arith) tt
 has_back t (x ∷ p) (Some (suc most)) = has_backward_parts (x ∷ p) t (Some (suc most)) (omega arith) (omega arith)

@@ -5,9 +5,9 @@ use Rattle.std.proofs.lemmas.Bool.{cases_lt}
 use Rattle.std.proofs.lemmas.List.{take_all, drop_all}
 use Rattle.std.proofs.lemmas.Str.{IsUtf8-take, IsUtf8-drop, encodes-append, encodes-chars, chars-nil}
 use Rattle.std.specs.Str.{chars, encode_utf8_all as encodes}
-use Rattle.bytes_utils.specs.Text.{byte_place}
+use Rattle.bytes_utils.specs.Characters.{character_place}
 use Rattle.bytes_utils.specs.Halves.{AreHalvesAtFirst, AreHalvesAtLast}
-use Rattle.bytes_utils.specs.Occurrence.{OccursAt, Occurs, OccursLastAt, FindsLast}
+use Rattle.bytes_utils.specs.Occurrence.{OccursAt, Occurs, OccursLastAt, FindsLastOccurrence}
 use Rattle.bytes_utils.proofs.Boundaries.{OccursAt-fits}
 use Rattle.bytes_utils.proofs.OccurrenceLemmas.{cut_whole, OccursAt-between}
 use Rattle.bytes_utils.proofs.PartCut.{end_boundary, next_boundary, chars_before, chars_after}
@@ -48,7 +48,7 @@ module _ {X : Type 0} (t p before following : List X) (i : ℕ) (here : OccursAt
   pub AreHalvesAtLast-at : (0 < length p → (j : ℕ) → OccursAt p t j → j ≤ i) → (length p ≡ 0 → following ≡ []) → AreHalvesAtLast t p before following
   AreHalvesAtLast-at none_after at_end = grind (arith, OccursAt-fits, around, at_seam, length-take)
 
-module _ (text sep : List ℕ) (text_is : IsUtf8 text) (sep_is : IsUtf8 sep) (at i : ℕ) (at_is : at ≡ byte_place (chars text) i) (here : OccursAt (chars sep) (chars text) i) where
+module _ (text sep : List ℕ) (text_is : IsUtf8 text) (sep_is : IsUtf8 sep) (at i : ℕ) (at_is : at ≡ character_place (chars text) i) (here : OccursAt (chars sep) (chars text) i) where
   module _ (before following : List ℕ) (before_is : before ≡ take at text) (after_is : following ≡ drop (at + length sep) text) where
     chars_before_is : chars before ≡ take i (chars text)
     chars_before_is = chars_before text sep text_is sep_is at i at_is here before before_is
@@ -81,12 +81,12 @@ module _ (text sep : List ℕ) (text_is : IsUtf8 text) (sep_is : IsUtf8 sep) (at
 -- a separator was found last at a byte place, an empty one at the end
 pub record IsFoundLast (text sep : List ℕ) (at : ℕ) : Type 0 where
   pub place : ℕ
-  pub at_is : at ≡ byte_place (chars text) place
+  pub at_is : at ≡ character_place (chars text) place
   pub here : OccursAt (chars sep) (chars text) place
   pub none_after : 0 < length (chars sep) → (j : ℕ) → OccursAt (chars sep) (chars text) j → j ≤ place
   pub at_end : length (chars sep) ≡ 0 → at ≡ length text
 
-pub found_last : (text sep : List ℕ) → IsUtf8 text → IsUtf8 sep → (r : Option ℕ) → (0 < length sep → FindsLast (chars sep) (chars text) r) → (length sep ≡ 0 → r ≡ Some (length text))
+pub found_last : (text sep : List ℕ) → IsUtf8 text → IsUtf8 sep → (r : Option ℕ) → (0 < length sep → FindsLastOccurrence (chars sep) (chars text) r) → (length sep ≡ 0 → r ≡ Some (length text))
     → MatchOption r (¬ Occurs (chars sep) (chars text)) (IsFoundLast text sep)
 found_last text [] text_is sep_is r last empty =
     subst (λ o. MatchOption o (¬ Occurs (chars []) (chars text)) (IsFoundLast text [])) (sym (empty refl))

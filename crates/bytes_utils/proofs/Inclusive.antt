@@ -4,7 +4,7 @@ use Rattle.std.proofs.lemmas.List.{length-take-le}
 use Rattle.std.proofs.lemmas.List.Elements.{All-cons}
 use Rattle.std.proofs.lemmas.Bool.{cases_eq, cases_lt}
 use Rattle.bytes_utils.specs.Occurrence.{Occurs, OccursFirstAt}
-use Rattle.bytes_utils.specs.Parts.{EndsAtFirst, AreInclusiveParts}
+use Rattle.bytes_utils.specs.Parts.{PartEndsAtFirst, AreInclusiveParts}
 use Rattle.bytes_utils.proofs.Boundaries.{OccursAt-fits}
 use Rattle.bytes_utils.proofs.OccurrenceLemmas.{OccursFirstAt-front, FirstOrNowhere, first_or_nowhere}
 
@@ -13,17 +13,17 @@ pub AreInclusiveParts-none : {X : Type 0} (p : List X) → AreInclusiveParts [] 
 AreInclusiveParts-none p = grind arith
 
 -- a text that isn't empty is its only part if p doesn't occur in it, or first at its end
-pub AreInclusiveParts-last : {X : Type 0} (p t : List X) → 0 < length t → EndsAtFirst p t ⊎ (¬ Occurs p t) → AreInclusiveParts t p (t ∷ [])
+pub AreInclusiveParts-last : {X : Type 0} (p t : List X) → 0 < length t → PartEndsAtFirst p t ⊎ (¬ Occurs p t) → AreInclusiveParts t p (t ∷ [])
 AreInclusiveParts-last p t long ends = grind arith
 
 -- a part that ends with its first p comes before the parts of what follows it
-pub AreInclusiveParts-led : {X : Type 0} (p part rest : List X) → 0 < length part → EndsAtFirst p part → 0 < length rest
+pub AreInclusiveParts-led : {X : Type 0} (p part rest : List X) → 0 < length part → PartEndsAtFirst p part → 0 < length rest
     → (parts : List (List X)) → AreInclusiveParts rest p parts → AreInclusiveParts (part ++ rest) p (part ∷ parts)
 AreInclusiveParts-led p part rest some ends left h are = grind (arith, All-cons)
 
 module _ {X : Type 0} (p t : List X) (i : ℕ) (some : 0 < length p) (first : OccursFirstAt p t i) where
   -- the text up to the end of the first occurrence has its first p at its end
-  pub front_ends : EndsAtFirst p (take (i + length p) t)
+  pub front_ends : PartEndsAtFirst p (take (i + length p) t)
   front_ends =
       let fits = OccursAt-fits p t i some first.here in
       let size : length (take (i + length p) t) ≡ i + length p = length-take-le (i + length p) t (omega arith) in
@@ -40,7 +40,7 @@ module _ {X : Type 0} (p t : List X) (i : ℕ) (some : 0 < length p) (first : Oc
       (AreInclusiveParts-led p (take (i + length p) t) (drop (i + length p) t) (omega (arith, size)) front_ends (omega (arith, length-drop (i + length p) t)) parts are)
 
 -- a first occurrence that ends the text
-pub ends_whole : {X : Type 0} (p t : List X) (i : ℕ) → OccursFirstAt p t i → i + length p ≡ length t → EndsAtFirst p t
+pub ends_whole : {X : Type 0} (p t : List X) (i : ℕ) → OccursFirstAt p t i → i + length p ≡ length t → PartEndsAtFirst p t
 ends_whole p t i first whole = let place : i ≡ length t - length p = omega arith in subst (OccursFirstAt p t) place first
 
 abbrev pub HasInclusiveParts : {X : Type 0} → List X → List X → Type 0

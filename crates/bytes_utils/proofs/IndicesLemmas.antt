@@ -9,7 +9,7 @@ use Rattle.bytes_utils.specs.Indices.{Indexing, indexed, AreIndexedPartsToCome, 
 use Rattle.bytes_utils.specs.Occurrence.{OccursAt}
 use Rattle.bytes_utils.specs.Parts.{join, ArePartsFromFront}
 use Rattle.bytes_utils.specs.Splitting.{Splitting, splitting, AreForwardPartsToCome, ArePartsToCome, CutsNext, most_parts}
-use Rattle.bytes_utils.specs.Step.{GivesFirst, GivesItem, IsStepOf}
+use Rattle.bytes_utils.specs.Step.{StepGivesFirst, StepGivesItem, IsStepOf}
 use Rattle.bytes_utils.specs.declared.split.direction.Direction.{Direction}
 use Rattle.bytes_utils.specs.declared.split.direction.Direction.TheVariants.{Forward}
 use Rattle.bytes_utils.proofs.FromEnds.{front-none}
@@ -57,7 +57,7 @@ moved None left separator limit limit' begun begun' at at' size part next others
 moved (Some rest) left separator limit limit' begun begun' at at' size part next others is also are left_are = grind (arith, left_joined, left_length)
 
 module _ (s t : Indexing) (size : ℕ) (part : List ℕ) (same : t.parts.separator ≡ s.parts.separator) (is : IsMeasured size s) (also : IsMeasured size t)
-    (gives : GivesFirst AreForwardPartsToCome s.parts part t.parts) where
+    (gives : StepGivesFirst AreForwardPartsToCome s.parts part t.parts) where
   after_indexed : (others : List (List ℕ)) → AreForwardPartsToCome t.parts others
       → indexed t.parts.separator t.at others ≡ indexed s.parts.separator (s.at + length (encodes part) + length s.parts.separator) others
   after_indexed [] are = refl
@@ -69,7 +69,7 @@ module _ (s t : Indexing) (size : ℕ) (part : List ℕ) (same : t.parts.separat
       λ k. indexed (same k) (at k) (next ∷ others)
 
   -- the part is given with its place
-  pub gives_indexed : GivesFirst AreIndexedPartsToCome s (s.at, part) t
+  pub gives_indexed : StepGivesFirst AreIndexedPartsToCome s (s.at, part) t
   gives_indexed = record {
     some = (indexed t.parts.separator t.at gives.some.0, (gives.some.0, gives.some.1, refl));
     each = λ items to_come.
@@ -105,8 +105,8 @@ measured_after (Some r) separator begun at size left is empty left_is within at_
 
 -- a step that gives an item gives it with its place
 module _ {E : Type 0} (refuses : E → Type 0) (from : Direction) (forward : from ≡ Forward) (s t : Indexing) (item : Result (List ℕ) E)
-    (gives : GivesItem chars (ArePartsToCome from) CutsNext refuses s.parts item t.parts) where
-  forward_item : (it : Result (List ℕ) E) → item ≡ it → GivesItem chars AreForwardPartsToCome CutsNext refuses s.parts it t.parts
+    (gives : StepGivesItem chars (ArePartsToCome from) CutsNext refuses s.parts item t.parts) where
+  forward_item : (it : Result (List ℕ) E) → item ≡ it → StepGivesItem chars AreForwardPartsToCome CutsNext refuses s.parts it t.parts
   forward_item it is = grind arith
 
   pub ok_indexed : (size at : ℕ) (part : List ℕ) → t.parts.separator ≡ s.parts.separator → IsMeasured size s → IsMeasured size t → item ≡ Ok part → at ≡ s.at

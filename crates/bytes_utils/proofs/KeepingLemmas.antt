@@ -3,20 +3,20 @@ use Rattle.std.proofs.Common.{◌≡◌, ap, ◌∙◌, ℕ, ◌+◌, ◌<◌, �
 use Rattle.std.proofs.Math.Seq.{take-length}
 use Rattle.std.proofs.lemmas.Str.{chars-nil, encodes-chars}
 use Rattle.std.specs.Str.{chars, encode_utf8_all as encodes}
-use Rattle.bytes_utils.specs.Text.{byte_place}
+use Rattle.bytes_utils.specs.Characters.{character_place}
 use Rattle.bytes_utils.specs.Occurrence.{Occurs, OccursFirstAt}
-use Rattle.bytes_utils.specs.Parts.{EndsAtFirst}
+use Rattle.bytes_utils.specs.Parts.{PartEndsAtFirst}
 use Rattle.bytes_utils.specs.Keeping.{Keeping, AreInclusivePartsToCome, CutsAfterNext}
-use Rattle.bytes_utils.specs.Step.{GivesFirst}
+use Rattle.bytes_utils.specs.Step.{StepGivesFirst}
 use Rattle.bytes_utils.proofs.SearchLemmas.{chars-some}
 use Rattle.bytes_utils.proofs.Boundaries.{OccursAt-fits}
 use Rattle.bytes_utils.proofs.PartCut.{next_place}
-use Rattle.bytes_utils.proofs.Places.{byte_place-less, chars-take_place, chars-drop_place}
+use Rattle.bytes_utils.proofs.Places.{character_place-less, chars-take_place, chars-drop_place}
 use Rattle.bytes_utils.proofs.Inclusive.{AreInclusiveParts-none, AreInclusiveParts-more, AreInclusiveParts-last, ends_whole, has_inclusive_parts}
 
 -- all characters take all bytes
-byte_place-all : (text : List ℕ) → IsUtf8 text → byte_place (chars text) (length (chars text)) ≡ length text
-byte_place-all text text_is = ap (λ z. length (encodes z)) (take-length (chars text)) ∙ ap length (encodes-chars text text_is)
+character_place-all : (text : List ℕ) → IsUtf8 text → character_place (chars text) (length (chars text)) ≡ length text
+character_place-all text text_is = ap (λ z. length (encodes z)) (take-length (chars text)) ∙ ap length (encodes-chars text text_is)
 
 -- no part of the empty text is to come
 pub none_to_come : (s : Keeping) (text : List ℕ) → s.rest ≡ Some text → length text ≡ 0 → AreInclusivePartsToCome s []
@@ -30,40 +30,40 @@ some_to_come s text is text_is some none =
     omega (arith, chars-some text text_is some, ap length of_text.joined)
 
 -- a text that isn't empty is given whole if it holds the separator at its end alone or not at all
-pub gives_whole : (text sep : List ℕ) → IsUtf8 text → 0 < length text → EndsAtFirst (chars sep) (chars text) ⊎ (¬ Occurs (chars sep) (chars text))
-    → GivesFirst AreInclusivePartsToCome (record { rest = Some text; separator = sep }) (chars text) (record { rest = None; separator = sep })
+pub gives_whole : (text sep : List ℕ) → IsUtf8 text → 0 < length text → PartEndsAtFirst (chars sep) (chars text) ⊎ (¬ Occurs (chars sep) (chars text))
+    → StepGivesFirst AreInclusivePartsToCome (record { rest = Some text; separator = sep }) (chars text) (record { rest = None; separator = sep })
 gives_whole text sep text_is some ends = grind (arith, AreInclusiveParts-last, chars-some)
 
-module _ (text sep : List ℕ) (text_is : IsUtf8 text) (sep_is : IsUtf8 sep) (at : ℕ) (found : (i : ℕ) × (at ≡ byte_place (chars text) i) × OccursFirstAt (chars sep) (chars text) i) (some : 0 < length sep) where
+module _ (text sep : List ℕ) (text_is : IsUtf8 text) (sep_is : IsUtf8 sep) (at : ℕ) (found : (i : ℕ) × (at ≡ character_place (chars text) i) × OccursFirstAt (chars sep) (chars text) i) (some : 0 < length sep) where
   long : 0 < length (chars sep)
   long = chars-some sep sep_is some
 
   fits : found.0 + length (chars sep) ≤ length (chars text)
   fits = OccursAt-fits (chars sep) (chars text) found.0 long found.2.here
 
-  place : at + length sep ≡ byte_place (chars text) (found.0 + length (chars sep))
+  place : at + length sep ≡ character_place (chars text) (found.0 + length (chars sep))
   place = next_place text sep text_is sep_is at found.0 found.1 found.2.here
 
   -- characters follow the separator if bytes do
   less_chars : at + length sep < length text → found.0 + length (chars sep) < length (chars text)
   less_chars less =
-      let not_all : found.0 + length (chars sep) ≡ length (chars text) → ⊥ = λ e. omega (arith, place, ap (byte_place (chars text)) e, byte_place-all text text_is) in
+      let not_all : found.0 + length (chars sep) ≡ length (chars text) → ⊥ = λ e. omega (arith, place, ap (character_place (chars text)) e, character_place-all text text_is) in
       omega (arith, fits)
 
   all_chars : at + length sep ≡ length text → found.0 + length (chars sep) ≡ length (chars text)
   all_chars whole =
       let not_less : found.0 + length (chars sep) < length (chars text) → ⊥ = λ l.
-      omega (arith, place, byte_place-all text text_is, byte_place-less (chars text) (found.0 + length (chars sep)) (length (chars text)) l (omega arith)) in
+      omega (arith, place, character_place-all text text_is, character_place-less (chars text) (found.0 + length (chars sep)) (length (chars text)) l (omega arith)) in
       omega (arith, fits)
 
-  pub ends_text : at + length sep ≡ length text → EndsAtFirst (chars sep) (chars text)
+  pub ends_text : at + length sep ≡ length text → PartEndsAtFirst (chars sep) (chars text)
   ends_text whole = ends_whole (chars sep) (chars text) found.0 found.2 (all_chars whole)
 
   pub cuts_after : at + length sep < length text → CutsAfterNext (record { rest = Some text; separator = sep })
   cuts_after less = grind (arith, less_chars)
 
   pub gives_through : at + length sep < length text → (part rest : List ℕ) → part ≡ take (at + length sep) text → rest ≡ drop (at + length sep) text
-      → GivesFirst AreInclusivePartsToCome (record { rest = Some text; separator = sep }) (chars part) (record { rest = Some rest; separator = sep })
+      → StepGivesFirst AreInclusivePartsToCome (record { rest = Some text; separator = sep }) (chars part) (record { rest = Some rest; separator = sep })
   gives_through less part rest part_is rest_is =
       let end = found.0 + length (chars sep) in
       let part_chars : chars part ≡ take end (chars text) = rw (part_is, place) (chars-take_place text text_is end) in

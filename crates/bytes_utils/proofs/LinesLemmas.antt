@@ -6,9 +6,9 @@ use Rattle.std.proofs.lemmas.Str.{chars-nil, chars-append, encodes-append, encod
 use Rattle.std.specs.List.{starts_with}
 use Rattle.std.specs.Char.{encode_utf8}
 use Rattle.std.specs.Str.{chars, encode_utf8_all as encodes}
-use Rattle.bytes_utils.specs.Text.{byte_place}
+use Rattle.bytes_utils.specs.Characters.{character_place}
 use Rattle.bytes_utils.specs.Occurrence.{Occurs, OccursFirstAt}
-use Rattle.bytes_utils.specs.Lines.{lines, line_feed, carriage_return, first_led_by, text_after, IsFeedEnd, IsWithoutReturn}
+use Rattle.bytes_utils.specs.Lines.{lines, line_feed, carriage_return, first_led_by, text_after_line, IsFeedEnd, IsWithoutReturn}
 use Rattle.bytes_utils.proofs.Boundaries.{OccursAt-fits}
 use Rattle.bytes_utils.proofs.OccurrenceLemmas.{cut_whole, OccursAt-append}
 use Rattle.bytes_utils.proofs.SearchLemmas.{chars-some}
@@ -73,13 +73,13 @@ lines-at_feed (c ∷ d ∷ cs) t lacks no_return =
     ∙ ap (first_led_by c) (lines-at_feed (d ∷ cs) t others (λ front e. no_return (c ∷ front) (ap (λ z. c ∷ z) e)))
 
 -- the text after the first line feed, and that of a text without one
-text_after-feed : (cs t : List ℕ) → LacksFeed cs → text_after (cs ++ line_feed ∷ t) ≡ t
-text_after-feed [] t lacks = refl
-text_after-feed (c ∷ cs) t lacks = rw (ne_eqb c 10 (not_feed c cs lacks)) (text_after-feed cs t (LacksFeed-tail c cs lacks))
+text_after_line-feed : (cs t : List ℕ) → LacksFeed cs → text_after_line (cs ++ line_feed ∷ t) ≡ t
+text_after_line-feed [] t lacks = refl
+text_after_line-feed (c ∷ cs) t lacks = rw (ne_eqb c 10 (not_feed c cs lacks)) (text_after_line-feed cs t (LacksFeed-tail c cs lacks))
 
-pub text_after-none : (cs : List ℕ) → LacksFeed cs → text_after cs ≡ []
-text_after-none [] lacks = refl
-text_after-none (c ∷ cs) lacks = rw (ne_eqb c 10 (not_feed c cs lacks)) (text_after-none cs (LacksFeed-tail c cs lacks))
+pub text_after_line-none : (cs : List ℕ) → LacksFeed cs → text_after_line cs ≡ []
+text_after_line-none [] lacks = refl
+text_after_line-none (c ∷ cs) lacks = rw (ne_eqb c 10 (not_feed c cs lacks)) (text_after_line-none cs (LacksFeed-tail c cs lacks))
 
 -- a line, its line feed, and what is after it
 pub lines-at_end : (line end rest : List ℕ) → LacksFeed line → IsFeedEnd line end → lines (line ++ (end ++ rest)) ≡ line ∷ lines rest
@@ -115,7 +115,7 @@ lines-none [] e = sym (ap lines chars-nil)
 lines-none (b ∷ text) e = absurd (omega (arith, e))
 
 -- a text whose first line feed is at this byte place
-module _ (text : List ℕ) (text_is : IsUtf8 text) (at : ℕ) (found : (i : ℕ) × (at ≡ byte_place (chars text) i) × OccursFirstAt (line_feed ∷ []) (chars text) i) where
+module _ (text : List ℕ) (text_is : IsUtf8 text) (at : ℕ) (found : (i : ℕ) × (at ≡ character_place (chars text) i) × OccursFirstAt (line_feed ∷ []) (chars text) i) where
   around : chars text ≡ take found.0 (chars text) ++ line_feed ∷ drop (found.0 + 1) (chars text)
   around = sym (cut_whole (line_feed ∷ []) (chars text) found.0 found.2.here)
 
@@ -126,7 +126,7 @@ module _ (text : List ℕ) (text_is : IsUtf8 text) (at : ℕ) (found : (i : ℕ)
       let there = OccursAt-append (line_feed ∷ []) front (drop found.0 (chars text)) occurs.0 (omega arith) occurs.1 in
       omega (arith, fits, length-take found.0 (chars text), found.2.none_before occurs.0 (rw take-append-drop at there))
 
-  next_place : at + 1 ≡ byte_place (chars text) (found.0 + 1)
+  next_place : at + 1 ≡ character_place (chars text) (found.0 + 1)
   unfolding encode_utf8
   next_place = grind (arith, encodes-append, length-append, take-add)
 
@@ -148,8 +148,8 @@ module _ (text : List ℕ) (text_is : IsUtf8 text) (at : ℕ) (found : (i : ℕ)
   line_lacks : LacksFeed (chars (take at text))
   line_lacks = subst LacksFeed (sym front_chars) front_lacks
 
-  pub text-at : chars (drop (at + 1) text) ≡ text_after (chars text)
-  text-at = sym (ap text_after around_text ∙ text_after-feed (chars (take at text)) (chars (drop (at + 1) text)) line_lacks)
+  pub text-at : chars (drop (at + 1) text) ≡ text_after_line (chars text)
+  text-at = sym (ap text_after_line around_text ∙ text_after_line-feed (chars (take at text)) (chars (drop (at + 1) text)) line_lacks)
 
   -- if no carriage return is right before the line feed
   line-at_feed : ((front : List ℕ) → take at text ≢ front ++ carriage_return ∷ [])

@@ -4,7 +4,7 @@ use Rattle.std.proofs.Common.{◌≡◌, ◌↔◌, refl, sym, ap, subst, ◌∙
 use Rattle.std.specs.Option.{IfSome}
 use Rattle.std.proofs.lemmas.List.{reverse-append, reverse-reverse, length-reverse, length-map, map-append}
 use Rattle.bytes_utils.specs.Occurrence.{OccursAt, Occurs, OccursFirstAt, OccursLastAt}
-use Rattle.bytes_utils.specs.Parts.{join, EachButLast, OfLast, AreForwardParts, AreBackwardParts}
+use Rattle.bytes_utils.specs.Parts.{join, EachPartButLast, OfLastPart, AreForwardParts, AreBackwardParts}
 use Rattle.bytes_utils.proofs.Boundaries.{OccursAt-fits}
 use Rattle.bytes_utils.proofs.OccurrenceLemmas.{cut_whole, OccursAt-between}
 use Rattle.bytes_utils.proofs.Joins.{join-append}
@@ -83,16 +83,16 @@ cut_mirrored p some part =
 -- For lists of parts.
 
 module _ {X Y : Type 0} (f : X → Y) (P : X → Type 0) (Q : Y → Type 0) (each : (x : X) → P x ↔ Q (f x)) where
-  EachButLast-map : (xs : List X) → EachButLast P xs ↔ EachButLast Q (map f xs)
-  EachButLast-map [] = (λ _. tt, λ _. tt)
-  EachButLast-map (x ∷ []) = (λ _. tt, λ _. tt)
-  EachButLast-map (x ∷ y ∷ xs) =
-      let more = EachButLast-map (y ∷ xs) in (λ holds. ((each x).0 holds.0, more.0 holds.1), λ holds. ((each x).1 holds.0, more.1 holds.1))
+  EachPartButLast-map : (xs : List X) → EachPartButLast P xs ↔ EachPartButLast Q (map f xs)
+  EachPartButLast-map [] = (λ _. tt, λ _. tt)
+  EachPartButLast-map (x ∷ []) = (λ _. tt, λ _. tt)
+  EachPartButLast-map (x ∷ y ∷ xs) =
+      let more = EachPartButLast-map (y ∷ xs) in (λ holds. ((each x).0 holds.0, more.0 holds.1), λ holds. ((each x).1 holds.0, more.1 holds.1))
 
-  OfLast-map : (xs : List X) → OfLast P xs ↔ OfLast Q (map f xs)
-  OfLast-map [] = (λ _. tt, λ _. tt)
-  OfLast-map (x ∷ []) = each x
-  OfLast-map (x ∷ y ∷ xs) = OfLast-map (y ∷ xs)
+  OfLastPart-map : (xs : List X) → OfLastPart P xs ↔ OfLastPart Q (map f xs)
+  OfLastPart-map [] = (λ _. tt, λ _. tt)
+  OfLastPart-map (x ∷ []) = each x
+  OfLastPart-map (x ∷ y ∷ xs) = OfLastPart-map (y ∷ xs)
 
 pub map-reverse : {X Y : Type 0} (f : X → Y) (xs : List X) → map f (reverse xs) ≡ reverse (map f xs)
 map-reverse f [] = refl
@@ -122,8 +122,8 @@ module _ {X : Type 0} (t p : List X) (limit : Option ℕ) (parts : List (List X)
     some = omega (arith, size, are.some);
     few = subst (λ n. IfSome limit (λ most. n ≤ most)) (sym size) are.few;
     joined = sym (join-reversed p parts) ∙ ap reverse are.joined;
-    cut_at_first = (EachButLast-map reverse _ _ (cut_mirrored p some) parts).0 are.cut_at_last;
-    last = λ below. (OfLast-map reverse _ _ (lacks_mirrored p) parts).0 (are.last (subst (λ n. IfSome limit (λ most. n < most)) size below));
+    cut_at_first = (EachPartButLast-map reverse _ _ (cut_mirrored p some) parts).0 are.cut_at_last;
+    last = λ below. (OfLastPart-map reverse _ _ (lacks_mirrored p) parts).0 (are.last (subst (λ n. IfSome limit (λ most. n < most)) size below));
   }
 
   pub AreBackwardParts-from_mirror : AreForwardParts (reverse t) (reverse p) limit (map reverse parts) → AreBackwardParts t p limit parts
@@ -131,8 +131,8 @@ module _ {X : Type 0} (t p : List X) (limit : Option ℕ) (parts : List (List X)
     some = omega (arith, size, are.some);
     few = subst (λ n. IfSome limit (λ most. n ≤ most)) size are.few;
     joined = sym (reverse-reverse (join p (reverse parts))) ∙ ap reverse (join-reversed p parts ∙ are.joined) ∙ reverse-reverse t;
-    cut_at_last = (EachButLast-map reverse _ _ (cut_mirrored p some) parts).1 are.cut_at_first;
-    last = λ below. (OfLast-map reverse _ _ (lacks_mirrored p) parts).1 (are.last (subst (λ n. IfSome limit (λ most. n < most)) (sym size) below));
+    cut_at_last = (EachPartButLast-map reverse _ _ (cut_mirrored p some) parts).1 are.cut_at_first;
+    last = λ below. (OfLastPart-map reverse _ _ (lacks_mirrored p) parts).1 (are.last (subst (λ n. IfSome limit (λ most. n < most)) (sym size) below));
   }
 
   -- the backward parts are the forward parts of the reverse, each reversed

@@ -7,7 +7,7 @@ use Rattle.std.proofs.lemmas.Bool.Decides.{nat_tests}
 use Rattle.std.proofs.lemmas.Str.{IsCharBoundary-at_seam, IsUtf8-take, chars-append, encodes-append, encodes-chars, scalars-chars, chars_from_encodes, length-le-encodes}
 use Rattle.std.specs.Str.{chars, encode_utf8_all as encodes, all_scalars as scalars}
 use Rattle.std.specs.Char.{IsScalar, InScalarRange}
-use Rattle.bytes_utils.specs.Text.{AreCharacters, byte_place}
+use Rattle.bytes_utils.specs.Characters.{AreCharacters, character_place}
 
 InScalarRange-from : (c : ℕ) → IsScalar c → InScalarRange c
 InScalarRange-from c is = grind (arith, nat_tests)
@@ -28,12 +28,12 @@ scalars-part (x ∷ xs) ys all =
     (and_from _ _ (and_parts _ _ all).0 more.0, more.1)
 
 -- fewer characters take fewer bytes
-pub byte_place-less : (t : List ℕ) (j i : ℕ) → j < i → i ≤ length t → byte_place t j < byte_place t i
-byte_place-less t j i l le =
+pub character_place-less : (t : List ℕ) (j i : ℕ) → j < i → i ≤ length t → character_place t j < character_place t i
+character_place-less t j i l le =
     let m : j + (i - j) ≡ i = omega arith in
     let more = take (i - j) (drop j t) in
     let split : take i t ≡ take j t ++ more = ap (λ n. take n t) (sym m) ∙ take-add j (i - j) t in
-    let sum : byte_place t i ≡ byte_place t j + length (encodes more) = rw (split, encodes-append, length-append) refl in
+    let sum : character_place t i ≡ character_place t j + length (encodes more) = rw (split, encodes-append, length-append) refl in
     omega (arith, sum, length-le-encodes more, length-take (i - j) (drop j t), length-drop j t)
 
 module _ (text : List ℕ) (text_is : IsUtf8 text) (i : ℕ) where
@@ -52,18 +52,18 @@ module _ (text : List ℕ) (text_is : IsUtf8 text) (i : ℕ) where
   split_at_place =
       sym (encodes-chars text text_is) ∙ ap encodes (sym (take-append-drop i (chars text))) ∙ encodes-append (take i (chars text)) (drop i (chars text))
 
-  pub boundary_at_place : IsCharBoundary text (byte_place (chars text) i)
+  pub boundary_at_place : IsCharBoundary text (character_place (chars text) i)
   boundary_at_place = IsCharBoundary-at_seam text _ _ split_at_place after_is
 
-  pub chars-take_place : chars (take (byte_place (chars text) i) text) ≡ take i (chars text)
+  pub chars-take_place : chars (take (character_place (chars text) i) text) ≡ take i (chars text)
   chars-take_place = grind (arith, chars_from_encodes, front_is, split_at_place, take_at)
 
-  pub chars-drop_place : chars (drop (byte_place (chars text) i) text) ≡ drop i (chars text)
+  pub chars-drop_place : chars (drop (character_place (chars text) i) text) ≡ drop i (chars text)
   chars-drop_place = grind (arith, after_is, chars_from_encodes, drop_at, split_at_place)
 
 -- a boundary is a place at which some character begins, or the end
 pub place_of_boundary : (text : List ℕ) → IsUtf8 text → (at : ℕ) → IsCharBoundary text at
-    → at ≡ byte_place (chars text) (length (chars (take at text)))
+    → at ≡ character_place (chars text) (length (chars (take at text)))
 place_of_boundary text text_is at boundary =
     let front_is = IsUtf8-take text at text_is boundary in
     let front = chars (take at text) in
@@ -74,7 +74,7 @@ place_of_boundary text text_is at boundary =
 -- the last boundary before the end is the place at which the last character begins
 pub last_place : (text : List ℕ) → IsUtf8 text → (at : ℕ) → at < length text → IsCharBoundary text at
     → ((i : ℕ) → at < i → i < length text → ¬ IsCharBoundary text i)
-    → (0 < length (chars text)) × (at ≡ byte_place (chars text) (length (chars text) - 1))
+    → (0 < length (chars text)) × (at ≡ character_place (chars text) (length (chars text) - 1))
 last_place text text_is at within boundary nearest =
     let n = length (chars text) in
     let i = length (chars (take at text)) in
@@ -82,9 +82,9 @@ last_place text text_is at within boundary nearest =
     let all = (λ (k : ℕ) (l : n ≤ k). ap (λ z. length (encodes z)) (take_all k (chars text) l) ∙ ap length (encodes-chars text text_is)) in
     let past : n ≤ i → ⊥ = λ l. omega (arith, place, within, all i l) in
     let inside : i < n = omega (arith, past) in
-    let last_inside : byte_place (chars text) (n - 1) < length text =
-    omega (arith, all n (omega arith), byte_place-less (chars text) (n - 1) n (omega (arith, inside)) (omega arith)) in
-    let lower : i < n - 1 → ⊥ = λ l. nearest (byte_place (chars text) (n - 1)) (omega (arith, place, byte_place-less (chars text) i (n - 1) l (omega arith))) last_inside
+    let last_inside : character_place (chars text) (n - 1) < length text =
+    omega (arith, all n (omega arith), character_place-less (chars text) (n - 1) n (omega (arith, inside)) (omega arith)) in
+    let lower : i < n - 1 → ⊥ = λ l. nearest (character_place (chars text) (n - 1)) (omega (arith, place, character_place-less (chars text) i (n - 1) l (omega arith))) last_inside
     (boundary_at_place text text_is (n - 1)) in
     let same : i ≡ n - 1 = omega (arith, lower, inside) in
-    (omega (arith, inside), place ∙ ap (byte_place (chars text)) same)
+    (omega (arith, inside), place ∙ ap (character_place (chars text)) same)

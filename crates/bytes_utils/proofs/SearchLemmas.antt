@@ -6,10 +6,10 @@ use Rattle.std.proofs.lemmas.Bool.{eq-eqb}
 use Rattle.std.proofs.lemmas.List.{get_or-take}
 use Rattle.memchr.specs.Find.{OccursAt as HasNeedleAt, FindsNeedle, FindsLastNeedle, Nowhere, NoneAfter, Passes, is_byte}
 use Rattle.memchr.proofs.lemmas.MatchLemmas.{OccursAt-part}
-use Rattle.bytes_utils.specs.Text.{byte_place}
-use Rattle.bytes_utils.specs.Occurrence.{OccursAt, FindsFirst, FindsLast}
+use Rattle.bytes_utils.specs.Characters.{character_place}
+use Rattle.bytes_utils.specs.Occurrence.{OccursAt, FindsFirstOccurrence, FindsLastOccurrence}
 use Rattle.bytes_utils.proofs.Boundaries.{OccursAt-fits, HasNeedleAt-from_occurs, boundaries_law}
-use Rattle.bytes_utils.proofs.Places.{AreCharacters-chars, byte_place-less}
+use Rattle.bytes_utils.proofs.Places.{AreCharacters-chars, character_place-less}
 
 -- a separator with bytes has characters
 pub chars-some : (text : List ℕ) → IsUtf8 text → 0 < length text → 0 < length (chars text)
@@ -23,28 +23,28 @@ module _ (text sep : List ℕ) (text_is : IsUtf8 text) (sep_is : IsUtf8 sep) (so
   long : 0 < length (chars sep)
   long = chars-some sep sep_is some
 
-  pub law : (k : ℕ) → OccursAt (encodes (chars sep)) (encodes (chars text)) k ↔ ((i : ℕ) × (k ≡ byte_place (chars text) i) × OccursAt (chars sep) (chars text) i)
+  pub law : (k : ℕ) → OccursAt (encodes (chars sep)) (encodes (chars text)) k ↔ ((i : ℕ) × (k ≡ character_place (chars text) i) × OccursAt (chars sep) (chars text) i)
   law k = boundaries_law (chars sep) (chars text) k long (AreCharacters-chars sep sep_is) (AreCharacters-chars text text_is)
 
   -- an occurrence in bytes is one in characters
-  pub in_chars : (k : ℕ) → HasNeedleAt text sep k → (i : ℕ) × (k ≡ byte_place (chars text) i) × OccursAt (chars sep) (chars text) i
+  pub in_chars : (k : ℕ) → HasNeedleAt text sep k → (i : ℕ) × (k ≡ character_place (chars text) i) × OccursAt (chars sep) (chars text) i
   in_chars k here =
       (law k).0 (subst (λ z. OccursAt z (encodes (chars text)) k) (sym (encodes-chars sep sep_is))
       (subst (λ z. OccursAt sep z k) (sym (encodes-chars text text_is)) (OccursAt-part text sep k here)))
 
   -- and conversely
-  in_bytes : (i : ℕ) → OccursAt (chars sep) (chars text) i → HasNeedleAt text sep (byte_place (chars text) i)
+  in_bytes : (i : ℕ) → OccursAt (chars sep) (chars text) i → HasNeedleAt text sep (character_place (chars text) i)
   in_bytes i here =
-      HasNeedleAt-from_occurs sep text (byte_place (chars text) i) some
-      (subst (λ z. OccursAt z text (byte_place (chars text) i)) (encodes-chars sep sep_is)
-      (subst (λ z. OccursAt (encodes (chars sep)) z (byte_place (chars text) i)) (encodes-chars text text_is)
-      ((law (byte_place (chars text) i)).1 (i, refl, here))))
+      HasNeedleAt-from_occurs sep text (character_place (chars text) i) some
+      (subst (λ z. OccursAt z text (character_place (chars text) i)) (encodes-chars sep sep_is)
+      (subst (λ z. OccursAt (encodes (chars sep)) z (character_place (chars text) i)) (encodes-chars text text_is)
+      ((law (character_place (chars text) i)).1 (i, refl, here))))
 
-  pub FindsFirst-from_needle : (r : Option ℕ) → FindsNeedle text sep 0 r → FindsFirst (chars sep) (chars text) r
-  FindsFirst-from_needle None nowhere = λ occurs.
+  pub FindsFirstOccurrence-from_needle : (r : Option ℕ) → FindsNeedle text sep 0 r → FindsFirstOccurrence (chars sep) (chars text) r
+  FindsFirstOccurrence-from_needle None nowhere = λ occurs.
       let here = in_bytes occurs.0 occurs.1 in
-      nowhere (byte_place (chars text) occurs.0) (omega arith) (omega arith) here
-  FindsFirst-from_needle (Some k) found =
+      nowhere (character_place (chars text) occurs.0) (omega arith) (omega arith) here
+  FindsFirstOccurrence-from_needle (Some k) found =
       let here = in_chars k found.1 in (
         here.0,
         here.1,
@@ -52,18 +52,18 @@ module _ (text sep : List ℕ) (text_is : IsUtf8 text) (sep_is : IsUtf8 sep) (so
           here = here.2;
           none_before = λ j there.
               let occurs = in_bytes j there in
-              let not_before : byte_place (chars text) j < k → ⊥ = λ l. found.0.before _ (omega arith) l occurs in
+              let not_before : character_place (chars text) j < k → ⊥ = λ l. found.0.before _ (omega arith) l occurs in
               let fits = OccursAt-fits _ _ here.0 long here.2 in
-              let not_below : j < here.0 → ⊥ = λ l. not_before (omega (arith, here.1, byte_place-less (chars text) j here.0 l (omega arith))) in
+              let not_below : j < here.0 → ⊥ = λ l. not_before (omega (arith, here.1, character_place-less (chars text) j here.0 l (omega arith))) in
               omega arith;
         },
       )
 
-  pub FindsLast-from_needle : (r : Option ℕ) → FindsLastNeedle text sep r → FindsLast (chars sep) (chars text) r
-  FindsLast-from_needle None nowhere = λ occurs.
+  pub FindsLastOccurrence-from_needle : (r : Option ℕ) → FindsLastNeedle text sep r → FindsLastOccurrence (chars sep) (chars text) r
+  FindsLastOccurrence-from_needle None nowhere = λ occurs.
       let here = in_bytes occurs.0 occurs.1 in
-      nowhere (byte_place (chars text) occurs.0) (omega arith) (omega arith) here
-  FindsLast-from_needle (Some k) found =
+      nowhere (character_place (chars text) occurs.0) (omega arith) (omega arith) here
+  FindsLastOccurrence-from_needle (Some k) found =
       let here = in_chars k found.1 in (
         here.0,
         here.1,
@@ -71,9 +71,9 @@ module _ (text sep : List ℕ) (text_is : IsUtf8 text) (sep_is : IsUtf8 sep) (so
           here = here.2;
           none_after = λ j there.
               let occurs = in_bytes j there in
-              let not_after : k < byte_place (chars text) j → ⊥ = λ l. found.0.after _ (omega (arith, l)) (omega (arith, occurs.fits)) occurs in
+              let not_after : k < character_place (chars text) j → ⊥ = λ l. found.0.after _ (omega (arith, l)) (omega (arith, occurs.fits)) occurs in
               let fits = OccursAt-fits _ _ j long there in
-              let not_above : here.0 < j → ⊥ = λ l. not_after (omega (arith, here.1, byte_place-less (chars text) here.0 j l (omega (arith, fits)))) in
+              let not_above : here.0 < j → ⊥ = λ l. not_after (omega (arith, here.1, character_place-less (chars text) here.0 j l (omega (arith, fits)))) in
               omega (arith, not_above);
         },
       )
@@ -82,13 +82,13 @@ module _ (text sep : List ℕ) (text_is : IsUtf8 text) (sep_is : IsUtf8 sep) (so
 needle-empty : (text : List ℕ) (k : ℕ) → k ≤ length text → HasNeedleAt text [] k
 needle-empty text k within = grind arith
 
-FindsFirst-empty : (text : List ℕ) (r : Option ℕ) → FindsNeedle text [] 0 r → FindsFirst (chars []) (chars text) r
-FindsFirst-empty text r nowhere = grind (arith, chars-nil, needle-empty)
+FindsFirstOccurrence-empty : (text : List ℕ) (r : Option ℕ) → FindsNeedle text [] 0 r → FindsFirstOccurrence (chars []) (chars text) r
+FindsFirstOccurrence-empty text r nowhere = grind (arith, chars-nil, needle-empty)
 
 -- what is found first, by any separator
-pub FindsFirst-from_any : (text sep : List ℕ) → IsUtf8 text → IsUtf8 sep → (r : Option ℕ) → FindsNeedle text sep 0 r → FindsFirst (chars sep) (chars text) r
-FindsFirst-from_any text [] text_is sep_is r found = FindsFirst-empty text r found
-FindsFirst-from_any text (b ∷ sep) text_is sep_is r found = FindsFirst-from_needle text (b ∷ sep) text_is sep_is (omega arith) r found
+pub FindsFirstOccurrence-from_any : (text sep : List ℕ) → IsUtf8 text → IsUtf8 sep → (r : Option ℕ) → FindsNeedle text sep 0 r → FindsFirstOccurrence (chars sep) (chars text) r
+FindsFirstOccurrence-from_any text [] text_is sep_is r found = FindsFirstOccurrence-empty text r found
+FindsFirstOccurrence-from_any text (b ∷ sep) text_is sep_is r found = FindsFirstOccurrence-from_needle text (b ∷ sep) text_is sep_is (omega arith) r found
 
 -- the empty separator is found last at the end
 pub FindsLastNeedle-empty : (text sep : List ℕ) → length sep ≡ 0 → (r : Option ℕ) → FindsLastNeedle text sep r → r ≡ Some (length text)

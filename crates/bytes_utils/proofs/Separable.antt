@@ -4,7 +4,7 @@ use Rattle.std.proofs.lemmas.List.Elements.{All-head, All-tail}
 use Rattle.std.proofs.lemmas.Str.{chars-append, chars-nil}
 use Rattle.std.specs.Str.{chars}
 use Rattle.bytes_utils.specs.Occurrence.{Occurs}
-use Rattle.bytes_utils.specs.Parts.{join, EachButLast, IsCutAtFirst, OfLast, AreSeparable, ArePartsFromFront}
+use Rattle.bytes_utils.specs.Parts.{join, EachPartButLast, IsPartCutAtFirst, OfLastPart, AreSeparable, ArePartsFromFront}
 use Rattle.bytes_utils.proofs.FromEnds.{front-from, front-to}
 use Rattle.bytes_utils.proofs.PartLists.{cut-lacks}
 use Rattle.bytes_utils.proofs.SearchLemmas.{chars-some}
@@ -31,13 +31,13 @@ module _ {X : Type 0} (p : List X) (some : 0 < length p) where
   )
 
   module _ (one : length p ≡ 1) where
-    each_cut : (parts : List (List X)) → All (λ part. ¬ Occurs p part) parts → EachButLast (IsCutAtFirst p) parts
+    each_cut : (parts : List (List X)) → All (λ part. ¬ Occurs p part) parts → EachPartButLast (IsPartCutAtFirst p) parts
     each_cut [] lack = tt
     each_cut (part ∷ []) lack = tt
     each_cut (part ∷ next ∷ parts) lack =
         (cut-lacks p part one (All-head (λ q. ¬ Occurs p q) part (next ∷ parts) lack), each_cut (next ∷ parts) (All-tail (λ q. ¬ Occurs p q) part (next ∷ parts) lack))
 
-    last_lacks : (parts : List (List X)) → All (λ part. ¬ Occurs p part) parts → OfLast (λ part. ¬ Occurs p part) parts
+    last_lacks : (parts : List (List X)) → All (λ part. ¬ Occurs p part) parts → OfLastPart (λ part. ¬ Occurs p part) parts
     last_lacks [] lack = tt
     last_lacks (part ∷ []) lack = All-head (λ q. ¬ Occurs p q) part [] lack
     last_lacks (part ∷ next ∷ parts) lack = last_lacks (next ∷ parts) (All-tail (λ q. ¬ Occurs p q) part (next ∷ parts) lack)

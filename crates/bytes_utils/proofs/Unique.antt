@@ -5,7 +5,7 @@ use Rattle.std.proofs.lemmas.List.{append_cancel_left}
 use Rattle.std.proofs.lemmas.List.Elements.{All-head, All-tail}
 use Rattle.bytes_utils.specs.Occurrence.{Occurs, OccursFirstAt}
 use Rattle.bytes_utils.specs.Parts.{join, AreForwardParts, AreBackwardParts, AreInclusiveParts}
-use Rattle.bytes_utils.specs.Splitting.{one_less}
+use Rattle.bytes_utils.specs.Splitting.{limit_after_split}
 use Rattle.bytes_utils.proofs.Boundaries.{OccursAt-fits}
 use Rattle.bytes_utils.proofs.OccurrenceLemmas.{OccursFirstAt-append, first_places_same}
 use Rattle.bytes_utils.proofs.Joins.{append_same}
@@ -20,7 +20,7 @@ module _ {X : Type 0} (p t : List X) (some : 0 < length p) (limit : Option ℕ) 
       subst (λ z. OccursFirstAt p z (length part)) (append_assoc part p (join p (next ∷ parts)) ∙ are.joined) longer
 
   -- and the others are the parts of what is after that p
-  pub AreForwardParts-others : AreForwardParts (join p (next ∷ parts)) p (one_less limit) (next ∷ parts)
+  pub AreForwardParts-others : AreForwardParts (join p (next ∷ parts)) p (limit_after_split limit) (next ∷ parts)
   AreForwardParts-others = grind arith
 
   -- so t isn't its own only part
@@ -40,8 +40,8 @@ module _ {X : Type 0} (p : List X) (some : 0 < length p) where
       let cut = append_same part other (p ++ join p (next ∷ parts)) (p ++ join p (later ∷ others)) size (are.joined ∙ sym also.joined) in
       let rest = append_cancel_left p (join p (next ∷ parts)) (join p (later ∷ others)) cut.1 in
       let following = AreForwardParts-others p t some limit other later others also in
-      let more = forward_same (join p (next ∷ parts)) (one_less limit) (next ∷ parts) (later ∷ others) (AreForwardParts-others p t some limit part next parts are)
-      (subst (λ z. AreForwardParts z p (one_less limit) (later ∷ others)) (sym rest) following) in
+      let more = forward_same (join p (next ∷ parts)) (limit_after_split limit) (next ∷ parts) (later ∷ others) (AreForwardParts-others p t some limit part next parts are)
+      (subst (λ z. AreForwardParts z p (limit_after_split limit) (later ∷ others)) (sym rest) following) in
       λ k. cut.0 k ∷ more k
 
 -- the same from the back, by the mirror

@@ -12,8 +12,8 @@ use Rattle.std.specs.Option.{option_map_or}
 use Rattle.std.specs.Str.{chars, NonePass, NoCharPasses}
 use Rattle.std.specs.Str.Pattern.{FindsBy}
 use Rattle.bytes_utils.specs.Lines.{first_led_by}
-use Rattle.bytes_utils.specs.Words.{words, ends_word, AreWordsToCome, HoldsSpace}
-use Rattle.bytes_utils.specs.Step.{GivesFirst}
+use Rattle.bytes_utils.specs.Words.{words, ends_word, AreWordsToCome, HoldsSpaceBetweenWords}
+use Rattle.bytes_utils.specs.Step.{StepGivesFirst}
 use Rattle.bytes_utils.proofs.SearchLemmas.{chars-some}
 
 -- if no character passes p in the text, none of its list of characters does
@@ -161,14 +161,14 @@ module _ (is_space : ℕ → Bool) where
     pub word-some : 0 < size
     word-some = size_some size is.ends
 
-    pub space-before : 0 < start → HoldsSpace is_space (Some text)
+    pub space-before : 0 < start → HoldsSpaceBetweenWords is_space (Some text)
     space-before some =
         let front = take start text in
         let size_is : length front ≡ start = length-take-le start text starts.0 in
         let long : 0 < length (chars front) = chars-some front front_is (omega (arith, size_is)) in
         subst HasSpace (sym text_chars) (space_before (chars front) _ long (NonePass-chars is_other front front_is found.0))
 
-    pub space-following : start + size < length text → HoldsSpace is_space (Some text)
+    pub space-following : start + size < length text → HoldsSpaceBetweenWords is_space (Some text)
     space-following some =
         let rest = drop start text in
         let following = drop size rest in
@@ -192,7 +192,7 @@ module _ (is_space : ℕ → Bool) where
   module _ (text word : List ℕ) (rest : Option (List ℕ)) (start end : ℕ) (word_is : word ≡ drop start (take end text)) (rest_is : MatchOption rest (end ≡ length text) (λ r. r ≡ drop end text)) where
     gives_word : (left : Option (List ℕ)) → MatchOption left (end ≡ length text) (λ r. r ≡ drop end text)
         → words is_space (chars text) ≡ chars (drop start (take end text)) ∷ words is_space (chars (drop end text))
-        → GivesFirst (AreWordsToCome is_space) (Some text) (chars word) left
+        → StepGivesFirst (AreWordsToCome is_space) (Some text) (chars word) left
     gives_word None at_end first = record {
       some = ([], refl);
       each = λ others none.
@@ -205,7 +205,7 @@ module _ (is_space : ℕ → Bool) where
     }
 
     pub step-word : words is_space (chars text) ≡ chars (drop start (take end text)) ∷ words is_space (chars (drop end text))
-        → (¬ AreWordsToCome is_space (Some text) []) × GivesFirst (AreWordsToCome is_space) (Some text) (chars word) rest
+        → (¬ AreWordsToCome is_space (Some text) []) × StepGivesFirst (AreWordsToCome is_space) (Some text) (chars word) rest
     step-word first = (λ none. let both : [] ≡ chars (drop start (take end text)) ∷ words is_space (chars (drop end text)) = none ∙ first in cc, gives_word rest rest_is first)
 
     pub left-shorter : start < end → end ≤ length text → option_map_or length rest 0 < length text

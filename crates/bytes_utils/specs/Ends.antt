@@ -12,6 +12,6 @@ abbrev pub EndsWith : {X : Type 0} → List X → List X → Type 0
 EndsWith {X} p t = (before : List X) × (before ++ p ≡ t)
 
 -- the text is white space, the part, and white space
-abbrev pub IsBetweenSpace : List ℕ → List ℕ → Type 0
-IsBetweenSpace part text = (before : List ℕ) × (following : List ℕ) × (before ++ (part ++ following) ≡ text)
+abbrev pub IsBetweenSpaceAtEnds : List ℕ → List ℕ → Type 0
+IsBetweenSpaceAtEnds part text = (before : List ℕ) × (following : List ℕ) × (before ++ (part ++ following) ≡ text)
     × NoCharPasses is_not_whitespace before × NoCharPasses is_not_whitespace following

@@ -23,38 +23,45 @@ abbrev pub json_string : List ℕ → List ℕ
 json_string t = codes "\"" ++ (flat_map json_character t ++ codes "\"")
 
 -- a JSON number that is held as the unsigned whole number n
-abbrev pub whole_number : ℕ → Data
-whole_number n = number (unsigned n)
+abbrev pub json_number : ℕ → Data
+json_number n = number (unsigned n)
 
 -- the value represents these bytes: it is a string of them, or a list of them as whole numbers from 0 to 255
-abbrev pub Represents : Data → List ℕ → Type 0
-Represents value bytes =
+abbrev pub JsonRepresents : Data → List ℕ → Type 0
+JsonRepresents value bytes =
     (value ≡ string bytes)
-    ⊎ ((value ≡ array (items_of (map whole_number bytes))) × All (λ b. b < 256) bytes)
+    ⊎ ((value ≡ array (items_of (map json_number bytes))) × All (λ b. b < 256) bytes)
 
 -- the error for a value that is no text; for private clauses
 abbrev pub IsJsonRefusal : Data → JsonRefused → Type 0
 IsJsonRefusal value OutOfMemory = ⊤
 IsJsonRefusal value NotJson = ⊥
-IsJsonRefusal value NotText = (bytes : List ℕ) → ¬ Represents value bytes
-IsJsonRefusal value NotUtf8 = (bytes : List ℕ) × Represents value bytes × ¬ IsUtf8 bytes
+IsJsonRefusal value NotText = (bytes : List ℕ) → ¬ JsonRepresents value bytes
+IsJsonRefusal value NotUtf8 = (bytes : List ℕ) × JsonRepresents value bytes × ¬ IsUtf8 bytes
 
 -- the JSON text has a value that represents these bytes
-abbrev pub HoldsBytes : List ℕ → List ℕ → Type 0
-HoldsBytes json bytes = (value : Data) × (read json ≡ Some value) × Represents value bytes
+abbrev pub JsonHoldsBytes : List ℕ → List ℕ → Type 0
+JsonHoldsBytes json bytes = (value : Data) × (read json ≡ Some value) × JsonRepresents value bytes
 
 -- the JSON text holds the bytes of this text
-abbrev pub HoldsText : List ℕ → List ℕ → Type 0
-HoldsText json text = HoldsBytes json text × IsUtf8 text
+abbrev pub JsonHoldsText : List ℕ → List ℕ → Type 0
+JsonHoldsText json text = JsonHoldsBytes json text × IsUtf8 text
 
 -- the text has no value: it is not JSON
 abbrev pub IsNotJson : List ℕ → Type 0
 IsNotJson json = read json ≡ None
 
 -- the JSON text has a value that represents no bytes
-abbrev pub HoldsNoBytes : List ℕ → Type 0
-HoldsNoBytes json = (value : Data) × (read json ≡ Some value) × ((bytes : List ℕ) → ¬ Represents value bytes)
+abbrev pub JsonHoldsNoBytes : List ℕ → Type 0
+JsonHoldsNoBytes json = (value : Data) × (read json ≡ Some value) × ((bytes : List ℕ) → ¬ JsonRepresents value bytes)
 
 -- the JSON text holds bytes that are not UTF-8
-abbrev pub HoldsOtherBytes : List ℕ → Type 0
-HoldsOtherBytes json = (bytes : List ℕ) × HoldsBytes json bytes × ¬ IsUtf8 bytes
+abbrev pub JsonHoldsOtherBytes : List ℕ → Type 0
+JsonHoldsOtherBytes json = (bytes : List ℕ) × JsonHoldsBytes json bytes × ¬ IsUtf8 bytes
+
+-- the text for each error of `from_json`
+abbrev pub json_refused_text : JsonRefused → List ℕ
+json_refused_text OutOfMemory = codes "out of memory"
+json_refused_text NotJson = codes "not JSON"
+json_refused_text NotText = codes "neither a string nor a list of bytes"
+json_refused_text NotUtf8 = codes "not UTF-8"

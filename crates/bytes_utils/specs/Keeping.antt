@@ -3,7 +3,7 @@ use Rattle.std.specs.Prelude.{◌≡◌, ℕ, List, [], length, Option, MatchOpt
 use Rattle.std.specs.Option.{option_map_or}
 use Rattle.std.specs.Str.{chars}
 use Rattle.bytes_utils.specs.Occurrence.{Occurs}
-use Rattle.bytes_utils.specs.Parts.{AreInclusiveParts, EndsAtFirst}
+use Rattle.bytes_utils.specs.Parts.{AreInclusiveParts, PartEndsAtFirst}
 
 -- what is still to be split, if anything, and the separator, both as bytes
 pub record Keeping : Type 0 where
@@ -17,7 +17,7 @@ AreInclusivePartsToCome s parts = MatchOption s.rest (parts ≡ []) (λ text. Ar
 -- the next step splits the storage: what is left holds a separator, and the first one isn't at its end
 abbrev pub CutsAfterNext : Keeping → Type 0
 CutsAfterNext s = IsSomeAnd s.rest
-    (λ text. Occurs (chars s.separator) (chars text) × (¬ EndsAtFirst (chars s.separator) (chars text)))
+    (λ text. Occurs (chars s.separator) (chars text) × (¬ PartEndsAtFirst (chars s.separator) (chars text)))
 
 -- a bound on the number of parts to come: the bytes left, since no part is empty
 abbrev pub most_inclusive_parts : Keeping → ℕ

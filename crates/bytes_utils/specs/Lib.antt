@@ -1,4 +1,4 @@
-pub mod Text
+pub mod Characters
 pub mod Occurrence
 pub mod EmptySeparator
 pub mod Parts
@@ -10,9 +10,9 @@ pub mod Outcome
 pub mod Step
 pub mod Splitting
 pub mod Indices
-pub mod Search
+pub mod SeparatorSearch
 pub mod Keeping
-pub mod Walk
+pub mod ClosureWalk
 pub mod Errors
 pub mod Json
 -- the definitions about buffers, for callers that use their names

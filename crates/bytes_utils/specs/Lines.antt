@@ -36,9 +36,9 @@ abbrev pub IsWithoutReturn : List ℕ → List ℕ → Type 0
 IsWithoutReturn line t = (t ≡ line ++ carriage_return ∷ []) ⊎ ((t ≡ line) × ((front : List ℕ) → t ≢ front ++ carriage_return ∷ []))
 
 -- the text after the first line feed, empty if there is none
-abbrev pub text_after : List ℕ → List ℕ
-text_after [] = []
-text_after (c ∷ t) = if c == line_feed then t else text_after t
+abbrev pub text_after_line : List ℕ → List ℕ
+text_after_line [] = []
+text_after_line (c ∷ t) = if c == line_feed then t else text_after_line t
 
 -- The state of a splitter by lines is what is still to be split, if anything. These lines are to come.
 abbrev pub AreLinesToCome : Option (List ℕ) → List (List ℕ) → Type 0

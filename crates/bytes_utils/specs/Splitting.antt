@@ -49,17 +49,17 @@ ArePartsToCome Forward = AreForwardPartsToCome
 ArePartsToCome Backward = AreBackwardPartsToCome
 
 -- there is no limit, or it leaves more than one part
-abbrev pub LeavesMore : Option ℕ → Type 0
-LeavesMore limit = IfSome limit (λ most. 1 < most)
+abbrev pub LeavesMoreToSplit : Option ℕ → Type 0
+LeavesMoreToSplit limit = IfSome limit (λ most. 1 < most)
 
 -- what is left of a limit after a part was given
-abbrev pub one_less : Option ℕ → Option ℕ
-one_less = option_map (λ most. most - 1)
+abbrev pub limit_after_split : Option ℕ → Option ℕ
+limit_after_split = option_map (λ most. most - 1)
 
 -- The next step splits the storage: the limit leaves more than one part, and what is left holds a separator. Every text
 -- holds the empty separator; but after all characters were given, what is left is the last part and needs no split.
 abbrev pub CutsNext : Splitting → Type 0
-CutsNext s = LeavesMore s.limit
+CutsNext s = LeavesMoreToSplit s.limit
     × IsSomeAnd s.rest (λ text. Occurs (chars s.separator) (chars text) × OnTrue s.begun (0 < length text))
 
 -- a bound on the number of parts to come

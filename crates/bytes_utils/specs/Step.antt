@@ -8,19 +8,19 @@ use Rattle.std.specs.Str.{chars}
 
 -- the part is the first to come in s: some list is to come in t, and the part followed by each such list is to come in
 -- s
-pub record GivesFirst {S X : Type 0} (coming : S → List X → Type 0) (s : S) (part : X) (t : S) : Type 0 where
+pub record StepGivesFirst {S X : Type 0} (coming : S → List X → Type 0) (s : S) (part : X) (t : S) : Type 0 where
   pub some : (others : List X) × coming t others
   pub each : (others : List X) → coming t others → coming s (part ∷ others)
 
 -- A step from s to t that gives an item: the first part that is to come, or an error for a refused split, with a reason
 -- for which the storage may refuse, after which nothing comes.
-pub record GivesItem {S X Y E : Type 0} (seen : Y → X) (coming : S → List X → Type 0) (cuts : S → Type 0) (refuses : E → Type 0) (s : S) (item : Result Y E) (t : S) : Type 0 where
+pub record StepGivesItem {S X Y E : Type 0} (seen : Y → X) (coming : S → List X → Type 0) (cuts : S → Type 0) (refuses : E → Type 0) (s : S) (item : Result Y E) (t : S) : Type 0 where
   pub some : ¬ coming s []
-  pub gives : MatchResult item (λ part. GivesFirst coming s (seen part) t) (λ reason. cuts s × refuses reason × coming t [])
+  pub gives : MatchResult item (λ part. StepGivesFirst coming s (seen part) t) (λ reason. cuts s × refuses reason × coming t [])
 
 -- A step from s to t that returns r: `None` exactly if no part is to come, else an item.
 abbrev pub IsStepOf : {S X Y E : Type 0} → (Y → X) → (S → List X → Type 0) → (S → Type 0) → (E → Type 0) → S → Option (Result Y E) → S → Type 0
-IsStepOf seen coming cuts refuses s r t = MatchOption r (coming s [] × coming t []) (λ item. GivesItem seen coming cuts refuses s item t)
+IsStepOf seen coming cuts refuses s r t = MatchOption r (coming s [] × coming t []) (λ item. StepGivesItem seen coming cuts refuses s item t)
 
 -- a step of a splitter whose items are texts
 abbrev pub IsStep : {S E : Type 0} → (S → List (List ℕ) → Type 0) → (S → Type 0) → (E → Type 0) → S → Option (Result (List ℕ) E) → S → Type 0
@@ -28,6 +28,6 @@ IsStep coming cuts refuses s r t = IsStepOf chars coming cuts refuses s r t
 
 -- What a loop over a splitter keeps: since the state `start` the splitter has given these parts, and it is in the state
 -- `now`. Some list is to come, and the parts followed by each such list were to come at the start.
-pub record HasGiven {S X : Type 0} (coming : S → List X → Type 0) (start : S) (parts : List X) (now : S) : Type 0 where
+pub record StepsHaveGiven {S X : Type 0} (coming : S → List X → Type 0) (start : S) (parts : List X) (now : S) : Type 0 where
   pub some : (more : List X) × coming now more
   pub each : (more : List X) → coming now more → coming start (parts ++ more)

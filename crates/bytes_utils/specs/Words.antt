@@ -23,5 +23,5 @@ abbrev pub AreWordsToCome : (ℕ → Bool) → Option (List ℕ) → List (List 
 AreWordsToCome is_space rest parts = MatchOption rest (parts ≡ []) (λ text. parts ≡ words is_space (chars text))
 
 -- what is left holds white space; without any, no step splits the storage
-abbrev pub HoldsSpace : (ℕ → Bool) → Option (List ℕ) → Type 0
-HoldsSpace is_space rest = IsSomeAnd rest (λ text. (i : ℕ) × (i < length (chars text)) × IsTrue (is_space (get_or (chars text) i 0)))
+abbrev pub HoldsSpaceBetweenWords : (ℕ → Bool) → Option (List ℕ) → Type 0
+HoldsSpaceBetweenWords is_space rest = IsSomeAnd rest (λ text. (i : ℕ) × (i < length (chars text)) × IsTrue (is_space (get_or (chars text) i 0)))

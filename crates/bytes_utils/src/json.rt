@@ -3,7 +3,7 @@ ghost use Rattle.std.specs.Prelude.{◌≡◌, ◌≢◌, ◌⊎◌, Ok, Err, �
 ghost use Rattle.std.specs.Str.{chars};
 ghost use Rattle.serde_json.specs.Read.{read};
 ghost use Rattle.serde_json.specs.View.{view};
-ghost use Rattle.bytes_utils.specs.Json.{json_string, whole_number, Represents, IsJsonRefusal, HoldsText, IsNotJson, HoldsNoBytes, HoldsOtherBytes};
+ghost use Rattle.bytes_utils.specs.Json.{json_string, json_number, JsonRepresents, IsJsonRefusal, JsonHoldsText, IsNotJson, JsonHoldsNoBytes, JsonHoldsOtherBytes};
 
 mod show;
 
@@ -27,16 +27,16 @@ pub enum JsonRefused {
 }
 
 /// The text as a JSON string.
-fn written(alloc: Global, text: &str) -> Result<String, AllocError>
+fn write_json(alloc: Global, text: &str) -> Result<String, AllocError>
     ensures table { IfOk result
         (λ json. string_bytes json ≡ encode_utf8_all (json_string (chars text.now))) }
-    ensures reads_back { IfOk result (λ json. HoldsText (string_bytes json) text.now) }
+    ensures reads_back { IfOk result (λ json. JsonHoldsText (string_bytes json) text.now) }
 {
     Value::try_from_str(alloc, text)?.to_string(alloc)
 }
 
 /// The value of a JSON text.
-fn value_of(alloc: Global, json: &str) -> Result<Value, JsonRefused>
+fn json_value_of(alloc: Global, json: &str) -> Result<Value, JsonRefused>
     ensures ok { IfOk result (λ value. read json.now ≡ Some (view value)) }
     ensures err { IfErr result
         (λ e. (e ≡ JsonRefused.OutOfMemory) ⊎ ((e ≡ JsonRefused.NotJson) × IsNotJson json.now)) }
@@ -49,25 +49,25 @@ fn value_of(alloc: Global, json: &str) -> Result<Value, JsonRefused>
 }
 
 /// The byte that a member of a list is, if it is one.
-fn byte_of(member: &Value) -> Option<u8>
-    ensures some { IfSome result (λ byte. view member.now ≡ whole_number byte) }
+fn json_byte(member: &Value) -> Option<u8>
+    ensures some { IfSome result (λ byte. view member.now ≡ json_number byte) }
     ensures in_range { IfSome result (λ byte. byte < 256) }
-    ensures none { IfNone result ((n : ℕ) → n < 256 → view member.now ≢ whole_number n) }
+    ensures none { IfNone result ((n : ℕ) → n < 256 → view member.now ≢ json_number n) }
 {
     u8::try_from(member.as_u64()?).ok()
 }
 
 /// The bytes that the members of a list are.
-fn bytes_of<S: StorageMut>(alloc: Global, members: &[Value]) -> Result<S, JsonRefused>
-    ensures ok { IfOk result (λ bytes. map view members.now ≡ map whole_number (S.stored bytes)) }
+fn json_bytes<S: StorageMut>(alloc: Global, members: &[Value]) -> Result<S, JsonRefused>
+    ensures ok { IfOk result (λ bytes. map view members.now ≡ map json_number (S.stored bytes)) }
     ensures in_range { IfOk result (λ bytes. All (λ b. b < 256) (S.stored bytes)) }
     ensures err { IfErr result
         (λ e. (e ≡ JsonRefused.OutOfMemory) ⊎ ((e ≡ JsonRefused.NotText)
-        × ((ns : List ℕ) → All (λ n. n < 256) ns → map view members.now ≢ map whole_number ns))) }
+        × ((ns : List ℕ) → All (λ n. n < 256) ns → map view members.now ≢ map json_number ns))) }
 {
     let mut bytes = S::empty(alloc).map_err(|_| JsonRefused::OutOfMemory)?;
     for member in members {
-        let byte = byte_of(member).ok_or(JsonRefused::NotText)?;
+        let byte = json_byte(member).ok_or(JsonRefused::NotText)?;
         bytes
             .push_slice(&[byte])
             .map_err(|_| JsonRefused::OutOfMemory)?;
@@ -81,10 +81,10 @@ impl<S: Storage> StrInner<S> {
     pub fn to_json(&self, alloc: Global) -> Result<String, Reason>
         ensures table { IfOk result
             (λ json. string_bytes json ≡ encode_utf8_all (json_string (chars self.now))) }
-        ensures reads_back { IfOk result (λ json. HoldsText (string_bytes json) self.now) }
+        ensures reads_back { IfOk result (λ json. JsonHoldsText (string_bytes json) self.now) }
         ensures err { IfErr result (λ e. e ≡ Reason.OutOfMemory) }
     {
-        written(alloc, self.as_str()).map_err(|_| Reason::OutOfMemory)
+        write_json(alloc, self.as_str()).map_err(|_| Reason::OutOfMemory)
     }
 }
 
@@ -98,8 +98,8 @@ where
     /// `JsonRefused`.
     pub fn from_json(alloc: Global, json: &str) -> Result<Self, JsonRefused>
         requires creator { (c : S.Creator) → S.created c ≡ S.Creator.stored c }
-        ensures ok { IfOk result (λ text. HoldsText json.now text) }
-        ensures text { (text : List ℕ) → HoldsText json.now text
+        ensures ok { IfOk result (λ text. JsonHoldsText json.now text) }
+        ensures text { (text : List ℕ) → JsonHoldsText json.now text
             → (result ≡ Ok text) ⊎ (result ≡ Err JsonRefused.OutOfMemory) }
 
         // Unless `OutOfMemory` is returned, each other error is returned exactly if its cause
@@ -107,25 +107,25 @@ where
         ensures not_json { result ≢ Err JsonRefused.OutOfMemory
             → ((result ≡ Err JsonRefused.NotJson) ↔ IsNotJson json.now) }
         ensures not_text { result ≢ Err JsonRefused.OutOfMemory
-            → ((result ≡ Err JsonRefused.NotText) ↔ HoldsNoBytes json.now) }
+            → ((result ≡ Err JsonRefused.NotText) ↔ JsonHoldsNoBytes json.now) }
         ensures not_utf8 { result ≢ Err JsonRefused.OutOfMemory
-            → ((result ≡ Err JsonRefused.NotUtf8) ↔ HoldsOtherBytes json.now) }
+            → ((result ≡ Err JsonRefused.NotUtf8) ↔ JsonHoldsOtherBytes json.now) }
     {
-        let value = value_of(alloc, json)?;
-        Self::from_value(alloc, &value)
+        let value = json_value_of(alloc, json)?;
+        Self::from_json_value(alloc, &value)
     }
 
     /// The text that a JSON value represents.
-    fn from_value(alloc: Global, value: &Value) -> Result<Self, JsonRefused>
+    fn from_json_value(alloc: Global, value: &Value) -> Result<Self, JsonRefused>
         requires creator { (c : S.Creator) → S.created c ≡ S.Creator.stored c }
-        ensures ok { IfOk result (λ text. Represents (view value.now) text) }
+        ensures ok { IfOk result (λ text. JsonRepresents (view value.now) text) }
         ensures err { IfErr result (λ e. IsJsonRefusal (view value.now) e) }
     {
         if let Some(text) = value.as_str() {
             return Self::from_str(alloc, text).map_err(|_| JsonRefused::OutOfMemory);
         }
         let members = value.as_array().ok_or(JsonRefused::NotText)?;
-        let bytes = bytes_of::<S::Creator>(alloc, members)?;
+        let bytes = json_bytes::<S::Creator>(alloc, members)?;
         let storage = S::from_creator(bytes).map_err(|_| JsonRefused::OutOfMemory)?;
         Self::from_inner(storage).map_err(|_| JsonRefused::NotUtf8)
     }

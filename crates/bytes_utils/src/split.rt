@@ -5,7 +5,7 @@ pub mod character;
 mod closure;
 mod cut;
 mod direction;
-mod each_character;
+mod empty_separator;
 mod inclusive;
 mod indices;
 mod lines;

@@ -10,7 +10,6 @@ mod convert;
 mod extend;
 mod format;
 mod freeze;
-mod items;
 mod join;
 mod join_texts;
 mod literal;

@@ -6,9 +6,9 @@ use Rattle.std.specs.List.{concat}
 use borrow.Rule.Slice.PartMut.{put_mid}
 use Rattle.bytes_utils_buf.specs.Lent.{Lent, lent_at, IsPassedOnce, Passes, SkipsLent, IsLent}
 use Rattle.bytes.specs.Unread.{IsChunkOf}
-use Rattle.bytes_utils_buf.specs.Segments.{cut_front, front_of, FrontUnread, Skips}
+use Rattle.bytes_utils_buf.specs.Segments.{cut_front_segment, front_segment, FrontSegmentUnread, SkipsSegments}
 use Rattle.bytes_utils_buf.specs.Tally.{Tallied}
-use Rattle.bytes_utils_buf.proofs.Lists.{length-concat-take_more, read_at, concat_split, cut_front-none, Skips-from_count, Skips-more}
+use Rattle.bytes_utils_buf.proofs.Lists.{length-concat-take_more, read_at, concat_split, cut_front_segment-none, SkipsSegments-from_count, SkipsSegments-more}
 
 -- ---- emptied lists
 
@@ -51,7 +51,7 @@ map-part f xs k = ap (map f) (take_rest xs k) ∙ sym (drop-map f k xs)
 module _ {X : Type 0} (f : X → List ℕ) (xs ys : List X) {n k p remaining name : ℕ} {handed_in : List (List ℕ)} {old : Tallied}
     (is : IsLent (map f xs) remaining (lent_at k handed_in (map f xs) old name)) (inside : p ≤ length (take (length xs - k) (drop k xs)))
     (size : length ys ≡ length (take (length xs - k) (drop k xs))) (out : take p (map f ys) ≡ replicate p [])
-    (skips : Skips n (map f (take (length xs - k) (drop k xs))) (drop p (map f ys))) where
+    (skips : SkipsSegments n (map f (take (length xs - k) (drop k xs))) (drop p (map f ys))) where
   lists : map f (put_mid k (length xs - k) xs ys) ≡ replicate (k + p) [] ++ drop p (map f ys)
   lists = map-put_mid f xs ys k (place_inside f xs k is.lists) ∙ more_read_out k p (map f xs) (map f ys) (take_read_out k (map f xs) is.lists) out
 
@@ -70,7 +70,7 @@ module _ {X : Type 0} (f : X → List ℕ) (xs ys : List X) {n k p remaining nam
         sum = omega (arith, is.sum, ap length s.segments.bytes, length-drop n (concat (drop k (map f xs))));
         reading = record {
           read = is.reading.read + n;
-          skips = Skips-more is.reading.read n handed_in (drop k (map f xs)) _ is.reading.skips s.segments;
+          skips = SkipsSegments-more is.reading.read n handed_in (drop k (map f xs)) _ is.reading.skips s.segments;
           place = omega (arith, is.reading.place, s.place);
         };
         passed = rw counted (record { given = is.passed.given; dropped = is.passed.dropped; turns = omega (arith, is.passed.turns) });
@@ -78,7 +78,7 @@ module _ {X : Type 0} (f : X → List ℕ) (xs ys : List X) {n k p remaining nam
 
 -- one skip after another
 pub Passes-more : (n m : ℕ) (old mid new : Lent) → Passes n old mid → Passes m mid new → Passes (n + m) old new
-Passes-more n m old mid new s t = grind (arith, Skips-more)
+Passes-more n m old mid new s t = grind (arith, SkipsSegments-more)
 
 -- ---- sums of lengths
 
@@ -103,31 +103,31 @@ none_before (suc p) ((b ∷ s) ∷ now) inside none = absurd (omega (arith, leng
 -- what a loop that counts the empty lists at the front has found
 pub record Trimmed (p : ℕ) (now : List (List ℕ)) : Type 0 where
   pub before : now ≡ replicate p [] ++ drop p now
-  pub skips : Skips 0 now (drop p now)
+  pub skips : SkipsSegments 0 now (drop p now)
 
 pub Trimmed-from_count : (now : List (List ℕ)) (p : ℕ) → p ≤ length now → length (concat (take p now)) ≡ 0
     → (p < length now → 0 < length (get_or now p [])) → Trimmed p now
 Trimmed-from_count now p inside none next = record {
   before = none_before p now inside none;
-  skips = Skips-from_count now (drop p now) p 0 0 inside (omega (arith, none)) (omega arith) next (cut_front-none (drop p now));
+  skips = SkipsSegments-from_count now (drop p now) p 0 0 inside (omega (arith, none)) (omega arith) next (cut_front_segment-none (drop p now));
 }
 
 -- a new value
 pub IsLent-new : (p remaining : ℕ) (now handed_in : List (List ℕ)) (tally : Tallied) (name : ℕ) → p ≤ length now
-    → now ≡ replicate p [] ++ drop p now → Skips 0 now (drop p now) → handed_in ≡ now → remaining ≡ length (concat now)
+    → now ≡ replicate p [] ++ drop p now → SkipsSegments 0 now (drop p now) → handed_in ≡ now → remaining ≡ length (concat now)
     → IsPassedOnce (lent_at p handed_in now tally name) → IsLent now remaining (lent_at p handed_in now tally name)
 IsLent-new p remaining now handed_in tally name within before skips same sum passed = grind (arith, length-drop, lists)
 
 -- ---- the first list
 
 -- a chunk of the first list is a chunk of all
-pub chunk_of_front : (chunk : List ℕ) (segments : List (List ℕ)) → 0 < length segments → FrontUnread segments → IsChunkOf chunk (front_of segments)
+pub chunk_of_front : (chunk : List ℕ) (segments : List (List ℕ)) → 0 < length segments → FrontSegmentUnread segments → IsChunkOf chunk (front_segment segments)
     → IsChunkOf chunk (concat segments)
 chunk_of_front chunk segments some front is = grind (arith, length-append, take-append-le)
 
 -- the first of these buffers loses n bytes
 pub map-cut_first : {X : Type 0} (f : X → List ℕ) (xs : List X) (item new : X) (n : ℕ) → 0 < length xs → f new ≡ drop n (f (get_or xs 0 item))
-    → map f (set xs 0 new) ≡ cut_front n (map f xs)
+    → map f (set xs 0 new) ≡ cut_front_segment n (map f xs)
 map-cut_first f [] item new n some lost = absurd (omega arith)
 map-cut_first f (x ∷ xs) item new n some lost = ap (λ s. s ∷ map f xs) lost
 

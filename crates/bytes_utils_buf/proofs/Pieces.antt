@@ -4,8 +4,8 @@ use Rattle.std.proofs.lemmas.List.{length-map, append_cancel_left, drop_all, dro
 use Rattle.std.proofs.lemmas.List.Elements.{All-nil, All-cons, All-head, All-tail}
 use Rattle.std.specs.List.{concat}
 use Rattle.bytes.proofs.Chunks.{concat_some}
-use Rattle.bytes_utils_buf.specs.Segments.{cut_front, front_of, lists_from, take_bytes, NoneEmpty}
-use Rattle.bytes_utils_buf.proofs.Lists.{cut_front-none, front_of_drop, length-cut_front}
+use Rattle.bytes_utils_buf.specs.Segments.{cut_front_segment, front_segment, segments_from, take_from_segments, NoSegmentEmpty}
+use Rattle.bytes_utils_buf.proofs.Lists.{cut_front_segment-none, front_segment_drop, length-cut_front_segment}
 
 -- the wanted bytes of the first list, and then those of the lists after it
 take_prefix : (n : ℕ) (x ys : List ℕ) → take n (x ++ ys) ≡ take n x ++ take (n - length (take n x)) ys
@@ -18,26 +18,26 @@ take_prefix (suc n) (b ∷ x) ys =
 -- ---- lists from a place on
 
 -- bytes are wanted from the place on, so there is an element
-pub inside : {X : Type 0} (f : X → List ℕ) (items : List X) (passed offset n : ℕ) → 0 < n → n ≤ length (concat (lists_from passed offset (map f items))) → passed < length items
+pub inside : {X : Type 0} (f : X → List ℕ) (items : List X) (passed offset n : ℕ) → 0 < n → n ≤ length (concat (segments_from passed offset (map f items))) → passed < length items
 inside f items passed offset n some enough =
     let xs = map f items in
-    omega (arith, concat_some (lists_from passed offset xs) (omega (arith, some, enough)), length-cut_front offset (drop passed xs), length-drop passed xs, length-map items f)
+    omega (arith, concat_some (segments_from passed offset xs) (omega (arith, some, enough)), length-cut_front_segment offset (drop passed xs), length-drop passed xs, length-map items f)
 
 -- the first of these lists
-pub front_from : (xs : List (List ℕ)) (passed offset : ℕ) → front_of (lists_from passed offset xs) ≡ drop offset (get_or xs passed [])
-front_from xs passed offset = grind (arith, drop_all, front_of_drop)
+pub front_from : (xs : List (List ℕ)) (passed offset : ℕ) → front_segment (segments_from passed offset xs) ≡ drop offset (get_or xs passed [])
+front_from xs passed offset = grind (arith, drop_all, front_segment_drop)
 
 -- the lists after it
-next_from : (xs : List (List ℕ)) (passed offset : ℕ) → drop 1 (lists_from passed offset xs) ≡ lists_from (passed + 1) 0 xs
-next_from xs passed offset = cut (drop passed xs) ∙ drop-drop 1 passed xs ∙ cut_front-none (drop (passed + 1) xs)
+next_from : (xs : List (List ℕ)) (passed offset : ℕ) → drop 1 (segments_from passed offset xs) ≡ segments_from (passed + 1) 0 xs
+next_from xs passed offset = cut (drop passed xs) ∙ drop-drop 1 passed xs ∙ cut_front_segment-none (drop (passed + 1) xs)
   where
-    cut : (ys : List (List ℕ)) → drop 1 (cut_front offset ys) ≡ drop 1 ys
+    cut : (ys : List (List ℕ)) → drop 1 (cut_front_segment offset ys) ≡ drop 1 ys
     cut [] = refl
     cut (y ∷ ys) = refl
 
 -- the place before all bytes
-pub all_from : (xs : List (List ℕ)) → lists_from 0 0 xs ≡ xs
-all_from xs = sym (cut_front-none xs)
+pub all_from : (xs : List (List ℕ)) → segments_from 0 0 xs ≡ xs
+all_from xs = sym (cut_front_segment-none xs)
 
 -- ---- a number of bytes is wanted
 
@@ -48,12 +48,12 @@ pub record Has (lists : List (List ℕ)) (wanted : ℕ) (all had : List ℕ) : T
   pub bytes : had ++ take (wanted - length had) (concat lists) ≡ all
 
 -- the wanted bytes of the next list are added, and the lists after it are left
-pub Has-more : (lists : List (List ℕ)) (passed offset wanted : ℕ) (all had piece : List ℕ) → Has (lists_from passed offset lists) wanted all had → length had < wanted
-    → piece ≡ take (wanted - length had) (front_of (lists_from passed offset lists)) → Has (lists_from (passed + 1) 0 lists) wanted all (had ++ piece)
+pub Has-more : (lists : List (List ℕ)) (passed offset wanted : ℕ) (all had piece : List ℕ) → Has (segments_from passed offset lists) wanted all had → length had < wanted
+    → piece ≡ take (wanted - length had) (front_segment (segments_from passed offset lists)) → Has (segments_from (passed + 1) 0 lists) wanted all (had ++ piece)
 Has-more lists passed offset wanted all had piece h more is =
-    subst (λ (left : List (List ℕ)). Has left wanted all (had ++ piece)) (next_from lists passed offset) (by (lists_from passed offset lists) h is)
+    subst (λ (left : List (List ℕ)). Has left wanted all (had ++ piece)) (next_from lists passed offset) (by (segments_from passed offset lists) h is)
   where
-    by : (here : List (List ℕ)) → Has here wanted all had → piece ≡ take (wanted - length had) (front_of here) → Has (drop 1 here) wanted all (had ++ piece)
+    by : (here : List (List ℕ)) → Has here wanted all had → piece ≡ take (wanted - length had) (front_segment here) → Has (drop 1 here) wanted all (had ++ piece)
     by [] h is = absurd (omega (arith, more, h.enough))
     by (x ∷ rest) h is =
         let n = wanted - length had in
@@ -75,15 +75,15 @@ pub record Matches (lists : List (List ℕ)) (text all rest : List ℕ) : Type 0
   pub split : text ≡ front ++ rest
   pub has : Has lists (length text) all front
 
-module _ (lists : List (List ℕ)) (passed offset : ℕ) (text all rest piece : List ℕ) (m : Matches (lists_from passed offset lists) text all rest)
-    (some : 0 < length rest) (is : piece ≡ take (length rest) (front_of (lists_from passed offset lists))) where
-  with_piece : Has (lists_from (passed + 1) 0 lists) (length text) all (m.front ++ piece)
+module _ (lists : List (List ℕ)) (passed offset : ℕ) (text all rest piece : List ℕ) (m : Matches (segments_from passed offset lists) text all rest)
+    (some : 0 < length rest) (is : piece ≡ take (length rest) (front_segment (segments_from passed offset lists))) where
+  with_piece : Has (segments_from (passed + 1) 0 lists) (length text) all (m.front ++ piece)
   with_piece =
       let size = ap length m.split ∙ length-append m.front rest in
       let left : length rest ≡ length text - length m.front = omega (arith, size) in
-      Has-more lists passed offset (length text) all m.front piece m.has (omega (arith, size, some)) (is ∙ ap (λ n. take n (front_of (lists_from passed offset lists))) left)
+      Has-more lists passed offset (length text) all m.front piece m.has (omega (arith, size, some)) (is ∙ ap (λ n. take n (front_segment (segments_from passed offset lists))) left)
 
-  pub Matches-more : (following : List ℕ) → rest ≡ piece ++ following → Matches (lists_from (passed + 1) 0 lists) text all following
+  pub Matches-more : (following : List ℕ) → rest ≡ piece ++ following → Matches (segments_from (passed + 1) 0 lists) text all following
   Matches-more following same = grind (arith, append_assoc, with_piece)
 
   -- if the rest does not start with the next piece, the lists do not start with the text
@@ -96,14 +96,14 @@ module _ (lists : List (List ℕ)) (passed offset : ℕ) (text all rest piece : 
 -- the given pieces are the first of all pieces, and the bytes that are left are in the lists ahead
 pub record Gives (ahead : List (List ℕ)) (left : ℕ) (all given : List (List ℕ)) : Type 0 where
   pub enough : left ≤ length (concat ahead)
-  pub lists : given ++ take_bytes left ahead ≡ all
+  pub lists : given ++ take_from_segments left ahead ≡ all
 
-pub Gives-more : (lists : List (List ℕ)) (passed offset left : ℕ) (all given : List (List ℕ)) (piece : List ℕ) → Gives (lists_from passed offset lists) left all given → 0 < left
-    → piece ≡ take left (front_of (lists_from passed offset lists)) → Gives (lists_from (passed + 1) 0 lists) (left - length piece) all (given ++ piece ∷ [])
+pub Gives-more : (lists : List (List ℕ)) (passed offset left : ℕ) (all given : List (List ℕ)) (piece : List ℕ) → Gives (segments_from passed offset lists) left all given → 0 < left
+    → piece ≡ take left (front_segment (segments_from passed offset lists)) → Gives (segments_from (passed + 1) 0 lists) (left - length piece) all (given ++ piece ∷ [])
 Gives-more lists passed offset left all given piece h some is =
-    subst (λ (ahead : List (List ℕ)). Gives ahead (left - length piece) all (given ++ piece ∷ [])) (next_from lists passed offset) (by (lists_from passed offset lists) left h some is)
+    subst (λ (ahead : List (List ℕ)). Gives ahead (left - length piece) all (given ++ piece ∷ [])) (next_from lists passed offset) (by (segments_from passed offset lists) left h some is)
   where
-    by : (here : List (List ℕ)) (n : ℕ) → Gives here n all given → 0 < n → piece ≡ take n (front_of here) → Gives (drop 1 here) (n - length piece) all (given ++ piece ∷ [])
+    by : (here : List (List ℕ)) (n : ℕ) → Gives here n all given → 0 < n → piece ≡ take n (front_segment here) → Gives (drop 1 here) (n - length piece) all (given ++ piece ∷ [])
     by here zero h some is = absurd (omega arith)
     by [] (suc n) h some is = absurd (omega (arith, h.enough))
     by (x ∷ rest) (suc n) h some is =
@@ -111,31 +111,31 @@ Gives-more lists passed offset left all given piece h some is =
         let left : suc n - length piece ≡ suc n - length x = omega (arith, size) in
         record {
           enough = omega (arith, size, h.enough, length-append x (concat rest));
-          lists = append_assoc given (piece ∷ []) _ ∙ (λ j. given ++ is j ∷ take_bytes (left j) rest) ∙ h.lists;
+          lists = append_assoc given (piece ∷ []) _ ∙ (λ j. given ++ is j ∷ take_from_segments (left j) rest) ∙ h.lists;
         }
 
-pub concat-take_bytes : (n : ℕ) (xs : List (List ℕ)) → concat (take_bytes n xs) ≡ take n (concat xs)
-concat-take_bytes zero xs = refl
-concat-take_bytes (suc n) [] = refl
-concat-take_bytes (suc n) (x ∷ xs) =
+pub concat-take_from_segments : (n : ℕ) (xs : List (List ℕ)) → concat (take_from_segments n xs) ≡ take n (concat xs)
+concat-take_from_segments zero xs = refl
+concat-take_from_segments (suc n) [] = refl
+concat-take_from_segments (suc n) (x ∷ xs) =
     let left : suc n - length x ≡ suc n - length (take (suc n) x) = omega (arith, length-take (suc n) x) in
-    ap (λ l. take (suc n) x ++ l) (concat-take_bytes (suc n - length x) xs ∙ ap (λ m. take m (concat xs)) left) ∙ sym (take_prefix (suc n) x (concat xs))
+    ap (λ l. take (suc n) x ++ l) (concat-take_from_segments (suc n - length x) xs ∙ ap (λ m. take m (concat xs)) left) ∙ sym (take_prefix (suc n) x (concat xs))
 
-pub NoneEmpty-take_bytes : (n : ℕ) (xs : List (List ℕ)) → NoneEmpty xs → NoneEmpty (take_bytes n xs)
-NoneEmpty-take_bytes zero xs all = All-nil (λ s. 0 < length s)
-NoneEmpty-take_bytes (suc n) [] all = all
-NoneEmpty-take_bytes (suc n) (x ∷ xs) all =
-    All-cons (λ s. 0 < length s) (take (suc n) x) (take_bytes (suc n - length x) xs)
+pub NoSegmentEmpty-take_from_segments : (n : ℕ) (xs : List (List ℕ)) → NoSegmentEmpty xs → NoSegmentEmpty (take_from_segments n xs)
+NoSegmentEmpty-take_from_segments zero xs all = All-nil (λ s. 0 < length s)
+NoSegmentEmpty-take_from_segments (suc n) [] all = all
+NoSegmentEmpty-take_from_segments (suc n) (x ∷ xs) all =
+    All-cons (λ s. 0 < length s) (take (suc n) x) (take_from_segments (suc n - length x) xs)
     (omega (arith, length-take (suc n) x, All-head (λ s. 0 < length s) x xs all))
-    (NoneEmpty-take_bytes (suc n - length x) xs (All-tail (λ s. 0 < length s) x xs all))
+    (NoSegmentEmpty-take_from_segments (suc n - length x) xs (All-tail (λ s. 0 < length s) x xs all))
 
 -- all bytes are all lists
-pub take_bytes-all : (xs : List (List ℕ)) (n : ℕ) → NoneEmpty xs → n ≡ length (concat xs) → take_bytes n xs ≡ xs
-take_bytes-all [] zero all e = refl
-take_bytes-all [] (suc n) all e = absurd (omega (arith, e))
-take_bytes-all (x ∷ xs) zero all e = absurd (omega (arith, e, All-head (λ s. 0 < length s) x xs all, length-append x (concat xs)))
-take_bytes-all (x ∷ xs) (suc n) all e =
+pub take_from_segments-all : (xs : List (List ℕ)) (n : ℕ) → NoSegmentEmpty xs → n ≡ length (concat xs) → take_from_segments n xs ≡ xs
+take_from_segments-all [] zero all e = refl
+take_from_segments-all [] (suc n) all e = absurd (omega (arith, e))
+take_from_segments-all (x ∷ xs) zero all e = absurd (omega (arith, e, All-head (λ s. 0 < length s) x xs all, length-append x (concat xs)))
+take_from_segments-all (x ∷ xs) (suc n) all e =
     let size = length-append x (concat xs) in
     let first : take (suc n) x ≡ x = take_all (suc n) x (omega (arith, e, size)) in
-    let others = take_bytes-all xs (suc n - length x) (All-tail (λ s. 0 < length s) x xs all) (omega (arith, e, size)) in
+    let others = take_from_segments-all xs (suc n - length x) (All-tail (λ s. 0 < length s) x xs all) (omega (arith, e, size)) in
     (λ i. first i ∷ others i)

@@ -3,12 +3,12 @@ use Rattle.std.proofs.Common.{◌≡◌, ℕ, ◌+◌, List, [], ◌∷◌, ◌+
 use Rattle.std.proofs.lemmas.List.{length_push}
 use Rattle.std.specs.List.{concat}
 use Rattle.bytes.proofs.Chunks.{concat_push}
-use Rattle.bytes_utils_buf.specs.Segments.{Held}
+use Rattle.bytes_utils_buf.specs.Segments.{HeldSegments}
 
 -- ---- from a queue
 
 -- a value after a counted call that moved these lists in
-abbrev pub with_moved : Held → List (List ℕ) → Held
+abbrev pub with_moved : HeldSegments → List (List ℕ) → HeldSegments
 with_moved held moved =
     record {
       segments = held.segments ++ moved;
@@ -21,7 +21,7 @@ with_moved held moved =
     }
 
 -- one more chunk, moved in without a counted call
-abbrev pub with_chunk : Held → List ℕ → Held
+abbrev pub with_chunk : HeldSegments → List ℕ → HeldSegments
 with_chunk held chunk =
     record {
       segments = held.segments ++ chunk ∷ [];
@@ -33,7 +33,7 @@ with_chunk held chunk =
       };
     }
 
-pub with_chunk-moved : (held : Held) (moved : List (List ℕ)) (chunk : List ℕ) → with_chunk (with_moved held moved) chunk ≡ with_moved held (moved ++ chunk ∷ [])
+pub with_chunk-moved : (held : HeldSegments) (moved : List (List ℕ)) (chunk : List ℕ) → with_chunk (with_moved held moved) chunk ≡ with_moved held (moved ++ chunk ∷ [])
 with_chunk-moved held moved chunk = grind (arith, append_assoc, length_push)
 
 -- the first chunk of the queue is moved too

@@ -5,37 +5,37 @@ use Rattle.std.proofs.lemmas.List.{length_push}
 use Rattle.std.proofs.lemmas.List.Elements.{All-push}
 use Rattle.std.specs.List.{concat}
 use Rattle.bytes.proofs.Chunks.{concat_push}
-use Rattle.bytes_utils_buf.specs.Packing.{IsPacked, after_packing, grow_last, last_of}
-use Rattle.bytes_utils_buf.specs.Reading.{Gave, Reads}
-use Rattle.bytes_utils_buf.specs.Segments.{Held, IsPaid, NoneEmpty, after_accepting}
+use Rattle.bytes_utils_buf.specs.Packing.{IsPacked, after_packing, pack_into_last, last_packed}
+use Rattle.bytes_utils_buf.specs.Reading.{ReadGave, Reads}
+use Rattle.bytes_utils_buf.specs.Segments.{HeldSegments, IsPaid, NoSegmentEmpty, after_accepting}
 use Rattle.bytes_utils_buf.specs.Tally.{IsBalanced, Tallied}
-use Rattle.bytes_utils_buf.proofs.PackingLemmas.{concat-grow_last, grown, packed-accepting, packed-grow, paid-packing}
+use Rattle.bytes_utils_buf.proofs.PackingLemmas.{concat-pack_into_last, grown, packed-accepting, packed-grow, paid-packing}
 
 no_bytes : (n : ℕ) (got : List ℕ) → n ≤ 0 → length got ≡ n → got ≡ []
 no_bytes n [] none count = refl
 no_bytes n (b ∷ got) none count = absurd (omega (arith, none, count))
 
-grow_none : (xs : List (List ℕ)) → grow_last [] xs ≡ xs
+grow_none : (xs : List (List ℕ)) → pack_into_last [] xs ≡ xs
 grow_none [] = refl
 grow_none (s ∷ []) = ap (λ s. s ∷ []) (append-nil s)
 grow_none (s ∷ t ∷ xs) = ap (λ l. s ∷ l) (grow_none (t ∷ xs))
 
 -- a read made the last list longer
 abbrev pub GrowsLast : Option (List ℕ) → Option (List ℕ) → List (List ℕ) → List (List ℕ) → ℕ → Type 0
-GrowsLast before after old new n = (got : List ℕ) × Gave before after n got × (new ≡ grow_last got old)
+GrowsLast before after old new n = (got : List ℕ) × ReadGave before after n got × (new ≡ pack_into_last got old)
 
 -- it gave no byte, so nothing has changed
 pub grown_by_none : (before after : Option (List ℕ)) (old new : List (List ℕ)) (n : ℕ) → n ≤ 0 → GrowsLast before after old new n → new ≡ old
-grown_by_none before after old new n none read = read.2 ∙ ap (λ got. grow_last got old) (no_bytes n read.0 none read.1.count) ∙ grow_none old
+grown_by_none before after old new n none read = read.2 ∙ ap (λ got. pack_into_last got old) (no_bytes n read.0 none read.1.count) ∙ grow_none old
 
 -- what is true of every `SegmentedBuf` stays true
 pub grown_by_read : (before after : Option (List ℕ)) (old new : List (List ℕ)) (n remaining : ℕ) (tally : Tallied) → 0 < length old
-    → GrowsLast before after old new n → (remaining ≡ length (concat old)) × NoneEmpty old × IsBalanced old tally
-    → (remaining + n ≡ length (concat new)) × NoneEmpty new
+    → GrowsLast before after old new n → (remaining ≡ length (concat old)) × NoSegmentEmpty old × IsBalanced old tally
+    → (remaining + n ≡ length (concat new)) × NoSegmentEmpty new
     × IsBalanced new (record { given = tally.given + 1; dropped = tally.dropped + 1; calls = tally.calls + 1; turns = tally.turns })
 grown_by_read before after old new n remaining tally some read is = rw (← read.1.count) (grown old new read.0 remaining tally some read.2 is)
 
-pub reads_last : (before after : Option (List ℕ)) (old : Held) (new : List (List ℕ)) (n : ℕ) → 0 < n → 0 < length old.segments
+pub reads_last : (before after : Option (List ℕ)) (old : HeldSegments) (new : List (List ℕ)) (n : ℕ) → 0 < n → 0 < length old.segments
     → GrowsLast before after old.segments new n
     → Reads (λ got old new. new ≡ after_packing old got) before after old (record {
       segments = new;
@@ -59,18 +59,18 @@ reads_last before after old new n came some read =
           turns = old.tally.turns;
         };
       }) read.2;
-      bytes = ap concat read.2 ∙ concat-grow_last read.0 old.segments some;
+      bytes = ap concat read.2 ∙ concat-pack_into_last read.0 old.segments some;
       same = λ none. absurd (omega (arith, came, none));
     }
 
 -- a read was put after the last list
 abbrev pub PushesList : Option (List ℕ) → Option (List ℕ) → List (List ℕ) → List (List ℕ) → ℕ → Type 0
-PushesList before after old new n = (got : List ℕ) × Gave before after n got × (new ≡ old ++ got ∷ [])
+PushesList before after old new n = (got : List ℕ) × ReadGave before after n got × (new ≡ old ++ got ∷ [])
 
 -- what is true of every `SegmentedBuf` stays true
 pub pushed_by_read : (before after : Option (List ℕ)) (old new : List (List ℕ)) (n remaining : ℕ) (tally : Tallied) → 0 < n
-    → PushesList before after old new n → (remaining ≡ length (concat old)) × NoneEmpty old × IsBalanced old tally
-    → (remaining + n ≡ length (concat new)) × NoneEmpty new
+    → PushesList before after old new n → (remaining ≡ length (concat old)) × NoSegmentEmpty old × IsBalanced old tally
+    → (remaining + n ≡ length (concat new)) × NoSegmentEmpty new
     × IsBalanced new (record { given = tally.given + 1; dropped = tally.dropped + 0; calls = tally.calls + 1; turns = tally.turns })
 pushed_by_read before after old new n remaining tally came read is =
     let got = read.0 in
@@ -81,7 +81,7 @@ pushed_by_read before after old new n remaining tally came read is =
       omega (arith, length_push old got, is.2),
     )
 
-accepted : (old : Held) (got : List ℕ) (new : List (List ℕ)) → 0 < length got → new ≡ old.segments ++ got ∷ []
+accepted : (old : HeldSegments) (got : List ℕ) (new : List (List ℕ)) → 0 < length got → new ≡ old.segments ++ got ∷ []
     → record {
       segments = new;
       tally = record {
@@ -102,7 +102,7 @@ accepted old (b ∷ got) new some is = ap (λ lists. record {
   };
 }) is
 
-pub reads_more : (before after : Option (List ℕ)) (old : Held) (new : List (List ℕ)) (n : ℕ) → 0 < n → PushesList before after old.segments new n
+pub reads_more : (before after : Option (List ℕ)) (old : HeldSegments) (new : List (List ℕ)) (n : ℕ) → 0 < n → PushesList before after old.segments new n
     → Reads (λ got old new. new ≡ after_accepting old (got ∷ [])) before after old (record {
       segments = new;
       tally = record {
@@ -122,8 +122,8 @@ reads_more before after old new n came (got, gave, is) =
     }
 
 -- no byte came
-pub reads_none : {how : List ℕ → Held → Held → Type 0} {before after : Option (List ℕ)} (old new : Held) (n : ℕ) (got : List ℕ) → n ≤ 0
-    → Gave before after n got → new ≡ old → Reads how before after old new n
+pub reads_none : {how : List ℕ → HeldSegments → HeldSegments → Type 0} {before after : Option (List ℕ)} (old new : HeldSegments) (n : ℕ) (got : List ℕ) → n ≤ 0
+    → ReadGave before after n got → new ≡ old → Reads how before after old new n
 reads_none old new n got none gave same =
     let empty = no_bytes n got none gave.count in
     record {
@@ -135,28 +135,28 @@ reads_none old new n got none gave same =
     }
 
 -- what holds of the value before a read, and after each way of adding bytes, holds after the read
-pub after_read : {E : Type 0} (how : List ℕ → Held → Held → Type 0) (P : Held → Type 0) (before after : Option (List ℕ)) (old new : Held) (r : Result ℕ E)
+pub after_read : {E : Type 0} (how : List ℕ → HeldSegments → HeldSegments → Type 0) (P : HeldSegments → Type 0) (before after : Option (List ℕ)) (old new : HeldSegments) (r : Result ℕ E)
     → IfOk r (λ n. Reads how before after old new n) → OnErr r (new ≡ old) → P old → ((got : List ℕ) → 0 < length got → how got old new → P new) → P new
 after_read how P before after old new (Ok zero) reads same p step = rw (reads.same refl) p
 after_read how P before after old new (Ok (suc n)) reads same p step =
     step reads.got (omega (arith, reads.gave.count)) (reads.added (omega arith))
 after_read how P before after old new (Err _) reads same p step = rw same p
 
-pub packed_read : {E : Type 0} (before after : Option (List ℕ)) (most : ℕ) (old new : Held) (r : Result ℕ E)
+pub packed_read : {E : Type 0} (before after : Option (List ℕ)) (most : ℕ) (old new : HeldSegments) (r : Result ℕ E)
     → IfOk r (λ n. Reads (λ got old new. new ≡ after_packing old got) before after old new n) → OnErr r (new ≡ old) → IsPacked most old.segments
     → IsPacked most new.segments
 packed_read before after most old new r reads same packed =
     after_read _ (λ held. IsPacked most held.segments) before after old new r reads same packed
     (λ got some is. rw is (packed-grow most got old.segments packed))
 
-pub packed_read_alone : {E : Type 0} (before after : Option (List ℕ)) (most : ℕ) (old new : Held) (r : Result ℕ E)
+pub packed_read_alone : {E : Type 0} (before after : Option (List ℕ)) (most : ℕ) (old new : HeldSegments) (r : Result ℕ E)
     → IfOk r (λ n. Reads (λ got old new. new ≡ after_accepting old (got ∷ [])) before after old new n) → OnErr r (new ≡ old)
-    → (0 < length old.segments → most ≤ length (last_of old.segments)) → IsPacked most old.segments → IsPacked most new.segments
+    → (0 < length old.segments → most ≤ length (last_packed old.segments)) → IsPacked most old.segments → IsPacked most new.segments
 packed_read_alone before after most old new r reads same over packed =
     after_read _ (λ held. IsPacked most held.segments) before after old new r reads same packed
     (λ got some is. rw is (packed-accepting most old got (λ _ held. omega (arith, over held, some)) packed))
 
-pub paid_read : {E : Type 0} (before after : Option (List ℕ)) (old new : Held) (r : Result ℕ E)
+pub paid_read : {E : Type 0} (before after : Option (List ℕ)) (old new : HeldSegments) (r : Result ℕ E)
     → IfOk r (λ n. Reads (λ got old new. new ≡ after_packing old got) before after old new n) → OnErr r (new ≡ old) → IsPaid old new
 paid_read before after old new r reads same =
     after_read _ (λ held. IsPaid old held) before after old new r reads same (omega arith) (λ got some is. rw is (paid-packing old got))

@@ -3,18 +3,18 @@ use Rattle.std.proofs.Common.{◌≡◌, ℕ, ◌+◌, ◌-◌, ◌<◌, ◌≤�
 use Rattle.std.proofs.lemmas.List.{drop_all, take_rest, drop-append-le, drop-drop}
 use borrow.Rule.Slice.PartMut.{put_mid}
 use Rattle.std.proofs.lemmas.List.Elements.{All-cons, All-nil, All-append, All-same}
-use Rattle.bytes_utils_buf.specs.Slices.{joined, FillsTable}
+use Rattle.bytes_utils_buf.specs.Slices.{joined_slices, FillsSlices}
 use Rattle.bytes_utils_buf.proofs.Lists.{concat-map_parts, drop-append_past}
 
 -- one slice in the first place of a table
-pub joined-first : (dst : List (Bor (List ℕ))) (x : Bor (List ℕ)) → 0 < length dst → joined (take 1 (set dst 0 x)) ≡ x.now
-joined-first [] x room = absurd (omega arith)
-joined-first (d ∷ ds) x room = append-nil x.now
+pub joined_slices-first : (dst : List (Bor (List ℕ))) (x : Bor (List ℕ)) → 0 < length dst → joined_slices (take 1 (set dst 0 x)) ≡ x.now
+joined_slices-first [] x room = absurd (omega arith)
+joined_slices-first (d ∷ ds) x room = append-nil x.now
 
-pub FillsTable-first : (dst : List (Bor (List ℕ))) (x : Bor (List ℕ)) → 0 < length dst → 0 < length x.now → FillsTable 1 dst (set dst 0 x) x.now
-FillsTable-first [] x room some = absurd (omega arith)
-FillsTable-first (d ∷ ds) x room some =
-    let bytes = joined-first (d ∷ ds) x room in
+pub FillsSlices-first : (dst : List (Bor (List ℕ))) (x : Bor (List ℕ)) → 0 < length dst → 0 < length x.now → FillsSlices 1 dst (set dst 0 x) x.now
+FillsSlices-first [] x room some = absurd (omega arith)
+FillsSlices-first (d ∷ ds) x room some =
+    let bytes = joined_slices-first (d ∷ ds) x room in
     record {
       count = omega arith;
       some = All-cons (λ s. 0 < length s.now) x [] some (All-nil (λ s. 0 < length s.now));
@@ -23,21 +23,21 @@ FillsTable-first (d ∷ ds) x room some =
       tail = refl;
     }
 
-pub joined-append : (xs ys : List (Bor (List ℕ))) → joined (xs ++ ys) ≡ joined xs ++ joined ys
-joined-append xs ys = concat-map_parts (λ s. s.now) xs ys (xs ++ ys) refl
+pub joined_slices-append : (xs ys : List (Bor (List ℕ))) → joined_slices (xs ++ ys) ≡ joined_slices xs ++ joined_slices ys
+joined_slices-append xs ys = concat-map_parts (λ s. s.now) xs ys (xs ++ ys) refl
 
-pub FillsTable-same : (n : ℕ) (old new : List (Bor (List ℕ))) (xs ys : List ℕ) → ys ≡ xs → FillsTable n old new xs → FillsTable n old new ys
-FillsTable-same n old new xs ys e h = rw e h
+pub FillsSlices-same : (n : ℕ) (old new : List (Bor (List ℕ))) (xs ys : List ℕ) → ys ≡ xs → FillsSlices n old new xs → FillsSlices n old new ys
+FillsSlices-same n old new xs ys e h = rw e h
 
 -- a full table stays filled, whatever bytes follow
-pub FillsTable-full : (n : ℕ) (old new : List (Bor (List ℕ))) (xs ys : List ℕ) → length old ≤ n → FillsTable n old new xs → FillsTable n old new (xs ++ ys)
-FillsTable-full n old new xs ys full h = grind (arith, append_assoc, drop-append-le, length-append)
+pub FillsSlices-full : (n : ℕ) (old new : List (Bor (List ℕ))) (xs ys : List ℕ) → length old ≤ n → FillsSlices n old new xs → FillsSlices n old new (xs ++ ys)
+FillsSlices-full n old new xs ys full h = grind (arith, append_assoc, drop-append-le, length-append)
 
 -- the next buffer fills the rest of the table
-pub FillsTable-more : (n k : ℕ) (old mid new : List (Bor (List ℕ))) (xs ys : List ℕ) → n < length old → length mid ≡ length old
-    → length new ≡ length mid - n → FillsTable n old mid xs → FillsTable k (take (length mid - n) (drop n mid)) new ys
-    → FillsTable (n + k) old (put_mid n (length mid - n) mid new) (xs ++ ys)
-FillsTable-more n k old mid new xs ys room same size a b =
+pub FillsSlices-more : (n k : ℕ) (old mid new : List (Bor (List ℕ))) (xs ys : List ℕ) → n < length old → length mid ≡ length old
+    → length new ≡ length mid - n → FillsSlices n old mid xs → FillsSlices k (take (length mid - n) (drop n mid)) new ys
+    → FillsSlices (n + k) old (put_mid n (length mid - n) mid new) (xs ++ ys)
+FillsSlices-more n k old mid new xs ys room same size a b =
     let P = λ (s : Bor (List ℕ)). 0 < length s.now in
     let rest = take_rest mid n in
     let left = length-drop n mid in
@@ -48,8 +48,8 @@ FillsTable-more n k old mid new xs ys room same size a b =
     let following : drop n table ≡ new = ap (drop n) plain ∙ drop_at (take n mid) new n front_size in
     let before : take n table ≡ take n mid = ap (take n) plain ∙ take_at (take n mid) new n front_size in
     let taken : take (n + k) table ≡ take n mid ++ take k new = take-add n k table ∙ (λ i. before i ++ take k (following i)) in
-    let j = joined (take k new) in
-    let bytes : joined (take (n + k) table) ≡ xs ++ j = ap joined taken ∙ joined-append (take n mid) (take k new) ∙ ap (λ l. l ++ j) (a.whole room) in
+    let j = joined_slices (take k new) in
+    let bytes : joined_slices (take (n + k) table) ≡ xs ++ j = ap joined_slices taken ∙ joined_slices-append (take n mid) (take k new) ∙ ap (λ l. l ++ j) (a.whole room) in
     record {
       count = omega (arith, b.count, ap length rest, left, same, room);
       some = All-same P _ _ taken (All-append P (take n mid) (take k new) a.some b.some);
@@ -63,5 +63,5 @@ FillsTable-more n k old mid new xs ys room same size a b =
 pub length-put_mid : {X : Type 0} (xs ys : List X) (n : ℕ) → n ≤ length xs → length ys ≡ length xs - n → length (put_mid n (length xs - n) xs ys) ≡ length xs
 length-put_mid xs ys n h size = grind (arith, length-append, length-drop, length-take-le)
 
-pub joined-push : (xs : List (Bor (List ℕ))) (x : Bor (List ℕ)) → joined (xs ++ x ∷ []) ≡ joined xs ++ x.now
-joined-push xs x = joined-append xs (x ∷ []) ∙ ap (λ l. joined xs ++ l) (append-nil x.now)
+pub joined_slices-push : (xs : List (Bor (List ℕ))) (x : Bor (List ℕ)) → joined_slices (xs ++ x ∷ []) ≡ joined_slices xs ++ x.now
+joined_slices-push xs x = joined_slices-append xs (x ∷ []) ∙ ap (λ l. joined_slices xs ++ l) (append-nil x.now)

@@ -6,9 +6,9 @@ use Rattle.std.proofs.lemmas.List.Elements.{All-head}
 use Rattle.std.specs.Borrow.{Bor}
 use Rattle.std.specs.Result.{OnOk}
 use Rattle.std.specs.Io.KnownBytes.{Appends}
-use Rattle.bytes_utils_buf.specs.Slices.{joined, FillsTable}
+use Rattle.bytes_utils_buf.specs.Slices.{joined_slices, FillsSlices}
 use Rattle.bytes_utils_buf.specs.Write.{WritesCounted, WritesFront}
-use Rattle.bytes_utils_buf.proofs.SlicesLemmas.{joined-append}
+use Rattle.bytes_utils_buf.proofs.SlicesLemmas.{joined_slices-append}
 
 -- some of the bytes that come next were written
 pub WritesCounted-more : {a b c : Option (List ℕ)} {m n k : ℕ} {all part : List ℕ} (following : List ℕ) → WritesCounted a b m n all
@@ -51,29 +51,29 @@ WritesCounted-all {a} {b} {m} {n} {all} before is =
     omega (arith, size, before.rises, before.within)
 
 -- slices in two parts
-pub joined-parts : (n : ℕ) (slices : List (Bor (List ℕ))) → joined (take n slices) ++ joined (drop n slices) ≡ joined slices
-joined-parts n slices = sym (joined-append (take n slices) (drop n slices)) ∙ ap joined (take-append-drop n slices)
+pub joined_slices-parts : (n : ℕ) (slices : List (Bor (List ℕ))) → joined_slices (take n slices) ++ joined_slices (drop n slices) ≡ joined_slices slices
+joined_slices-parts n slices = sym (joined_slices-append (take n slices) (drop n slices)) ∙ ap joined_slices (take-append-drop n slices)
 
 -- the bytes of some slices come next, and then those of the slices after them
 pub next-slices : (slices : List (Bor (List ℕ))) (place count : ℕ) (bytes left : List ℕ)
-    → bytes ≡ joined (take count (take (length slices - place) (drop place slices))) → joined (drop place slices) ≡ left
-    → bytes ++ joined (drop (place + count) slices) ≡ left
+    → bytes ≡ joined_slices (take count (take (length slices - place) (drop place slices))) → joined_slices (drop place slices) ≡ left
+    → bytes ++ joined_slices (drop (place + count) slices) ≡ left
 next-slices slices place count bytes left is all =
     let rest = drop place slices in
-    let following : joined (drop (place + count) slices) ≡ joined (drop count rest) = sym (ap joined (drop-drop count place slices)) in
+    let following : joined_slices (drop (place + count) slices) ≡ joined_slices (drop count rest) = sym (ap joined_slices (drop-drop count place slices)) in
     ap (λ l. bytes ++ l) following
-    ∙ ap (λ l. l ++ joined (drop count rest)) (is ∙ ap (λ l. joined (take count l)) (take_rest slices place))
-    ∙ joined-parts count rest
+    ∙ ap (λ l. l ++ joined_slices (drop count rest)) (is ∙ ap (λ l. joined_slices (take count l)) (take_rest slices place))
+    ∙ joined_slices-parts count rest
     ∙ all
 
 -- a table with room has a byte if there is one
-pub FillsTable_some : (n : ℕ) (old new : List (Bor (List ℕ))) (unread : List ℕ) → 0 < length old → length new ≡ length old → 0 < length unread
-    → FillsTable n old new unread → 0 < length (joined (take n new))
-FillsTable_some zero old new unread room same some fills = omega (arith, some, ap length (fills.whole room))
-FillsTable_some (suc n) old [] unread room same some fills = absurd (omega (arith, room, same))
-FillsTable_some (suc n) old (x ∷ new) unread room same some fills =
+pub FillsSlices_some : (n : ℕ) (old new : List (Bor (List ℕ))) (unread : List ℕ) → 0 < length old → length new ≡ length old → 0 < length unread
+    → FillsSlices n old new unread → 0 < length (joined_slices (take n new))
+FillsSlices_some zero old new unread room same some fills = omega (arith, some, ap length (fills.whole room))
+FillsSlices_some (suc n) old [] unread room same some fills = absurd (omega (arith, room, same))
+FillsSlices_some (suc n) old (x ∷ new) unread room same some fills =
     let first = All-head (λ (s : Bor (List ℕ)). 0 < length s.now) x (take n new) fills.some in
-    omega (arith, first, length-append x.now (joined (take n new)))
+    omega (arith, first, length-append x.now (joined_slices (take n new)))
 
 -- so something is written
 pub some-written : {E : Type 0} (r : Result (Unit {0}) E) (some : Type 0) (count written : ℕ) → (some → 0 < count) → OnOk r (written ≡ 0 + count) → OnOk r (some → 0 < written)

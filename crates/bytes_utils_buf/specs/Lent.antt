@@ -1,7 +1,7 @@
 -- Borrowed buffers as one. Those before the reading place are passed, and those from it on are the segments to read.
 use Rattle.std.specs.Prelude.{◌≡◌, ℕ, ◌+◌, List, [], ◌++◌, length, drop, replicate}
 use Rattle.std.specs.List.{concat}
-use Rattle.bytes_utils_buf.specs.Segments.{Held, Skips}
+use Rattle.bytes_utils_buf.specs.Segments.{HeldSegments, SkipsSegments}
 use Rattle.bytes_utils_buf.specs.Tally.{Tallied, lined_up}
 
 -- what clauses see of a `SegmentedSlice`
@@ -21,22 +21,22 @@ abbrev pub lists_of : Lent → List (List ℕ)
 lists_of lent = replicate lent.place [] ++ lent.segments
 
 -- held segments as borrowed buffers: those passed count as empty
-abbrev pub as_lent : Held → Lent
+abbrev pub as_lent : HeldSegments → Lent
 as_lent held = record { handed_in = []; place = held.tally.turns; segments = held.segments; tally = held.tally; name = 0 }
 
 -- borrowed buffers as held segments: those to read
-abbrev pub held_of : Lent → Held
+abbrev pub held_of : Lent → HeldSegments
 held_of lent = record { segments = lent.segments; tally = lent.tally }
 
 -- `read` bytes were read: they are skipped in what was handed in, and the buffers removed from the front are passed
-pub record IsReading (lent : Lent) : Type 0 where
+pub record IsLentReading (lent : Lent) : Type 0 where
   pub read : ℕ
-  pub skips : Skips read lent.handed_in lent.segments
+  pub skips : SkipsSegments read lent.handed_in lent.segments
   pub place : lent.place + length lent.segments ≡ length lent.handed_in
 
 -- n bytes are skipped: the buffers removed from the front of the segments are now passed
 pub record SkipsLent (n : ℕ) (old new : Lent) : Type 0 where
-  pub segments : Skips n old.segments new.segments
+  pub segments : SkipsSegments n old.segments new.segments
   pub place : new.place + length new.segments ≡ old.place + length old.segments
   pub handed_in : new.handed_in ≡ old.handed_in
   pub name : new.name ≡ old.name
@@ -63,5 +63,5 @@ lent_at place handed_in now tally name =
 pub record IsLent (now : List (List ℕ)) (remaining : ℕ) (lent : Lent) : Type 0 where
   pub lists : now ≡ lists_of lent
   pub sum : remaining ≡ length (concat lent.segments)
-  pub reading : IsReading lent
+  pub reading : IsLentReading lent
   pub passed : IsPassedOnce lent

@@ -6,14 +6,14 @@ use Rattle.bytes_utils_buf.specs.declared.refused.Reason.{Reason}
 use Rattle.bytes_utils_buf.specs.declared.refused.Reason.TheVariants.{OutOfMemory, TooLong}
 
 -- the reason, without a line feed
-abbrev pub reason_text : Reason → List ℕ
-reason_text OutOfMemory = codes "out of memory"
-reason_text TooLong = codes "too long"
+abbrev pub refusal_text : Reason → List ℕ
+refusal_text OutOfMemory = codes "out of memory"
+refusal_text TooLong = codes "too long"
 
 -- the kind of an `io::Error` that is made of the reason
-abbrev pub reason_kind : Reason → ErrorKind
-reason_kind OutOfMemory = KindOutOfMemory
-reason_kind TooLong = FileTooLarge
+abbrev pub refusal_kind : Reason → ErrorKind
+refusal_kind OutOfMemory = KindOutOfMemory
+refusal_kind TooLong = FileTooLarge
 
 -- the number of bytes lost by a copy for which memory was refused
 abbrev pub copy_refused_text : ℕ → List ℕ

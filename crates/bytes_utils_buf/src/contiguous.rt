@@ -1,6 +1,6 @@
 //! Buffers whose unread bytes are one slice.
 ghost use Rattle.std.specs.Prelude.{◌≡◌, ◌≤◌, length, take, drop, slice_range, IsOk, IfOk, IfErr, OnErr};
-ghost use Rattle.bytes_utils_buf.specs.Slices.{taken_by};
+ghost use Rattle.bytes_utils_buf.specs.Copies.{taken_by_copy};
 
 use crate::Reason;
 use crate::parts::CopyRefused;
@@ -82,7 +82,7 @@ pub fn take_prefix<B: ContiguousBuf>(
     requires { len ≤ length (B.unread buf.old) }
     ensures value { IfOk result (λ copy. copy ≡ take len (B.unread buf.old)) }
     ensures refused { IfErr result (λ e. e.taken ≡ 0) }
-    ensures rest { B.unread buf.new ≡ drop (taken_by len result) (B.unread buf.old) }
+    ensures rest { B.unread buf.new ≡ drop (taken_by_copy len result) (B.unread buf.old) }
     ensures same { OnErr result (buf.new ≡ buf.old) }
     ensures kept { B.kept buf.new ≡ B.kept buf.old }
 {

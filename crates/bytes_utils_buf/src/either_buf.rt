@@ -2,7 +2,8 @@
 ghost use Rattle.std.specs.Prelude.{◌≡◌, ◌≤◌, length, take, drop, slice_range, IsOk, IfOk, IfErr, ◌⊎◌};
 ghost use Rattle.bytes.specs.Unread.{IsChunkOf};
 ghost use Rattle.bytes_utils_buf.specs.Either.{unread_of, kept_of};
-ghost use Rattle.bytes_utils_buf.specs.Slices.{taken_by, FillsTable};
+ghost use Rattle.bytes_utils_buf.specs.Copies.{taken_by_copy};
+ghost use Rattle.bytes_utils_buf.specs.Slices.{FillsSlices};
 
 use crate::Reason;
 use crate::contiguous::ContiguousBuf;

@@ -1,6 +1,7 @@
 //! Buffers that copy their unread bytes out, and show them as slices.
 ghost use Rattle.std.specs.Prelude.{ℕ, ⊤, ◌≡◌, ◌<◌, ◌≤◌, length, take, drop, IfOk, IfErr, IsOk, OnErr, ◌⊎◌};
-ghost use Rattle.bytes_utils_buf.specs.Slices.{taken_by, joined, FillsTable};
+ghost use Rattle.bytes_utils_buf.specs.Copies.{taken_by_copy};
+ghost use Rattle.bytes_utils_buf.specs.Slices.{joined_slices, FillsSlices};
 
 use bytes::{Buf, Bytes};
 use std::alloc::Global;
@@ -26,15 +27,15 @@ pub trait BufParts: Buf {
     fn copy_out(&mut self, alloc: Global, len: usize) -> Result<Bytes, CopyRefused>
         requires { len ≤ length (Self.unread self.old) }
         ensures value { IfOk result (λ copy. copy ≡ take len (Self.unread self.old)) }
-        ensures taken { taken_by len result ≤ len }
+        ensures taken { taken_by_copy len result ≤ len }
         ensures lost { IfErr result (λ e. loses len e.taken) }
-        ensures rest { Self.unread self.new ≡ drop (taken_by len result) (Self.unread self.old) }
+        ensures rest { Self.unread self.new ≡ drop (taken_by_copy len result) (Self.unread self.old) }
         ensures kept { Self.kept self.new ≡ Self.kept self.old };
 
     /// Fills the first places of `dst` with slices of the unread bytes, and returns how many places
     /// it filled. If `dst` has room left, the slices are all of the unread bytes.
     fn chunks_into<'s>(&'s self, dst: &mut [&'s [u8]]) -> usize
-        ensures { FillsTable result dst.old dst.new (Self.unread self.now) };
+        ensures { FillsSlices result dst.old dst.new (Self.unread self.now) };
 }
 
 /// `copy_out` shares the bytes. If it fails, it has taken none.
@@ -44,8 +45,8 @@ impl BufParts for Bytes {
     fn copy_out(&mut self, _alloc: Global, len: usize) -> Result<Bytes, CopyRefused>
         requires { len ≤ length self.old }
         ensures value { IfOk result (λ copy. copy ≡ take len self.old) }
-        ensures taken { taken_by len result ≤ len }
-        ensures rest { self.new ≡ drop (taken_by len result) self.old }
+        ensures taken { taken_by_copy len result ≤ len }
+        ensures rest { self.new ≡ drop (taken_by_copy len result) self.old }
         ensures refused { IfErr result (λ e. e.taken ≡ 0) }
         ensures same { OnErr result (self.new ≡ self.old) }
         ensures none { len ≡ 0 → IsOk result }
@@ -58,9 +59,9 @@ impl BufParts for Bytes {
     }
 
     fn chunks_into<'s>(&'s self, dst: &mut [&'s [u8]]) -> usize
-        ensures fills { FillsTable result dst.old dst.new self.now }
+        ensures fills { FillsSlices result dst.old dst.new self.now }
         ensures one { result ≤ 1 }
-        ensures all { 0 < length dst.old → joined (take result dst.new) ≡ self.now }
+        ensures all { 0 < length dst.old → joined_slices (take result dst.new) ≡ self.now }
     {
         slice_into(self.as_slice(), dst)
     }
@@ -73,8 +74,8 @@ impl BufParts for &[u8] {
     fn copy_out(&mut self, alloc: Global, len: usize) -> Result<Bytes, CopyRefused>
         requires { len ≤ length self.old.now }
         ensures value { IfOk result (λ copy. copy ≡ take len self.old.now) }
-        ensures taken { taken_by len result ≤ len }
-        ensures rest { self.new.now ≡ drop (taken_by len result) self.old.now }
+        ensures taken { taken_by_copy len result ≤ len }
+        ensures rest { self.new.now ≡ drop (taken_by_copy len result) self.old.now }
         ensures refused { IfErr result (λ e. e.taken ≡ 0) }
         ensures same { OnErr result (self.new.now ≡ self.old.now) }
     {
@@ -87,9 +88,9 @@ impl BufParts for &[u8] {
     }
 
     fn chunks_into<'s>(&'s self, dst: &mut [&'s [u8]]) -> usize
-        ensures fills { FillsTable result dst.old dst.new self.now.now }
+        ensures fills { FillsSlices result dst.old dst.new self.now.now }
         ensures one { result ≤ 1 }
-        ensures all { 0 < length dst.old → joined (take result dst.new) ≡ self.now.now }
+        ensures all { 0 < length dst.old → joined_slices (take result dst.new) ≡ self.now.now }
     {
         slice_into(*self, dst)
     }
@@ -101,9 +102,9 @@ impl BufParts for &[u8] {
 pub fn copy_out_of<B: Buf>(buf: &mut B, alloc: Global, len: usize) -> Result<Bytes, CopyRefused>
     requires { len ≤ length (B.unread buf.old) }
     ensures value { IfOk result (λ copy. copy ≡ take len (B.unread buf.old)) }
-    ensures taken { taken_by len result ≤ len }
+    ensures taken { taken_by_copy len result ≤ len }
     ensures refused { IfErr result (λ e. (e.taken ≡ 0) ⊎ (e.taken ≡ len)) }
-    ensures rest { B.unread buf.new ≡ drop (taken_by len result) (B.unread buf.old) }
+    ensures rest { B.unread buf.new ≡ drop (taken_by_copy len result) (B.unread buf.old) }
     ensures kept { B.kept buf.new ≡ B.kept buf.old }
 {
     let Ok(mut copy) = vec![in alloc; 0; len] else {
@@ -119,9 +120,9 @@ pub fn copy_out_of<B: Buf>(buf: &mut B, alloc: Global, len: usize) -> Result<Byt
 /// Puts `bytes` into the first place of `dst`, if neither is empty, and returns how many places it
 /// filled: a body for `chunks_into` of a buffer with one slice.
 pub fn slice_into<'s>(bytes: &'s [u8], dst: &mut [&'s [u8]]) -> usize
-    ensures fills { FillsTable result dst.old dst.new bytes.now }
+    ensures fills { FillsSlices result dst.old dst.new bytes.now }
     ensures one { result ≤ 1 }
-    ensures all { 0 < length dst.old → joined (take result dst.new) ≡ bytes.now }
+    ensures all { 0 < length dst.old → joined_slices (take result dst.new) ≡ bytes.now }
 {
     if bytes.is_empty() || dst.is_empty() {
         return 0;

@@ -5,10 +5,10 @@ mod fill;
 mod packed;
 mod pieces;
 mod place;
+mod skip;
 mod slice;
 mod sum;
 mod tally;
-mod walk;
 
 pub use buf::{Chunks, SegmentedBuf};
 pub use packed::PackedBuf;

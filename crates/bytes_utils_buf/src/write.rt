@@ -1,7 +1,7 @@
 //! Many buffers written in few calls.
 ghost use Rattle.std.specs.Prelude.{◌≡◌, ◌+◌, ◌^◌, ◌<◌, ◌≤◌, [], ◌++◌, length, take, drop, IsTrue, OnOk, OnErr};
 ghost use Rattle.std.specs.Io.KnownBytes.{Appends};
-ghost use Rattle.bytes_utils_buf.specs.Slices.{joined};
+ghost use Rattle.bytes_utils_buf.specs.Slices.{joined_slices};
 ghost use Rattle.bytes_utils_buf.specs.Write.{WritesCounted, WritesFront};
 
 use crate::parts::BufParts;
@@ -47,7 +47,7 @@ fn write_bytes<W: Write>(writer: &mut W, bytes: &[u8], written: &mut usize) -> i
 }
 
 /// Whether a slice is small, and has at most `room` bytes.
-fn is_gathered(slice: &[u8], room: usize) -> bool
+fn is_gathered_to_write(slice: &[u8], room: usize) -> bool
     ensures { IsTrue result → length slice.now ≤ room }
 {
     slice.len() < LARGE_LEN && slice.len() <= room
@@ -55,14 +55,14 @@ fn is_gathered(slice: &[u8], room: usize) -> bool
 
 /// Copies the first small slices into the block, as many as fit whole. Returns how many slices they
 /// are, and how many bytes they have.
-fn gather(slices: &[&[u8]], block: &mut [u8]) -> (usize, usize)
+fn gather_to_write(slices: &[&[u8]], block: &mut [u8]) -> (usize, usize)
     ensures slices { result.0 ≤ length slices.now }
     ensures room { result.1 ≤ length block.old }
-    ensures bytes { take result.1 block.new ≡ joined (take result.0 slices.now) }
+    ensures bytes { take result.1 block.new ≡ joined_slices (take result.0 slices.now) }
 {
     let mut gathered = 0;
     let mut filled = 0;
-    while gathered < slices.len() && is_gathered(slices[gathered], block.len() - filled) {
+    while gathered < slices.len() && is_gathered_to_write(slices[gathered], block.len() - filled) {
         let slice = slices[gathered];
         block[filled..filled + slice.len()].copy_from_slice(slice);
         filled += slice.len();
@@ -73,13 +73,13 @@ fn gather(slices: &[&[u8]], block: &mut [u8]) -> (usize, usize)
 
 /// Returns how many slices to write next, and their bytes: small slices, copied into the block, or
 /// one large slice as it is.
-fn front_of<'b, 's: 'b>(slices: &[&'s [u8]], block: &'b mut [u8]) -> (usize, &'b [u8])
+fn front_to_write<'b, 's: 'b>(slices: &[&'s [u8]], block: &'b mut [u8]) -> (usize, &'b [u8])
     requires { 0 < length slices.now }
     ensures some { 0 < result.0 }
     ensures slices { result.0 ≤ length slices.now }
-    ensures bytes { result.1.now ≡ joined (take result.0 slices.now) }
+    ensures bytes { result.1.now ≡ joined_slices (take result.0 slices.now) }
 {
-    let (gathered, filled) = gather(slices, block);
+    let (gathered, filled) = gather_to_write(slices, block);
     if gathered == 0 {
         return (1, slices[0]);
     }
@@ -94,17 +94,17 @@ fn write_slices<W: Write, const BLOCK: usize>(
     slices: &[&[u8]],
     written: &mut usize,
 ) -> io::Result<()>
-    requires fits { written.old + length (joined slices.now) ≤ usize.MAX }
+    requires fits { written.old + length (joined_slices slices.now) ≤ usize.MAX }
     requires block { BLOCK < 2 ^ 63 }
     ensures front { WritesCounted (W.contents writer.old) (W.contents writer.new)
-        written.old written.new (joined slices.now) }
-    ensures ok { OnOk result (written.new ≡ written.old + length (joined slices.now)) }
-    ensures err { OnErr result (written.new < written.old + length (joined slices.now)) }
+        written.old written.new (joined_slices slices.now) }
+    ensures ok { OnOk result (written.new ≡ written.old + length (joined_slices slices.now)) }
+    ensures err { OnErr result (written.new < written.old + length (joined_slices slices.now)) }
 {
     let mut block = [0; BLOCK];
     let mut place = 0;
     while place < slices.len() {
-        let (count, bytes) = front_of(&slices[place..], &mut block);
+        let (count, bytes) = front_to_write(&slices[place..], &mut block);
         write_bytes(writer, bytes, written)?;
         place += count;
     }
@@ -112,7 +112,7 @@ fn write_slices<W: Write, const BLOCK: usize>(
 }
 
 /// Whether the slices have at most `room` bytes together.
-fn fit_in(slices: &[&[u8]], room: usize) -> bool {
+fn fit_write_block(slices: &[&[u8]], room: usize) -> bool {
     let mut room = room;
     for slice in slices {
         if room < slice.len() {
@@ -125,19 +125,19 @@ fn fit_in(slices: &[&[u8]], room: usize) -> bool {
 
 /// As `write_slices`, with a block that is large only for many bytes. One slice needs none.
 fn write_by_block<W: Write>(writer: &mut W, slices: &[&[u8]], written: &mut usize) -> io::Result<()>
-    requires { written.old + length (joined slices.now) ≤ usize.MAX }
+    requires { written.old + length (joined_slices slices.now) ≤ usize.MAX }
     ensures front { WritesCounted (W.contents writer.old) (W.contents writer.new)
-        written.old written.new (joined slices.now) }
-    ensures ok { OnOk result (written.new ≡ written.old + length (joined slices.now)) }
-    ensures err { OnErr result (written.new < written.old + length (joined slices.now)) }
+        written.old written.new (joined_slices slices.now) }
+    ensures ok { OnOk result (written.new ≡ written.old + length (joined_slices slices.now)) }
+    ensures err { OnErr result (written.new < written.old + length (joined_slices slices.now)) }
 {
     if slices.len() == 1 {
         return write_bytes(writer, slices[0], written);
     }
-    if fit_in(slices, SMALL_BLOCK_LEN) {
+    if fit_write_block(slices, SMALL_BLOCK_LEN) {
         return write_slices::<W, SMALL_BLOCK_LEN>(writer, slices, written);
     }
-    if fit_in(slices, 2 * BLOCK_LEN) {
+    if fit_write_block(slices, 2 * BLOCK_LEN) {
         return write_slices::<W, BLOCK_LEN>(writer, slices, written);
     }
     write_slices::<W, LARGE_BLOCK_LEN>(writer, slices, written)
@@ -149,9 +149,9 @@ fn write_first<W: Write, B: BufParts>(
     buf: &B,
     slices: &[&[u8]],
 ) -> (usize, io::Result<()>)
-    requires front { joined slices.now ++ drop (length (joined slices.now)) (B.unread buf.now)
+    requires front { joined_slices slices.now ++ drop (length (joined_slices slices.now)) (B.unread buf.now)
         ≡ B.unread buf.now }
-    requires some { 0 < length (B.unread buf.now) → 0 < length (joined slices.now) }
+    requires some { 0 < length (B.unread buf.now) → 0 < length (joined_slices slices.now) }
     ensures bound { result.0 ≤ length (B.unread buf.now) }
     ensures bytes { Appends (W.contents writer.old) (W.contents writer.new)
         (take result.0 (B.unread buf.now)) }
@@ -167,7 +167,7 @@ fn write_first<W: Write, B: BufParts>(
 
 /// As `write_front`, with the longer table, which only this call has on its stack.
 #[inline(never)]
-#[tactic(auto, using(crate::proofs::WriteLemmas::FillsTable_some))]
+#[tactic(auto, using(crate::proofs::WriteLemmas::FillsSlices_some))]
 fn write_many<W: Write, B: BufParts>(writer: &mut W, buf: &B) -> (usize, io::Result<()>)
     ensures bound { result.0 ≤ length (B.unread buf.now) }
     ensures bytes { Appends (W.contents writer.old) (W.contents writer.new)
@@ -181,7 +181,7 @@ fn write_many<W: Write, B: BufParts>(writer: &mut W, buf: &B) -> (usize, io::Res
 }
 
 /// Writes the first slices of a buffer. Returns how many bytes were written, and any error.
-#[tactic(auto, using(crate::proofs::WriteLemmas::FillsTable_some))]
+#[tactic(auto, using(crate::proofs::WriteLemmas::FillsSlices_some))]
 fn write_front<W: Write, B: BufParts>(writer: &mut W, buf: &B) -> (usize, io::Result<()>)
     ensures bound { result.0 ≤ length (B.unread buf.now) }
     ensures bytes { Appends (W.contents writer.old) (W.contents writer.new)

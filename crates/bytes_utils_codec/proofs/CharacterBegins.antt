@@ -9,7 +9,7 @@ use Rattle.std.specs.Option.{IsSome}
 use Rattle.std.specs.Str.Lossy.{utf8_valid_len, utf8_error_len}
 use lib.Dec.{ltb}
 use lib.Utf8.{scalar, scalars, scalar_cases}
-use Rattle.bytes_utils_codec.specs.StreamTexts.{IsFaulty}
+use Rattle.bytes_utils_codec.specs.TextReading.{IsFaultyText}
 use Rattle.bytes_utils_codec.proofs.CharacterEnds.{nothing}
 use Rattle.bytes_utils_codec.proofs.ValidLen.{no_front}
 
@@ -117,7 +117,7 @@ no_fault (b ∷ t) (c ∷ cs) following none all e =
     (cases_lt (length bs) k)
 
 -- bytes that begin with a fault are none of a text
-pub faulty : (bs : List ℕ) → utf8_valid_len bs ≡ 0 → IsSome (utf8_error_len (take 4 bs)) → IsFaulty bs
+pub faulty : (bs : List ℕ) → utf8_valid_len bs ≡ 0 → IsSome (utf8_error_len (take 4 bs)) → IsFaultyText bs
 faulty bs none fault following u =
     let open_end : Open (take 4 bs) = no_fault bs u.0 following none u.1.0 u.1.1 in
     true≢false (sym (subst IsSome open_end fault))

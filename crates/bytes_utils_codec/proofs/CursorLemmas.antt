@@ -12,13 +12,13 @@ use Rattle.memchr.specs.Find.{FindsNeedle}
 use Rattle.memchr.proofs.lemmas.MatchLemmas.{OccursAt-part, OccursAt-from_part}
 use Rattle.bytes_utils.specs.Occurrence.{Occurs, OccursAt, OccursFirstAt}
 use Rattle.bytes_utils_codec.specs.Frames.{TakesFrame, HasFrame, HasFrameWithin}
-use Rattle.bytes_utils_codec.specs.Cursor.{Reading, unread, passed_on, Wanted, Tag, First, Until, UpTo, Line, Reads, AreRead, TakesFirst, TakesUpTo, IsBegun, IsFirstWithin, NeverEndsWithin, SameReadLaw, StaysReadLaw, StaysWrongLaw, OneReplyLaw}
+use Rattle.bytes_utils_codec.specs.Cursor.{CursorReading, unread, passed_on, CursorWanted, Tag, First, Until, UpTo, Line, Reads, AreRead, CursorTakesFirst, CursorTakesUpTo, IsBegunAtCursor, CursorFindsWithin, NoFrameWithin, SameCursorLaw, CursorStaysLaw, CursorStaysWrongLaw, OneCursorReplyLaw}
 use Rattle.bytes_utils.proofs.Boundaries.{OccursAt-fits}
 use Rattle.bytes_utils_codec.proofs.FindLemmas.{has_read}
 use Rattle.bytes_utils_codec.proofs.FramesLemmas.{HasFrame-taken, HasFrameWithin-taken, TakesFrame-more, TakesFrame-same, first_more}
 use Rattle.bytes_utils.proofs.Joins.{append_same}
 use Rattle.bytes_utils.proofs.OccurrenceLemmas.{OccursAt-front, cut_whole, first_places_same}
-use Rattle.bytes_utils_codec.proofs.StreamLinesLemmas.{TakesLine-more, same_lines_law}
+use Rattle.bytes_utils_codec.proofs.StreamLinesLemmas.{TakesStreamLine-more, same_lines_law}
 
 -- ---- a search from a place on
 
@@ -65,8 +65,8 @@ module _ (p old : List ℕ) where
 
   module _ (most : ℕ) (some : 0 < length p) (none : (n : ℕ) → OccursAt p old n → most < n) where
     -- all places within the limit have come, and the needle begins at none of them
-    pub NeverEndsWithin-none : most + length p ≤ length old → NeverEndsWithin most p old
-    NeverEndsWithin-none all more front rest takes = ⊎_elim
+    pub NoFrameWithin-none : most + length p ≤ length old → NoFrameWithin most p old
+    NoFrameWithin-none all more front rest takes = ⊎_elim
         (λ above. above)
         (λ within. none (length front) (OccursAt-front p old more (length front) takes.first.here (omega (arith, within, all))))
         (cases_lt most (length front))
@@ -92,10 +92,10 @@ module _ (p all : List ℕ) (at n : ℕ) where
 
 -- the first place of the needle, within the limit
 module _ (p old : List ℕ) (most place : ℕ) where
-  pub IsFirstWithin-kept : (r : Option ℕ) → OccursFirstAt p old place → r ≡ then_some (leb place most) place → IsFirstWithin most p old r
-  IsFirstWithin-kept r first is = ⊎_elim
-      (λ past. subst (IsFirstWithin most p old) (sym (is ∙ ap (λ b. then_some b place) (lt-leb place most past))) (λ n there. omega (arith, past, first.none_before n there)))
-      (λ within. subst (IsFirstWithin most p old) (sym (is ∙ ap (λ b. then_some b place) (le-leb place most within))) (first, within))
+  pub CursorFindsWithin-kept : (r : Option ℕ) → OccursFirstAt p old place → r ≡ then_some (leb place most) place → CursorFindsWithin most p old r
+  CursorFindsWithin-kept r first is = ⊎_elim
+      (λ past. subst (CursorFindsWithin most p old) (sym (is ∙ ap (λ b. then_some b place) (lt-leb place most past))) (λ n there. omega (arith, past, first.none_before n there)))
+      (λ within. subst (CursorFindsWithin most p old) (sym (is ∙ ap (λ b. then_some b place) (le-leb place most within))) (first, within))
       (cases_lt most place)
 
 -- the bytes of a segment from a place on are the next ones
@@ -125,7 +125,7 @@ module _ (wanted bytes : List ℕ) (n : ℕ) where
   compared : n ≤ length wanted → take (length (take n wanted)) bytes ≡ take n wanted → take n bytes ≡ take n wanted
   compared few held = ap (λ k. take k bytes) (sym (length-take-le n wanted few)) ∙ held
 
-  pub begun : n ≡ length bytes → n < length wanted → take (length (take n wanted)) bytes ≡ take n wanted → IsBegun wanted bytes
+  pub begun : n ≡ length bytes → n < length wanted → take (length (take n wanted)) bytes ≡ take n wanted → IsBegunAtCursor wanted bytes
   begun size less held =
       let same = compared (omega (arith, less)) held in (
         drop n wanted,
@@ -135,15 +135,15 @@ module _ (wanted bytes : List ℕ) (n : ℕ) where
 
 -- ---- bytes that are passed
 
-module _ (r : Reading) (n : ℕ) where
+module _ (r : CursorReading) (n : ℕ) where
   around : unread r ≡ take n (unread r) ++ unread (passed_on n r)
   around = sym (take-append-drop n (unread r)) ∙ ap (λ l. take n (unread r) ++ l) (drop-drop n r.at r.all)
 
-  pub TakesFirst-passed : n ≤ length (unread r) → TakesFirst n (unread r) (take n (unread r)) (unread (passed_on n r))
-  TakesFirst-passed some = record { bytes = around; size = length-take-le n (unread r) some }
+  pub CursorTakesFirst-passed : n ≤ length (unread r) → CursorTakesFirst n (unread r) (take n (unread r)) (unread (passed_on n r))
+  CursorTakesFirst-passed some = record { bytes = around; size = length-take-le n (unread r) some }
 
-  pub TakesUpTo-passed : (p : List ℕ) → n ≤ length (unread r) → OccursFirstAt p (unread r) n → TakesUpTo p (unread r) (take n (unread r)) (unread (passed_on n r))
-  TakesUpTo-passed p some first = record { bytes = around; first = subst (OccursFirstAt p (unread r)) (sym (length-take-le n (unread r) some)) first }
+  pub CursorTakesUpTo-passed : (p : List ℕ) → n ≤ length (unread r) → OccursFirstAt p (unread r) n → CursorTakesUpTo p (unread r) (take n (unread r)) (unread (passed_on n r))
+  CursorTakesUpTo-passed p some first = record { bytes = around; first = subst (OccursFirstAt p (unread r)) (sym (length-take-le n (unread r) some)) first }
 
   pub TakesFrame-passed : (p : List ℕ) → n ≤ length (unread r) → OccursFirstAt p (unread r) n
       → TakesFrame p (unread r) (take n (unread r)) (unread (passed_on (length p) (passed_on n r)))
@@ -163,14 +163,14 @@ module _ (r : Reading) (n : ℕ) where
 
 -- ---- the laws
 
-TakesFirst-same : (len : ℕ) (old f g x y : List ℕ) → TakesFirst len old f x → TakesFirst len old g y → (f ≡ g) × (x ≡ y)
-TakesFirst-same len old f g x y s t =
+CursorTakesFirst-same : (len : ℕ) (old f g x y : List ℕ) → CursorTakesFirst len old f x → CursorTakesFirst len old g y → (f ≡ g) × (x ≡ y)
+CursorTakesFirst-same len old f g x y s t =
     let same = append_same f g x y (s.size ∙ sym t.size) (sym s.bytes ∙ t.bytes) in
     same
 
-Reads-same : (wanted : Wanted) (old a b x y : List ℕ) → Reads wanted old a x → Reads wanted old b y → (a ≡ b) × (x ≡ y)
+Reads-same : (wanted : CursorWanted) (old a b x y : List ℕ) → Reads wanted old a x → Reads wanted old b y → (a ≡ b) × (x ≡ y)
 Reads-same (Tag bytes) old a b x y s t = (s.0 ∙ sym t.0, append_cancel_left bytes x y (sym s.1 ∙ t.1))
-Reads-same (First len) old a b x y s t = TakesFirst-same len old a b x y s t
+Reads-same (First len) old a b x y s t = CursorTakesFirst-same len old a b x y s t
 Reads-same (Until needle) old a b x y s t = TakesFrame-same needle old a b x y s t
 Reads-same (UpTo needle) old a b x y s t = append_same a b x y (first_places_same needle old (length a) (length b) s.first t.first) (sym s.bytes ∙ t.bytes)
 Reads-same Line old a b x y s t =
@@ -181,7 +181,7 @@ Reads-same Line old a b x y s t =
     first_item [] = []
     first_item (item ∷ items) = item
 
-Reads-more : (wanted : Wanted) (old item rest more : List ℕ) → Reads wanted old item rest → Reads wanted (old ++ more) item (rest ++ more)
+Reads-more : (wanted : CursorWanted) (old item rest more : List ℕ) → Reads wanted old item rest → Reads wanted (old ++ more) item (rest ++ more)
 Reads-more (Tag bytes) old item rest more s = (s.0, ap (λ l. l ++ more) s.1 ∙ append_assoc bytes rest more)
 Reads-more (First len) old item rest more s = record { bytes = ap (λ l. l ++ more) s.bytes ∙ append_assoc item rest more; size = s.size }
 Reads-more (Until needle) old item rest more s = TakesFrame-more needle old item rest more s
@@ -189,9 +189,9 @@ Reads-more (UpTo needle) old item rest more s = record {
   bytes = ap (λ l. l ++ more) s.bytes ∙ append_assoc item rest more;
   first = first_more needle old more (length item) s.first;
 }
-Reads-more Line old item rest more s = TakesLine-more old item rest more s
+Reads-more Line old item rest more s = TakesStreamLine-more old item rest more s
 
-pub same_read_law : SameReadLaw
+pub same_read_law : SameCursorLaw
 same_read_law [] bytes [] [] x y a b = (refl, sym a ∙ b)
 same_read_law [] bytes (f ∷ xs) ys x y a b = absurd a
 same_read_law [] bytes [] (g ∷ ys) x y a b = absurd b
@@ -202,17 +202,17 @@ same_read_law (w ∷ ws) bytes (f ∷ xs) (g ∷ ys) x y a b =
     let later = same_read_law ws b.0 xs ys x y (subst (λ l. AreRead ws l xs x) same.1 a.2) b.2 in
     ((λ i. same.0 i ∷ later.0 i), later.1)
 
-pub stays_read_law : StaysReadLaw
+pub stays_read_law : CursorStaysLaw
 stays_read_law [] bytes [] rest more are = ap (λ l. l ++ more) are
 stays_read_law [] bytes (item ∷ items) rest more are = absurd are
 stays_read_law (w ∷ ws) bytes [] rest more are = absurd are
 stays_read_law (w ∷ ws) bytes (item ∷ items) rest more are =
     (are.0 ++ more, Reads-more w bytes item are.0 more are.1, stays_read_law ws are.0 items rest more are.2)
 
-pub stays_wrong_law : StaysWrongLaw
+pub stays_wrong_law : CursorStaysWrongLaw
 stays_wrong_law wanted bytes more never further rest same = never (more ++ further) rest (sym (append_assoc bytes more further) ∙ same)
 
-pub one_reply_law : OneReplyLaw
+pub one_reply_law : OneCursorReplyLaw
 one_reply_law wanted bytes never = (
   λ begun. never begun.0 [] (sym begun.1 ∙ sym (append-nil wanted)),
   λ item rest reads. never [] rest (append-nil bytes ∙ reads.1),

@@ -3,9 +3,9 @@ use Rattle.std.proofs.Common.{◌≡◌, ◌↔◌, ℕ, List, [], ◌∷◌, �
 use Rattle.std.proofs.lemmas.Grind.{flat_map-append}
 use Rattle.std.specs.Prelude.{⊤}
 use Rattle.std.specs.List.{flat_map}
-use Rattle.bytes_utils_codec.specs.StreamRuns.{AreFirst}
-use Rattle.bytes_utils_codec.specs.Decoding.{Decoding, Next, Item, Last, Gives, fed, HasSameNext, LacksItem, KeepsNext, Decodes, IsStable, IsSingle, AreItems, item_of, DecoderRunLaw, DecoderAllLaw, DecoderWholeLaw}
-use Rattle.bytes_utils_codec.proofs.StreamRunsLemmas.{run_keeps, AreFirst-next, AreFirst-more, all_first_law}
+use Rattle.bytes_utils_codec.specs.StreamRuns.{AreFirstOfRun}
+use Rattle.bytes_utils_codec.specs.Decoding.{Decoding, Next, Item, Last, Gives, fed, HasSameNext, LacksItem, KeepsNext, Decodes, IsStable, IsSingle, AreItems, decoded_item, DecoderRunLaw, DecoderAllLaw, DecoderWholeLaw}
+use Rattle.bytes_utils_codec.proofs.StreamRunsLemmas.{run_keeps, AreFirstOfRun-next, AreFirstOfRun-more, all_first_law}
 
 -- ---- what comes next
 
@@ -54,16 +54,16 @@ module _ {D A : Type 0} (gives : Gives D A) (s : Decoding D) where
       → AreItems gives (fed s (bytes ++ piece)) items (fed t piece)
   items_fed stable bytes items t piece a = record {
     rest = fed a.rest piece;
-    are = subst (λ l. AreFirst (λ old item new. gives old (Item item) new) l items (fed a.rest piece)) (fed-joined s bytes piece)
-        (AreFirst-more fed (λ old item new. gives old (Item item) new) stable (fed s bytes) items a.rest piece a.are);
+    are = subst (λ l. AreFirstOfRun (λ old item new. gives old (Item item) new) l items (fed a.rest piece)) (fed-joined s bytes piece)
+        (AreFirstOfRun-more fed (λ old item new. gives old (Item item) new) stable (fed s bytes) items a.rest piece a.are);
     same = SameNext-fed gives a.rest t piece a.same;
   }
 
   items_next : {E : Type 0} (waits : Decoding D → Type 0) (fails : Decoding D → E → Type 0) (keeps : Decoding D → Decoding D → Type 0) → KeepsNext gives keeps → (items : List A) (t : Decoding D) (result : Result (Option A) E) (next : Decoding D)
-      → AreItems gives s items t → Decodes gives waits fails keeps t result next → AreItems gives s (items ++ item_of result) next
+      → AreItems gives s items t → Decodes gives waits fails keeps t result next → AreItems gives s (items ++ decoded_item result) next
   items_next waits fails keeps same_after items t (Ok (Some item)) next a step = record {
     rest = next;
-    are = AreFirst-next (λ old item new. gives old (Item item) new) s items a.rest item next a.are ((SameNext-now gives a.rest t a.same (Item item) next).1 step);
+    are = AreFirstOfRun-next (λ old item new. gives old (Item item) new) s items a.rest item next a.are ((SameNext-now gives a.rest t a.same (Item item) next).1 step);
     same = SameNext-refl gives next;
   }
   items_next waits fails keeps same_after items t result next a step =
@@ -71,10 +71,10 @@ module _ {D A : Type 0} (gives : Gives D A) (s : Decoding D) where
 
 module _ {D A : Type 0} (gives : Gives D A) where
   pub decoder_run : {E : Type 0} (waits : Decoding D → Type 0) (fails : Decoding D → E → Type 0) (keeps : Decoding D → Decoding D → Type 0) → IsStable gives → KeepsNext gives keeps → DecoderRunLaw E gives waits fails keeps
-  decoder_run waits fails keeps stable same_after s events end run = run_keeps fed (Decodes gives waits fails keeps) (λ bytes results t. AreItems gives (fed s bytes) (flat_map item_of results) t)
-      (λ bytes results t piece a. items_fed gives s stable bytes (flat_map item_of results) t piece a)
-      (λ bytes results t result next a step. rw (flat_map-append item_of results (result ∷ []), append-nil (item_of result))
-      (items_next gives (fed s bytes) waits fails keeps same_after (flat_map item_of results) t result next a step))
+  decoder_run waits fails keeps stable same_after s events end run = run_keeps fed (Decodes gives waits fails keeps) (λ bytes results t. AreItems gives (fed s bytes) (flat_map decoded_item results) t)
+      (λ bytes results t piece a. items_fed gives s stable bytes (flat_map decoded_item results) t piece a)
+      (λ bytes results t result next a step. rw (flat_map-append decoded_item results (result ∷ []), append-nil (decoded_item result))
+      (items_next gives (fed s bytes) waits fails keeps same_after (flat_map decoded_item results) t result next a step))
       [] [] s events end (record { rest = s; are = fed-none s; same = SameNext-refl gives s }) run
 
   module _ (single : IsSingle gives) where

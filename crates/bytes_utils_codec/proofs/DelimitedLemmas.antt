@@ -8,11 +8,11 @@ use Rattle.memchr.proofs.lemmas.MatchLemmas.{OccursAt-split}
 use Rattle.bytes_utils_buf.specs.declared.refused.Reason.{Reason}
 use Rattle.bytes_utils.specs.Occurrence.{Occurs, OccursAt}
 use Rattle.bytes_utils.proofs.Boundaries.{HasNeedleAt-from_occurs, OccursAt-fits}
-use Rattle.bytes_utils_codec.specs.StreamRuns.{Pushed, Taken, AreFirst, IsRunOver}
+use Rattle.bytes_utils_codec.specs.StreamRuns.{Pushed, Taken, AreFirstOfRun, IsRunOver}
 use Rattle.bytes_utils_codec.specs.Frames.{AreFrames, TakesFrame}
 use Rattle.bytes_utils_codec.specs.Search.{NoneBegins}
 use Rattle.bytes_utils_codec.specs.Decoding.{AreItems, Decoding, Item, Last, fed, starting}
-use Rattle.bytes_utils_codec.specs.Delimited.{Delimiting, GivesFrame, delimiting, ready, TakesFrameFrom, LacksSeparator, PassesSkipped, Passes, AwaitsSeparator, IsOverLimit, skipping_from, DropsSkipped, AwaitsFrame, gives_delimited, keeps_delimited, within, begun, AreReports, left_of, DelimitedFramesLaw, DelimitedWholeLaw, DelimitedEvent, IsDelimitedCall, DelimitedHeldLaw}
+use Rattle.bytes_utils_codec.specs.Delimited.{Delimiting, GivesFrame, delimiting, ready, TakesFrameFrom, LacksSeparator, PassesSkipped, Passes, AwaitsSeparator, IsOverLimit, skipping_from, DropsSkipped, AwaitsFrame, gives_delimited, keeps_delimited, delimited_within, delimited_begun, AreDelimitedReports, delimited_left, DelimitedFramesLaw, DelimitedWholeLaw, DelimitedEvent, IsDelimitedCall, DelimitedHeldLaw}
 use Rattle.bytes_utils_codec.specs.DelimitedLaws.{occurs_in_front, occurs_after, IsOverLimit-more, Passes-same, SkipsOn-passes}
 use Rattle.bytes_utils_codec.specs.declared.decode.too_long.FrameTooLong.{FrameTooLong}
 use Rattle.bytes_utils_codec.proofs.DecodingLemmas.{SameNext-now}
@@ -108,19 +108,19 @@ Gives old item new = gives_delimited old (Item item) new
 
 -- these items are reported of the bytes, and then this state comes
 abbrev Reaches : List ℕ → ℕ → ℕ → List ℕ → List (Result (List ℕ) FrameTooLong) → Decoding Delimiting → Type 0
-Reaches p limit threshold bytes items end = (reports : AreReports p limit bytes items) × (end ≡ front p limit threshold reports.over reports.rest)
+Reaches p limit threshold bytes items end = (reports : AreDelimitedReports p limit bytes items) × (end ≡ front p limit threshold reports.over reports.rest)
 
 -- this is reported of the bytes, and what is left then has no separator, and is not over the limit
 pub record Ends (p : List ℕ) (limit : ℕ) (bytes : List ℕ) (items : List (Result (List ℕ) FrameTooLong)) (after : Decoding Delimiting) : Type 0 where
-  pub reports : AreReports p limit bytes items
+  pub reports : AreDelimitedReports p limit bytes items
   pub lacks : ¬ Occurs p reports.rest
-  pub left : after.held ≡ left_of reports.over reports.rest
+  pub left : after.held ≡ delimited_left reports.over reports.rest
   pub few : length after.held ≤ limit + (length p - 1)
 
-within-short : (limit : ℕ) (frame : List ℕ) → length frame ≤ limit → within limit frame ≡ Ok frame
+within-short : (limit : ℕ) (frame : List ℕ) → length frame ≤ limit → delimited_within limit frame ≡ Ok frame
 within-short limit frame le = cond-true _ _ _ (le-leb (length frame) limit le)
 
-within-long : (limit : ℕ) (frame : List ℕ) → limit < length frame → within limit frame ≡ Err (record {})
+within-long : (limit : ℕ) (frame : List ℕ) → limit < length frame → delimited_within limit frame ≡ Err (record {})
 within-long limit frame lt = cond-false _ _ _ (lt-leb (length frame) limit lt)
 
 module _ (p : List ℕ) where
@@ -146,7 +146,7 @@ module _ (p : List ℕ) (limit threshold : ℕ) where
 
   -- one more frame, before the others
   reaches_next : (bytes frame rest : List ℕ) (item : Result (List ℕ) FrameTooLong) (items : List (Result (List ℕ) FrameTooLong)) (end : Decoding Delimiting)
-      → TakesFrame p bytes frame rest → item ≡ within limit frame → Reaches p limit threshold rest items end → Reaches p limit threshold bytes (item ∷ items) end
+      → TakesFrame p bytes frame rest → item ≡ delimited_within limit frame → Reaches p limit threshold rest items end → Reaches p limit threshold bytes (item ∷ items) end
   reaches_next bytes frame rest item items end takes is (reports, there) = (
     record {
       frames = frame ∷ reports.frames;
@@ -163,7 +163,7 @@ module _ (p : List ℕ) (limit threshold : ℕ) where
   record IsPast (bytes : List ℕ) (mid : Decoding Delimiting) : Type 0 where
     gone : List ℕ
     takes : TakesFrame p bytes gone mid.held
-    said : Err (record {}) ≡ within limit gone
+    said : Err (record {}) ≡ delimited_within limit gone
     is : mid ≡ front p limit threshold false mid.held
 
   passes_long : (bytes : List ℕ) (mid : Decoding Delimiting) → NoneBegins p bytes (suc limit)
@@ -177,22 +177,22 @@ module _ (p : List ℕ) (limit threshold : ℕ) where
 
   -- the items of a state are reported, after that of the frame that is skipped
   abbrev Reaching : List (Result (List ℕ) FrameTooLong) → Decoding Delimiting → Type 0
-  Reaching items end = (b : Bool) (bytes : List ℕ) → OnTrue b (NoneBegins p bytes (suc limit)) → AreFirst Gives (front p limit threshold b bytes) items end
-      → Reaches p limit threshold bytes (begun b ++ items) end
+  Reaching items end = (b : Bool) (bytes : List ℕ) → OnTrue b (NoneBegins p bytes (suc limit)) → AreFirstOfRun Gives (front p limit threshold b bytes) items end
+      → Reaches p limit threshold bytes (delimited_begun b ++ items) end
 
   reaches_front : (bytes : List ℕ) (item : Result (List ℕ) FrameTooLong)
       (items : List (Result (List ℕ) FrameTooLong)) (next end : Decoding Delimiting)
-      → GivesFrame (front p limit threshold false bytes) (Item item) next → AreFirst Gives next items end
+      → GivesFrame (front p limit threshold false bytes) (Item item) next → AreFirstOfRun Gives next items end
       → Reaching items end → Reaches p limit threshold bytes (item ∷ items) end
   reaches_front bytes (Ok frame) items next end (takes, fits, begins) later reaching =
       reaches_next bytes frame next.held (Ok frame) items end (takes_first p bytes frame next.held takes) (sym (within-short limit frame fits))
-      (reaching false next.held tt (subst (λ s. AreFirst Gives s items end) begins later))
+      (reaching false next.held tt (subst (λ s. AreFirstOfRun Gives s items end) begins later))
   reaches_front bytes (Err e) items next end (over, is) later reaching =
-      reaching true bytes (none_begins bytes over) (subst (λ s. AreFirst Gives s items end) is later)
+      reaching true bytes (none_begins bytes over) (subst (λ s. AreFirstOfRun Gives s items end) is later)
 
   reaches : (items : List (Result (List ℕ) FrameTooLong)) (end : Decoding Delimiting) → Reaching items end
   reaches [] end b bytes none are =
-      (record { frames = []; rest = bytes; over = b; are = refl; reported = append-nil (begun b); long = none }, sym are)
+      (record { frames = []; rest = bytes; over = b; are = refl; reported = append-nil (delimited_begun b); long = none }, sym are)
   reaches (item ∷ items) end b bytes none (next, inl g, later) = absurd cc
   reaches (item ∷ items) end false bytes none (next, inr (mid, is, g), later) =
       reaches_front bytes item items next end (subst (λ s. GivesFrame s (Item item) next) is g) later (reaches items end)
@@ -203,10 +203,10 @@ module _ (p : List ℕ) (limit threshold : ℕ) where
 
   -- what comes at the end of the stream
   ends_front : (bytes : List ℕ) (items : List (Result (List ℕ) FrameTooLong)) (frames : List (List ℕ)) (rest : List ℕ) (after : Decoding Delimiting)
-      → AreFrames p bytes frames rest → items ≡ map (within limit) frames → GivesFrame (front p limit threshold false rest) (Last None) after
+      → AreFrames p bytes frames rest → items ≡ map (delimited_within limit) frames → GivesFrame (front p limit threshold false rest) (Last None) after
       → Ends p limit bytes items after
   ends_front bytes items frames rest after are reported (awaits, left) =
-      let all = reported ∙ sym (append-nil (map (within limit) frames)) in
+      let all = reported ∙ sym (append-nil (map (delimited_within limit) frames)) in
       let held : after.held ≡ rest = ap (λ (s : Decoding Delimiting). s.held) left in
       record {
         reports = record { frames = frames; rest = rest; over = false; are = are; reported = all; long = tt };
@@ -216,11 +216,11 @@ module _ (p : List ℕ) (limit threshold : ℕ) where
       }
 
   ends : (bytes : List ℕ) (items : List (Result (List ℕ) FrameTooLong)) (after : Decoding Delimiting)
-      (reports : AreReports p limit bytes items) (over : Bool)
+      (reports : AreDelimitedReports p limit bytes items) (over : Bool)
       → reports.over ≡ over → gives_delimited (front p limit threshold over reports.rest) (Last None) after → Ends p limit bytes items after
   ends bytes items after reports false is (inl g) = absurd (false≢true g.0.0)
   ends bytes items after reports false is (inr (mid, here, g)) =
-      let none = reports.reported ∙ ap (λ b. map (within limit) reports.frames ++ begun b) is ∙ append-nil (map (within limit) reports.frames) in
+      let none = reports.reported ∙ ap (λ b. map (delimited_within limit) reports.frames ++ delimited_begun b) is ∙ append-nil (map (delimited_within limit) reports.frames) in
       ends_front bytes items reports.frames reports.rest after reports.are none (subst (λ s. GivesFrame s (Last None) after) here g)
   ends bytes items after reports true is (inl (skips, last, there)) =
       let long = subst (λ b. OnTrue b (NoneBegins p reports.rest (suc limit))) is reports.long in
@@ -228,14 +228,14 @@ module _ (p : List ℕ) (limit threshold : ℕ) where
       record {
         reports = reports;
         lacks = λ occurs. skips.1 occurs.0 (begins_past p reports.rest (suc limit) occurs.0 long occurs.1) occurs.1;
-        left = held ∙ ap (λ b. left_of b reports.rest) (sym is);
+        left = held ∙ ap (λ b. delimited_left b reports.rest) (sym is);
         few = omega (arith, ap length held);
       }
   ends bytes items after reports true is (inr (mid, passes, g)) =
       let past = passes_long reports.rest mid (subst (λ b. OnTrue b (NoneBegins p reports.rest (suc limit))) is reports.long) passes in
       let one = reports.reported
-      ∙ ap (λ b. map (within limit) reports.frames ++ begun b) is ∙ ap (λ x. map (within limit) reports.frames ++ x ∷ []) past.said
-      ∙ sym (map-append (within limit) reports.frames (past.gone ∷ [])) in
+      ∙ ap (λ b. map (delimited_within limit) reports.frames ++ delimited_begun b) is ∙ ap (λ x. map (delimited_within limit) reports.frames ++ x ∷ []) past.said
+      ∙ sym (map-append (delimited_within limit) reports.frames (past.gone ∷ [])) in
       ends_front bytes items (reports.frames ++ past.gone ∷ []) mid.held after
       (AreFrames-next p bytes reports.frames reports.rest past.gone mid.held reports.are past.takes) one
       (subst (λ s. GivesFrame s (Last None) after) past.is g)

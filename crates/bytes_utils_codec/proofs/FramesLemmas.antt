@@ -8,7 +8,7 @@ use Rattle.std.specs.Str.{chars}
 use Rattle.memchr.specs.Find.{FindsNeedle}
 use Rattle.memchr.proofs.lemmas.MatchLemmas.{OccursAt-part}
 use Rattle.bytes_utils.specs.Occurrence.{Occurs, OccursAt, OccursFirstAt}
-use Rattle.bytes_utils.specs.Parts.{IsCutAtFirst, AreForwardParts}
+use Rattle.bytes_utils.specs.Parts.{IsPartCutAtFirst, AreForwardParts}
 use Rattle.bytes_utils_codec.specs.Frames.{HasFrame, HasFrameWithin, TakesFrame, AreFrames, framed, FramePartsLaw, PutFramesLaw, SameFramesLaw, AllFramesLaw, TextFramesLaw}
 use Rattle.bytes_utils.proofs.Boundaries.{OccursAt-fits, HasNeedleAt-from_occurs}
 use Rattle.bytes_utils.proofs.OccurrenceLemmas.{OccursFirstAt-append, first_places_same}
@@ -17,8 +17,8 @@ use Rattle.bytes_utils.proofs.Forward.{AreForwardParts-led, AreForwardParts-last
 use Rattle.bytes_utils.proofs.FromEnds.{front-from}
 use Rattle.bytes_utils.proofs.PartLists.{first-from_cut, cut-from_first}
 use Rattle.bytes_utils.proofs.PartCut.{next_boundary, chars_before, chars_after}
-use Rattle.bytes_utils_codec.proofs.StreamRunsLemmas.{AreFirst-more, AreFirst-next, same_first_law, all_first_law}
-use Rattle.bytes_utils.proofs.SearchLemmas.{chars-some, FindsFirst-from_needle}
+use Rattle.bytes_utils_codec.proofs.StreamRunsLemmas.{AreFirstOfRun-more, AreFirstOfRun-next, same_first_law, all_first_law}
+use Rattle.bytes_utils.proofs.SearchLemmas.{chars-some, FindsFirstOccurrence-from_needle}
 
 -- ---- a frame is taken
 
@@ -50,11 +50,11 @@ TakesFrame-more p old frame rest piece takes = record {
 }
 
 pub AreFrames-more : (p bytes : List ℕ) (frames : List (List ℕ)) (rest piece : List ℕ) → AreFrames p bytes frames rest → AreFrames p (bytes ++ piece) frames (rest ++ piece)
-AreFrames-more p bytes frames rest piece are = AreFirst-more (λ l piece. l ++ piece) (TakesFrame p) (TakesFrame-more p) bytes frames rest piece are
+AreFrames-more p bytes frames rest piece are = AreFirstOfRun-more (λ l piece. l ++ piece) (TakesFrame p) (TakesFrame-more p) bytes frames rest piece are
 
 pub AreFrames-next : (p bytes : List ℕ) (frames : List (List ℕ)) (held frame rest : List ℕ) → AreFrames p bytes frames held → TakesFrame p held frame rest
     → AreFrames p bytes (frames ++ frame ∷ []) rest
-AreFrames-next p bytes frames held frame rest are takes = AreFirst-next (TakesFrame p) bytes frames held frame rest are takes
+AreFrames-next p bytes frames held frame rest are takes = AreFirstOfRun-next (TakesFrame p) bytes frames held frame rest are takes
 
 -- ---- the list of parts
 
@@ -84,12 +84,12 @@ TakesFrame-finds p old frame rest some takes =
 text_parts : (p text : List ℕ) (frames : List (List ℕ)) (rest : List ℕ) → 0 < length p → IsUtf8 p → IsUtf8 text → AreFrames p text frames rest → (¬ Occurs p rest)
     → AreForwardParts (chars text) (chars p) None (map chars (frames ++ rest ∷ []))
 text_parts p text [] rest some p_is text_is are lacks =
-    let none = FindsFirst-from_needle text p text_is p_is some None (λ k low high here. lacks (k, subst (λ l. OccursAt p l k) are (OccursAt-part text p k here))) in
+    let none = FindsFirstOccurrence-from_needle text p text_is p_is some None (λ k low high here. lacks (k, subst (λ l. OccursAt p l k) are (OccursAt-part text p k here))) in
     subst (λ l. AreForwardParts (chars text) (chars p) None (chars l ∷ [])) are (AreForwardParts-last (chars p) (chars text) None tt none)
 text_parts p text (frame ∷ frames) rest some p_is text_is are lacks =
     let takes = are.1 in
     let at = length frame in
-    let place = FindsFirst-from_needle text p text_is p_is some (Some at) (TakesFrame-finds p text frame are.0 some takes) in
+    let place = FindsFirstOccurrence-from_needle text p text_is p_is some (Some at) (TakesFrame-finds p text frame are.0 some takes) in
     let here = place.2.here in
     let before : frame ≡ take at text = sym (take_at frame (p ++ are.0) at refl) ∙ ap (take at) (sym takes.bytes) in
     let following : are.0 ≡ drop (at + length p) text =
@@ -126,21 +126,21 @@ all_frames_law p bytes xs ys x y a b none_x none_y = all_first_law (TakesFrame p
 -- ---- frames that are put together
 
 module _ (p : List ℕ) (some : 0 < length p) where
-  each_cut : (frames : List (List ℕ)) (rest : List ℕ) → AreFrames p (framed p frames rest) frames rest → All (IsCutAtFirst p) frames
-  each_cut [] rest are = All-nil (IsCutAtFirst p)
+  each_cut : (frames : List (List ℕ)) (rest : List ℕ) → AreFrames p (framed p frames rest) frames rest → All (IsPartCutAtFirst p) frames
+  each_cut [] rest are = All-nil (IsPartCutAtFirst p)
   each_cut (frame ∷ frames) rest are =
       let whole = framed p frames rest in
       let following : whole ≡ are.0 = append_cancel_left p whole are.0 (append_cancel_left frame (p ++ whole) (p ++ are.0) are.1.bytes) in
-      All-cons (IsCutAtFirst p) frame frames (cut-from_first p frame whole some are.1.first)
+      All-cons (IsPartCutAtFirst p) frame frames (cut-from_first p frame whole some are.1.first)
       (each_cut frames rest (subst (λ l. AreFrames p l frames rest) (sym following) are.2))
 
-  cut_each : (frames : List (List ℕ)) (rest : List ℕ) → All (IsCutAtFirst p) frames → AreFrames p (framed p frames rest) frames rest
+  cut_each : (frames : List (List ℕ)) (rest : List ℕ) → All (IsPartCutAtFirst p) frames → AreFrames p (framed p frames rest) frames rest
   cut_each [] rest cut = refl
   cut_each (frame ∷ frames) rest cut =
       let whole = framed p frames rest in (
         whole,
-        record { bytes = refl; first = first-from_cut p frame whole some (All-head (IsCutAtFirst p) frame frames cut) },
-        cut_each frames rest (All-tail (IsCutAtFirst p) frame frames cut),
+        record { bytes = refl; first = first-from_cut p frame whole some (All-head (IsPartCutAtFirst p) frame frames cut) },
+        cut_each frames rest (All-tail (IsPartCutAtFirst p) frame frames cut),
       )
 
 pub put_frames_law : PutFramesLaw

@@ -5,9 +5,9 @@ pub mod StreamRunsLemmas
 pub mod FramesLemmas
 pub mod DecodingLemmas
 pub mod DelimitedLemmas
-pub mod LineItemsLemmas
+pub mod LineReadingLemmas
 pub mod FindEndLemmas
-pub mod UniversalItemsLemmas
+pub mod UniversalReadingLemmas
 pub mod ReadItemLemmas
 pub mod StreamLinesLemmas
 pub mod CursorLemmas
@@ -18,4 +18,4 @@ pub mod CharacterEnds
 pub mod CharacterCompletes
 pub mod FaultLen
 pub mod LossyFronts
-pub mod StreamTextsLemmas
+pub mod TextReadingLemmas

@@ -7,7 +7,7 @@ use Rattle.std.proofs.lemmas.List.{take-append-le, drop-append-le}
 use Rattle.std.proofs.lemmas.Str.{IsUtf8-append, utf8_lossy-IsUtf8, utf8_lossy_step, utf8_valid_len-IsValidUpTo}
 use Rattle.std.specs.Option.{unwrap_or}
 use Rattle.std.specs.Str.Lossy.{utf8_valid_len, utf8_error_len, utf8_invalid_len, after_first_chunk, replacement_bytes, utf8_lossy}
-use Rattle.bytes_utils_codec.specs.StreamTexts.{IsFaulty}
+use Rattle.bytes_utils_codec.specs.TextReading.{IsFaultyText}
 use Rattle.bytes_utils_codec.proofs.CharacterBegins.{faulty}
 use Rattle.bytes_utils_codec.proofs.FaultLen.{fault_more, fault_some, fault_within, fault_of_four}
 use Rattle.bytes_utils_codec.proofs.ValidLen.{behind_text, front, no_front, none_longer}
@@ -77,7 +77,7 @@ lossy_fault bs n none is =
     ∙ ap (λ o. replacement_bytes ++ utf8_lossy (drop (unwrap_or o (length bs)) bs)) is
 
 -- no text begins there, whatever follows
-pub none_more : (bs following : List ℕ) → utf8_valid_len bs ≡ 0 → IsFaulty bs → utf8_valid_len (bs ++ following) ≡ 0
+pub none_more : (bs following : List ℕ) → utf8_valid_len bs ≡ 0 → IsFaultyText bs → utf8_valid_len (bs ++ following) ≡ 0
 none_more bs following none faulty =
     let all = bs ++ following in
     let m = utf8_valid_len all in

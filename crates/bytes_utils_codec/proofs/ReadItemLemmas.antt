@@ -4,7 +4,7 @@ use Rattle.std.proofs.KnownBytes.{Consumes-nil, Consumes-trans, Consumes-whole}
 use Rattle.std.specs.Prelude.{◌⊎◌, IfOk, IfErr, IfSome, IfNone, OnErr}
 use Rattle.std.specs.Io.KnownBytes.{Consumes, IsAtEnd, Keeps}
 use Rattle.bytes_utils_codec.specs.Decoding.{Decoding, IsFedBy, Next, Item, Last, Gives, fed, HasSameNext, LacksItem, IsStable, IsSingle, AreItems}
-use Rattle.bytes_utils_codec.specs.ReadItem.{ReadsNext, ReadsMore, TakesHeld, TakesLast, IsItemDue, IsReadDue, items_of, ReadItemsLaw, ReadWholeLaw, ReadSameLaw}
+use Rattle.bytes_utils_codec.specs.ReadItem.{ReadsNext, ReadsMore, ReadItemTakesHeld, TakesLast, IsItemDue, IsReadDue, read_items_of, ReadItemsLaw, ReadWholeLaw, ReadSameLaw}
 use Rattle.bytes_utils_codec.specs.declared.decode.read.error.ReadItemError.{ReadItemError}
 use Rattle.bytes_utils_codec.specs.declared.decode.read.error.ReadItemError.TheVariants.{Decoder, Io, TooManyReads}
 use Rattle.bytes_utils_codec.proofs.DecodingLemmas.{fed-none, fed-joined, SameNext-refl, SameNext-trans, SameNext-fed, SameNext-now, items_fed, decoder_whole}
@@ -59,12 +59,12 @@ module _ {D A : Type 0} (gives : Gives D A) where
   -- ---- calls on what is held
 
   module _ {E : Type 0} (fails : Decoding D → E → Type 0) (s t : Decoding D) where
-    pub held_same : (e : ReadItemError E) → TakesHeld gives fails s (Err e) t → HasSameNext gives s t
+    pub held_same : (e : ReadItemError E) → ReadItemTakesHeld gives fails s (Err e) t → HasSameNext gives s t
     held_same (Decoder e) took = took.1
     held_same (Io e) took = absurd took
     held_same TooManyReads took = absurd took
 
-    pub held_due : (e : ReadItemError E) → TakesHeld gives fails s (Err e) t → IsItemDue gives fails t e
+    pub held_due : (e : ReadItemError E) → ReadItemTakesHeld gives fails s (Err e) t → IsItemDue gives fails t e
     held_due (Decoder e) took = (s, took.0, took.1)
     held_due (Io e) took = absurd took
     held_due TooManyReads took = absurd took
@@ -129,7 +129,7 @@ module _ {D A : Type 0} (gives : Gives D A) where
         (SameNext-fed gives (fed s reads.got) run.1 later.0 reads.same) in (
           got,
           Consumes-trans before run.0 after reads.got later.0 reads.consumed later.1,
-          items_same (fed s got) (fed run.1 later.0) (items_of calls) end same later.2,
+          items_same (fed s got) (fed run.1 later.0) (read_items_of calls) end same later.2,
         )
     read_items_law before after s end (Some item ∷ calls) run =
         let reads = run.2 in
@@ -146,10 +146,10 @@ module _ {D A : Type 0} (gives : Gives D A) where
     read_whole_law input s calls last end whole =
         let run = read_items_law (Some input) whole.left s whole.mid calls whole.run in
         let end_is = whole.last_is in
-        let items = items_fed gives s stable run.0 (items_of calls) whole.mid end_is.got run.2 in
+        let items = items_fed gives s stable run.0 (read_items_of calls) whole.mid end_is.got run.2 in
         let all = Consumes-trans (Some input) whole.left whole.after run.0 end_is.got run.1 end_is.consumed in (
           fed whole.mid end_is.got,
-          Consumes-whole (Some input) whole.after (run.0 ++ end_is.got) (λ bytes. AreItems gives (fed s bytes) (items_of calls) (fed whole.mid end_is.got)) all whole.ends items,
+          Consumes-whole (Some input) whole.after (run.0 ++ end_is.got) (λ bytes. AreItems gives (fed s bytes) (read_items_of calls) (fed whole.mid end_is.got)) all whole.ends items,
           end_is.given,
         )
 
@@ -157,4 +157,4 @@ module _ {D A : Type 0} (gives : Gives D A) where
     read_same_law single input s xs ys x y p q one two =
         let a = read_whole_law input s xs x p one in
         let b = read_whole_law input s ys y q two in
-        decoder_whole gives single (fed s input) (items_of xs) (items_of ys) a.0 b.0 x y p q a.1 b.1 a.2 b.2
+        decoder_whole gives single (fed s input) (read_items_of xs) (read_items_of ys) a.0 b.0 x y p q a.1 b.1 a.2 b.2

@@ -10,12 +10,12 @@ use Rattle.memchr.proofs.lemmas.MatchLemmas.{OccursAt-part}
 use Rattle.bytes_utils.specs.Occurrence.{Occurs, OccursAt}
 use Rattle.bytes_utils.specs.Lines.{lines, line_feed, carriage_return, IsFeedEnd, IsWithoutReturn}
 use Rattle.bytes_utils_codec.specs.Frames.{TakesFrame}
-use Rattle.bytes_utils_codec.specs.StreamLines.{TakesLine, FirstLinesLaw, last_line, TextLinesLaw, SameLinesLaw}
+use Rattle.bytes_utils_codec.specs.StreamLines.{TakesStreamLine, FirstStreamLinesLaw, last_stream_line, TextStreamLinesLaw, SameStreamLinesLaw}
 use Rattle.bytes_utils.proofs.Boundaries.{OccursAt-fits}
 use Rattle.bytes_utils.proofs.OccurrenceLemmas.{OccursAt-append}
 use Rattle.bytes_utils.proofs.LinesLemmas.{LacksFeed, LacksFeed-front, lines-at_end, lines-last}
 use Rattle.bytes_utils_codec.proofs.StreamRunsLemmas.{same_first_law}
-use Rattle.bytes_utils.proofs.SearchLemmas.{FindsFirst-from_needle}
+use Rattle.bytes_utils.proofs.SearchLemmas.{FindsFirstOccurrence-from_needle}
 
 -- ---- a line is taken
 
@@ -26,14 +26,14 @@ frame_lacks old frame rest takes occurs =
     omega (arith, fits, takes.first.none_before occurs.0 (subst (λ l. OccursAt (line_feed ∷ []) l occurs.0) (sym takes.bytes) there))
 
 -- the bytes before the first line feed, without one carriage return
-pub TakesLine-framed : (old frame line rest : List ℕ) → TakesFrame (line_feed ∷ []) old frame rest → IsWithoutReturn line frame → TakesLine old line rest
-TakesLine-framed old frame line rest takes (inl returned) = record {
+pub TakesStreamLine-framed : (old frame line rest : List ℕ) → TakesFrame (line_feed ∷ []) old frame rest → IsWithoutReturn line frame → TakesStreamLine old line rest
+TakesStreamLine-framed old frame line rest takes (inl returned) = record {
   end = carriage_return ∷ line_feed ∷ [];
   bytes = takes.bytes ∙ ap (λ l. l ++ line_feed ∷ rest) returned ∙ append_assoc line (carriage_return ∷ []) (line_feed ∷ rest);
   ends = inl refl;
   lacks = LacksFeed-front line (carriage_return ∷ []) (subst LacksFeed returned (frame_lacks old frame rest takes));
 }
-TakesLine-framed old frame line rest takes (inr whole) = record {
+TakesStreamLine-framed old frame line rest takes (inr whole) = record {
   end = line_feed ∷ [];
   bytes = takes.bytes ∙ ap (λ l. l ++ line_feed ∷ rest) whole.0;
   ends = inr (refl, λ front e. whole.1 front (whole.0 ∙ e));
@@ -42,8 +42,8 @@ TakesLine-framed old frame line rest takes (inr whole) = record {
 
 -- ---- runs
 
-pub TakesLine-more : (old line rest piece : List ℕ) → TakesLine old line rest → TakesLine (old ++ piece) line (rest ++ piece)
-TakesLine-more old line rest piece takes = record {
+pub TakesStreamLine-more : (old line rest piece : List ℕ) → TakesStreamLine old line rest → TakesStreamLine (old ++ piece) line (rest ++ piece)
+TakesStreamLine-more old line rest piece takes = record {
   end = takes.end;
   bytes = ap (λ l. l ++ piece) takes.bytes ∙ append_assoc line (takes.end ++ rest) piece ∙ ap (λ l. line ++ l) (append_assoc takes.end rest piece);
   ends = takes.ends;
@@ -52,7 +52,7 @@ TakesLine-more old line rest piece takes = record {
 
 -- ---- the lines of the bytes
 
-pub first_lines_law : FirstLinesLaw
+pub first_lines_law : FirstStreamLinesLaw
 first_lines_law bytes [] rest are = ap lines are
 first_lines_law bytes (line ∷ given) rest are =
     let takes = are.1 in
@@ -102,7 +102,7 @@ chars-lack text is lacks =
     let feed_is : IsUtf8 (10 ∷ []) = IsUtf8-from_ascii (10 ∷ []) ascii in
     let feed_chars : chars (10 ∷ []) ≡ 10 ∷ [] = chars-IsAscii (10 ∷ []) ascii in
     subst (λ l. ¬ Occurs l (chars text)) feed_chars
-    (FindsFirst-from_needle text (10 ∷ []) is feed_is (omega arith) None (λ k low high here. lacks (k, OccursAt-part text (10 ∷ []) k here)))
+    (FindsFirstOccurrence-from_needle text (10 ∷ []) is feed_is (omega arith) None (λ k low high here. lacks (k, OccursAt-part text (10 ∷ []) k here)))
 
 -- the end of the line, by characters
 chars-end : (line end : List ℕ) → IsUtf8 line → IsFeedEnd line end → IsFeedEnd (chars line) end
@@ -111,7 +111,7 @@ chars-end line end is (inl returned) = inl returned
 chars-end line end is (inr fed) =
     inr (fed.0, λ front e. fed.1 (encodes front) (sym (encodes-chars line is) ∙ ap encodes e ∙ encodes-append front (carriage_return ∷ [])))
 
-text_line : (text line rest : List ℕ) → IsUtf8 text → TakesLine text line rest → IsUtf8 line × IsUtf8 rest × (lines (chars text) ≡ chars line ∷ lines (chars rest))
+text_line : (text line rest : List ℕ) → IsUtf8 text → TakesStreamLine text line rest → IsUtf8 line × IsUtf8 rest × (lines (chars text) ≡ chars line ∷ lines (chars rest))
 text_line text line rest is takes =
     let cut = line_cut line takes.end rest takes.ends (subst IsUtf8 takes.bytes is) in (
       cut.0,
@@ -119,11 +119,11 @@ text_line text line rest is takes =
       ap (λ t. lines (chars t)) takes.bytes ∙ ap lines cut.2 ∙ lines-at_end (chars line) takes.end (chars rest) (chars-lack line cut.0 takes.lacks) (chars-end line takes.end cut.0 takes.ends),
     )
 
-lines-rest : (rest : List ℕ) → IsUtf8 rest → (¬ Occurs (line_feed ∷ []) rest) → lines (chars rest) ≡ map chars (last_line rest)
+lines-rest : (rest : List ℕ) → IsUtf8 rest → (¬ Occurs (line_feed ∷ []) rest) → lines (chars rest) ≡ map chars (last_stream_line rest)
 lines-rest [] is lacks = ap lines chars-nil
 lines-rest (c ∷ t) is lacks = lines-last (c ∷ t) is (chars-lack (c ∷ t) is lacks) (omega arith)
 
-pub text_lines_law : TextLinesLaw
+pub text_lines_law : TextStreamLinesLaw
 text_lines_law text [] rest is are =
     let rest_is = subst IsUtf8 are is in
     record {
@@ -144,8 +144,8 @@ text_lines_law text (line ∷ given) rest is are =
 
 -- ---- one list of lines
 
-TakesLine-same : (old line x y : List ℕ) → TakesLine old line x → TakesLine old line y → x ≡ y
-TakesLine-same old line x y s t = same s.end t.end s.ends t.ends (append_cancel_left line (s.end ++ x) (t.end ++ y) (sym s.bytes ∙ t.bytes))
+TakesStreamLine-same : (old line x y : List ℕ) → TakesStreamLine old line x → TakesStreamLine old line y → x ≡ y
+TakesStreamLine-same old line x y s t = same s.end t.end s.ends t.ends (append_cancel_left line (s.end ++ x) (t.end ++ y) (sym s.bytes ∙ t.bytes))
   where
     same : (d e : List ℕ) → IsFeedEnd line d → IsFeedEnd line e → d ++ x ≡ e ++ y → x ≡ y
     same d e (inl a) (inl b) whole = append_cancel_left (13 ∷ 10 ∷ []) x y (rw (a, b) at whole)
@@ -153,9 +153,9 @@ TakesLine-same old line x y s t = same s.end t.end s.ends t.ends (append_cancel_
     same d e (inl a) (inr b) whole = absurd (omega (arith, ap (λ l. get_or l 0 0) (rw (a, b.0) at whole)))
     same d e (inr a) (inl b) whole = absurd (omega (arith, ap (λ l. get_or l 0 0) (rw (a.0, b) at whole)))
 
-pub same_lines_law : SameLinesLaw
-same_lines_law = same_first_law TakesLine (λ old line other x y s t.
+pub same_lines_law : SameStreamLinesLaw
+same_lines_law = same_first_law TakesStreamLine (λ old line other x y s t.
     let first : line ∷ lines x ≡ other ∷ lines y =
     sym (first_lines_law old (line ∷ []) x (x, s, refl)) ∙ first_lines_law old (other ∷ []) y (y, t, refl) in
     let same : line ≡ other = ap (λ ls. get_or ls 0 []) first in
-    (same, TakesLine-same old line x y s (subst (λ l. TakesLine old l y) (sym same) t)))
+    (same, TakesStreamLine-same old line x y s (subst (λ l. TakesStreamLine old l y) (sym same) t)))

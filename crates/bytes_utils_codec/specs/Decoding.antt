@@ -3,7 +3,7 @@ use Rattle.std.specs.Prelude.{◌≡◌, ◌↔◌, ◌⊎◌, ℕ, List, [], �
 use Rattle.std.specs.Io.KnownBytes.{Consumes}
 use Rattle.std.specs.List.{concat, flat_map}
 use Rattle.bytes_utils_buf.specs.Packing.{Packing}
-use Rattle.bytes_utils_codec.specs.StreamRuns.{StreamEvent, IsRunOver, pushed_by, given_by, AreFirst}
+use Rattle.bytes_utils_codec.specs.StreamRuns.{StreamEvent, IsRunOver, pushed_by, given_by, AreFirstOfRun}
 
 -- a decoder D, the bytes that it has not taken yet, and the greatest length of a piece that is copied to those before it
 pub record Decoding (D : Type 0) : Type 0 where
@@ -80,22 +80,22 @@ abbrev pub WaitsForItem : {D A : Type 0} → Gives D A → (Decoding D → Type 
 WaitsForItem {D} gives waits = (s : Decoding D) → waits s → LacksItem gives s
 
 -- the item that a call returned, if it did
-abbrev pub item_of : {A E : Type 0} → Result (Option A) E → List A
-item_of (Ok (Some item)) = item ∷ []
-item_of (Ok None) = []
-item_of (Err error) = []
+abbrev pub decoded_item : {A E : Type 0} → Result (Option A) E → List A
+decoded_item (Ok (Some item)) = item ∷ []
+decoded_item (Ok None) = []
+decoded_item (Err error) = []
 
 -- these are the first items of a state, in order, and what comes next at the end is what comes after them
 pub record AreItems {D A : Type 0} (gives : Gives D A) (s : Decoding D) (items : List A) (end : Decoding D) : Type 0 where
   pub rest : Decoding D
-  pub are : AreFirst (λ old item new. gives old (Item item) new) s items rest
+  pub are : AreFirstOfRun (λ old item new. gives old (Item item) new) s items rest
   pub same : HasSameNext gives rest end
 
 -- Whatever the pieces are and whenever items are asked for, a run gives the first items of the joined pieces. Its items are those of the calls that
 -- returned one.
 abbrev pub DecoderRunLaw : {D A : Type 0} → (E : Type 0) → Gives D A → (Decoding D → Type 0) → (Decoding D → E → Type 0) → (Decoding D → Decoding D → Type 0) → Type 0
 DecoderRunLaw {D} {A} E gives waits fails keeps = (s : Decoding D) (events : List (StreamEvent (Result (Option A) E))) (end : Decoding D)
-    → IsRunOver fed (Decodes gives waits fails keeps) s events end → AreItems gives (fed s (pushed_by events)) (flat_map item_of (given_by events)) end
+    → IsRunOver fed (Decodes gives waits fails keeps) s events end → AreItems gives (fed s (pushed_by events)) (flat_map decoded_item (given_by events)) end
 
 -- Two lists of items of the same bytes after which no item is there are the same, and then the same comes next.
 abbrev pub DecoderAllLaw : {D A : Type 0} → Gives D A → Type 0

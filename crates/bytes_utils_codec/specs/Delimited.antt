@@ -135,40 +135,40 @@ FindsNext old (Some (Err over)) new = gives_delimited old (Item (Err over)) new
 FindsNext old None new = Stops old new × AwaitsFrame old × keeps_delimited old new
 
 -- what is reported of a frame: the frame, or that it is longer than the limit
-abbrev pub within : ℕ → List ℕ → Result (List ℕ) FrameTooLong
-within limit frame = if nat_le (length frame) limit then Ok frame else Err (record {})
+abbrev pub delimited_within : ℕ → List ℕ → Result (List ℕ) FrameTooLong
+delimited_within limit frame = if nat_le (length frame) limit then Ok frame else Err (record {})
 
 -- what is reported of a frame whose end has not come
-abbrev pub begun : Bool → List (Result (List ℕ) FrameTooLong)
-begun true = Err (record {}) ∷ []
-begun false = []
+abbrev pub delimited_begun : Bool → List (Result (List ℕ) FrameTooLong)
+delimited_begun true = Err (record {}) ∷ []
+delimited_begun false = []
 
 -- These items are reported of the bytes: each frame, or that it is longer than the limit; and if the end of a frame has
 -- not come that is certain to be longer, perhaps that.
-pub record AreReports (separator : List ℕ) (limit : ℕ) (bytes : List ℕ) (items : List (Result (List ℕ) FrameTooLong)) : Type 0 where
+pub record AreDelimitedReports (separator : List ℕ) (limit : ℕ) (bytes : List ℕ) (items : List (Result (List ℕ) FrameTooLong)) : Type 0 where
   pub frames : List (List ℕ)
   pub rest : List ℕ
   pub over : Bool
   pub are : AreFrames separator bytes frames rest
-  pub reported : items ≡ map (within limit) frames ++ begun over
+  pub reported : items ≡ map (delimited_within limit) frames ++ delimited_begun over
   pub long : OnTrue over (NoneBegins separator rest (suc limit))
 
 -- The items of a new decoder are reported of the bytes.
 abbrev pub DelimitedFramesLaw : Type 0
 DelimitedFramesLaw = (separator : List ℕ) (limit threshold : ℕ) (bytes : List ℕ) (items : List (Result (List ℕ) FrameTooLong)) (end : Decoding Delimiting)
-    → AreItems gives_delimited (fed (starting (delimiting separator limit) threshold) bytes) items end → AreReports separator limit bytes items
+    → AreItems gives_delimited (fed (starting (delimiting separator limit) threshold) bytes) items end → AreDelimitedReports separator limit bytes items
 
 -- what is left of the bytes after the last frame: none, if they were reported to be too many
-abbrev pub left_of : Bool → List ℕ → List ℕ
-left_of true rest = []
-left_of false rest = rest
+abbrev pub delimited_left : Bool → List ℕ → List ℕ
+delimited_left true rest = []
+delimited_left false rest = rest
 
 -- If no item comes after them at the end of the stream, then the frames are all of the bytes: after them there is no
 -- separator.
 abbrev pub DelimitedWholeLaw : Type 0
 DelimitedWholeLaw = (separator : List ℕ) (limit threshold : ℕ) (bytes : List ℕ) (items : List (Result (List ℕ) FrameTooLong)) (end after : Decoding Delimiting)
     → AreItems gives_delimited (fed (starting (delimiting separator limit) threshold) bytes) items end → gives_delimited end (Last None) after
-    → (reports : AreReports separator limit bytes items) × (¬ Occurs separator reports.rest) × (after.held ≡ left_of reports.over reports.rest)
+    → (reports : AreDelimitedReports separator limit bytes items) × (¬ Occurs separator reports.rest) × (after.held ≡ delimited_left reports.over reports.rest)
 
 -- what a call on a new decoder and the bytes that came returned, or a piece that came
 abbrev pub DelimitedEvent : Type 0

@@ -5,7 +5,7 @@ use Rattle.std.proofs.lemmas.List.{take-append-le, drop-append-le, take_at, drop
 use Rattle.bytes_utils_buf.proofs.Lists.{drop-append_past}
 use Rattle.bytes_utils.specs.Occurrence.{OccursAt}
 use Rattle.bytes_utils_codec.specs.Decoding.{Decoding, Next, Item, Last, fed, HasSameNext, IsStable, IsSingle, WaitsForItem, KeepsNext}
-use Rattle.bytes_utils_codec.specs.Skipping.{AreFronts, Leads, ended, skipping_single, skipping_stable, skipping_waits, same_front, same_next, same_trans}
+use Rattle.bytes_utils_codec.specs.Skipping.{AreSkippingFronts, SkippingLeads, skipping_ended, skipping_single, skipping_stable, skipping_waits, same_front, same_next, same_trans}
 use Rattle.bytes_utils_codec.specs.Delimited.{Delimiting, GivesFrame, ready, TakesFrameFrom, Takes, LacksSeparator, PassesSkipped, Passes, AwaitsSeparator, IsOverLimit, SkipsOn, AwaitsFrame, gives_delimited, DropsSkipped, all_searched, keeps_delimited}
 use Rattle.bytes_utils_codec.specs.declared.decode.too_long.FrameTooLong.{FrameTooLong}
 
@@ -67,11 +67,11 @@ passed_more true s mid more passes =
 pub Passes-more : (s mid : Decoding Delimiting) (more : List ℕ) → Passes s mid → Passes (fed s more) (fed mid more)
 Passes-more s mid more passes = passed_more s.decoder.skipping s mid more passes
 
-passed_ready : (b : Bool) (s mid : Decoding Delimiting) → PassesSkipped b s mid → ended ready mid ≡ ended ready s
-passed_ready false s mid passes = ap (ended ready) passes
-passed_ready true s mid passes = ap (ended ready) passes.2
+passed_ready : (b : Bool) (s mid : Decoding Delimiting) → PassesSkipped b s mid → skipping_ended ready mid ≡ skipping_ended ready s
+passed_ready false s mid passes = ap (skipping_ended ready) passes
+passed_ready true s mid passes = ap (skipping_ended ready) passes.2
 
-pub Passes-ready : (s mid : Decoding Delimiting) → Passes s mid → ended ready mid ≡ ended ready s
+pub Passes-ready : (s mid : Decoding Delimiting) → Passes s mid → skipping_ended ready mid ≡ skipping_ended ready s
 Passes-ready s mid passes = passed_ready s.decoder.skipping s mid passes
 
 passed_front : (b : Bool) (s mid : Decoding Delimiting) → s.decoder.skipping ≡ b → PassesSkipped b s mid → mid.decoder.skipping ≡ false
@@ -139,7 +139,7 @@ frame_single s (Last None) (Last None) x y a b = (refl, a.1 ∙ sym b.1)
 frame_single s (Last (Some f)) next x y a b = absurd a
 frame_single s next (Last (Some g)) x y a b = absurd b
 
-fronts : AreFronts Passes SkipsOn ready GivesFrame AwaitsSeparator
+fronts : AreSkippingFronts Passes SkipsOn ready GivesFrame AwaitsSeparator
 fronts = record {
   one = Passes-same;
   none = SkipsOn-passes;
@@ -182,7 +182,7 @@ module _ (p bytes : List ℕ) (from n : ℕ) (on : (k : ℕ) → OccursAt p byte
   frame_searched limit threshold (Last None) after g = (record { lacks = λ k low here. g.0.lacks k (back k here low) here; few = g.0.few }, g.1)
   frame_searched limit threshold (Last (Some item)) after g = g
 
-  leads_searched : (limit threshold : ℕ) → Leads Passes SkipsOn ready GivesFrame (state p limit threshold from false bytes) (state p limit threshold n false bytes)
+  leads_searched : (limit threshold : ℕ) → SkippingLeads Passes SkipsOn ready GivesFrame (state p limit threshold from false bytes) (state p limit threshold n false bytes)
   leads_searched limit threshold = record {
     passes = λ mid is.
         (state p limit threshold n false bytes, refl, λ next after given. frame_searched limit threshold next after (subst (λ t. GivesFrame t next after) is given));
@@ -238,8 +238,8 @@ module _ (p gone bytes : List ℕ) (from : ℕ) (low : from ≤ length gone) (no
             omega (arith, size, above, takes.first (k - length gone) (omega arith) (occurs_from_after k above here));
       }
 
-  leads_dropped : (limit threshold : ℕ) → Leads Passes SkipsOn ready GivesFrame (state p limit threshold from true (gone ++ bytes)) (state p limit threshold 0 true bytes)
-      × Leads Passes SkipsOn ready GivesFrame (state p limit threshold 0 true bytes) (state p limit threshold from true (gone ++ bytes))
+  leads_dropped : (limit threshold : ℕ) → SkippingLeads Passes SkipsOn ready GivesFrame (state p limit threshold from true (gone ++ bytes)) (state p limit threshold 0 true bytes)
+      × SkippingLeads Passes SkipsOn ready GivesFrame (state p limit threshold 0 true bytes) (state p limit threshold from true (gone ++ bytes))
   leads_dropped limit threshold = (
     record {
       passes = λ mid passes. (mid, (drop (length gone) passes.0, takes_dropped passes.0 mid.held passes.1, passes.2), λ next after given. given);

@@ -2,8 +2,8 @@
 use Rattle.std.specs.Prelude.{◌≡◌, ◌↔◌, ℕ, ◌<◌, ◌≤◌, List, [], ◌∷◌, ◌++◌, length, map, None, All, IsUtf8}
 use Rattle.std.specs.Str.{chars}
 use Rattle.bytes_utils.specs.Occurrence.{Occurs, OccursFirstAt}
-use Rattle.bytes_utils.specs.Parts.{IsCutAtFirst, ArePartsFromFront}
-use Rattle.bytes_utils_codec.specs.StreamRuns.{AreFirst, SameFirstLaw}
+use Rattle.bytes_utils.specs.Parts.{IsPartCutAtFirst, ArePartsFromFront}
+use Rattle.bytes_utils_codec.specs.StreamRuns.{AreFirstOfRun, SameFirstOfRunLaw}
 
 -- the old bytes are the frame, the separator and the rest, and no separator begins before this one
 pub record TakesFrame (separator old frame rest : List ℕ) : Type 0 where
@@ -23,7 +23,7 @@ HasFrameWithin limit separator bytes = (has : HasFrame separator bytes) × (leng
 
 -- these are the first frames of the bytes, in order, and the bytes after them
 abbrev pub AreFrames : List ℕ → List ℕ → List (List ℕ) → List ℕ → Type 0
-AreFrames separator bytes frames rest = AreFirst (TakesFrame separator) bytes frames rest
+AreFrames separator bytes frames rest = AreFirstOfRun (TakesFrame separator) bytes frames rest
 
 -- All frames of the bytes, and the bytes after them, are the parts between separators, of which there is one list.
 abbrev pub FramePartsLaw : Type 0
@@ -38,7 +38,7 @@ framed separator (frame ∷ frames) rest = frame ++ (separator ++ framed separat
 -- Frames that are put together are taken out again, exactly if each is cut at its first separator.
 abbrev pub PutFramesLaw : Type 0
 PutFramesLaw = (separator : List ℕ) (frames : List (List ℕ)) (rest : List ℕ) → 0 < length separator
-    → AreFrames separator (framed separator frames rest) frames rest ↔ All (IsCutAtFirst separator) frames
+    → AreFrames separator (framed separator frames rest) frames rest ↔ All (IsPartCutAtFirst separator) frames
 
 -- If the bytes and the separator are those of texts, then the frames and the bytes after them are the parts of the text, of which there is also one
 -- list.
@@ -48,7 +48,7 @@ TextFramesLaw = (separator text : List ℕ) (frames : List (List ℕ)) (rest : L
 
 -- two lists of frames of the same bytes that have the same length are the same, with the same bytes after them
 abbrev pub SameFramesLaw : Type 0
-SameFramesLaw = (separator : List ℕ) → SameFirstLaw (TakesFrame separator)
+SameFramesLaw = (separator : List ℕ) → SameFirstOfRunLaw (TakesFrame separator)
 
 -- two lists of frames of the same bytes with no separator after them are the same, with the same bytes after them
 abbrev pub AllFramesLaw : Type 0

@@ -4,7 +4,7 @@ pub mod Search
 pub mod StreamLines
 pub mod Cursor
 pub mod UniversalLines
-pub mod StreamTexts
+pub mod TextReading
 pub mod Pushing
 pub mod Decoding
 pub mod Taking
@@ -13,8 +13,8 @@ pub mod Prefixed
 pub mod PrefixedLaws
 pub mod Delimited
 pub mod DelimitedLaws
-pub mod LineItems
-pub mod LineItemsLaws
-pub mod UniversalItems
-pub mod UniversalItemsLaws
+pub mod LineReading
+pub mod LineReadingLaws
+pub mod UniversalReading
+pub mod UniversalReadingLaws
 pub mod ReadItem

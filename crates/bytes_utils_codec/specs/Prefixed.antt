@@ -8,7 +8,8 @@ use Rattle.bytes_utils_codec.specs.declared.decode.too_long.FrameTooLong.{FrameT
 
 -- What clauses see of a `LengthPrefixed`: the greatest number of bytes after the head, which ends with the length; the place of the length and its number
 -- of bytes, of which the least significant one may come first; what is added to the length; how many bytes are dropped from the front of a frame, or that
--- these are the head; and how many of the next bytes are skipped, since they are of a frame that was reported to be too long.
+-- these are the head; how many of the next bytes are skipped, since they are of a frame that was reported to be too long; and how many bytes have to be
+-- held before it looks at them: 0, or as many as a frame has with its head, once that is read, until the frame is taken.
 pub record Prefixing : Type 0 where
   pub max_length : ℕ
   pub offset : ℕ
@@ -17,15 +18,16 @@ pub record Prefixing : Type 0 where
   pub adjustment : ℤ
   pub dropped : Option ℕ
   pub skipped : ℕ
+  pub needed : ℕ
 
 -- a new decoder: of frames after four bytes, the most significant one first
 abbrev pub prefixing : ℕ → Prefixing
 prefixing limit =
-    record { max_length = limit; offset = 0; width = 4; is_little_endian = false; adjustment = pos 0; dropped = None; skipped = 0 }
+    record { max_length = limit; offset = 0; width = 4; is_little_endian = false; adjustment = pos 0; dropped = None; skipped = 0; needed = 0 }
 
 -- the same decoder at the front of a frame
 abbrev pub ready : Prefixing → Prefixing
-ready d = record d { skipped = 0 }
+ready d = record d { skipped = 0; needed = 0 }
 
 -- ---- the length of a frame
 
@@ -85,24 +87,41 @@ pub record TakesPrefixed (d : Prefixing) (old frame rest : List ℕ) : Type 0 wh
 abbrev pub IsPart : Prefixing → List ℕ → Type 0
 IsPart d bytes = (n : ℕ) × IsWithinLimit d bytes n × (length bytes < head_len d + n)
 
--- some bytes are still to come: of the frame that is skipped, of a head, or of a frame within the limit
+-- the held bytes are looked at: none of them is skipped, and they are as many as are needed
+abbrev pub IsLookedAt : Decoding Prefixing → Type 0
+IsLookedAt s = (s.decoder.skipped ≡ 0) × (s.decoder.needed ≤ length s.held)
+
+-- no head is read: bytes are skipped, or fewer are held than are needed, or than the head has
+abbrev pub IsUnread : Decoding Prefixing → Type 0
+IsUnread s = (0 < s.decoder.skipped) ⊎ ((length s.held < s.decoder.needed) ⊎ (length s.held < head_len s.decoder))
+
+-- some bytes are still to come: of those that are skipped or needed, of a head, or of a frame within the limit
 abbrev pub awaits_front : Decoding Prefixing → Type 0
-awaits_front s = (0 < s.decoder.skipped) ⊎ ((length s.held < head_len s.decoder) ⊎ IsPart s.decoder s.held)
+awaits_front s = IsUnread s ⊎ IsPart s.decoder s.held
 
 -- memory was refused for the next frame, which has come and is within the limit
 abbrev pub fails_front : Decoding Prefixing → Reason → Type 0
 fails_front s TooLong = ⊥
-fails_front s OutOfMemory = (n : ℕ) × IsWithinLimit s.decoder s.held n × (head_len s.decoder + n ≤ length s.held)
+fails_front s OutOfMemory = IsLookedAt s × ((n : ℕ) × IsWithinLimit s.decoder s.held n × (head_len s.decoder + n ≤ length s.held))
+
+-- the same, where n bytes are needed
+abbrev pub needing : ℕ → Decoding Prefixing → Decoding Prefixing
+needing n s = record s { decoder = record s.decoder { needed = n } }
+
+-- A call that gives no item changes nothing, but if it has read the head of a frame within the limit: then all bytes of that frame are needed.
+abbrev pub keeps_front : Decoding Prefixing → Decoding Prefixing → Type 0
+keeps_front old new =
+    (IsUnread old × (new ≡ old))
+    ⊎ (IsLookedAt old × ((n : ℕ) × IsWithinLimit old.decoder old.held n × (new ≡ needing (head_len old.decoder + n) old)))
 
 -- the frame over the limit was reported: its head is gone, and n bytes after it are skipped
 abbrev pub skipping : ℕ → Decoding Prefixing → Decoding Prefixing
-skipping n s = record s { decoder = record s.decoder { skipped = n }; held = drop (head_len s.decoder) s.held }
+skipping n s = record s { decoder = record s.decoder { skipped = n; needed = 0 }; held = drop (head_len s.decoder) s.held }
 
 abbrev pub gives_front : Gives Prefixing (Result (List ℕ) FrameTooLong)
 gives_front old (Item (Ok frame)) new =
-    (old.decoder.skipped ≡ 0) × TakesPrefixed old.decoder old.held frame new.held × (new ≡ record old { held = new.held })
-gives_front old (Item (Err e)) new =
-    (old.decoder.skipped ≡ 0) × ((n : ℕ) × IsOverLimit old.decoder old.held n × (new ≡ skipping n old))
+    IsLookedAt old × TakesPrefixed old.decoder old.held frame new.held × (new ≡ record (needing 0 old) { held = new.held })
+gives_front old (Item (Err e)) new = IsLookedAt old × ((n : ℕ) × IsOverLimit old.decoder old.held n × (new ≡ skipping n old))
 gives_front old (Last None) new = awaits_front old × (new ≡ record old { decoder = ready old.decoder })
 gives_front old (Last (Some item)) new = ⊥
 
@@ -126,6 +145,6 @@ gives_prefixed old next new = gives_front (after_skipped old) next new
 abbrev pub fails_prefixed : Decoding Prefixing → Reason → Type 0
 fails_prefixed s reason = fails_front (after_skipped s) reason
 
--- a call that gives no item drops what is skipped
+-- a call that gives no item drops what is skipped, and then changes nothing but how many bytes are needed
 abbrev pub keeps_prefixed : Decoding Prefixing → Decoding Prefixing → Type 0
-keeps_prefixed old new = new ≡ after_skipped old
+keeps_prefixed old new = keeps_front (after_skipped old) new

@@ -2,10 +2,12 @@
 use Rattle.std.proofs.Common.{◌≡◌, inl, inr, ℕ, ◌+◌, ◌-◌, ◌<◌, ◌≤◌, List, ◌++◌, length, take, drop, Option, None, Some, Ok, Err, ap, ◌∙◌, sym, refl, subst, arith, length-append, length-drop, ⊎_elim}
 use Rattle.std.proofs.lemmas.Bool.{cases_lt}
 use Rattle.std.proofs.lemmas.List.{take-append-le, drop-append-le, drop_all}
-use Rattle.std.specs.Prelude.{unwrap_or}
+use Rattle.std.specs.Prelude.{Result, unwrap_or}
 use Rattle.bytes_utils_buf.proofs.Lists.{drop-append_past}
-use Rattle.bytes_utils_codec.specs.Decoding.{Decoding, Item, Last, fed, IsStable, IsSingle, KeepsNext, WaitsForItem}
-use Rattle.bytes_utils_codec.specs.Prefixed.{Prefixing, adjusted, body_len, head_len, number_of, dropped_len, IsWithinLimit, IsOver, IsOverLimit, TakesPrefixed, after_skipped, awaits_front, awaits_prefixed, gives_front, gives_prefixed, keeps_prefixed, skipping}
+use Rattle.bytes_utils_codec.specs.Decoding.{Decodes, Decoding, Next, Item, Last, fed, IsStable, IsSingle, KeepsNext, WaitsForItem}
+use Rattle.bytes_utils_buf.specs.declared.refused.Reason.{Reason}
+use Rattle.bytes_utils_codec.specs.declared.decode.too_long.FrameTooLong.{FrameTooLong}
+use Rattle.bytes_utils_codec.specs.Prefixed.{Prefixing, adjusted, body_len, head_len, number_of, dropped_len, IsLookedAt, IsWithinLimit, IsOver, IsOverLimit, TakesPrefixed, after_skipped, awaits_front, awaits_prefixed, fails_front, fails_prefixed, gives_front, gives_prefixed, keeps_front, keeps_prefixed, needing, skipping}
 
 -- ---- more bytes
 
@@ -42,12 +44,16 @@ takes-more d old frame rest more takes =
       rest_is = ap (λ l. l ++ more) takes.rest_is ∙ sym (drop-append-le end old more takes.whole);
     }
 
+looked_at-more : (s : Decoding Prefixing) (more : List ℕ) → IsLookedAt s → IsLookedAt (fed s more)
+looked_at-more s more is = (is.0, omega (arith, is.1, length-append s.held more))
+
 front_stable : IsStable gives_front
-front_stable old (Ok frame) new more given = (given.0, takes-more old.decoder old.held frame new.held more given.1, ap (λ s. fed s more) given.2)
+front_stable old (Ok frame) new more given =
+    (looked_at-more old more given.0, takes-more old.decoder old.held frame new.held more given.1, ap (λ s. fed s more) given.2)
 front_stable old (Err e) new more given =
     let n = given.1.0 in
     let over = given.1.1 in (
-      given.0,
+      looked_at-more old more given.0,
       (
         n,
         over-more old.decoder old.held more n over,
@@ -76,18 +82,20 @@ takes_same d old f g x y one two =
     )
 
 front_waits : WaitsForItem gives_front awaits_front
-front_waits s (inl some) (Ok frame) after given = omega (arith, some, given.0)
-front_waits s (inl some) (Err e) after given = omega (arith, some, given.0)
-front_waits s (inr (inl few)) (Ok frame) after given = omega (arith, few, given.1.within.head)
-front_waits s (inr (inl few)) (Err e) after given = omega (arith, few, given.1.1.head)
-front_waits s (inr (inr part)) (Ok frame) after given =
+front_waits s (inl (inl some)) (Ok frame) after given = omega (arith, some, given.0.0)
+front_waits s (inl (inl some)) (Err e) after given = omega (arith, some, given.0.0)
+front_waits s (inl (inr (inl few))) (Ok frame) after given = omega (arith, few, given.0.1)
+front_waits s (inl (inr (inl few))) (Err e) after given = omega (arith, few, given.0.1)
+front_waits s (inl (inr (inr few))) (Ok frame) after given = omega (arith, few, given.1.within.head)
+front_waits s (inl (inr (inr few))) (Err e) after given = omega (arith, few, given.1.1.head)
+front_waits s (inr part) (Ok frame) after given =
     omega (arith, same_len s.decoder s.held part.0 given.1.len part.1 given.1.within, part.2, given.1.whole)
-front_waits s (inr (inr part)) (Err e) after given = not_both s.decoder s.held part.0 given.1.0 part.1 given.1.1
+front_waits s (inr part) (Err e) after given = not_both s.decoder s.held part.0 given.1.0 part.1 given.1.1
 
 front_single : IsSingle gives_front
 front_single s (Item (Ok f)) (Item (Ok g)) x y a b =
     let same = takes_same s.decoder s.held f g x.held y.held a.1 b.1 in
-    ((λ i. Item (Ok (same.0 i))), a.2 ∙ ap (λ l. record s { held = l }) same.1 ∙ sym b.2)
+    ((λ i. Item (Ok (same.0 i))), a.2 ∙ ap (λ l. record (needing 0 s) { held = l }) same.1 ∙ sym b.2)
 front_single s (Item (Ok f)) (Item (Err e)) x y a b = absurd (not_both s.decoder s.held a.1.len b.1.0 a.1.within b.1.1)
 front_single s (Item (Err e)) (Item (Ok g)) x y a b = absurd (not_both s.decoder s.held b.1.len a.1.0 b.1.within a.1.1)
 front_single s (Item (Err e)) (Item (Err f)) x y a b =
@@ -98,6 +106,62 @@ front_single s (Last None) (Item item) x y a b = absurd (front_waits s a.0 item 
 front_single s (Last None) (Last None) x y a b = (refl, a.1 ∙ sym b.1)
 front_single s (Last (Some f)) next x y a b = absurd a
 front_single s next (Last (Some g)) x y a b = absurd b
+
+-- ---- as many bytes as a frame has are needed
+
+-- the same of a decoder that needs another number of bytes
+within-needing : (d : Prefixing) (k : ℕ) (bytes : List ℕ) (n : ℕ) → IsWithinLimit d bytes n → IsWithinLimit (record d { needed = k }) bytes n
+within-needing d k bytes n is = record { head = is.head; len = is.len; within = is.within }
+
+takes-needing : (d : Prefixing) (k : ℕ) (old frame rest : List ℕ) → TakesPrefixed d old frame rest → TakesPrefixed (record d { needed = k }) old frame rest
+takes-needing d k old frame rest takes = record {
+  len = takes.len;
+  within = within-needing d k old takes.len takes.within;
+  whole = takes.whole;
+  frame_is = takes.frame_is;
+  rest_is = takes.rest_is;
+}
+
+-- After the head of a frame was read, the same comes next if all of the frame is needed.
+module _ (s : Decoding Prefixing) (n : ℕ) (is : IsLookedAt s) (within : IsWithinLimit s.decoder s.held n) (more : List ℕ) where
+  abbrev needed : Decoding Prefixing
+  needed = needing (head_len s.decoder + n) s
+
+  same : IsWithinLimit s.decoder (s.held ++ more) n
+  same = within-more s.decoder s.held more n within
+
+  needs : (m : ℕ) → IsWithinLimit s.decoder (s.held ++ more) m → n ≡ m
+  needs m other = same_len s.decoder (s.held ++ more) n m same other
+
+  needed-waits : awaits_front (fed s more) → awaits_front (fed needed more)
+  needed-waits (inl (inl some)) = inl (inl some)
+  needed-waits (inl (inr (inl few))) = absurd (omega (arith, few, is.1, length-append s.held more))
+  needed-waits (inl (inr (inr few))) = inl (inr (inr few))
+  needed-waits (inr part) = inl (inr (inl (omega (arith, needs part.0 part.1, part.2))))
+
+  needed-awaits : awaits_front (fed needed more) → awaits_front (fed s more)
+  needed-awaits (inl (inl some)) = inl (inl some)
+  needed-awaits (inl (inr (inl few))) = inr (n, same, few)
+  needed-awaits (inl (inr (inr few))) = inl (inr (inr few))
+  needed-awaits (inr part) = inr (part.0, within-needing needed.decoder s.decoder.needed (s.held ++ more) part.0 part.1, part.2)
+
+  needed-gives : (next : Next (Result (List ℕ) FrameTooLong)) (after : Decoding Prefixing) → gives_front (fed s more) next after → gives_front (fed needed more) next after
+  needed-gives (Item (Ok frame)) after given = (
+    (is.0, omega (arith, needs given.1.len given.1.within, given.1.whole)),
+    takes-needing s.decoder needed.decoder.needed (s.held ++ more) frame after.held given.1,
+    given.2,
+  )
+  needed-gives (Item (Err e)) after given = absurd (not_both s.decoder (s.held ++ more) n given.1.0 same given.1.1)
+  needed-gives (Last None) after given = (needed-waits given.0, given.1)
+  needed-gives (Last (Some item)) after given = given
+
+  needed-given : (next : Next (Result (List ℕ) FrameTooLong)) (after : Decoding Prefixing) → gives_front (fed needed more) next after → gives_front (fed s more) next after
+  needed-given (Item (Ok frame)) after given =
+      (looked_at-more s more is, takes-needing needed.decoder s.decoder.needed (s.held ++ more) frame after.held given.1, given.2)
+  needed-given (Item (Err e)) after given =
+      absurd (not_both needed.decoder (s.held ++ more) n given.1.0 (within-needing s.decoder needed.decoder.needed (s.held ++ more) n same) given.1.1)
+  needed-given (Last None) after given = (needed-awaits given.0, given.1)
+  needed-given (Last (Some item)) after given = given
 
 -- ---- the bytes that are skipped
 
@@ -126,14 +190,21 @@ after_skipped-more s more gone =
     let held : drop k (s.held ++ more) ≡ drop k s.held ++ more = drop-append-le k s.held more (omega (arith, gone)) in
     (λ i. record s { decoder = record s.decoder { skipped = skipped i }; held = held i })
 
+-- where nothing is skipped nothing changes
+after_skipped-none : (s : Decoding Prefixing) → s.decoder.skipped ≡ 0 → after_skipped s ≡ s
+after_skipped-none s none =
+    let skipped : s.decoder.skipped - length s.held ≡ s.decoder.skipped = omega (arith, none) in
+    let held : drop s.decoder.skipped s.held ≡ s.held = ap (λ n. drop n s.held) none in
+    (λ i. record s { decoder = record s.decoder { skipped = skipped i }; held = held i })
+
 -- ---- the laws of the decoder
 
 pub prefixed_stable : IsStable gives_prefixed
 prefixed_stable old (Ok frame) new more given =
-    subst (λ s. gives_front s (Item (Ok frame)) (fed new more)) (sym (after_skipped-more old more given.0))
+    subst (λ s. gives_front s (Item (Ok frame)) (fed new more)) (sym (after_skipped-more old more given.0.0))
     (front_stable (after_skipped old) (Ok frame) new more given)
 prefixed_stable old (Err e) new more given =
-    subst (λ s. gives_front s (Item (Err e)) (fed new more)) (sym (after_skipped-more old more given.0))
+    subst (λ s. gives_front s (Item (Err e)) (fed new more)) (sym (after_skipped-more old more given.0.0))
     (front_stable (after_skipped old) (Err e) new more given)
 
 pub prefixed_single : IsSingle gives_prefixed
@@ -143,7 +214,29 @@ pub prefixed_waits : WaitsForItem gives_prefixed awaits_prefixed
 prefixed_waits s awaits item after given = front_waits (after_skipped s) awaits item after given
 
 pub prefixed_same : KeepsNext gives_prefixed keeps_prefixed
-prefixed_same old new keeps more next after =
+prefixed_same old new (inl unread) more next after =
     let same : after_skipped (fed old more) ≡ after_skipped (fed new more) =
-    sym (after_skipped-fed old more) ∙ ap (λ s. after_skipped (fed s more)) (sym keeps) in
+    sym (after_skipped-fed old more) ∙ ap (λ s. after_skipped (fed s more)) (sym unread.1) in
     (subst (λ s. gives_front s next after) same, subst (λ s. gives_front s next after) (sym same))
+prefixed_same old new (inr read) more next after =
+    let s = after_skipped old in
+    let n = read.1.0 in
+    let needed = needing (head_len s.decoder + n) s in
+    let left : after_skipped (fed old more) ≡ fed s more = after_skipped-more old more read.0.0 in
+    let right : after_skipped (fed new more) ≡ fed needed more =
+    ap (λ t. after_skipped (fed t more)) read.1.2 ∙ after_skipped-none (fed needed more) read.0.0 in (
+      λ given. subst (λ t. gives_front t next after) (sym right)
+          (needed-gives s n read.0 read.1.1 more next after (subst (λ t. gives_front t next after) left given)),
+      λ given. subst (λ t. gives_front t next after) (sym left)
+          (needed-given s n read.0 read.1.1 more next after (subst (λ t. gives_front t next after) right given)),
+    )
+
+-- ---- the calls of the decoder
+
+-- one that first drops what is skipped does the rest at the front
+pub decodes_prefixed : (old front new : Decoding Prefixing) (r : Result (Option (Result (List ℕ) FrameTooLong)) Reason) → front ≡ after_skipped old
+    → Decodes gives_front awaits_front fails_front keeps_front front r new
+    → Decodes gives_prefixed awaits_prefixed fails_prefixed keeps_prefixed old r new
+decodes_prefixed old front new (Ok (Some item)) is did = subst (λ s. gives_front s (Item item) new) is did
+decodes_prefixed old front new (Ok None) is did = subst (λ s. awaits_front s × keeps_front s new) is did
+decodes_prefixed old front new (Err error) is did = subst (λ s. fails_front s error × keeps_front s new) is did

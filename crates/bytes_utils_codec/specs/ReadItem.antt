@@ -27,12 +27,12 @@ item_error_text text (Io error) = None
 item_error_text text TooManyReads = Some (codes "too many reads")
 
 -- what a call for the next item of the held bytes did, by what it returned
-abbrev pub TakesHeld : {D A E : Type 0} → Gives D A → (Decoding D → E → Type 0) → Decoding D → Result (Option A) (ReadItemError E) → Decoding D → Type 0
-TakesHeld gives fails old (Ok (Some item)) new = gives old (Item item) new
-TakesHeld gives fails old (Ok None) new = LacksItem gives old × HasSameNext gives old new
-TakesHeld gives fails old (Err (Decoder error)) new = fails old error × HasSameNext gives old new
-TakesHeld gives fails old (Err (Io error)) new = ⊥
-TakesHeld gives fails old (Err TooManyReads) new = ⊥
+abbrev pub ReadItemTakesHeld : {D A E : Type 0} → Gives D A → (Decoding D → E → Type 0) → Decoding D → Result (Option A) (ReadItemError E) → Decoding D → Type 0
+ReadItemTakesHeld gives fails old (Ok (Some item)) new = gives old (Item item) new
+ReadItemTakesHeld gives fails old (Ok None) new = LacksItem gives old × HasSameNext gives old new
+ReadItemTakesHeld gives fails old (Err (Decoder error)) new = fails old error × HasSameNext gives old new
+ReadItemTakesHeld gives fails old (Err (Io error)) new = ⊥
+ReadItemTakesHeld gives fails old (Err TooManyReads) new = ⊥
 
 -- the same of a call at the end of the stream, while no item is held
 abbrev pub TakesLast : {D A E : Type 0} → Gives D A → (Decoding D → E → Type 0) → Decoding D → Result (Option A) (ReadItemError E) → Decoding D → Type 0
@@ -62,37 +62,37 @@ IsOfDecoder TooManyReads = ⊥
 
 -- A run of calls leads from what the reader has left and a state to both at the end. Each call is given as the item that it returned, or `None` if it
 -- returned none.
-abbrev pub IsItemRun : {D A : Type 0} → Gives D A → Option (List ℕ) → Decoding D → List (Option A) → Option (List ℕ) → Decoding D → Type 0
-IsItemRun gives before s [] after end = (after ≡ before) × (end ≡ s)
-IsItemRun {D} gives before s (None ∷ calls) after end = (between : Option (List ℕ)) × (t : Decoding D) × ReadsMore gives before between s t
-    × IsItemRun gives between t calls after end
-IsItemRun {D} gives before s (Some item ∷ calls) after end = (between : Option (List ℕ)) × (t : Decoding D) × ReadsNext gives before between s (Item item) t
-    × IsItemRun gives between t calls after end
+abbrev pub IsReadItemRun : {D A : Type 0} → Gives D A → Option (List ℕ) → Decoding D → List (Option A) → Option (List ℕ) → Decoding D → Type 0
+IsReadItemRun gives before s [] after end = (after ≡ before) × (end ≡ s)
+IsReadItemRun {D} gives before s (None ∷ calls) after end = (between : Option (List ℕ)) × (t : Decoding D) × ReadsMore gives before between s t
+    × IsReadItemRun gives between t calls after end
+IsReadItemRun {D} gives before s (Some item ∷ calls) after end = (between : Option (List ℕ)) × (t : Decoding D) × ReadsNext gives before between s (Item item) t
+    × IsReadItemRun gives between t calls after end
 
 -- the items that the calls returned
-abbrev pub items_of : {A : Type 0} → List (Option A) → List A
-items_of calls = filter_map (λ given. given) calls
+abbrev pub read_items_of : {A : Type 0} → List (Option A) → List A
+read_items_of calls = filter_map (λ given. given) calls
 
 -- A run reads all of the input. After these calls one returned the last item, or that there is none, at the end.
 pub record IsWholeRead {D A : Type 0} (gives : Gives D A) (input : List ℕ) (s : Decoding D) (calls : List (Option A)) (last : Option A) (end : Decoding D) : Type 0 where
   pub left : Option (List ℕ)
   pub mid : Decoding D
-  pub run : IsItemRun gives (Some input) s calls left mid
+  pub run : IsReadItemRun gives (Some input) s calls left mid
   pub after : Option (List ℕ)
   pub ends : IsAtEnd after
   pub last_is : ReadsNext gives left after mid (Last last) end
 
 -- However the bytes are divided into reads, a run gives the first items of the bytes that were held and those that the reader gave.
 abbrev pub ReadItemsLaw : {D A : Type 0} → Gives D A → Type 0
-ReadItemsLaw {D} {A} gives = (before after : Option (List ℕ)) (s end : Decoding D) (calls : List (Option A)) → IsItemRun gives before s calls after end
-    → (got : List ℕ) × Consumes before after got × AreItems gives (fed s got) (items_of calls) end
+ReadItemsLaw {D} {A} gives = (before after : Option (List ℕ)) (s end : Decoding D) (calls : List (Option A)) → IsReadItemRun gives before s calls after end
+    → (got : List ℕ) × Consumes before after got × AreItems gives (fed s got) (read_items_of calls) end
 
 -- A run that reads all of the input gives all items of the input, and the last one.
 abbrev pub ReadWholeLaw : {D A : Type 0} → Gives D A → Type 0
 ReadWholeLaw {D} {A} gives = (input : List ℕ) (s : Decoding D) (calls : List (Option A)) (last : Option A) (end : Decoding D)
-    → IsWholeRead gives input s calls last end → (x : Decoding D) × AreItems gives (fed s input) (items_of calls) x × gives x (Last last) end
+    → IsWholeRead gives input s calls last end → (x : Decoding D) × AreItems gives (fed s input) (read_items_of calls) x × gives x (Last last) end
 
 -- Two runs that read all of the same input give the same items, the same last one, and leave the same.
 abbrev pub ReadSameLaw : {D A : Type 0} → Gives D A → Type 0
 ReadSameLaw {D} {A} gives = (input : List ℕ) (s : Decoding D) (xs ys : List (Option A)) (x y : Option A) (p q : Decoding D)
-    → IsWholeRead gives input s xs x p → IsWholeRead gives input s ys y q → (items_of xs ≡ items_of ys) × (x ≡ y) × (p ≡ q)
+    → IsWholeRead gives input s xs x p → IsWholeRead gives input s ys y q → (read_items_of xs ≡ read_items_of ys) × (x ≡ y) × (p ≡ q)

@@ -6,17 +6,17 @@ use Rattle.std.proofs.Common.{inl, inr, ap, ◌∙◌, sym, subst}
 use Rattle.bytes_utils_codec.specs.Decoding.{Decoding, Gives, Next, Item, Last, fed, HasSameNext, IsStable, IsSingle, WaitsForItem}
 
 -- of what is skipped up to the end of the stream nothing is left
-abbrev pub ended : {D : Type 0} → (D → D) → Decoding D → Decoding D
-ended restarted s = record s { decoder = restarted s.decoder; held = [] }
+abbrev pub skipping_ended : {D : Type 0} → (D → D) → Decoding D → Decoding D
+skipping_ended restarted s = record s { decoder = restarted s.decoder; held = [] }
 
 module _ {D A : Type 0} (Passes : Decoding D → Decoding D → Type 0) (Skips : Decoding D → Type 0) (restarted : D → D) (From : Gives D A) where
   -- what comes next: that of the front, or at the end of the stream nothing
   abbrev pub gives_skipping : Gives D A
-  gives_skipping old next new = (Skips old × (next ≡ Last None) × (new ≡ ended restarted old))
+  gives_skipping old next new = (Skips old × (next ≡ Last None) × (new ≡ skipping_ended restarted old))
       ⊎ ((mid : Decoding D) × Passes old mid × From mid next new)
 
   -- the facts from which the laws of the decoder follow
-  pub record AreFronts (Awaits : Decoding D → Type 0) : Type 0 where
+  pub record AreSkippingFronts (Awaits : Decoding D → Type 0) : Type 0 where
     -- at most one state is at the front, and none while something is skipped
     pub one : (s x y : Decoding D) → Passes s x → Passes s y → x ≡ y
     pub none : (s mid : Decoding D) → Skips s → ¬ Passes s mid
@@ -28,21 +28,21 @@ module _ {D A : Type 0} (Passes : Decoding D → Decoding D → Type 0) (Skips :
     pub lacks : WaitsForItem From Awaits
 
   -- what comes next after one state comes next after another
-  pub record Leads (s t : Decoding D) : Type 0 where
+  pub record SkippingLeads (s t : Decoding D) : Type 0 where
     pub passes : (mid : Decoding D) → Passes s mid
         → (there : Decoding D) × Passes t there × ((next : Next A) (after : Decoding D) → From mid next after → From there next after)
     pub skips : Skips s → Skips t
-    pub ends : ended restarted s ≡ ended restarted t
+    pub ends : skipping_ended restarted s ≡ skipping_ended restarted t
 
 -- ---- the laws of the decoder
 
 module _ {D A : Type 0} {Passes : Decoding D → Decoding D → Type 0} {Skips : Decoding D → Type 0} {restarted : D → D} {From : Gives D A}
-    {Awaits : Decoding D → Type 0} (facts : AreFronts Passes Skips restarted From Awaits) where
+    {Awaits : Decoding D → Type 0} (facts : AreSkippingFronts Passes Skips restarted From Awaits) where
   abbrev gives : Gives D A
   gives = gives_skipping Passes Skips restarted From
 
   abbrev Leading : Decoding D → Decoding D → Type 0
-  Leading = Leads Passes Skips restarted From
+  Leading = SkippingLeads Passes Skips restarted From
 
   leads_next : (s t : Decoding D) → Leading s t → (next : Next A) (after : Decoding D) → gives s next after → gives t next after
   leads_next s t leads next after (inl (skips, last, is)) =
@@ -80,14 +80,14 @@ module _ {D A : Type 0} {Passes : Decoding D → Decoding D → Type 0} {Skips :
       facts.lacks mid (subst Awaits (facts.one s front mid there passes) awaits) item after given
 
   -- two states that lead to the same front
-  one_leads : (s t mid : Decoding D) → Passes s mid → Passes t mid → ended restarted s ≡ ended restarted t → Leading s t
+  one_leads : (s t mid : Decoding D) → Passes s mid → Passes t mid → skipping_ended restarted s ≡ skipping_ended restarted t → Leading s t
   one_leads s t mid from to is = record {
     passes = λ front passes. (front, subst (Passes t) (facts.one s mid front from passes) to, λ next after given. given);
     skips = λ skips. absurd (facts.none s mid skips from);
     ends = is;
   }
 
-  pub same_front : (s t : Decoding D) → ended restarted s ≡ ended restarted t
+  pub same_front : (s t : Decoding D) → skipping_ended restarted s ≡ skipping_ended restarted t
       → ((more : List ℕ) → (mid : Decoding D) × Passes (fed s more) mid × Passes (fed t more) mid) → HasSameNext gives s t
   same_front s t is front =
       same_next s t (λ more.

@@ -30,26 +30,26 @@ given_by (Pushed piece ∷ events) = given_by events
 given_by (Taken item ∷ events) = item ∷ given_by events
 
 -- these are the first items of a state, such as the held bytes, in order, and the state after them
-abbrev pub AreFirst : {S A : Type 0} → (S → A → S → Type 0) → S → List A → S → Type 0
-AreFirst Takes s [] rest = s ≡ rest
-AreFirst {S} Takes s (item ∷ items) rest = (following : S) × Takes s item following × AreFirst Takes following items rest
+abbrev pub AreFirstOfRun : {S A : Type 0} → (S → A → S → Type 0) → S → List A → S → Type 0
+AreFirstOfRun Takes s [] rest = s ≡ rest
+AreFirstOfRun {S} Takes s (item ∷ items) rest = (following : S) × Takes s item following × AreFirstOfRun Takes following items rest
 
 -- Whatever the pieces are and whenever items are asked for, a run gives the first items of the state that the joined pieces make, and leads to the
 -- state after them.
-abbrev pub RunLaw : {S A : Type 0} → (S → List ℕ → S) → (S → A → S → Type 0) → Type 0
-RunLaw {S} {A} push Takes =
-    (s : S) (events : List (StreamEvent A)) (end : S) → IsRunOver push Takes s events end → AreFirst Takes (push s (pushed_by events)) (given_by events) end
+abbrev pub StreamRunLaw : {S A : Type 0} → (S → List ℕ → S) → (S → A → S → Type 0) → Type 0
+StreamRunLaw {S} {A} push Takes =
+    (s : S) (events : List (StreamEvent A)) (end : S) → IsRunOver push Takes s events end → AreFirstOfRun Takes (push s (pushed_by events)) (given_by events) end
 
 -- the same of a run from an empty reader, if the state is the held bytes
 abbrev pub StreamLaw : {A : Type 0} → (List ℕ → A → List ℕ → Type 0) → Type 0
 StreamLaw {A} Takes =
-    (events : List (StreamEvent A)) (end : List ℕ) → IsStreamRun Takes [] events end → AreFirst Takes (pushed_by events) (given_by events) end
+    (events : List (StreamEvent A)) (end : List ℕ) → IsStreamRun Takes [] events end → AreFirstOfRun Takes (pushed_by events) (given_by events) end
 
 -- two lists of first items of the same state that have the same length are the same, with the same state after them
-abbrev pub SameFirstLaw : {S A : Type 0} → (S → A → S → Type 0) → Type 0
-SameFirstLaw {S} {A} Takes = (s : S) (xs ys : List A) (x y : S) → AreFirst Takes s xs x → AreFirst Takes s ys y → length xs ≡ length ys → (xs ≡ ys) × (x ≡ y)
+abbrev pub SameFirstOfRunLaw : {S A : Type 0} → (S → A → S → Type 0) → Type 0
+SameFirstOfRunLaw {S} {A} Takes = (s : S) (xs ys : List A) (x y : S) → AreFirstOfRun Takes s xs x → AreFirstOfRun Takes s ys y → length xs ≡ length ys → (xs ≡ ys) × (x ≡ y)
 
 -- two lists of first items of the same state after which no item is there are the same, with the same state after them
-abbrev pub AllFirstLaw : {S A : Type 0} → (S → A → S → Type 0) → Type 0
-AllFirstLaw {S} {A} Takes = (s : S) (xs ys : List A) (x y : S) → AreFirst Takes s xs x → AreFirst Takes s ys y
+abbrev pub AllFirstOfRunLaw : {S A : Type 0} → (S → A → S → Type 0) → Type 0
+AllFirstOfRunLaw {S} {A} Takes = (s : S) (xs ys : List A) (x y : S) → AreFirstOfRun Takes s xs x → AreFirstOfRun Takes s ys y
     → ((item : A) (next : S) → ¬ Takes x item next) → ((item : A) (next : S) → ¬ Takes y item next) → (xs ≡ ys) × (x ≡ y)

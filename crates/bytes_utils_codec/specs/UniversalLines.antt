@@ -3,8 +3,8 @@ use Rattle.std.specs.Prelude.{◌≡◌, ◌≢◌, ◌⊎◌, ℕ, List, [], �
 use Rattle.std.specs.List.{starts_with}
 use Rattle.memchr.specs.Find.{IsFirst}
 use Rattle.bytes_utils.specs.Lines.{line_feed, carriage_return, first_led_by}
-use Rattle.bytes_utils_codec.specs.StreamLines.{last_line}
-use Rattle.bytes_utils_codec.specs.StreamRuns.{AreFirst, SameFirstLaw}
+use Rattle.bytes_utils_codec.specs.StreamLines.{last_stream_line}
+use Rattle.bytes_utils_codec.specs.StreamRuns.{AreFirstOfRun, SameFirstOfRunLaw}
 
 -- The lines of the bytes, with the last one, if it has no end and isn't empty. A carriage return before a line feed is a part of the end that this makes.
 abbrev pub universal_lines : List ℕ → List (List ℕ)
@@ -15,12 +15,12 @@ universal_lines (c ∷ t) =
     else first_led_by c (universal_lines t)
 
 -- the byte is neither a line feed nor a carriage return
-abbrev pub IsInLine : ℕ → Type 0
-IsInLine c = (c ≢ line_feed) × (c ≢ carriage_return)
+abbrev pub IsInUniversalLine : ℕ → Type 0
+IsInUniversalLine c = (c ≢ line_feed) × (c ≢ carriage_return)
 
 -- no line ends in these bytes
-abbrev pub LacksEnds : List ℕ → Type 0
-LacksEnds bytes = All IsInLine bytes
+abbrev pub LacksUniversalEnds : List ℕ → Type 0
+LacksUniversalEnds bytes = All IsInUniversalLine bytes
 
 -- The end of a line, by the bytes after it: a line feed, a carriage return and a line feed, or a carriage return that no line feed follows.
 abbrev pub IsUniversalEnd : List ℕ → List ℕ → Type 0
@@ -28,39 +28,39 @@ IsUniversalEnd end rest = (end ≡ line_feed ∷ [])
     ⊎ ((end ≡ carriage_return ∷ line_feed ∷ []) ⊎ ((end ≡ carriage_return ∷ []) × ((t : List ℕ) → rest ≢ line_feed ∷ t)))
 
 -- the bytes are the line, its end and the rest, and no line ends in the line
-pub record EndsLine (bytes line end rest : List ℕ) : Type 0 where
+pub record EndsUniversalLine (bytes line end rest : List ℕ) : Type 0 where
   pub whole : bytes ≡ line ++ (end ++ rest)
   pub ends : IsUniversalEnd end rest
-  pub lacks : LacksEnds line
+  pub lacks : LacksUniversalEnds line
 
 -- this is the first line of the bytes, and what is after its end
-abbrev pub IsFirstLine : List ℕ → List ℕ → List ℕ → Type 0
-IsFirstLine bytes line rest = (end : List ℕ) × EndsLine bytes line end rest
+abbrev pub IsFirstUniversalLine : List ℕ → List ℕ → List ℕ → Type 0
+IsFirstUniversalLine bytes line rest = (end : List ℕ) × EndsUniversalLine bytes line end rest
 
 -- a line feed or a carriage return is at this place
-abbrev pub IsEndAt : List ℕ → ℕ → Type 0
-IsEndAt bytes k = (slice_index bytes k ≡ line_feed) ⊎ (slice_index bytes k ≡ carriage_return)
+abbrev pub IsUniversalEndAt : List ℕ → ℕ → Type 0
+IsUniversalEndAt bytes k = (slice_index bytes k ≡ line_feed) ⊎ (slice_index bytes k ≡ carriage_return)
 
 -- the first place from `from` on at which one is, if there is one
-abbrev pub FindsEnd : List ℕ → ℕ → Option ℕ → Type 0
-FindsEnd bytes from at = IsFirst (IsEndAt bytes) from (length bytes) at
+abbrev pub FindsUniversalEnd : List ℕ → ℕ → Option ℕ → Type 0
+FindsUniversalEnd bytes from at = IsFirst (IsUniversalEndAt bytes) from (length bytes) at
 
 -- these are the first lines of the bytes, in order, and the bytes after them
-abbrev pub AreFirstUniversal : List ℕ → List (List ℕ) → List ℕ → Type 0
-AreFirstUniversal bytes lines rest = AreFirst IsFirstLine bytes lines rest
+abbrev pub AreFirstUniversalLines : List ℕ → List (List ℕ) → List ℕ → Type 0
+AreFirstUniversalLines bytes lines rest = AreFirstOfRun IsFirstUniversalLine bytes lines rest
 
 -- Together with the lines of the bytes after them they are the lines of all bytes. If no line ends in the bytes after them, these are the last line.
-pub record AreAllLines (bytes : List ℕ) (given : List (List ℕ)) (rest : List ℕ) : Type 0 where
+pub record AreAllUniversalLines (bytes : List ℕ) (given : List (List ℕ)) (rest : List ℕ) : Type 0 where
   pub lines_are : universal_lines bytes ≡ given ++ universal_lines rest
-  pub all : LacksEnds rest → universal_lines bytes ≡ given ++ last_line rest
+  pub all : LacksUniversalEnds rest → universal_lines bytes ≡ given ++ last_stream_line rest
 
-abbrev pub AllUniversalLaw : Type 0
-AllUniversalLaw = (bytes : List ℕ) (given : List (List ℕ)) (rest : List ℕ) → AreFirstUniversal bytes given rest → AreAllLines bytes given rest
+abbrev pub AllUniversalLinesLaw : Type 0
+AllUniversalLinesLaw = (bytes : List ℕ) (given : List (List ℕ)) (rest : List ℕ) → AreFirstUniversalLines bytes given rest → AreAllUniversalLines bytes given rest
 
 -- if the bytes are those of a text, then so are each line and the bytes after the lines
-abbrev pub TextUniversalLaw : Type 0
-TextUniversalLaw = (text : List ℕ) (given : List (List ℕ)) (rest : List ℕ) → IsUtf8 text → AreFirstUniversal text given rest → All IsUtf8 given × IsUtf8 rest
+abbrev pub TextUniversalLinesLaw : Type 0
+TextUniversalLinesLaw = (text : List ℕ) (given : List (List ℕ)) (rest : List ℕ) → IsUtf8 text → AreFirstUniversalLines text given rest → All IsUtf8 given × IsUtf8 rest
 
 -- two lists of first lines of the same bytes that have the same length are the same, with the same bytes after them
-abbrev pub SameUniversalLaw : Type 0
-SameUniversalLaw = SameFirstLaw IsFirstLine
+abbrev pub SameUniversalLinesLaw : Type 0
+SameUniversalLinesLaw = SameFirstOfRunLaw IsFirstUniversalLine

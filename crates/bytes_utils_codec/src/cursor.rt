@@ -1,18 +1,18 @@
 //! Reading on in a buffer that is only borrowed.
 ghost use Rattle.std.specs.Prelude.{◌≡◌, ◌≢◌, ℕ, ◌+◌, ◌<◌, ◌≤◌, ◌↔◌, List, ◌++◌, [], ◌∷◌, length, take, drop, false, IsTrue, IsOk, IfOk, IfErr, IfSome, IfNone, OnErr};
 ghost use Rattle.std.specs.List.{concat, slice_get};
-ghost use Rattle.bytes_utils_codec.specs.Cursor.{IsBegun, IsFirstWithin, NeverBegins, NeverEndsWithin, OneReplyLaw, ReadsPart, SameReadLaw, StaysReadLaw, StaysWrongLaw, TakesFirst, TakesUpTo, passed_on, unread};
+ghost use Rattle.bytes_utils_codec.specs.Cursor.{IsBegunAtCursor, CursorFindsWithin, NeverBeginsAtCursor, NoFrameWithin, OneCursorReplyLaw, ReadsPart, SameCursorLaw, CursorStaysLaw, CursorStaysWrongLaw, CursorTakesFirst, CursorTakesUpTo, passed_on, unread};
 ghost use Rattle.bytes_utils_codec.specs.Frames.{HasFrame, HasFrameWithin, TakesFrame};
 ghost use Rattle.bytes_utils.specs.Lines.{line_feed};
 ghost use Rattle.bytes_utils.specs.Occurrence.{Occurs, OccursAt, OccursFirstAt};
-ghost use Rattle.bytes_utils_codec.specs.LineItems.{IsTextItem};
-ghost use Rattle.bytes_utils_codec.specs.StreamLines.{TakesLine};
+ghost use Rattle.bytes_utils_codec.specs.LineReading.{IsTextItem};
+ghost use Rattle.bytes_utils_codec.specs.StreamLines.{TakesStreamLine};
 
 pub mod integers;
 pub mod read;
 
 use crate::decode::LineFault;
-use crate::decode::lines::{drop_return, text_of};
+use crate::decode::lines::{drop_return, text_of_line};
 use crate::find::find_from;
 use bytes::{Buf, Bytes};
 use bytes_utils::string::Str;
@@ -71,9 +71,9 @@ pub struct Cursor<'a, B: ContiguousBuf + Drop> {
 impl<'a, B: ContiguousBuf + Drop> Model for Cursor<'a, B> {
     ghost use Rattle.std.specs.Prelude.{◌≡◌, ◌≤◌, length};
     ghost use Rattle.std.specs.List.{concat};
-    ghost use Rattle.bytes_utils_codec.specs.Cursor.{Reading};
+    ghost use Rattle.bytes_utils_codec.specs.Cursor.{CursorReading};
 
-    ghost Value = { Reading };
+    ghost Value = { CursorReading };
 
     ghost view = { λ c. record { all = concat c.buf.now.segments; at = c.at } };
 
@@ -92,8 +92,8 @@ impl<'a, B: ContiguousBuf + Drop> Cursor<'a, B> {
         }
     }
 
-    /// Returns the number of bytes before the cursor: of those that `advance` of the buffer is to
-    /// remove.
+    /// Returns the number of bytes that were passed. `advance` of the buffer by this number drops
+    /// them.
     pub fn at(&self) -> usize
         ensures value { result ≡ self.now.at }
         ensures within { result ≤ length self.now.all }
@@ -165,7 +165,7 @@ impl<'a, B: ContiguousBuf + Drop> Cursor<'a, B> {
     /// `OutOfMemory` if memory is refused, never for no bytes. The cursor then stays, as with
     /// `None`.
     pub fn take(&mut self, alloc: Global, len: usize) -> Result<Option<Bytes>, Reason>
-        ensures gives { ReadsPart (λ part old new. TakesFirst len old part new)
+        ensures gives { ReadsPart (λ part old new. CursorTakesFirst len old part new)
             (λ bytes. length bytes < len) self.old self.new result }
         ensures reason { IfErr result (λ reason. reason ≡ Reason.OutOfMemory) }
         ensures none { len ≡ 0 → IsOk result }
@@ -183,7 +183,7 @@ impl<'a, B: ContiguousBuf + Drop> Cursor<'a, B> {
         alloc: Global,
         len: usize,
     ) -> Result<Option<SegmentedBuf<Bytes>>, Reason>
-        ensures gives { ReadsPart (λ part old new. TakesFirst len old (concat part.segments) new)
+        ensures gives { ReadsPart (λ part old new. CursorTakesFirst len old (concat part.segments) new)
             (λ bytes. length bytes < len) self.old self.new result }
         ensures reason { IfErr result (λ reason. reason ≡ Reason.OutOfMemory) }
         ensures none { len ≡ 0 → IsOk result }
@@ -198,8 +198,8 @@ impl<'a, B: ContiguousBuf + Drop> Cursor<'a, B> {
 
     /// Returns the bytes before the next `needle`, as `take` does, and passes them and the needle.
     /// Returns `None` if it has not come yet. Requires that `needle` is not empty (test:
-    /// `is_empty`). Fails with `OutOfMemory` if memory is refused: for a needle of at most 16 bytes
-    /// only that for the bytes before it. The cursor then stays, as with `None`.
+    /// `is_empty`). Fails with `OutOfMemory` if memory is refused; with a needle of at most 16 bytes
+    /// it is asked for only for the bytes before it. The cursor then stays, as with `None`.
     pub fn take_until(&mut self, alloc: Global, needle: &[u8]) -> Result<Option<Bytes>, Reason>
         requires { 0 < length needle.now }
         ensures gives { ReadsPart (λ part old new. TakesFrame needle.now old part new)
@@ -234,7 +234,7 @@ impl<'a, B: ContiguousBuf + Drop> Cursor<'a, B> {
         ensures few { IfOk result (λ next. IfNone next
             (length (unread self.old) < most + length needle.now)) }
         ensures too_long { IfErr result (λ reason. reason ≡ Reason.TooLong
-            → NeverEndsWithin most needle.now (unread self.old)) }
+            → NoFrameWithin most needle.now (unread self.old)) }
         ensures due { IfErr result (λ reason. reason ≡ Reason.OutOfMemory
             → HasFrameWithin most needle.now (unread self.old)) }
     {
@@ -261,7 +261,7 @@ impl<'a, B: ContiguousBuf + Drop> Cursor<'a, B> {
         ensures few { IfOk result (λ place. IfNone place
             (length (unread self.now) < most + length needle.now)) }
         ensures too_long { IfErr result (λ reason. (reason ≡ Reason.TooLong)
-            × NeverEndsWithin most needle.now (unread self.now)) }
+            × NoFrameWithin most needle.now (unread self.now)) }
     {
         if let Some(len) = self.first_within(alloc, needle, most) {
             return Ok(Some(len));
@@ -272,7 +272,7 @@ impl<'a, B: ContiguousBuf + Drop> Cursor<'a, B> {
         Ok(None)
     }
 
-    /// Whether all bytes have come of a needle that begins within the limit, wherever it does.
+    /// Whether at least as many bytes have come as `most` and the needle have together.
     fn has_all_within(&self, needle: &[u8], most: usize) -> bool
         ensures { IsTrue result ↔ (most + length needle.now ≤ length (unread self.now)) }
     {
@@ -282,7 +282,7 @@ impl<'a, B: ContiguousBuf + Drop> Cursor<'a, B> {
     /// Returns how many bytes after the cursor `needle` occurs first, if these are at most `most`.
     fn first_within(&self, alloc: Global, needle: &[u8], most: usize) -> Option<usize>
         requires { 0 < length needle.now }
-        ensures { IsFirstWithin most needle.now (unread self.now) result }
+        ensures { CursorFindsWithin most needle.now (unread self.now) result }
     {
         match self.find(alloc, needle) {
             Ok(Some(place)) => (place <= most).then_some(place),
@@ -294,7 +294,7 @@ impl<'a, B: ContiguousBuf + Drop> Cursor<'a, B> {
     /// As `first_within`, without memory: it looks at each place.
     fn look_within(&self, needle: &[u8], most: usize) -> Option<usize>
         requires { 0 < length needle.now }
-        ensures { IsFirstWithin most needle.now (unread self.now) result }
+        ensures { CursorFindsWithin most needle.now (unread self.now) result }
     {
         for place in 0..self.remaining() {
             if place > most {
@@ -320,7 +320,7 @@ impl<'a, B: ContiguousBuf + Drop> Cursor<'a, B> {
     /// As `take_until`, but the needle isn't passed: the cursor is at its first byte then.
     pub fn take_to(&mut self, alloc: Global, needle: &[u8]) -> Result<Option<Bytes>, Reason>
         requires { 0 < length needle.now }
-        ensures gives { ReadsPart (λ part old new. TakesUpTo needle.now old part new)
+        ensures gives { ReadsPart (λ part old new. CursorTakesUpTo needle.now old part new)
             (λ bytes. ¬ Occurs needle.now bytes) self.old self.new result }
         ensures reason { IfErr result (λ reason. reason ≡ Reason.OutOfMemory) }
         ensures due { length needle.now ≤ 16 → OnErr result (HasFrame needle.now (unread self.old)) }
@@ -338,8 +338,8 @@ impl<'a, B: ContiguousBuf + Drop> Cursor<'a, B> {
         ensures passed { IfOk result (λ next. IfSome next (λ _.
             unread self.old ≡ bytes.now ++ unread self.new)) }
         ensures waits { IfOk result (λ next. IfNone next
-            ((self.new ≡ self.old) × IsBegun bytes.now (unread self.old))) }
-        ensures wrong { IfErr result (λ _. NeverBegins bytes.now (unread self.old)) }
+            ((self.new ≡ self.old) × IsBegunAtCursor bytes.now (unread self.old))) }
+        ensures wrong { IfErr result (λ _. NeverBeginsAtCursor bytes.now (unread self.old)) }
         ensures all { self.new.all ≡ self.old.all }
         ensures err { OnErr result (self.new ≡ self.old) }
     {
@@ -360,7 +360,7 @@ impl<'a, B: ContiguousBuf + Drop> Cursor<'a, B> {
     /// stays, as with `None`.
     pub fn line(&mut self, alloc: Global) -> Result<Option<Result<Str, LineFault>>, Reason>
         ensures gives { ReadsPart
-            (λ item old new. (line : List ℕ) × TakesLine old line new × IsTextItem false item line)
+            (λ item old new. (line : List ℕ) × TakesStreamLine old line new × IsTextItem false item line)
             (λ bytes. ¬ Occurs (line_feed ∷ []) bytes) self.old self.new result }
         ensures reason { IfErr result (λ reason. reason ≡ Reason.OutOfMemory) }
         ensures due { OnErr result (HasFrame (line_feed ∷ []) (unread self.old)) }
@@ -369,7 +369,7 @@ impl<'a, B: ContiguousBuf + Drop> Cursor<'a, B> {
             return Ok(None);
         };
         drop_return(&mut line);
-        Ok(Some(text_of(line)))
+        Ok(Some(text_of_line(line)))
     }
 
     /// Passes the next `len` bytes, which it returns, and the needle that was found after them.
@@ -408,8 +408,8 @@ impl<'a, B: ContiguousBuf + Drop> Cursor<'a, B> {
 /// are cut. What was read is read again when more bytes have come, and what was a wrong byte stays
 /// one.
 pub fn cursor_laws()
-    ensures same { SameReadLaw }
-    ensures stays { StaysReadLaw }
-    ensures wrong { StaysWrongLaw }
-    ensures one { OneReplyLaw }
+    ensures same { SameCursorLaw }
+    ensures stays { CursorStaysLaw }
+    ensures wrong { CursorStaysWrongLaw }
+    ensures one { OneCursorReplyLaw }
 {}

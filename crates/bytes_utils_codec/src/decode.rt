@@ -28,8 +28,8 @@ pub use universal_lines::{UniversalLines, universal_line_laws};
 /// items don't depend on where the pieces were cut (`decoder_laws`).
 ///
 /// The bytes are in a [`PackedBuf`], so that a peer that sends single bytes doesn't fill the memory
-/// with segments. What of them waits for more bytes can be looked at, by `as_segmented` and the
-/// calls of `SegmentedBuf`, before it is taken.
+/// with segments. Bytes that wait for more can be looked at before they are taken, by `as_segmented`
+/// and the calls of `SegmentedBuf`.
 ///
 /// The members that are ghosts say what a decoder does; the clauses and the last four are its laws.
 /// If its state never changes but for the bytes that it holds, one relation and three facts give
@@ -53,7 +53,7 @@ pub trait Decoder: Sized + Drop {
     /// What is taken: a frame, or for a stream that goes on after a fault also the fault.
     type Item: Drop;
 
-    /// Why no item is taken, if not for want of bytes.
+    /// Why no item is taken, other than that more bytes have to come.
     type Error: From<Reason> + Drop;
 
     // What comes next: of the decoder and the bytes before, and those after.
@@ -71,8 +71,8 @@ pub trait Decoder: Sized + Drop {
     // The decoder that begins at the front of the held bytes.
     ghost restarted: { Self → Self };
 
-    /// Takes the next item, or returns `None` if more bytes have to come. With `None` and with an
-    /// error it may drop only what changes nothing that comes next. Requests for memory are made
+    /// Takes the next item, or returns `None` if more bytes have to come. If it returns `None` or an
+    /// error, it may drop only bytes without which the same comes next. Requests for memory are made
     /// from `alloc`.
     fn decode(
         &mut self,

@@ -2,7 +2,7 @@
 ghost use Rattle.std.specs.Prelude.{◌≡◌, ◌+◌, ◌-◌, ◌*◌, ◌^◌, ◌<◌, ◌≤◌, ◌++◌, length, min, take, drop, Some, IsOk, IfOk, IfErr, IfSome, IfNone, OnErr};
 ghost use Rattle.std.specs.List.{concat};
 ghost use Rattle.memchr.specs.Find.{FindsNeedle, IsFirst, Nowhere, OccursAt};
-ghost use Rattle.bytes_utils_buf.specs.Segments.{CountsPass, IsPaid, IsPlace, Skips};
+ghost use Rattle.bytes_utils_buf.specs.Segments.{CountsPass, IsPaid, IsPlace, SkipsSegments};
 ghost use Rattle.bytes_utils_codec.specs.Frames.{TakesFrame};
 ghost use Rattle.bytes_utils.specs.Occurrence.{Occurs};
 
@@ -127,7 +127,7 @@ pub fn take_until<B: ContiguousBuf + Drop>(
     ensures front { IfOk result (λ taken. IfSome taken (λ front. TakesFrame needle.now
         (concat buf.old.segments) front (concat buf.new.segments))) }
     ensures skips { IfOk result (λ taken. IfSome taken
-        (λ front. Skips (length front + length needle.now) buf.old.segments buf.new.segments)) }
+        (λ front. SkipsSegments (length front + length needle.now) buf.old.segments buf.new.segments)) }
     ensures none { IfOk result (λ taken. IfNone taken
         ((buf.new ≡ buf.old) × (¬ Occurs needle.now (concat buf.old.segments)))) }
     ensures err { OnErr result (buf.new ≡ buf.old) }
@@ -219,7 +219,8 @@ fn find_near<B: ContiguousBuf + Drop>(
 }
 
 /// The first place of the needle from `start` on. The search begins in the segment that has the byte
-/// at `start`, and looks at none before it: `first` is its index, and that of the byte in it.
+/// at `start`, and looks at none before it: `first` is the index of that segment, and the index of
+/// the byte in it.
 fn find_from_segment<B: ContiguousBuf + Drop>(
     buf: &SegmentedBuf<B>,
     start: usize,
@@ -273,14 +274,14 @@ fn find_starting_in<B: ContiguousBuf + Drop>(
     }
     let tail = from.max(segment.len().saturating_sub(most));
     let window = &mut window[..segment.len() - tail + most];
-    let count = fill_window(window, &segment[tail..], buf, next);
+    let count = fill_find_window(window, &segment[tail..], buf, next);
     let at = finder.find(&window[..count])?;
     Some(tail + at)
 }
 
 /// Copies the first bytes of `piece` and of the segments from index `next` on, until the window is
 /// full. Returns the number of bytes.
-fn fill_window<B: ContiguousBuf + Drop>(
+fn fill_find_window<B: ContiguousBuf + Drop>(
     window: &mut [u8],
     piece: &[u8],
     buf: &SegmentedBuf<B>,
@@ -290,7 +291,7 @@ fn fill_window<B: ContiguousBuf + Drop>(
     ensures bytes { take result window.new ≡ take (length window.old)
         (piece.now ++ concat (drop next buf.now.segments)) }
 {
-    let mut filled = copy_to_window(window, 0, piece);
+    let mut filled = copy_to_find_window(window, 0, piece);
     for i in next..buf.segments() {
         if filled == window.len() {
             break;
@@ -298,7 +299,7 @@ fn fill_window<B: ContiguousBuf + Drop>(
         let Some(segment) = buf.segment(i) else {
             break;
         };
-        filled = copy_to_window(window, filled, segment);
+        filled = copy_to_find_window(window, filled, segment);
     }
     filled
 }
@@ -306,7 +307,7 @@ fn fill_window<B: ContiguousBuf + Drop>(
 /// Copies the first bytes of `piece` into the window at `at`, until the window is full. Returns the
 /// place at which they end.
 #[inline]
-fn copy_to_window(window: &mut [u8], at: usize, piece: &[u8]) -> usize
+fn copy_to_find_window(window: &mut [u8], at: usize, piece: &[u8]) -> usize
     requires { at ≤ length window.old }
     ensures end { result ≡ at + min (length piece.now) (length window.old - at) }
     ensures bytes { take result window.new

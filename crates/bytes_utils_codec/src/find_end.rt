@@ -2,7 +2,7 @@
 ghost use Rattle.std.specs.Prelude.{◌≡◌, length};
 ghost use Rattle.std.specs.List.{concat};
 ghost use Rattle.memchr.specs.Find.{IsFirst};
-ghost use Rattle.bytes_utils_codec.specs.UniversalLines.{FindsEnd, IsEndAt};
+ghost use Rattle.bytes_utils_codec.specs.UniversalLines.{FindsUniversalEnd, IsUniversalEndAt};
 
 use bytes_utils_buf::contiguous::ContiguousBuf;
 use bytes_utils_buf::segmented::SegmentedBuf;
@@ -14,13 +14,13 @@ pub(crate) fn find_end<B: ContiguousBuf + Drop>(
     buf: &SegmentedBuf<B>,
     start: usize,
 ) -> Option<usize>
-    ensures { FindsEnd (concat buf.now.segments) start result }
+    ensures { FindsUniversalEnd (concat buf.now.segments) start result }
 {
     let (first, offset) = buf.segment_of(start)?;
     let mut base = start - offset;
     for index in first..buf.segments() {
         let segment = buf.segment(index)?;
-        if let Some(at) = find_in_segment(segment, start.saturating_sub(base)) {
+        if let Some(at) = find_end_in_segment(segment, start.saturating_sub(base)) {
             return Some(base + at);
         }
         base += segment.len();
@@ -30,8 +30,8 @@ pub(crate) fn find_end<B: ContiguousBuf + Drop>(
 
 /// The same in one segment.
 #[inline]
-fn find_in_segment(segment: &[u8], from: usize) -> Option<usize>
-    ensures { FindsEnd segment.now from result }
+fn find_end_in_segment(segment: &[u8], from: usize) -> Option<usize>
+    ensures { FindsUniversalEnd segment.now from result }
 {
     if from >= segment.len() {
         return None;

@@ -3,7 +3,7 @@ ghost use Rattle.std.specs.Prelude.{◌≡◌, ◌<◌, ◌≤◌, [], length, t
 ghost use Rattle.std.specs.List.{concat};
 ghost use Rattle.std.specs.Str.Lossy.{utf8_valid_len, utf8_error_len};
 ghost use Rattle.bytes_utils_codec.specs.Pushing.{IsPush};
-ghost use Rattle.bytes_utils_codec.specs.StreamTexts.{IsFaultItem, IsFront, IsUnfinished, LossyRunLaw, TakesItem, TakesLast, TextFaultLaw, TextFrontLaw, TextItemsLaw, WholeLossyLaw, asks_at_end, asks_for, text_fed, text_reading};
+ghost use Rattle.bytes_utils_codec.specs.TextReading.{IsFaultItem, IsTextFront, IsUnfinishedText, LossyTextLaw, TakesItem, TakesLast, TextFaultLaw, TextFrontLaw, TextItemsLaw, WholeLossyTextLaw, asks_at_end, asks_for, text_fed, text_reading};
 
 use bytes::{Buf, Bytes};
 use bytes_utils::split::character::first_end;
@@ -41,11 +41,11 @@ enum Front {
 /// ```
 ///
 /// Bytes that are no text are an item that has them, and the next item is that of the bytes after
-/// them: the longest first bytes of a character that what follows doesn't make one, or else a single
-/// byte (the Unicode Standard, section 3.9). With `lossy` the item is U+FFFD.
+/// them. They are the longest beginning of a character that the bytes after it don't complete, or
+/// else a single byte (the Unicode Standard, section 3.9). With `lossy` the item is U+FFFD.
 ///
-/// A text shares the block of its piece, and so do bytes that are none. Only a character that is
-/// cut, or a fault, is copied, of at most four bytes.
+/// A text shares the block of its piece, and so do bytes that are none. Only what is cut between two
+/// pieces is copied: a character, or bytes that are none, of at most four bytes.
 ///
 /// A piece is held as it is until its last text is taken. So take all items, up to `None`, before
 /// the next `push`: then at most three bytes are held between two pieces.
@@ -57,7 +57,7 @@ pub struct Texts {
 
 impl Model for Texts {
     ghost use Rattle.std.specs.List.{concat};
-    ghost use Rattle.bytes_utils_codec.specs.StreamTexts.{TextReading};
+    ghost use Rattle.bytes_utils_codec.specs.TextReading.{TextReading};
 
     ghost Value = { TextReading };
 
@@ -75,8 +75,8 @@ impl Texts {
         }
     }
 
-    /// Makes it lossy: bytes that are no text become U+FFFD, as `String::from_utf8_lossy` makes of
-    /// them. Then each item is a text.
+    /// Makes it lossy: bytes that are no text become U+FFFD, as with `String::from_utf8_lossy`. Then
+    /// each item is a text.
     pub fn lossy(self) -> Texts
         ensures { result ≡ record self { lossy = true } }
     {
@@ -99,13 +99,13 @@ impl Texts {
     /// Returns the next item: a text of whole characters, up to where a piece ends or isn't UTF-8,
     /// or the character over a border; or bytes that are no text, as early as that is certain.
     /// Returns `None` while the held bytes are the beginning of a character, or none. Fails with
-    /// `OutOfMemory` if memory is refused, which is asked for only if an item has come; then nothing
-    /// has changed.
+    /// `OutOfMemory` if memory is refused; it is asked for only if an item has come. Then nothing has
+    /// changed.
     pub fn next_item(&mut self, alloc: Global) -> Result<Option<Item>, Reason>
         ensures item { IfOk result
             (λ next. IfSome next (λ item. TakesItem self.old item self.new)) }
         ensures waits { IfOk result (λ next. IfNone next
-            ((self.new ≡ self.old) × IsUnfinished self.old.held)) }
+            ((self.new ≡ self.old) × IsUnfinishedText self.old.held)) }
         ensures err { OnErr result (self.new ≡ self.old) }
         ensures asks { OnErr result (asks_for self.old) }
         ensures reason { IfErr result (λ reason. reason ≡ Reason.OutOfMemory) }
@@ -140,15 +140,15 @@ impl Texts {
 
     /// Returns what the held bytes begin with.
     fn front(&self) -> Front
-        ensures { IsFront self.now.held result }
+        ensures { IsTextFront self.now.held result }
     {
-        let len = front_len(self.pieces.chunk());
+        let len = text_front_len(self.pieces.chunk());
         if len > 0 {
             return Front::Text(len);
         }
         let mut place = [0; 4];
         let count = self.pieces.peek(&mut place);
-        front_of_few(&place[..count])
+        text_front_of_few(&place[..count])
     }
 
     /// Takes the text of the first `len` bytes.
@@ -203,7 +203,7 @@ impl Texts {
 }
 
 /// Returns the number of bytes of the longest text at the start.
-fn front_len(bytes: &[u8]) -> usize
+fn text_front_len(bytes: &[u8]) -> usize
     ensures value { result ≡ utf8_valid_len bytes.now }
     ensures within { result ≤ length bytes.now }
     ensures utf8 { IsUtf8 (take result bytes.now) }
@@ -215,12 +215,12 @@ fn front_len(bytes: &[u8]) -> usize
 }
 
 /// Returns the length of the first character, or 0 if the bytes begin with none.
-fn first_len(bytes: &[u8]) -> usize
+fn text_character_len(bytes: &[u8]) -> usize
     ensures none { result ≡ 0 → utf8_valid_len bytes.now ≡ 0 }
     ensures within { result ≤ length bytes.now }
     ensures utf8 { IsUtf8 (take result bytes.now) }
 {
-    let front = &bytes[..front_len(bytes)];
+    let front = &bytes[..text_front_len(bytes)];
     let text = unsafe { str::from_utf8_unchecked(front) };
     match first_end(text) {
         Some(end) => end,
@@ -230,7 +230,7 @@ fn first_len(bytes: &[u8]) -> usize
 
 /// Returns the number of bytes that one U+FFFD replaces, of bytes that begin with no character, or
 /// `None` if they may go on to be one.
-fn fault_len(bytes: &[u8]) -> Option<usize>
+fn text_fault_len(bytes: &[u8]) -> Option<usize>
     requires { utf8_valid_len bytes.now ≡ 0 }
     ensures { result ≡ utf8_error_len bytes.now }
 {
@@ -241,14 +241,14 @@ fn fault_len(bytes: &[u8]) -> Option<usize>
 }
 
 /// Returns what the bytes begin with. Of a text it returns the first character alone.
-fn front_of_few(bytes: &[u8]) -> Front
-    ensures { IsFront bytes.now result }
+fn text_front_of_few(bytes: &[u8]) -> Front
+    ensures { IsTextFront bytes.now result }
 {
-    let len = first_len(bytes);
+    let len = text_character_len(bytes);
     if len > 0 {
         return Front::Text(len);
     }
-    match fault_len(bytes) {
+    match text_fault_len(bytes) {
         Some(len) => Front::Fault(len),
         None => Front::Unfinished,
     }
@@ -262,6 +262,6 @@ pub fn text_laws()
     ensures items { TextItemsLaw }
     ensures front { TextFrontLaw }
     ensures faulty { TextFaultLaw }
-    ensures lossy { LossyRunLaw }
-    ensures whole_lossy { WholeLossyLaw }
+    ensures lossy { LossyTextLaw }
+    ensures whole_lossy { WholeLossyTextLaw }
 {}

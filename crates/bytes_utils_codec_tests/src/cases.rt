@@ -1,4 +1,5 @@
 //! The tests, and what they share.
+mod callers;
 mod cursor;
 mod decode;
 mod find;

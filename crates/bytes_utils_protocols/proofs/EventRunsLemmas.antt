@@ -6,14 +6,13 @@ use Rattle.std.specs.Option.{option_to_list}
 use Rattle.std.proofs.lemmas.Bool.{true≢false}
 use Rattle.std.proofs.lemmas.List.Concat.{flat_map-append}
 use Rattle.bytes_utils_codec.specs.Decoding.{Item, fed}
-use Rattle.bytes_utils_codec.specs.StreamRuns.{AreFirst}
-use Rattle.bytes_utils_codec.specs.UniversalItems.{AwaitsUniversal, gives_universal}
-use Rattle.bytes_utils_codec.specs.UniversalItemsLaws.{universal_single, universal_stable, universal_waits}
+use Rattle.bytes_utils_codec.specs.StreamRuns.{AreFirstOfRun}
+use Rattle.bytes_utils_codec.specs.UniversalReading.{AwaitsUniversal, gives_universal}
+use Rattle.bytes_utils_codec.specs.UniversalReadingLaws.{universal_single, universal_stable, universal_waits}
 use Rattle.bytes_utils_codec.specs.declared.decode.lines.LineFault.{LineFault}
 use Rattle.bytes_utils_codec.proofs.DecodingLemmas.{SameNext-fed, SameNext-now, SameNext-refl, SameNext-trans, fed-joined}
-use Rattle.bytes_utils_codec.proofs.StreamRunsLemmas.{AreFirst-more, AreFirst-next, run_keeps, same_first_law}
-use Rattle.bytes_utils_protocols.specs.EventRuns.{EventRunLaw, Given, LargeEventLaw, NoEventLaw, Returns, SameEventLaw, nothing_held}
-use Rattle.bytes_utils_protocols.specs.Events.{Awaits, DoesLine, EndsEvent, Eventing, GivesItem, IsTooLarge, Keeps, LosesNothing, Reads, ReadsLine, ReadsNone, TakesFault, TakesNext, WaitsTooLarge, after_line, content, error_of, pushed, text_len}
+use Rattle.bytes_utils_codec.proofs.StreamRunsLemmas.{AreFirstOfRun-more, AreFirstOfRun-next, run_keeps, same_first_law}
+use Rattle.bytes_utils_protocols.specs.Events.{Awaits, DoesLine, EndsEvent, Eventing, GivesItem, IsTooLarge, Keeps, LosesNothing, Reads, ReadsLine, ReadsNone, TakesFault, TakesNext, WaitsTooLarge, after_line, event_content, error_of, pushed, event_text_len, EventRunLaw, EventGiven, LargeEventLaw, NoEventLaw, Returns, SameEventLaw, nothing_held}
 use Rattle.bytes_utils_protocols.specs.declared.events.Event.{Event}
 use Rattle.bytes_utils_protocols.specs.declared.events.EventError.{EventError}
 use Rattle.bytes_utils_protocols.specs.declared.events.Limits.{Limits}
@@ -40,7 +39,7 @@ Stops old (Err error) new = TakesFault old error new
 record Comes (old : Eventing) (item : EventItem) (new : Eventing) : Type 0 where
   lines : List (List ℕ)
   before : Eventing
-  reads : AreFirst ReadsLine old lines before
+  reads : AreFirstOfRun ReadsLine old lines before
   stops : Stops before item new
 
 comes : (old : Eventing) (item : EventItem) (new : Eventing) → GivesItem old item new → Comes old item new
@@ -106,9 +105,9 @@ stops_more old (Err error) new piece stops = record {
   others = ap (λ r. pushed r piece) stops.others;
 }
 
-reads_fed : (old : Eventing) (lines : List (List ℕ)) (new : Eventing) (piece : List ℕ) → AreFirst ReadsLine old lines new
-    → AreFirst ReadsLine (pushed old piece) lines (pushed new piece)
-reads_fed old lines new piece are = AreFirst-more pushed ReadsLine line_more old lines new piece are
+reads_fed : (old : Eventing) (lines : List (List ℕ)) (new : Eventing) (piece : List ℕ) → AreFirstOfRun ReadsLine old lines new
+    → AreFirstOfRun ReadsLine (pushed old piece) lines (pushed new piece)
+reads_fed old lines new piece are = AreFirstOfRun-more pushed ReadsLine line_more old lines new piece are
 
 item_more : (old : Eventing) (item : EventItem) (new : Eventing) (piece : List ℕ) → GivesItem old item new → GivesItem (pushed old piece) item (pushed new piece)
 item_more old item new piece gives =
@@ -201,13 +200,13 @@ none_twice old mid new none (inr b) = inr (record {
   waits = b.waits;
 })
 
-lines_append : (old : Eventing) (xs : List (List ℕ)) (mid : Eventing) (ys : List (List ℕ)) (new : Eventing) → AreFirst ReadsLine old xs mid → AreFirst ReadsLine mid ys new
-    → AreFirst ReadsLine old (xs ++ ys) new
-lines_append old [] mid ys new first later = subst (λ r. AreFirst ReadsLine r ys new) (sym first) later
+lines_append : (old : Eventing) (xs : List (List ℕ)) (mid : Eventing) (ys : List (List ℕ)) (new : Eventing) → AreFirstOfRun ReadsLine old xs mid → AreFirstOfRun ReadsLine mid ys new
+    → AreFirstOfRun ReadsLine old (xs ++ ys) new
+lines_append old [] mid ys new first later = subst (λ r. AreFirstOfRun ReadsLine r ys new) (sym first) later
 lines_append old (x ∷ xs) mid ys new first later = (first.0, first.1, lines_append first.0 xs mid ys new first.2 later)
 
 -- the first of the lines that are read then
-resumed_lines : (old mid : Eventing) (line : List ℕ) (lines : List (List ℕ)) (new : Eventing) → (loses : LosesNothing old mid) → AreFirst ReadsLine mid (line ∷ lines) new
+resumed_lines : (old mid : Eventing) (line : List ℕ) (lines : List (List ℕ)) (new : Eventing) → (loses : LosesNothing old mid) → AreFirstOfRun ReadsLine mid (line ∷ lines) new
     → Reads old new
 resumed_lines old mid line lines new loses are =
     let one = are.1 in
@@ -219,7 +218,7 @@ loses_gives old mid item new loses gives =
     let c = comes mid item new gives in
     given old item new (by c.before c.stops c.lines c.reads)
   where
-    by : (before : Eventing) → Stops before item new → (lines : List (List ℕ)) → AreFirst ReadsLine mid lines before → Comes old item new
+    by : (before : Eventing) → Stops before item new → (lines : List (List ℕ)) → AreFirstOfRun ReadsLine mid lines before → Comes old item new
     by before stops [] are = record {
       lines = loses.1.0;
       before = loses.0;
@@ -233,7 +232,7 @@ loses_gives old mid item new loses gives =
 loses_twice : (old mid new : Eventing) → LosesNothing old mid → LosesNothing mid new → LosesNothing old new
 loses_twice old mid new loses later = by later.1.0 later.1.1 later.2
   where
-    by : (lines : List (List ℕ)) → AreFirst ReadsLine mid lines later.0 → ReadsNone later.0 new → LosesNothing old new
+    by : (lines : List (List ℕ)) → AreFirstOfRun ReadsLine mid lines later.0 → ReadsNone later.0 new → LosesNothing old new
     by [] are none = (loses.0, loses.1, none_twice loses.0 mid new loses.2 (subst (λ r. ReadsNone r new) (sym are) none))
     by (line ∷ lines) are none = (later.0, resumed_lines old mid line lines later.0 loses are, none)
 
@@ -253,23 +252,23 @@ module _ (limits : Limits) where
   start = nothing_held limits
 
   -- the events are the first ones of the bytes, and nothing of the bytes after them is lost
-  record Holds (bytes : List ℕ) (items : List Given) (reading : Eventing) : Type 0 where
+  record Holds (bytes : List ℕ) (items : List EventGiven) (reading : Eventing) : Type 0 where
     mid : Eventing
-    first : AreFirst GivesItem (pushed start bytes) (flat_map option_to_list items) mid
+    first : AreFirstOfRun GivesItem (pushed start bytes) (flat_map option_to_list items) mid
     loses : LosesNothing mid reading
 
-  holds_pushed : (bytes : List ℕ) (items : List Given) (reading : Eventing) (piece : List ℕ) → Holds bytes items reading → Holds (bytes ++ piece) items (pushed reading piece)
+  holds_pushed : (bytes : List ℕ) (items : List EventGiven) (reading : Eventing) (piece : List ℕ) → Holds bytes items reading → Holds (bytes ++ piece) items (pushed reading piece)
   holds_pushed bytes items reading piece holds =
       let events = flat_map option_to_list items in
       let joined : pushed (pushed start bytes) piece ≡ pushed start (bytes ++ piece) = ap (λ l. record start { lines = l }) (fed-joined start.lines bytes piece) in
       record {
         mid = pushed holds.mid piece;
-        first = subst (λ r. AreFirst GivesItem r events (pushed holds.mid piece)) joined
-            (AreFirst-more pushed GivesItem item_more (pushed start bytes) events holds.mid piece holds.first);
+        first = subst (λ r. AreFirstOfRun GivesItem r events (pushed holds.mid piece)) joined
+            (AreFirstOfRun-more pushed GivesItem item_more (pushed start bytes) events holds.mid piece holds.first);
         loses = loses_more holds.mid reading piece holds.loses;
       }
 
-  holds_taken : (bytes : List ℕ) (items : List Given) (reading : Eventing) (item : Given) (next : Eventing) → Holds bytes items reading → Returns reading item next
+  holds_taken : (bytes : List ℕ) (items : List EventGiven) (reading : Eventing) (item : EventGiven) (next : Eventing) → Holds bytes items reading → Returns reading item next
       → Holds bytes (items ++ item ∷ []) next
   holds_taken bytes items reading None next holds returns = record {
     mid = holds.mid;
@@ -282,7 +281,7 @@ module _ (limits : Limits) where
       record {
         mid = next;
         first = rw (flat_map-append option_to_list items (Some item ∷ []))
-            (AreFirst-next GivesItem (pushed start bytes) (flat_map option_to_list items) holds.mid item next holds.first gives);
+            (AreFirstOfRun-next GivesItem (pushed start bytes) (flat_map option_to_list items) holds.mid item next holds.first gives);
         loses = kept next (stops_none c.before item next c.stops);
       }
 
@@ -354,14 +353,14 @@ reads_same old line other a b p q =
     let does : DoesLine p.taken line b = subst (λ l. DoesLine p.taken l b) (sym same.0) (subst (λ r. DoesLine r other b) (sym same.1) q.does) in
     p.does.after ∙ sym does.after
 
-given_same : (old : Eventing) (xs ys : List (List ℕ)) (m n : Eventing) (e f : EventItem) (a b : Eventing) → AreFirst ReadsLine old xs m → AreFirst ReadsLine old ys n → Stops m e a
+given_same : (old : Eventing) (xs ys : List (List ℕ)) (m n : Eventing) (e f : EventItem) (a b : Eventing) → AreFirstOfRun ReadsLine old xs m → AreFirstOfRun ReadsLine old ys n → Stops m e a
     → Stops n f b → (e ≡ f) × (a ≡ b)
 given_same old [] [] m n e f a b p q s t = stops_same old e f a b (subst (λ r. Stops r e a) (sym p) s) (subst (λ r. Stops r f b) (sym q) t)
 given_same old [] (y ∷ ys) m n e f a b p q s t = absurd (goes_on old y q.0 e a q.1 (subst (λ r. Stops r e a) (sym p) s))
 given_same old (x ∷ xs) [] m n e f a b p q s t = absurd (goes_on old x p.0 f b p.1 (subst (λ r. Stops r f b) (sym q) t))
 given_same old (x ∷ xs) (y ∷ ys) m n e f a b p q s t =
     let same = reads_same old x y p.0 q.0 p.1 q.1 in
-    given_same q.0 xs ys m n e f a b (subst (λ r. AreFirst ReadsLine r xs m) same p.2) q.2 s t
+    given_same q.0 xs ys m n e f a b (subst (λ r. AreFirstOfRun ReadsLine r xs m) same p.2) q.2 s t
 
 pub same_event_law : SameEventLaw
 same_event_law = same_first_law GivesItem (λ old e f a b p q.
@@ -383,19 +382,19 @@ no_stop s (Err error) end none awaits stops = universal_waits s.lines awaits (Er
 record Ended (old : Eventing) : Type 0 where
   lines : List (List ℕ)
   end : Eventing
-  reads : AreFirst ReadsLine old lines end
+  reads : AreFirstOfRun ReadsLine old lines end
   no_more : (line : List ℕ) (next : Eventing) → ReadsLine end line next → ⊥
   none : (item : EventItem) (next : Eventing) → Stops end item next → ⊥
 
-none_there : (old : Eventing) (xs ys : List (List ℕ)) (m n : Eventing) (item : EventItem) (end : Eventing) → AreFirst ReadsLine old xs m
+none_there : (old : Eventing) (xs ys : List (List ℕ)) (m n : Eventing) (item : EventItem) (end : Eventing) → AreFirstOfRun ReadsLine old xs m
     → ((line : List ℕ) (next : Eventing) → ReadsLine m line next → ⊥) → ((item : EventItem) (next : Eventing) → Stops m item next → ⊥)
-    → AreFirst ReadsLine old ys n → Stops n item end → ⊥
+    → AreFirstOfRun ReadsLine old ys n → Stops n item end → ⊥
 none_there old [] [] m n item end p no_more none q stops = none item end (subst (λ r. Stops r item end) (sym q ∙ p) stops)
 none_there old [] (y ∷ ys) m n item end p no_more none q stops = no_more y q.0 (subst (λ r. ReadsLine r y q.0) p q.1)
 none_there old (x ∷ xs) [] m n item end p no_more none q stops = goes_on old x p.0 item end p.1 (subst (λ r. Stops r item end) (sym q) stops)
 none_there old (x ∷ xs) (y ∷ ys) m n item end p no_more none q stops =
     let same = reads_same old x y p.0 q.0 p.1 q.1 in
-    none_there q.0 xs ys m n item end (subst (λ r. AreFirst ReadsLine r xs m) same p.2) no_more none q.2 stops
+    none_there q.0 xs ys m n item end (subst (λ r. AreFirstOfRun ReadsLine r xs m) same p.2) no_more none q.2 stops
 
 no_item : (old : Eventing) → Ended old → (item : EventItem) (end : Eventing) → ¬ GivesItem old item end
 no_item old ended item end gives =
@@ -419,8 +418,8 @@ module _ (mid taken : Eventing) (line : List ℕ) (takes : TakesNext mid line ta
   not_read other next reads =
       let same = next_same mid line other taken reads.taken takes reads.takes in
       let does : DoesLine taken line next = subst (λ l. DoesLine taken l next) (sym same.0) (subst (λ r. DoesLine r other next) (sym same.1) reads.does) in
-      let told : text_len next.told.text ≡ text_len (after_line taken.told (content taken.at_start line)).text =
-      ap (λ (r : Eventing). text_len r.told.text) does.after in
+      let told : event_text_len next.told.text ≡ event_text_len (after_line taken.told (event_content taken.at_start line)).text =
+      ap (λ (r : Eventing). event_text_len r.told.text) does.after in
       omega (arith, told, does.small, large.1)
 
   not_stopped : (item : EventItem) (next : Eventing) → Stops mid item next → ⊥

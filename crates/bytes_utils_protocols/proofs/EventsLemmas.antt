@@ -10,15 +10,15 @@ use Rattle.std.proofs.lemmas.Bool.{and_from, and_parts, cases_Bool, cond-false, 
 use Rattle.std.proofs.lemmas.List.{take-append-drop}
 use Rattle.std.proofs.lemmas.Str.{IsCharBoundary-at_seam}
 use denote.Ref.{Bor}
-use Rattle.bytes_utils_codec.specs.StreamRuns.{AreFirst}
+use Rattle.bytes_utils_codec.specs.StreamRuns.{AreFirstOfRun}
 use Rattle.bytes_utils_codec.specs.Decoding.{Item}
-use Rattle.bytes_utils_codec.specs.LineItems.{LineItem}
-use Rattle.bytes_utils_codec.specs.UniversalItems.{gives_universal, keeps_universal}
-use Rattle.bytes_utils_codec.specs.UniversalItemsLaws.{universal_same, universal_shortens}
+use Rattle.bytes_utils_codec.specs.LineReading.{LineItem}
+use Rattle.bytes_utils_codec.specs.UniversalReading.{gives_universal, keeps_universal}
+use Rattle.bytes_utils_codec.specs.UniversalReadingLaws.{universal_same, universal_shortens}
 use Rattle.bytes_utils_codec.specs.declared.decode.lines.LineFault.{LineFault}
 use Rattle.bytes_utils_codec.specs.declared.decode.lines.LineFault.TheVariants.{NotUtf8 as NotText, TooLong}
-use Rattle.bytes_utils_codec.proofs.StreamRunsLemmas.{AreFirst-next}
-use Rattle.bytes_utils_protocols.specs.Events.{DoesLine, Eventing, Gives, IsEndOf, IsTooLarge, Keeps, LosesNothing, PassesFault, Reads, ReadsLine, TakesNext, Telling, WaitsTooLarge, error_of, left_to_read, waiting_count, after_field, after_line, byte_order_mark, content, field_name, field_value, is_colon, is_number, number_of, text_len, without_space}
+use Rattle.bytes_utils_codec.proofs.StreamRunsLemmas.{AreFirstOfRun-next}
+use Rattle.bytes_utils_protocols.specs.Events.{DoesLine, Eventing, Gives, IsEndOfEventLine, IsTooLarge, Keeps, LosesNothing, PassesFault, Reads, ReadsLine, TakesNext, EventTelling, WaitsTooLarge, error_of, left_to_read, waiting_event_lines, after_field, after_line, event_byte_order_mark, event_content, event_field_name, event_field_value, is_event_colon, is_event_number, event_number_of, event_text_len, event_value_of}
 use Rattle.bytes_utils_protocols.specs.Digits.{WriteNumber}
 use Rattle.bytes_utils_protocols.specs.declared.events.Event.{Event}
 use Rattle.bytes_utils_protocols.specs.declared.events.EventError.TheVariants.{NotUtf8}
@@ -26,7 +26,7 @@ use Rattle.bytes_utils_protocols.specs.declared.events.EventError.TheVariants.{N
 -- one more line is read
 pub reads_more : (start old taken new : Eventing) (line : List ℕ) → Reads start old → TakesNext old line taken → DoesLine taken line new → Reads start new
 reads_more start old taken new line reads takes does =
-    (reads.0 ++ line ∷ [], AreFirst-next ReadsLine start reads.0 old line new reads.1 (record { taken = taken; takes = takes; does = does }))
+    (reads.0 ++ line ∷ [], AreFirstOfRun-next ReadsLine start reads.0 old line new reads.1 (record { taken = taken; takes = takes; does = does }))
 
 -- ---- what a line does
 
@@ -35,7 +35,7 @@ if_none None is so = so is
 if_none (Some x) is so = is
 
 -- an empty line where there is no data
-pub does_empty : (old mid : Eventing) (line : List ℕ) → IsUtf8 line → content old.at_start line ≡ [] → old.told.text ≡ None
+pub does_empty : (old mid : Eventing) (line : List ℕ) → IsUtf8 line → event_content old.at_start line ≡ [] → old.told.text ≡ None
     → mid ≡ record old { told = record old.told { name = None } } → DoesLine old line (record mid { at_start = false })
 does_empty old mid line utf8 empty none is = record {
   utf8 = utf8;
@@ -44,29 +44,29 @@ does_empty old mid line utf8 empty none is = record {
   small = rw (is, none) (omega arith);
 }
 
-field_told : (told : Telling) (text : List ℕ) → text ≢ [] → after_line told text ≡ after_field told (field_name text) (field_value text)
+field_told : (told : EventTelling) (text : List ℕ) → text ≢ [] → after_line told text ≡ after_field told (event_field_name text) (event_field_value text)
 field_told told [] some = absurd (some refl)
 field_told told (c ∷ t) some = refl
 
 -- a field with which the data would be too large
-pub field_too_large : (old : Eventing) (line text : List ℕ) → text ≡ content old.at_start line → text ≢ []
-    → old.max_data < text_len (after_field old.told (field_name text) (field_value text)).text → IsTooLarge old line
+pub field_too_large : (old : Eventing) (line text : List ℕ) → text ≡ event_content old.at_start line → text ≢ []
+    → old.max_data < event_text_len (after_field old.told (event_field_name text) (event_field_value text)).text → IsTooLarge old line
 field_too_large old line text is some large =
-    let told : old.max_data < text_len (after_line old.told text).text = subst (λ (t : Telling). old.max_data < text_len t.text) (sym (field_told old.told text some)) large in
-    ((λ e. some (is ∙ e)), subst (λ t. old.max_data < text_len (after_line old.told t).text) is told)
+    let told : old.max_data < event_text_len (after_line old.told text).text = subst (λ (t : EventTelling). old.max_data < event_text_len t.text) (sym (field_told old.told text some)) large in
+    ((λ e. some (is ∙ e)), subst (λ t. old.max_data < event_text_len (after_line old.told t).text) is told)
 
 -- a field
-pub does_field : (old mid : Eventing) (line : List ℕ) → IsUtf8 line → content old.at_start line ≢ []
-    → mid ≡ record old { told = after_field old.told (field_name (content old.at_start line)) (field_value (content old.at_start line)) }
-    → text_len mid.told.text ≤ mid.max_data → DoesLine old line (record mid { at_start = false })
+pub does_field : (old mid : Eventing) (line : List ℕ) → IsUtf8 line → event_content old.at_start line ≢ []
+    → mid ≡ record old { told = after_field old.told (event_field_name (event_content old.at_start line)) (event_field_value (event_content old.at_start line)) }
+    → event_text_len mid.told.text ≤ mid.max_data → DoesLine old line (record mid { at_start = false })
 does_field old mid line utf8 some is small =
-    let told = field_told old.told (content old.at_start line) some in
+    let told = field_told old.told (event_content old.at_start line) some in
     let limits : mid.max_data ≡ old.max_data = ap (λ (r : Eventing). r.max_data) is in
     record {
       utf8 = utf8;
       ends_none = λ empty. absurd (some empty);
       after = ap (λ (r : Eventing). record r { at_start = false }) (is ∙ ap (λ t. record old { told = t }) (sym told));
-      small = subst (λ l. text_len mid.told.text ≤ l) limits small;
+      small = subst (λ l. event_text_len mid.told.text ≤ l) limits small;
     }
 
 -- ---- less is left to read
@@ -80,7 +80,7 @@ taken_less old taken line takes =
     none = ap (λ (r : Eventing). r.waiting) takes.others
 
     by : (waiting : Option (List ℕ)) → MatchOption waiting (gives_universal old.lines (Item (Ok line)) taken.lines) (λ w. (line ≡ w) × (taken.lines ≡ old.lines))
-        → left_to_read taken < length old.lines.held + waiting_count waiting
+        → left_to_read taken < length old.lines.held + waiting_event_lines waiting
     by None next = rw none (omega (arith, universal_shortens old.lines (Ok line) taken.lines next (λ e. absurd cc)))
     by (Some w) next = rw (none, next.1) (omega arith)
 
@@ -92,7 +92,7 @@ reads_less old taken new line takes does =
     let same = same_left taken new (ap (λ (r : Eventing). r.lines) does.after) (ap (λ (r : Eventing). r.waiting) does.after) in
     omega (arith, same, taken_less old taken line takes)
 
-reads_no_more : (lines : List (List ℕ)) (old new : Eventing) → AreFirst ReadsLine old lines new → left_to_read new ≤ left_to_read old
+reads_no_more : (lines : List (List ℕ)) (old new : Eventing) → AreFirstOfRun ReadsLine old lines new → left_to_read new ≤ left_to_read old
 reads_no_more [] old new are = omega (arith, ap left_to_read are)
 reads_no_more (line ∷ lines) old new are =
     omega (arith, reads_less old are.1.taken are.0 line are.1.takes are.1.does, reads_no_more lines are.0 new are.2)
@@ -113,7 +113,7 @@ fault_less old new passes =
     let fault = passes.2 in
     let waiting : new.waiting ≡ mid.waiting = ap (λ (r : Eventing). r.waiting) fault.others in
     let less = universal_shortens mid.lines (Err fault.fault) new.lines fault.gives (not_long fault.fault (Err fault.fault) refl fault.is) in
-    omega (arith, ap waiting_count waiting, less, reads_no_more passes.1.0 old mid passes.1.1)
+    omega (arith, ap waiting_event_lines waiting, less, reads_no_more passes.1.0 old mid passes.1.1)
 
 -- ---- what a call of the decoder did
 
@@ -131,48 +131,48 @@ over_kept old mid taken new line reads takes utf8 waits large = (
 
 -- ---- the ends of a line
 
-end_self : (text : List ℕ) → IsEndOf text text
+end_self : (text : List ℕ) → IsEndOfEventLine text text
 end_self text = ([], refl)
 
-end_drop : (text : List ℕ) (n : ℕ) → IsEndOf text (drop n text)
+end_drop : (text : List ℕ) (n : ℕ) → IsEndOfEventLine text (drop n text)
 end_drop text n = (take n text, sym (take-append-drop n text))
 
-pub end_end : (line text value : List ℕ) → IsEndOf line text → IsEndOf text value → IsEndOf line value
+pub end_end : (line text value : List ℕ) → IsEndOfEventLine line text → IsEndOfEventLine text value → IsEndOfEventLine line value
 end_end line text value first second =
     (first.0 ++ second.0, first.1 ∙ ap (λ l. first.0 ++ l) second.1 ∙ sym (append_assoc first.0 second.0 value))
 
-pub content_end : (at_start : Bool) (line : List ℕ) → IsEndOf line (content at_start line)
-content_end at_start line = by (at_start && starts_with nat_eq line byte_order_mark)
+pub content_end : (at_start : Bool) (line : List ℕ) → IsEndOfEventLine line (event_content at_start line)
+content_end at_start line = by (at_start && starts_with nat_eq line event_byte_order_mark)
   where
-    by : (marked : Bool) → IsEndOf line (if marked then drop 3 line else line)
+    by : (marked : Bool) → IsEndOfEventLine line (if marked then drop 3 line else line)
     by true = end_drop line 3
     by false = end_self line
 
-space_end : (text : List ℕ) → IsEndOf text (without_space text)
+space_end : (text : List ℕ) → IsEndOfEventLine text (event_value_of text)
 space_end [] = end_self []
 space_end (c ∷ t) = by (c == 32)
   where
-    by : (is : Bool) → IsEndOf (c ∷ t) (if is then t else c ∷ t)
+    by : (is : Bool) → IsEndOfEventLine (c ∷ t) (if is then t else c ∷ t)
     by true = (c ∷ [], refl)
     by false = end_self (c ∷ t)
 
-pub value_end : (text : List ℕ) → IsEndOf text (field_value text)
-value_end text = end_end text (after_first is_colon text) (field_value text) (end_drop text (position_or_len is_colon text + 1)) (space_end (after_first is_colon text))
+pub value_end : (text : List ℕ) → IsEndOfEventLine text (event_field_value text)
+value_end text = end_end text (after_first is_event_colon text) (event_field_value text) (end_drop text (position_or_len is_event_colon text + 1)) (space_end (after_first is_event_colon text))
 
 -- where an end may be cut off
-pub end_boundary : (line end : List ℕ) → IsEndOf line end → IsUtf8 end → IsCharBoundary line (length line - length end)
+pub end_boundary : (line end : List ℕ) → IsEndOfEventLine line end → IsUtf8 end → IsCharBoundary line (length line - length end)
 end_boundary line end is utf8 =
     let place : length line - length end ≡ length is.0 = omega (arith, ap length is.1, length-append is.0 end) in
     subst (IsCharBoundary line) (sym place) (IsCharBoundary-at_seam line is.0 end is.1 utf8)
 
-pub end_dropped : (line end : List ℕ) → IsEndOf line end → drop (length line - length end) line ≡ end
+pub end_dropped : (line end : List ℕ) → IsEndOfEventLine line end → drop (length line - length end) line ≡ end
 end_dropped line end is =
     let place : length line - length end ≡ length is.0 = omega (arith, ap length is.1, length-append is.0 end) in
     rw (place) (ap (drop (length is.0)) is.1 ∙ drop-append_seam is.0 end)
 
 -- by what a search for a space found
 pub without_space_found : (text : List ℕ) (found : Option (Bor (List ℕ))) → MatchOption found ((rest : List ℕ) → text ≢ 32 ∷ rest) (λ x. text ≡ 32 ∷ x.now)
-    → (other : Bor (List ℕ)) → other.now ≡ text → (unwrap_or found other).now ≡ without_space text
+    → (other : Bor (List ℕ)) → other.now ≡ text → (unwrap_or found other).now ≡ event_value_of text
 without_space_found text (Some x) is other same = rw is refl
 without_space_found [] None none other same = same
 without_space_found (c ∷ t) None none other same = rw (ne_eqb c 32 (λ e. none t (ap (λ x. x ∷ t) e))) same
@@ -189,16 +189,16 @@ listed_digits (c ∷ t) all =
     let parts = and_parts (nat_lt (digit_value c) 10) (list_all (λ c. nat_lt (digit_value c) 10) t) all in
     (ltb-true (digit_value c) 10 parts.0, listed_digits t parts.1)
 
-pub number_found : (text : List ℕ) (found : Option ℕ) → MatchOption found ((n : ℕ) → WriteNumber text n → ⊥) (λ n. WriteNumber text n) → found ≡ number_of text
+pub number_found : (text : List ℕ) (found : Option ℕ) → MatchOption found ((n : ℕ) → WriteNumber text n → ⊥) (λ n. WriteNumber text n) → found ≡ event_number_of text
 number_found text (Some n) writes =
     let below : nat_lt (digits_value 10 text) (2 ^ 64) ≡ true = lt-ltb (digits_value 10 text) (2 ^ 64) (omega (arith, writes.1, writes.2)) in
-    let is : is_number text ≡ true =
+    let is : is_event_number text ≡ true =
     and_from (nat_lt 0 (length text)) _ (lt-ltb 0 (length text) writes.0.0) (and_from (list_all (λ c. nat_lt (digit_value c) 10) text) _ (digits_listed text writes.0.1) below) in
-    ap Some (sym writes.1) ∙ sym (cond-true (is_number text) (Some (digits_value 10 text)) None is)
-number_found text None none = elim (cases_Bool (is_number text)) [
+    ap Some (sym writes.1) ∙ sym (cond-true (is_event_number text) (Some (digits_value 10 text)) None is)
+number_found text None none = elim (cases_Bool (is_event_number text)) [
   | inl is ↦
       let parts = and_parts (nat_lt 0 (length text)) _ is in
       let others = and_parts (list_all (λ c. nat_lt (digit_value c) 10) text) _ parts.1 in
       absurd (none (digits_value 10 text) ((ltb-true 0 (length text) parts.0, listed_digits text others.0), refl, ltb-true (digits_value 10 text) (2 ^ 64) others.1))
-  | inr is_not ↦ sym (cond-false (is_number text) (Some (digits_value 10 text)) None is_not)
+  | inr is_not ↦ sym (cond-false (is_event_number text) (Some (digits_value 10 text)) None is_not)
 ]

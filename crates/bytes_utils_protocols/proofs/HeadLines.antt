@@ -7,25 +7,25 @@ use Rattle.std.proofs.lemmas.List.Elements.{All-contains, All-push, All-weaker, 
 use Rattle.std.proofs.lemmas.List.Quantifiers.{Any-push}
 use Rattle.bytes_utils_protocols.specs.declared.requests.LengthError.{LengthError}
 use Rattle.bytes_utils_protocols.specs.declared.requests.LengthError.TheVariants.{Unequal}
-use Rattle.bytes_utils_protocols.specs.Requests.{Differ, ReportError, ReportLength, Reports}
+use Rattle.bytes_utils_protocols.specs.Requests.{RequestLinesDiffer, ReportRequestError, ReportRequestLength, RequestLineReports}
 use Rattle.bytes_utils_protocols.proofs.HeadReports.{IsAtFault, ReportsAtMost}
 use Rattle.bytes_utils_protocols.proofs.HeaderReports.{reports_one}
 
 -- each line reports the known length or nothing, and one line reports the known length, if there is one
 abbrev pub Known : List (List ℕ) → Option ℕ → Type 0
-Known lines None = All (λ line. Reports line (Ok None)) lines
-Known lines (Some len) = All (ReportsAtMost len) lines × Any (λ line. Reports line (Ok (Some len))) lines
+Known lines None = All (λ line. RequestLineReports line (Ok None)) lines
+Known lines (Some len) = All (ReportsAtMost len) lines × Any (λ line. RequestLineReports line (Ok (Some len))) lines
 
-known_length : (lines : List (List ℕ)) (known : Option ℕ) → Known lines known → ReportLength lines (unwrap_or known 0)
+known_length : (lines : List (List ℕ)) (known : Option ℕ) → Known lines known → ReportRequestLength lines (unwrap_or known 0)
 known_length lines None all = record {
-  each = All-weaker (λ line. Reports line (Ok None)) (ReportsAtMost 0) (λ line none. inl none) lines all;
+  each = All-weaker (λ line. RequestLineReports line (Ok None)) (ReportsAtMost 0) (λ line none. inl none) lines all;
   none = λ _. refl;
 }
 known_length lines (Some len) known = record {
   each = known.0;
   none = λ all.
       let some = known.1 in
-      let none = All-contains (λ line. Reports line (Ok None)) lines some.1 all (some.0, some.2, some.3) in
+      let none = All-contains (λ line. RequestLineReports line (Ok None)) lines some.1 all (some.0, some.2, some.3) in
       let same = reports_one some.1 (Ok None) (Ok (Some len)) none some.4 in cc;
 }
 
@@ -33,24 +33,24 @@ any_more : (P : List ℕ → Type 0) (lines : List (List ℕ)) (line : List ℕ)
 any_more P lines line some =
     let there = Contains-append_left lines (line ∷ []) some.1 (some.0, some.2, some.3) in (there.0, some.1, there.1, there.2, some.4)
 
-known_more : (lines : List (List ℕ)) (line : List ℕ) (known reported : Option ℕ) → Known lines known → Reports line (Ok reported)
+known_more : (lines : List (List ℕ)) (line : List ℕ) (known reported : Option ℕ) → Known lines known → RequestLineReports line (Ok reported)
     → IfSome known (λ one. IfSome reported (λ other. one ≡ other)) → Known (lines ++ line ∷ []) (option_or known reported)
-known_more lines line None None known report same = All-push (λ l. Reports l (Ok None)) lines line known report
+known_more lines line None None known report same = All-push (λ l. RequestLineReports l (Ok None)) lines line known report
 known_more lines line None (Some n) known report same = (
-  All-push (ReportsAtMost n) lines line (All-weaker (λ l. Reports l (Ok None)) (ReportsAtMost n) (λ l none. inl none) lines known) (inr report),
-  Any-push (λ l. Reports l (Ok (Some n))) lines line report,
+  All-push (ReportsAtMost n) lines line (All-weaker (λ l. RequestLineReports l (Ok None)) (ReportsAtMost n) (λ l none. inl none) lines known) (inr report),
+  Any-push (λ l. RequestLineReports l (Ok (Some n))) lines line report,
 )
 known_more lines line (Some m) None known report same = (
   All-push (ReportsAtMost m) lines line known.0 (inl report),
-  any_more (λ l. Reports l (Ok (Some m))) lines line known.1,
+  any_more (λ l. RequestLineReports l (Ok (Some m))) lines line known.1,
 )
 known_more lines line (Some m) (Some n) known report same = (
-  All-push (ReportsAtMost m) lines line known.0 (inr (subst (λ k. Reports line (Ok (Some k))) (sym same) report)),
-  any_more (λ l. Reports l (Ok (Some m))) lines line known.1,
+  All-push (ReportsAtMost m) lines line known.0 (inr (subst (λ k. RequestLineReports line (Ok (Some k))) (sym same) report)),
+  any_more (λ l. RequestLineReports l (Ok (Some m))) lines line known.1,
 )
 
-unequal : (lines : List (List ℕ)) (line : List ℕ) (known reported : Option ℕ) → Known lines known → Reports line (Ok reported)
-    → IsSomeAnd known (λ one. IsSomeAnd reported (λ other. one ≢ other)) → Any (λ one. Differ one line) lines
+unequal : (lines : List (List ℕ)) (line : List ℕ) (known reported : Option ℕ) → Known lines known → RequestLineReports line (Ok reported)
+    → IsSomeAnd known (λ one. IsSomeAnd reported (λ other. one ≢ other)) → Any (λ one. RequestLinesDiffer one line) lines
 unequal lines line None reported known report apart = absurd apart
 unequal lines line (Some m) None known report apart = absurd apart
 unequal lines line (Some m) (Some n) known report apart = let some = known.1 in (some.0, some.1, some.2, some.3, (m, n, some.4, report, apart))
@@ -64,12 +64,12 @@ pub record SoFar (lines left : List (List ℕ)) (known : Option ℕ) : Type 0 wh
 pub so_far_none : (lines : List (List ℕ)) → SoFar lines lines None
 so_far_none lines = record { before = []; parts = refl; reports = λ k d below. absurd (omega arith) }
 
-pub so_far_all : (lines : List (List ℕ)) (known : Option ℕ) → SoFar lines [] known → ReportLength lines (unwrap_or known 0)
+pub so_far_all : (lines : List (List ℕ)) (known : Option ℕ) → SoFar lines [] known → ReportRequestLength lines (unwrap_or known 0)
 so_far_all lines known h =
-    subst (λ l. ReportLength l (unwrap_or known 0)) (sym (h.parts ∙ append-nil h.before)) (known_length h.before known h.reports)
+    subst (λ l. ReportRequestLength l (unwrap_or known 0)) (sym (h.parts ∙ append-nil h.before)) (known_length h.before known h.reports)
 
 pub so_far_more : (lines others : List (List ℕ)) (line : List ℕ) (known reported agreed : Option ℕ) → SoFar lines (line ∷ others) known
-    → Reports line (Ok reported) → (agreed ≡ option_or known reported) × IfSome known (λ one. IfSome reported (λ other. one ≡ other))
+    → RequestLineReports line (Ok reported) → (agreed ≡ option_or known reported) × IfSome known (λ one. IfSome reported (λ other. one ≡ other))
     → SoFar lines others agreed
 so_far_more lines others line known reported agreed h report fits = record {
   before = h.before ++ line ∷ [];
@@ -78,7 +78,7 @@ so_far_more lines others line known reported agreed h report fits = record {
 }
 
 so_far_fault : (lines others : List (List ℕ)) (line : List ℕ) (known : Option ℕ) (error : LengthError) (h : SoFar lines (line ∷ others) known)
-    → IsAtFault h.before line error → ReportError lines error
+    → IsAtFault h.before line error → ReportRequestError lines error
 so_far_fault lines others line known error h fault = record {
   before = h.before;
   line = line;
@@ -90,11 +90,11 @@ so_far_fault lines others line known error h fault = record {
 }
 
 pub so_far_error : (lines others : List (List ℕ)) (line : List ℕ) (known : Option ℕ) (error : LengthError) → SoFar lines (line ∷ others) known
-    → Reports line (Err error) → ReportError lines error
+    → RequestLineReports line (Err error) → ReportRequestError lines error
 so_far_error lines others line known error h report = so_far_fault lines others line known error h (inl report)
 
 pub so_far_unequal : (lines others : List (List ℕ)) (line : List ℕ) (known reported : Option ℕ) (error : LengthError) → SoFar lines (line ∷ others) known
-    → Reports line (Ok reported) → (error ≡ Unequal) × IsSomeAnd known (λ one. IsSomeAnd reported (λ other. one ≢ other)) → ReportError lines error
+    → RequestLineReports line (Ok reported) → (error ≡ Unequal) × IsSomeAnd known (λ one. IsSomeAnd reported (λ other. one ≢ other)) → ReportRequestError lines error
 so_far_unequal lines others line known reported error h report apart =
     so_far_fault lines others line known error h (inr (apart.0, unequal h.before line known reported h.reports report apart.1))
 

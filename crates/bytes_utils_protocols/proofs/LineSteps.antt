@@ -13,8 +13,8 @@ use Rattle.std.proofs.lemmas.Str.{digit_value_digit}
 use Rattle.std.proofs.lemmas.Str.Parse.{digit_from_value}
 use Rattle.std.specs.Char.{digit_value}
 use Rattle.bytes_utils_protocols.specs.Digits.{WriteNumber}
-use Rattle.bytes_utils_protocols.specs.Redis.{IsLineOf, IsPlain, IsTextLine, LacksByte, WriteInteger, WriteLength}
-use Rattle.bytes_utils_protocols.specs.PendingReply.{AreDigitsOf, IsReadAs, NoReturn, length_byte, sign_bytes, signed}
+use Rattle.bytes_utils_protocols.specs.Redis.{IsLineOf, IsRedisPlain, IsRedisTextLine, LacksRedisByte, WriteRedisInteger, WriteRedisLength}
+use Rattle.bytes_utils_protocols.specs.RedisLine.{AreLineDigits, IsReadAs, NoLineReturn, line_length_byte, line_sign_bytes, signed_line_number}
 use Rattle.bytes_utils_protocols.specs.declared.redis.item.Item.{Item}
 use Rattle.bytes_utils_protocols.specs.declared.redis.line.Counted.{Counted}
 use Rattle.bytes_utils_protocols.specs.declared.redis.line.Counted.TheVariants.{Bytes, Items}
@@ -43,19 +43,19 @@ all_after (d ∷ ds) es digits = all_after ds es digits.1
 pub no_digit : (ds more : List ℕ) (c n : ℕ) → ((48 ≤ c) × (c ≤ 57) → ⊥) → ¬ WriteNumber (ds ++ c ∷ more) n
 no_digit ds more c n none writes = let digit = digit_from_value c (all_after ds (c ∷ more) writes.0.1).0 in none (digit.0, digit.1)
 
-value_of : (value : Option ℕ) (ds : List ℕ) → AreDigitsOf value ds → AllDigits 10 ds × (digits_value 10 ds ≡ unwrap_or value 0)
+value_of : (value : Option ℕ) (ds : List ℕ) → AreLineDigits value ds → AllDigits 10 ds × (digits_value 10 ds ≡ unwrap_or value 0)
 value_of None ds are = subst (λ l. AllDigits 10 l × (digits_value 10 l ≡ 0)) (sym are) (tt, refl)
 value_of (Some n) ds are = (are.0.1, are.1)
 
 -- one digit more
-pub more_digits : (value : Option ℕ) (ds : List ℕ) (c n : ℕ) → AreDigitsOf value ds → 48 ≤ c → c ≤ 57 → unwrap_or value 0 * 10 + (c - 48) ≡ n → n < 2 ^ 64 → WriteNumber (ds ++ c ∷ []) n
+pub more_digits : (value : Option ℕ) (ds : List ℕ) (c n : ℕ) → AreLineDigits value ds → 48 ≤ c → c ≤ 57 → unwrap_or value 0 * 10 + (c - 48) ≡ n → n < 2 ^ 64 → WriteNumber (ds ++ c ∷ []) n
 more_digits value ds c n are low high sum fits =
     let old = value_of value ds are in
     let digit = digit_value_digit c (low, high) in
     ((omega (arith, length-append ds (c ∷ [])), all_more c ds old.0 (omega (arith, digit, low, high))), omega (arith, value_more 0 c ds, old.1, digit, sum, low, high), fits)
 
 -- with more digits the number is no smaller
-pub still_fits : (value : Option ℕ) (ds more : List ℕ) (c n : ℕ) → AreDigitsOf value ds → WriteNumber (ds ++ c ∷ more) n → unwrap_or value 0 * 10 + (c - 48) < 2 ^ 64
+pub still_fits : (value : Option ℕ) (ds more : List ℕ) (c n : ℕ) → AreLineDigits value ds → WriteNumber (ds ++ c ∷ more) n → unwrap_or value 0 * 10 + (c - 48) < 2 ^ 64
 still_fits value ds more c n are writes =
     let old = value_of value ds are in
     let range = digit_from_value c (all_after ds (c ∷ more) writes.0.1).0 in
@@ -64,14 +64,14 @@ still_fits value ds more c n are writes =
     omega (arith, grows, writes.1, writes.2, value_more 0 c ds, old.1, digit_value_digit c range, range.0, range.1)
 
 -- the first byte is a digit or the next one
-pub first_byte_not : (q : ℕ) → q < 48 → (value : Option ℕ) (ds more : List ℕ) (c : ℕ) → AreDigitsOf value ds → (value ≡ None → c ≢ q) → get_or (ds ++ c ∷ more) 0 0 ≢ q
+pub first_byte_not : (q : ℕ) → q < 48 → (value : Option ℕ) (ds more : List ℕ) (c : ℕ) → AreLineDigits value ds → (value ≡ None → c ≢ q) → get_or (ds ++ c ∷ more) 0 0 ≢ q
 first_byte_not q low None [] more c are other = other refl
 first_byte_not q low None (d ∷ ds) more c are other = absurd (omega (arith, ap length are))
 first_byte_not q low (Some v) [] more c are other = absurd (omega (arith, are.0.0))
 first_byte_not q low (Some v) (d ∷ ds) more c are other = let range = digit_from_value d are.0.1.0 in λ is. omega (arith, is, range.0, low)
 
 -- one digit more, if the sum is a `usize`
-pub digit_step : (value : Option ℕ) (ds : List ℕ) (c n : ℕ) (r : Option ℕ) → AreDigitsOf value ds → 48 ≤ c → c ≤ 57 → unwrap_or value 0 * 10 + (c - 48) ≡ n → SomeIff r (n < 2 ^ 64) n
+pub digit_step : (value : Option ℕ) (ds : List ℕ) (c n : ℕ) (r : Option ℕ) → AreLineDigits value ds → 48 ≤ c → c ≤ 57 → unwrap_or value 0 * 10 + (c - 48) ≡ n → SomeIff r (n < 2 ^ 64) n
     → MatchOption r ((k : ℕ) (more : List ℕ) → ¬ WriteNumber (ds ++ c ∷ more) k) (λ k. WriteNumber (ds ++ c ∷ []) k)
 digit_step value ds c n None are low high sum step = λ k more writes. step (omega (arith, sum, still_fits value ds more c k are writes))
 digit_step value ds c n (Some k) are low high sum step = more_digits value ds c k are low high (omega (arith, sum, step.1)) (omega (arith, step.0, step.1))
@@ -87,53 +87,53 @@ sign_none rest true plus is_minus is_plus no_minus no_plus = absurd (true≢fals
 sign_none rest false true is_minus is_plus no_minus no_plus = absurd (true≢false no_plus)
 
 pub after_sign : (sign : Sign) (rest : List ℕ) → (sign ≡ Unsigned → (get_or rest 0 0 ≢ 43) × (get_or rest 0 0 ≢ 45))
-    → (without_leading_sign (sign_bytes sign ++ rest) ≡ rest) × (signed_digits_value 10 (sign_bytes sign ++ rest) ≡ signed sign (digits_value 10 rest))
+    → (without_leading_sign (line_sign_bytes sign ++ rest) ≡ rest) × (signed_digits_value 10 (line_sign_bytes sign ++ rest) ≡ signed_line_number sign (digits_value 10 rest))
 after_sign Unsigned rest none = sign_none rest (get_or rest 0 0 == 45) (get_or rest 0 0 == 43) refl refl (ne_eqb _ 45 (none refl).1) (ne_eqb _ 43 (none refl).0)
 after_sign Plus rest none = (refl, refl)
 after_sign Minus rest none = (refl, refl)
 
-signed_small : (sign : Sign) (n : ℕ) → FitsSigned w64 (signed sign n) → n < 2 ^ 64
+signed_small : (sign : Sign) (n : ℕ) → FitsSigned w64 (signed_line_number sign n) → n < 2 ^ 64
 signed_small Unsigned n fits = omega (arith, fits.sfits)
 signed_small Plus n fits = omega (arith, fits.sfits)
 signed_small Minus zero fits = omega arith
 signed_small Minus (suc n) fits = omega (arith, fits.sfits)
 
 -- the digits of an integer write a number
-integer_number : (sign : Sign) (rest : List ℕ) (n : ℤ) → (sign ≡ Unsigned → (get_or rest 0 0 ≢ 43) × (get_or rest 0 0 ≢ 45)) → WriteInteger (sign_bytes sign ++ rest) n
+integer_number : (sign : Sign) (rest : List ℕ) (n : ℤ) → (sign ≡ Unsigned → (get_or rest 0 0 ≢ 43) × (get_or rest 0 0 ≢ 45)) → WriteRedisInteger (line_sign_bytes sign ++ rest) n
     → WriteNumber rest (digits_value 10 rest)
 integer_number sign rest n none writes =
     let split = after_sign sign rest none in
     (subst (IsNumeral 10) split.0 writes.0, refl, signed_small sign (digits_value 10 rest) (subst (FitsSigned w64) split.1 writes.1))
 
-module _ (value : Option ℕ) (ds : List ℕ) (c : ℕ) (are : AreDigitsOf value ds) (never : (n : ℕ) (more : List ℕ) → ¬ WriteNumber (ds ++ c ∷ more) n) where
+module _ (value : Option ℕ) (ds : List ℕ) (c : ℕ) (are : AreLineDigits value ds) (never : (n : ℕ) (more : List ℕ) → ¬ WriteNumber (ds ++ c ∷ more) n) where
   -- after an integer comes a byte that is no digit of it
-  pub integer_stops : (sign : Sign) → (sign ≡ Unsigned → value ≡ None → (c ≢ 43) × (c ≢ 45)) → (bytes : List ℕ) → bytes ≡ 58 ∷ (sign_bytes sign ++ ds) → (item : Item) (rest : List ℕ)
+  pub integer_stops : (sign : Sign) → (sign ≡ Unsigned → value ≡ None → (c ≢ 43) × (c ≢ 45)) → (bytes : List ℕ) → bytes ≡ 58 ∷ (line_sign_bytes sign ++ ds) → (item : Item) (rest : List ℕ)
       → ¬ IsLineOf item (bytes ++ c ∷ rest)
   integer_stops sign other bytes is item rest line =
-      no_integer (sign_bytes sign ++ (ds ++ c ∷ rest)) none item
-      (subst (IsLineOf item) (ap (λ l. l ++ c ∷ rest) is ∙ ap (λ l. 58 ∷ l) (append_assoc (sign_bytes sign) ds (c ∷ rest))) line)
+      no_integer (line_sign_bytes sign ++ (ds ++ c ∷ rest)) none item
+      (subst (IsLineOf item) (ap (λ l. l ++ c ∷ rest) is ∙ ap (λ l. 58 ∷ l) (append_assoc (line_sign_bytes sign) ds (c ∷ rest))) line)
     where
-      none : (n : ℤ) → ¬ WriteInteger (sign_bytes sign ++ (ds ++ c ∷ rest)) n
+      none : (n : ℤ) → ¬ WriteRedisInteger (line_sign_bytes sign ++ (ds ++ c ∷ rest)) n
       none n writes = never (digits_value 10 (ds ++ c ∷ rest)) rest
           (integer_number sign (ds ++ c ∷ rest) n
           (λ unsigned. (first_byte_not 43 (omega arith) value ds rest c are (λ no. (other unsigned no).0), first_byte_not 45 (omega arith) value ds rest c are (λ no. (other unsigned no).1)))
           writes)
 
   -- after a length comes a byte that is no digit of it
-  pub length_stops : (counted : Counted) → (value ≡ None → c ≢ 45) → (bytes : List ℕ) → bytes ≡ length_byte counted ∷ ds → (item : Item) (rest : List ℕ) → ¬ IsLineOf item (bytes ++ c ∷ rest)
+  pub length_stops : (counted : Counted) → (value ≡ None → c ≢ 45) → (bytes : List ℕ) → bytes ≡ line_length_byte counted ∷ ds → (item : Item) (rest : List ℕ) → ¬ IsLineOf item (bytes ++ c ∷ rest)
   length_stops counted other bytes is item rest line = of_counted counted (subst (IsLineOf item) (ap (λ l. l ++ c ∷ rest) is) line)
     where
-      none : (len : Option ℕ) → ¬ WriteLength (ds ++ c ∷ rest) len
+      none : (len : Option ℕ) → ¬ WriteRedisLength (ds ++ c ∷ rest) len
       none None writes = first_byte_not 45 (omega arith) value ds rest c are other (ap (λ l. get_or l 0 0) writes)
       none (Some n) writes = never n rest writes
 
-      of_counted : (k : Counted) → ¬ IsLineOf item (length_byte k ∷ (ds ++ c ∷ rest))
+      of_counted : (k : Counted) → ¬ IsLineOf item (line_length_byte k ∷ (ds ++ c ∷ rest))
       of_counted Bytes = no_bulk (ds ++ c ∷ rest) none item
       of_counted Items = no_array (ds ++ c ∷ rest) none item
 
 -- ---- texts
 
-not_plain : (text rest : List ℕ) (c : ℕ) → (c ≡ 13) ⊎ (c ≡ 10) → ¬ IsPlain (text ++ c ∷ rest)
+not_plain : (text rest : List ℕ) (c : ℕ) → (c ≡ 13) ⊎ (c ≡ 10) → ¬ IsRedisPlain (text ++ c ∷ rest)
 not_plain [] rest c ends plain = plain 0 (omega arith) (omega arith) (ends_line c ends)
   where
     ends_line : (b : ℕ) → (b ≡ 13) ⊎ (b ≡ 10) → is_byte2 13 10 b ≡ true
@@ -141,7 +141,7 @@ not_plain [] rest c ends plain = plain 0 (omega arith) (omega arith) (ends_line 
     ends_line b (inr is) = ap (is_byte2 13 10) is
 not_plain (t ∷ text) rest c ends plain = not_plain text rest c ends (λ k low high passes. plain (suc k) (omega arith) (omega (arith, high)) passes)
 
-pub text_stops : (bytes : List ℕ) (c : ℕ) → IsTextLine bytes → (c ≡ 13) ⊎ (c ≡ 10) → (item : Item) (rest : List ℕ) → ¬ IsLineOf item (bytes ++ c ∷ rest)
+pub text_stops : (bytes : List ℕ) (c : ℕ) → IsRedisTextLine bytes → (c ≡ 13) ⊎ (c ≡ 10) → (item : Item) (rest : List ℕ) → ¬ IsLineOf item (bytes ++ c ∷ rest)
 text_stops bytes c text ends item rest line =
     let said = text.text ++ c ∷ rest in
     let at = ap (λ l. l ++ c ∷ rest) text.parts in
@@ -152,23 +152,23 @@ text_stops bytes c text ends item rest line =
 
 -- ---- no carriage return is among them
 
-no_length_byte : (counted : Counted) → length_byte counted ≢ 13
+no_length_byte : (counted : Counted) → line_length_byte counted ≢ 13
 no_length_byte Bytes e = omega (arith, e)
 no_length_byte Items e = omega (arith, e)
 
-pub read_no_return : (line : Line) (bytes : List ℕ) → IsReadAs line bytes → NoReturn bytes
-read_no_return Empty bytes is = subst NoReturn (sym is) tt
-read_no_return Text bytes is = subst NoReturn (sym is.parts) (⊎_elim (λ simple. λ e. omega (arith, e, simple)) (λ error. λ e. omega (arith, e, error)) is.is, plain_no_return is.text is.plain)
+pub read_no_return : (line : Line) (bytes : List ℕ) → IsReadAs line bytes → NoLineReturn bytes
+read_no_return Empty bytes is = subst NoLineReturn (sym is) tt
+read_no_return Text bytes is = subst NoLineReturn (sym is.parts) (⊎_elim (λ simple. λ e. omega (arith, e, simple)) (λ error. λ e. omega (arith, e, error)) is.is, plain_no_return is.text is.plain)
 read_no_return (Signed sign value) bytes is =
-    subst NoReturn (sym is.1) ((λ e. omega (arith, e)), signed_no_return sign is.0 (digits_no_return is.0 (value_of value is.0 is.2).0))
+    subst NoLineReturn (sym is.1) ((λ e. omega (arith, e)), signed_no_return sign is.0 (digits_no_return is.0 (value_of value is.0 is.2).0))
   where
-    signed_no_return : (s : Sign) (ds : List ℕ) → NoReturn ds → NoReturn (sign_bytes s ++ ds)
+    signed_no_return : (s : Sign) (ds : List ℕ) → NoLineReturn ds → NoLineReturn (line_sign_bytes s ++ ds)
     signed_no_return Unsigned ds none = none
     signed_no_return Plus ds none = ((λ e. omega (arith, e)), none)
     signed_no_return Minus ds none = ((λ e. omega (arith, e)), none)
-read_no_return (Length counted value) bytes is = subst NoReturn (sym is.1) (no_length_byte counted, digits_no_return is.0 (value_of value is.0 is.2).0)
-read_no_return (Dash counted) bytes is = subst NoReturn (sym is) (no_length_byte counted, ((λ e. omega (arith, e)), tt))
-read_no_return (Null counted) bytes is = subst NoReturn (sym is) (no_length_byte counted, ((λ e. omega (arith, e)), ((λ e. omega (arith, e)), tt)))
+read_no_return (Length counted value) bytes is = subst NoLineReturn (sym is.1) (no_length_byte counted, digits_no_return is.0 (value_of value is.0 is.2).0)
+read_no_return (Dash counted) bytes is = subst NoLineReturn (sym is) (no_length_byte counted, ((λ e. omega (arith, e)), tt))
+read_no_return (Null counted) bytes is = subst NoLineReturn (sym is) (no_length_byte counted, ((λ e. omega (arith, e)), ((λ e. omega (arith, e)), tt)))
 
 -- ---- more bytes
 
@@ -192,7 +192,7 @@ reads_one line bytes all k within is =
     subst (IsReadAs line) (append_assoc bytes (take k all) (get_or all k 0 ∷ []) ∙ ap (λ l. bytes ++ l) (sym (take_more all k 0 within))) is
 
 -- what is no line of an item
-pub none_in : (ended lacks : Bool) (bytes : List ℕ) → ((item : Item) → ¬ IsLineOf item bytes) → (LacksByte bytes → lacks ≡ true) → (ended ≡ false → lacks ≡ false)
+pub none_in : (ended lacks : Bool) (bytes : List ℕ) → ((item : Item) → ¬ IsLineOf item bytes) → (LacksRedisByte bytes → lacks ≡ true) → (ended ≡ false → lacks ≡ false)
     → MatchBool ended ((item : Item) → ¬ IsLineOf item bytes) ((item : Item) (more : List ℕ) → ¬ IsLineOf item (bytes ++ more))
 none_in true lacks bytes none is whole = none
 none_in false lacks bytes none is whole = still_none bytes (λ l. true≢false (sym (is l) ∙ whole refl)) none

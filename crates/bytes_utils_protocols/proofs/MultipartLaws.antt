@@ -6,10 +6,10 @@ use Rattle.std.specs.List.{flat_map}
 use Rattle.std.specs.Option.{option_to_list}
 use Rattle.std.proofs.lemmas.Grind.{flat_map-append}
 use Rattle.bytes_utils_codec.specs.Frames.{TakesFrame}
-use Rattle.bytes_utils_codec.specs.StreamRuns.{AreFirst}
+use Rattle.bytes_utils_codec.specs.StreamRuns.{AreFirstOfRun}
 use Rattle.bytes_utils_codec.proofs.FramesLemmas.{TakesFrame-more, TakesFrame-same}
-use Rattle.bytes_utils_codec.proofs.StreamRunsLemmas.{AreFirst-more, AreFirst-next, run_keeps, same_first_law}
-use Rattle.bytes_utils_protocols.specs.Multipart.{Parting, PartBytes, IsPart, TakesPart, started, Closes, LacksNext, dashes, line_end, appended, closed, IsIdle, IsPartCall, AreParts, PartsLaw, SamePartsLaw}
+use Rattle.bytes_utils_codec.proofs.StreamRunsLemmas.{AreFirstOfRun-more, AreFirstOfRun-next, run_keeps, same_first_law}
+use Rattle.bytes_utils_protocols.specs.Multipart.{Parting, PartBytes, IsPart, TakesPart, started, ClosesMultipart, LacksNextInMultipart, multipart_dashes, multipart_line_end, appended, closed, IsIdle, IsPartCall, AreParts, PartsLaw, SamePartsLaw}
 use Rattle.bytes_utils_protocols.specs.declared.multipart.limits.Limits.{Limits}
 use Rattle.bytes_utils_protocols.proofs.MultipartLemmas.{IsPart-same}
 
@@ -37,44 +37,44 @@ module _ (d : List ℕ) (limits : Limits) where
         p.left ∙ ap (λ l. d ++ l) raw.1 ∙ sym q.left,
       )
 
-  Closes-more : (bytes piece : List ℕ) → Closes d bytes → Closes d (bytes ++ piece)
-  Closes-more bytes piece closing = (closing.0, closing.1 ++ piece, TakesFrame-more d bytes closing.0 (dashes ++ closing.1) piece closing.2)
+  ClosesMultipart-more : (bytes piece : List ℕ) → ClosesMultipart d bytes → ClosesMultipart d (bytes ++ piece)
+  ClosesMultipart-more bytes piece closing = (closing.0, closing.1 ++ piece, TakesFrame-more d bytes closing.0 (multipart_dashes ++ closing.1) piece closing.2)
 
   -- what is known after some calls
   abbrev Holds : List ℕ → List (Option PartBytes) → Parting → Type 0
-  Holds bytes items s = (s.delimiter ≡ d) × (s.limits ≡ limits) × AreParts d limits (line_end ++ bytes) (flat_map option_to_list items) s.ended s.held
+  Holds bytes items s = (s.delimiter ≡ d) × (s.limits ≡ limits) × AreParts d limits (multipart_line_end ++ bytes) (flat_map option_to_list items) s.ended s.held
 
   module _ (bytes : List ℕ) (parts : List PartBytes) where
-    more_after_end : (held other piece : List ℕ) → AreParts d limits (line_end ++ bytes) parts true held → AreParts d limits (line_end ++ (bytes ++ piece)) parts true other
+    more_after_end : (held other piece : List ℕ) → AreParts d limits (multipart_line_end ++ bytes) parts true held → AreParts d limits (multipart_line_end ++ (bytes ++ piece)) parts true other
     more_after_end held other piece known = record {
       rest = known.rest ++ piece;
       are =
-          subst (λ l. AreFirst (TakesPart d limits) l parts (known.rest ++ piece)) (append_assoc line_end bytes piece)
-          (AreFirst-more (λ l piece. l ++ piece) (TakesPart d limits) TakesPart-more (line_end ++ bytes) parts known.rest piece known.are);
-      left = Closes-more known.rest piece known.left;
+          subst (λ l. AreFirstOfRun (TakesPart d limits) l parts (known.rest ++ piece)) (append_assoc multipart_line_end bytes piece)
+          (AreFirstOfRun-more (λ l piece. l ++ piece) (TakesPart d limits) TakesPart-more (multipart_line_end ++ bytes) parts known.rest piece known.are);
+      left = ClosesMultipart-more known.rest piece known.left;
     }
 
-    more_before_end : (held piece : List ℕ) → AreParts d limits (line_end ++ bytes) parts false held → AreParts d limits (line_end ++ (bytes ++ piece)) parts false (held ++ piece)
+    more_before_end : (held piece : List ℕ) → AreParts d limits (multipart_line_end ++ bytes) parts false held → AreParts d limits (multipart_line_end ++ (bytes ++ piece)) parts false (held ++ piece)
     more_before_end held piece known = record {
       rest = known.rest ++ piece;
       are =
-          subst (λ l. AreFirst (TakesPart d limits) l parts (known.rest ++ piece)) (append_assoc line_end bytes piece)
-          (AreFirst-more (λ l piece. l ++ piece) (TakesPart d limits) TakesPart-more (line_end ++ bytes) parts known.rest piece known.are);
+          subst (λ l. AreFirstOfRun (TakesPart d limits) l parts (known.rest ++ piece)) (append_assoc multipart_line_end bytes piece)
+          (AreFirstOfRun-more (λ l piece. l ++ piece) (TakesPart d limits) TakesPart-more (multipart_line_end ++ bytes) parts known.rest piece known.are);
       left = ap (λ l. l ++ piece) known.left;
     }
 
     -- the close delimiter is read
-    close : (held : List ℕ) (ended : Bool) → AreParts d limits (line_end ++ bytes) parts ended held → ((ended ≡ true) ⊎ Closes d held) → AreParts d limits (line_end ++ bytes) parts true []
+    close : (held : List ℕ) (ended : Bool) → AreParts d limits (multipart_line_end ++ bytes) parts ended held → ((ended ≡ true) ⊎ ClosesMultipart d held) → AreParts d limits (multipart_line_end ++ bytes) parts true []
     close held true known why = record { rest = known.rest; are = known.are; left = known.left }
     close held false known (inl ended) = cc
-    close held false known (inr closing) = record { rest = known.rest; are = known.are; left = subst (Closes d) (sym known.left) closing }
+    close held false known (inr closing) = record { rest = known.rest; are = known.are; left = subst (ClosesMultipart d) (sym known.left) closing }
 
     -- a part is taken
-    one_more : (held : List ℕ) (part : PartBytes) (new : List ℕ) → AreParts d limits (line_end ++ bytes) parts false held → TakesPart d limits held part new
-        → AreParts d limits (line_end ++ bytes) (parts ++ part ∷ []) false new
+    one_more : (held : List ℕ) (part : PartBytes) (new : List ℕ) → AreParts d limits (multipart_line_end ++ bytes) parts false held → TakesPart d limits held part new
+        → AreParts d limits (multipart_line_end ++ bytes) (parts ++ part ∷ []) false new
     one_more held part new known takes = record {
       rest = new;
-      are = AreFirst-next (TakesPart d limits) (line_end ++ bytes) parts held part new (subst (AreFirst (TakesPart d limits) (line_end ++ bytes) parts) known.left known.are) takes;
+      are = AreFirstOfRun-next (TakesPart d limits) (multipart_line_end ++ bytes) parts held part new (subst (AreFirstOfRun (TakesPart d limits) (multipart_line_end ++ bytes) parts) known.left known.are) takes;
       left = refl;
     }
 
@@ -84,21 +84,21 @@ module _ (d : List ℕ) (limits : Limits) where
       by_end : (ended : Bool) → s.ended ≡ ended → Holds (bytes ++ piece) items (appended s piece)
       by_end true is =
           let same : appended s piece ≡ s = ap (λ b. if b then s else record s { held = s.held ++ piece }) is in
-          let known = subst (λ b. AreParts d limits (line_end ++ bytes) (flat_map option_to_list items) b s.held) is holds.2 in
-          let more = subst (λ b. AreParts d limits (line_end ++ (bytes ++ piece)) (flat_map option_to_list items) b s.held) (sym is)
+          let known = subst (λ b. AreParts d limits (multipart_line_end ++ bytes) (flat_map option_to_list items) b s.held) is holds.2 in
+          let more = subst (λ b. AreParts d limits (multipart_line_end ++ (bytes ++ piece)) (flat_map option_to_list items) b s.held) (sym is)
           (more_after_end bytes (flat_map option_to_list items) s.held s.held piece known) in
           subst (Holds (bytes ++ piece) items) (sym same) (holds.0, holds.1, more)
       by_end false is =
           let same : appended s piece ≡ record s { held = s.held ++ piece } = ap (λ b. if b then s else record s { held = s.held ++ piece }) is in
-          let known = subst (λ b. AreParts d limits (line_end ++ bytes) (flat_map option_to_list items) b s.held) is holds.2 in
-          let more = subst (λ b. AreParts d limits (line_end ++ (bytes ++ piece)) (flat_map option_to_list items) b (s.held ++ piece)) (sym is)
+          let known = subst (λ b. AreParts d limits (multipart_line_end ++ bytes) (flat_map option_to_list items) b s.held) is holds.2 in
+          let more = subst (λ b. AreParts d limits (multipart_line_end ++ (bytes ++ piece)) (flat_map option_to_list items) b (s.held ++ piece)) (sym is)
           (more_before_end bytes (flat_map option_to_list items) s.held piece known) in
           subst (Holds (bytes ++ piece) items) (sym same) (holds.0, holds.1, more)
 
   taken : (bytes : List ℕ) (items : List (Option PartBytes)) (s : Parting) (item : Option PartBytes) (new : Parting) → Holds bytes items s → IsPartCall s item new
       → Holds bytes (items ++ item ∷ []) new
   taken bytes items s (Some part) new holds call =
-      let known = subst (λ b. AreParts d limits (line_end ++ bytes) (flat_map option_to_list items) b s.held) call.1 holds.2 in
+      let known = subst (λ b. AreParts d limits (multipart_line_end ++ bytes) (flat_map option_to_list items) b s.held) call.1 holds.2 in
       let takes = subst (λ l. TakesPart d l s.held part new.held) holds.1 (subst (λ l. TakesPart l s.limits s.held part new.held) holds.0 call.0) in
       let more = one_more bytes (flat_map option_to_list items) s.held part new.held known takes in
       let ended : new.ended ≡ false = ap (λ (s : Parting). s.ended) call.2 ∙ call.1 in (
@@ -116,20 +116,20 @@ module _ (d : List ℕ) (limits : Limits) where
 
       by_end : (ended : Bool) → new.ended ≡ ended → IsIdle s new → Holds bytes (items ++ None ∷ []) new
       by_end true is call =
-          let idle = subst (λ b. MatchBool b ((new ≡ closed s) × ((s.ended ≡ true) ⊎ Closes s.delimiter s.held)) ((new ≡ s) × (¬ Closes s.delimiter s.held) × LacksNext s.delimiter s.held)) is call in
-          let why = subst (λ l. (s.ended ≡ true) ⊎ Closes l s.held) holds.0 idle.1 in
+          let idle = subst (λ b. MatchBool b ((new ≡ closed s) × ((s.ended ≡ true) ⊎ ClosesMultipart s.delimiter s.held)) ((new ≡ s) × (¬ ClosesMultipart s.delimiter s.held) × LacksNextInMultipart s.delimiter s.held)) is call in
+          let why = subst (λ l. (s.ended ≡ true) ⊎ ClosesMultipart l s.held) holds.0 idle.1 in
           let known = close bytes (flat_map option_to_list items) s.held s.ended holds.2 why in
           subst (Holds bytes (items ++ None ∷ [])) (sym idle.0)
-          (holds.0, holds.1, subst (λ l. AreParts d limits (line_end ++ bytes) l true []) (sym none_more) known)
+          (holds.0, holds.1, subst (λ l. AreParts d limits (multipart_line_end ++ bytes) l true []) (sym none_more) known)
       by_end false is call =
-          let idle = subst (λ b. MatchBool b ((new ≡ closed s) × ((s.ended ≡ true) ⊎ Closes s.delimiter s.held)) ((new ≡ s) × (¬ Closes s.delimiter s.held) × LacksNext s.delimiter s.held)) is call in
+          let idle = subst (λ b. MatchBool b ((new ≡ closed s) × ((s.ended ≡ true) ⊎ ClosesMultipart s.delimiter s.held)) ((new ≡ s) × (¬ ClosesMultipart s.delimiter s.held) × LacksNextInMultipart s.delimiter s.held)) is call in
           subst (Holds bytes (items ++ None ∷ [])) (sym idle.0)
-          (holds.0, holds.1, subst (λ l. AreParts d limits (line_end ++ bytes) l s.ended s.held) (sym none_more) holds.2)
+          (holds.0, holds.1, subst (λ l. AreParts d limits (multipart_line_end ++ bytes) l s.ended s.held) (sym none_more) holds.2)
 
 pub parts_law : PartsLaw
 parts_law d limits events end run =
     (run_keeps appended IsPartCall (Holds d limits) (pushed d limits) (taken d limits) [] [] (started d limits) events end
-    (refl, refl, record { rest = line_end; are = refl; left = refl }) run).2
+    (refl, refl, record { rest = multipart_line_end; are = refl; left = refl }) run).2
 
 pub same_parts_law : SamePartsLaw
 same_parts_law d limits = same_first_law (TakesPart d limits) (TakesPart-same d limits)

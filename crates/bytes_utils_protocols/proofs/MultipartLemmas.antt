@@ -15,7 +15,7 @@ use Rattle.bytes_utils_buf.specs.declared.refused.Refused.{Refused}
 use Rattle.bytes_utils_codec.proofs.FramesLemmas.{TakesFrame-more, TakesFrame-same}
 use Rattle.bytes_utils_codec.proofs.SearchLemmas.{NoneBegins-more}
 use Rattle.bytes_utils.proofs.OccurrenceLemmas.{OccursAt-between, OccursAt-front, cut_whole}
-use Rattle.bytes_utils_protocols.specs.Multipart.{FewWait, IsIdle, Parting, appended, closed, line_end, dashes, head_end, PartBytes, part_bytes, IsHeadIn, IsPart, TakesPart, IsPartDue, NoPart, Closes, LacksNext, held_at, AreApart, has_ended, quote, IsQuoted, IsDisposition, NoDisposition, IsFirstDisposition, held_by, waiting_in, IsDivided, SameSections, AfterSearch}
+use Rattle.bytes_utils_protocols.specs.Multipart.{FewWaitInMultipart, IsIdle, Parting, appended, closed, multipart_line_end, multipart_dashes, multipart_head_end, PartBytes, part_bytes, IsMultipartHead, IsPart, TakesPart, IsPartDue, NoPart, ClosesMultipart, LacksNextInMultipart, held_in_sections, AreSectionsApart, sections_have_ended, multipart_quote, IsQuotedInMultipart, IsDisposition, NoDisposition, IsFirstDisposition, held_by, waiting_in, IsDivided, SameSections, AfterSearch}
 use Rattle.bytes_utils_protocols.specs.declared.multipart.limits.Limits.{Limits}
 use Rattle.bytes_utils_protocols.specs.declared.multipart.sections.Sections.{Sections}
 use Rattle.bytes_utils_protocols.specs.declared.multipart.sections.Stage.{Stage}
@@ -29,11 +29,11 @@ apart d old p w takes = subst (λ l. TakesFrame d l p w) takes.bytes takes
 
 module _ (d p w : List ℕ) (begins : TakesFrame d (p ++ (d ++ w)) p w) where
   -- two dashes do not follow
-  pub not_closed : take 2 w ≢ dashes → ¬ Closes d (p ++ (d ++ w))
-  not_closed other closing = other (ap (take 2) (TakesFrame-same d (p ++ (d ++ w)) p closing.0 w (dashes ++ closing.1) begins closing.2).1)
+  pub not_closed : take 2 w ≢ multipart_dashes → ¬ ClosesMultipart d (p ++ (d ++ w))
+  not_closed other closing = other (ap (take 2) (TakesFrame-same d (p ++ (d ++ w)) p closing.0 w (multipart_dashes ++ closing.1) begins closing.2).1)
 
   -- the next delimiter has not come
-  pub lacks_next : (¬ Occurs d w) → LacksNext d (p ++ (d ++ w))
+  pub lacks_next : (¬ Occurs d w) → LacksNextInMultipart d (p ++ (d ++ w))
   lacks_next none preamble after takes occurs = none (subst (Occurs d) (sym (TakesFrame-same d (p ++ (d ++ w)) p preamble w after begins takes).1) occurs)
 
 -- what is before the next delimiter has almost as many bytes as have come, or more
@@ -43,26 +43,26 @@ long_frame d bytes more frame rest none takes =
 
 -- ---- one part
 
-one_head : (front a b : List ℕ) → IsHeadIn front a → IsHeadIn front b → a ≡ b
+one_head : (front a b : List ℕ) → IsMultipartHead front a → IsMultipartHead front b → a ≡ b
 one_head front a b (inl p) (inl q) = p.1 ∙ sym q.1
-one_head front a b (inl p) (inr q) = absurd (omega (arith, ap length (sym p.0 ∙ q), length-append line_end b))
-one_head front a b (inr p) (inl q) = absurd (omega (arith, ap length (sym q.0 ∙ p), length-append line_end a))
-one_head front a b (inr p) (inr q) = append_cancel_left line_end a b (sym p ∙ q)
+one_head front a b (inl p) (inr q) = absurd (omega (arith, ap length (sym p.0 ∙ q), length-append multipart_line_end b))
+one_head front a b (inr p) (inl q) = absurd (omega (arith, ap length (sym q.0 ∙ p), length-append multipart_line_end a))
+one_head front a b (inr p) (inr q) = append_cancel_left multipart_line_end a b (sym p ∙ q)
 
 -- what is between two delimiters is one part, whatever the limits are
 pub IsPart-same : (limits other : Limits) (raw : List ℕ) (x y : PartBytes) → IsPart limits raw x → IsPart other raw y → x ≡ y
 IsPart-same limits other raw x y p q =
-    let same = TakesFrame-same head_end raw p.front q.front x.body y.body p.cut q.cut in
-    let head = one_head p.front x.head y.head p.head (subst (λ l. IsHeadIn l y.head) (sym same.0) q.head) in
+    let same = TakesFrame-same multipart_head_end raw p.front q.front x.body y.body p.cut q.cut in
+    let head = one_head p.front x.head y.head p.head (subst (λ l. IsMultipartHead l y.head) (sym same.0) q.head) in
     λ i. part_bytes (head i) (same.1 i)
 
 part_size : (limits : Limits) (raw : List ℕ) (part : PartBytes) → IsPart limits raw part → length raw ≤ limits.head + limits.body
 part_size limits raw part is =
-    omega (arith, ap length is.cut.bytes, length-append is.front (head_end ++ part.body), length-append head_end part.body, is.small, is.short)
+    omega (arith, ap length is.cut.bytes, length-append is.front (multipart_head_end ++ part.body), length-append multipart_head_end part.body, is.small, is.short)
 
 module _ (d : List ℕ) (limits : Limits) where
   -- the delimiter after a part has not come
-  pub no_part_yet : (bytes : List ℕ) → LacksNext d bytes → NoPart d limits bytes
+  pub no_part_yet : (bytes : List ℕ) → LacksNextInMultipart d bytes → NoPart d limits bytes
   no_part_yet bytes lacks part rest takes = lacks takes.preamble takes.after takes.begins (length takes.raw, takes.ends.first.here)
 
   pub long_preamble : (bytes : List ℕ) → (¬ Occurs d bytes) → limits.head + limits.body + length d < length bytes → (more : List ℕ) → NoPart d limits (bytes ++ more)
@@ -113,15 +113,15 @@ module _ (d : List ℕ) (limits : Limits) where
 module _ (s : Sections) (waiting : s.stage ≡ Waiting) (divided : IsDivided s) where
   -- neither the next delimiter nor the end
   pub none_found : (new : Sections) → new ≡ record s { delimiter = searched_all s.delimiter (waiting_in s) } → (¬ Occurs s.delimiter.needle (waiting_in s))
-      → take 2 (waiting_in s) ≢ dashes → AfterSearch new.stage s new
+      → take 2 (waiting_in s) ≢ multipart_dashes → AfterSearch new.stage s new
   none_found new is none other =
       let d = s.delimiter.needle in
       let p = s.preamble in
       let f = concat s.found.segments in
       let w = waiting_in s in
-      let begins : TakesFrame d (p ++ (d ++ w)) p w = subst (λ stage. AreApart stage d p f w) waiting divided.0 in
-      let not_closed = subst (λ stage. ¬ Closes d (held_at stage d p f w)) (sym waiting) (not_closed d p w begins other) in
-      let lacks = subst (λ stage. LacksNext d (held_at stage d p f w)) (sym waiting) (lacks_next d p w begins none) in
+      let begins : TakesFrame d (p ++ (d ++ w)) p w = subst (λ stage. AreSectionsApart stage d p f w) waiting divided.0 in
+      let not_closed = subst (λ stage. ¬ ClosesMultipart d (held_in_sections stage d p f w)) (sym waiting) (not_closed d p w begins other) in
+      let lacks = subst (λ stage. LacksNextInMultipart d (held_in_sections stage d p f w)) (sym waiting) (lacks_next d p w begins none) in
       let searched : Sections = record s { delimiter = searched_all s.delimiter w } in
       subst (λ (l : Sections). AfterSearch l.stage s l) (sym is)
       (subst (λ stage. AfterSearch stage s searched) (sym waiting) (record { delimiter = refl; ended = refl; held = refl }, none, not_closed, lacks))
@@ -136,9 +136,9 @@ module _ (s : Sections) (is_found : s.stage ≡ Found) (divided : IsDivided s) w
         let p = s.preamble in
         let f = concat s.found.segments in
         let v = waiting_in s in
-        let both : AreApart Found d p f v = subst (λ stage. AreApart stage d p f v) is_found divided.0 in
+        let both : AreSectionsApart Found d p f v = subst (λ stage. AreSectionsApart stage d p f v) is_found divided.0 in
         let left : held_by new ≡ d ++ v = rw (stage, delimiter, waiting, preamble) refl in
-        rw left (subst (λ stage. TakesPart d limits (held_at stage d p f v) part (d ++ v)) (sym is_found) (found_part d limits p f v both.0 both.1 part is few))
+        rw left (subst (λ stage. TakesPart d limits (held_in_sections stage d p f v) part (d ++ v)) (sym is_found) (found_part d limits p f v both.0 both.1 part is few))
 
     pub part_in_found : (part : PartBytes) → IsPart limits (concat s.found.segments) part → length s.preamble ≤ limits.head + limits.body
         → (rest : List ℕ) × TakesPart s.delimiter.needle limits (held_by s) part rest
@@ -147,8 +147,8 @@ module _ (s : Sections) (is_found : s.stage ≡ Found) (divided : IsDivided s) w
         let p = s.preamble in
         let f = concat s.found.segments in
         let v = waiting_in s in
-        let both : AreApart Found d p f v = subst (λ stage. AreApart stage d p f v) is_found divided.0 in
-        (d ++ v, subst (λ stage. TakesPart d limits (held_at stage d p f v) part (d ++ v)) (sym is_found) (found_part d limits p f v both.0 both.1 part is few))
+        let both : AreSectionsApart Found d p f v = subst (λ stage. AreSectionsApart stage d p f v) is_found divided.0 in
+        (d ++ v, subst (λ stage. TakesPart d limits (held_in_sections stage d p f v) part (d ++ v)) (sym is_found) (found_part d limits p f v both.0 both.1 part is few))
 
     -- the delimiters before and after it have come
     pub due_in_found : length s.preamble ≤ limits.head + limits.body → IsPartDue s.delimiter.needle limits (held_by s)
@@ -157,8 +157,8 @@ module _ (s : Sections) (is_found : s.stage ≡ Found) (divided : IsDivided s) w
         let p = s.preamble in
         let f = concat s.found.segments in
         let v = waiting_in s in
-        let both : AreApart Found d p f v = subst (λ stage. AreApart stage d p f v) is_found divided.0 in
-        subst (λ stage. IsPartDue d limits (held_at stage d p f v)) (sym is_found)
+        let both : AreSectionsApart Found d p f v = subst (λ stage. AreSectionsApart stage d p f v) is_found divided.0 in
+        subst (λ stage. IsPartDue d limits (held_in_sections stage d p f v)) (sym is_found)
         (record { preamble = p; after = f ++ (d ++ v); begins = both.0; raw = f; next = v; ends = both.1; few = few })
 
     -- what was found is no part
@@ -168,12 +168,12 @@ module _ (s : Sections) (is_found : s.stage ≡ Found) (divided : IsDivided s) w
         let p = s.preamble in
         let f = concat s.found.segments in
         let v = waiting_in s in
-        let both : AreApart Found d p f v = subst (λ stage. AreApart stage d p f v) is_found divided.0 in
-        subst (λ stage. NoPart d limits (held_at stage d p f v ++ more)) (sym is_found) (no_found d limits p f v both.0 both.1 none more)
+        let both : AreSectionsApart Found d p f v = subst (λ stage. AreSectionsApart stage d p f v) is_found divided.0 in
+        subst (λ stage. NoPart d limits (held_in_sections stage d p f v ++ more)) (sym is_found) (no_found d limits p f v both.0 both.1 none more)
 
 -- ---- a piece is pushed
 
-apart_more : (stage : Stage) (d p f w piece : List ℕ) → has_ended stage ≡ false → AreApart stage d p f w → AreApart stage d p f (w ++ piece)
+apart_more : (stage : Stage) (d p f w piece : List ℕ) → sections_have_ended stage ≡ false → AreSectionsApart stage d p f w → AreSectionsApart stage d p f (w ++ piece)
 apart_more Preamble d p f w piece on parts = parts
 apart_more Waiting d p f w piece on parts = apart d ((p ++ (d ++ w)) ++ piece) p (w ++ piece) (TakesFrame-more d (p ++ (d ++ w)) p w piece parts)
 apart_more Found d p f w piece on parts =
@@ -191,7 +191,7 @@ held_before Waiting d p f = p ++ d
 held_before Found d p f = (p ++ d) ++ (f ++ d)
 held_before Ended d p f = []
 
-pub held_apart : (stage : Stage) (d p f w : List ℕ) → has_ended stage ≡ false → held_at stage d p f w ≡ held_before stage d p f ++ w
+pub held_apart : (stage : Stage) (d p f w : List ℕ) → sections_have_ended stage ≡ false → held_in_sections stage d p f w ≡ held_before stage d p f ++ w
 unfolding held_before
 held_apart Preamble d p f w on = refl
 held_apart Waiting d p f w on = sym (append_assoc p d w)
@@ -199,24 +199,24 @@ held_apart Found d p f w on = sym (append_assoc p d (f ++ (d ++ w))) ∙ ap (λ 
 held_apart Ended d p f w on = cc
 
 module _ (s : Sections) (waiting : Packing) (piece : List ℕ) (held : concat waiting.held.segments ≡ waiting_in s ++ piece) where
-  pub divided_more : has_ended s.stage ≡ false → IsDivided s → IsDivided (record s { waiting = waiting })
+  pub divided_more : sections_have_ended s.stage ≡ false → IsDivided s → IsDivided (record s { waiting = waiting })
   divided_more on parts =
       let d = s.delimiter.needle in
       let p = s.preamble in
       let f = concat s.found.segments in
       let w = waiting_in s in (
-        subst (AreApart s.stage d p f) (sym held) (apart_more s.stage d p f w piece on parts.0),
+        subst (AreSectionsApart s.stage d p f) (sym held) (apart_more s.stage d p f w piece on parts.0),
         subst (λ l. NoneBegins d l s.delimiter.searched) (sym held) (NoneBegins-more d w piece s.delimiter.searched parts.1),
       )
 
-  pub held_more : has_ended s.stage ≡ false → held_by (record s { waiting = waiting }) ≡ held_by s ++ piece
+  pub held_more : sections_have_ended s.stage ≡ false → held_by (record s { waiting = waiting }) ≡ held_by s ++ piece
   held_more on =
       let d = s.delimiter.needle in
       let p = s.preamble in
       let f = concat s.found.segments in
       let w = waiting_in s in
       let before = held_before s.stage d p f in
-      ap (held_at s.stage d p f) held ∙ held_apart s.stage d p f (w ++ piece) on ∙ sym (append_assoc before w piece)
+      ap (held_in_sections s.stage d p f) held ∙ held_apart s.stage d p f (w ++ piece) on ∙ sym (append_assoc before w piece)
       ∙ ap (λ l. l ++ piece) (sym (held_apart s.stage d p f w on))
 
 -- what a push says of a part of the state, and of all of it
@@ -226,21 +226,21 @@ push_of_all held piece (Err e) push all same = record { ok = tt; err = same push
 
 -- what clauses see
 abbrev seen : Limits → Sections → Parting
-seen limits s = record { delimiter = s.delimiter.needle; limits = limits; ended = has_ended s.stage; held = held_by s }
+seen limits s = record { delimiter = s.delimiter.needle; limits = limits; ended = sections_have_ended s.stage; held = held_by s }
 
 module _ (s new : Sections) (piece : List ℕ) (others : new ≡ record s { waiting = new.waiting }) where
-  pub still_divided : {E : Type 0} (result : Result (Unit {0}) E) → OnOk result (waiting_in new ≡ waiting_in s ++ piece) → OnErr result (new ≡ s) → has_ended s.stage ≡ false
+  pub still_divided : {E : Type 0} (result : Result (Unit {0}) E) → OnOk result (waiting_in new ≡ waiting_in s ++ piece) → OnErr result (new ≡ s) → sections_have_ended s.stage ≡ false
       → IsDivided s → IsDivided new
   still_divided (Ok u) held unchanged on parts = subst IsDivided (sym others) (divided_more s new.waiting piece held on parts)
   still_divided (Err e) held unchanged on parts = subst IsDivided (sym unchanged) parts
 
-  pub seen_more : (limits : Limits) → waiting_in new ≡ waiting_in s ++ piece → has_ended s.stage ≡ false → seen limits new ≡ appended (seen limits s) piece
+  pub seen_more : (limits : Limits) → waiting_in new ≡ waiting_in s ++ piece → sections_have_ended s.stage ≡ false → seen limits new ≡ appended (seen limits s) piece
   seen_more limits held on =
       let more = held_more s new.waiting piece held on in
       ap (seen limits) others ∙ (rw on (λ i. record { delimiter = s.delimiter.needle; limits = limits; ended = false; held = more i }))
 
 -- the bytes that wait are the last ones that are held
-pub waiting_last : (s : Sections) → has_ended s.stage ≡ false → (front : List ℕ) × (held_by s ≡ front ++ (waiting_in s))
+pub waiting_last : (s : Sections) → sections_have_ended s.stage ≡ false → (front : List ℕ) × (held_by s ≡ front ++ (waiting_in s))
 waiting_last s on = (
   held_before s.stage s.delimiter.needle s.preamble (concat s.found.segments),
   held_apart s.stage s.delimiter.needle s.preamble (concat s.found.segments) (waiting_in s) on,
@@ -248,7 +248,7 @@ waiting_last s on = (
 
 module _ (s new : Sections) (limits : Limits) (piece : List ℕ) (result : Result (Unit {0}) (Refused (List ℕ))) (others : new ≡ record s { waiting = new.waiting })
     (push : IsPush (waiting_in s) piece result (waiting_in new ≡ waiting_in s ++ piece) (new ≡ s)) where
-  pub is_pushed : has_ended s.stage ≡ false → (front : List ℕ) × (waiting : List ℕ) × (held_by s ≡ front ++ waiting)
+  pub is_pushed : sections_have_ended s.stage ≡ false → (front : List ℕ) × (waiting : List ℕ) × (held_by s ≡ front ++ waiting)
       × IsPush waiting piece result (seen limits new ≡ appended (seen limits s) piece) (seen limits new ≡ seen limits s)
   is_pushed on = let last = waiting_last s on in (
     last.0,
@@ -260,17 +260,17 @@ module _ (s new : Sections) (limits : Limits) (piece : List ℕ) (result : Resul
 -- ---- without a part
 
 -- no part begins as a close delimiter goes on
-no_dashes : (limits : Limits) (raw : List ℕ) (part : PartBytes) (after : List ℕ) → IsPart limits raw part → raw ++ after ≢ dashes ++ drop 2 (raw ++ after)
+no_dashes : (limits : Limits) (raw : List ℕ) (part : PartBytes) (after : List ℕ) → IsPart limits raw part → raw ++ after ≢ multipart_dashes ++ drop 2 (raw ++ after)
 no_dashes limits raw part after is same = not_first is.front is.head (sym (ap (λ l. l ++ after) is.cut.bytes) ∙ same)
   where
     follows : List ℕ
     follows = drop 2 (raw ++ after)
 
-    not_first : (front : List ℕ) → IsHeadIn front part.head → (front ++ (head_end ++ part.body)) ++ after ≡ dashes ++ follows → ⊥
+    not_first : (front : List ℕ) → IsMultipartHead front part.head → (front ++ (multipart_head_end ++ part.body)) ++ after ≡ multipart_dashes ++ follows → ⊥
     not_first [] head same = omega (arith, ap (λ l. get_or l 0 0) same)
-    not_first (c ∷ front) head same = let first : c ≡ 45 = ap (λ l. get_or l 0 0) same in dash front (subst (λ b. IsHeadIn (b ∷ front) part.head) first head)
+    not_first (c ∷ front) head same = let first : c ≡ 45 = ap (λ l. get_or l 0 0) same in dash front (subst (λ b. IsMultipartHead (b ∷ front) part.head) first head)
       where
-        dash : (front : List ℕ) → IsHeadIn (45 ∷ front) part.head → ⊥
+        dash : (front : List ℕ) → IsMultipartHead (45 ∷ front) part.head → ⊥
         dash front (inl p) = omega (arith, ap length p.0)
         dash front (inr p) = omega (arith, ap (λ l. get_or l 0 0) p)
 
@@ -285,15 +285,15 @@ module _ (d : List ℕ) (limits : Limits) where
         ap length takes.ends.bytes,
         length-append takes.raw (d ++ takes.next),
         ap length takes.is.cut.bytes,
-        length-append takes.is.front (head_end ++ part.body),
-        length-append head_end part.body,
+        length-append takes.is.front (multipart_head_end ++ part.body),
+        length-append multipart_head_end part.body,
       )
 
-  pub none_closed : (bytes : List ℕ) → Closes d bytes → NoPart d limits bytes
+  pub none_closed : (bytes : List ℕ) → ClosesMultipart d bytes → NoPart d limits bytes
   none_closed bytes closing part rest takes =
-      let same = TakesFrame-same d bytes closing.0 takes.preamble (dashes ++ closing.1) takes.after closing.2 takes.begins in
-      let whole : takes.raw ++ (d ++ takes.next) ≡ dashes ++ closing.1 = sym takes.ends.bytes ∙ sym same.1 in
-      no_dashes limits takes.raw part (d ++ takes.next) takes.is (whole ∙ ap (λ l. dashes ++ l) (sym (ap (drop 2) whole)))
+      let same = TakesFrame-same d bytes closing.0 takes.preamble (multipart_dashes ++ closing.1) takes.after closing.2 takes.begins in
+      let whole : takes.raw ++ (d ++ takes.next) ≡ multipart_dashes ++ closing.1 = sym takes.ends.bytes ∙ sym same.1 in
+      no_dashes limits takes.raw part (d ++ takes.next) takes.is (whole ∙ ap (λ l. multipart_dashes ++ l) (sym (ap (drop 2) whole)))
 
 -- the bytes that are held now are those from before
 pub none_of_same : (old new : Sections) → SameSections old new → (limits : Limits) (more : List ℕ) → NoPart new.delimiter.needle limits (held_by new ++ more)
@@ -304,14 +304,14 @@ none_of_same old new same limits more none =
 -- ---- few bytes wait
 
 module _ (limits : Limits) (d : List ℕ) where
-  few_in_nothing : FewWait d limits []
+  few_in_nothing : FewWaitInMultipart d limits []
   few_in_nothing = record {
     for_first = λ _. omega arith;
     before = λ preamble after takes. omega (arith, ap length takes.bytes, length-append preamble (d ++ after));
     for_next = λ preamble after takes. omega (arith, ap length takes.bytes, length-append preamble (d ++ after), length-append d after);
   }
 
-  few_before : (w : List ℕ) → (¬ Occurs d w) → length w ≤ limits.head + limits.body + length d → FewWait d limits w
+  few_before : (w : List ℕ) → (¬ Occurs d w) → length w ≤ limits.head + limits.body + length d → FewWaitInMultipart d limits w
   few_before w none few = record {
     for_first = λ _. few;
     before = λ preamble after takes. absurd (none (length preamble, takes.first.here));
@@ -319,7 +319,7 @@ module _ (limits : Limits) (d : List ℕ) where
   }
 
   few_after : (p w : List ℕ) → TakesFrame d (p ++ (d ++ w)) p w → length p ≤ limits.head + limits.body → length w ≤ limits.head + limits.body + length d
-      → FewWait d limits (p ++ (d ++ w))
+      → FewWaitInMultipart d limits (p ++ (d ++ w))
   few_after p w begins short few = record {
     for_first = λ none. absurd (none (length p, begins.first.here));
     before = λ preamble after takes. omega (arith, short, ap length (TakesFrame-same d (p ++ (d ++ w)) p preamble w after begins takes).0);
@@ -335,17 +335,17 @@ module _ (limits : Limits) (old s : Sections) where
   none_after Waiting after not_found = no_part_yet old.delimiter.needle limits (held_by old) after.3
   none_after Found after not_found = absurd (not_found refl)
   none_after Ended (inl before) not_found =
-      subst (λ stage. NoPart old.delimiter.needle limits (held_at stage old.delimiter.needle old.preamble (concat old.found.segments) (waiting_in old))) (sym before)
+      subst (λ stage. NoPart old.delimiter.needle limits (held_in_sections stage old.delimiter.needle old.preamble (concat old.found.segments) (waiting_in old))) (sym before)
       (none_in_nothing old.delimiter.needle limits)
   none_after Ended (inr closing) not_found = none_closed old.delimiter.needle limits (held_by old) closing
 
   abbrev Kept : Type 0
-  Kept = (seen limits s ≡ seen limits old) × (¬ Closes old.delimiter.needle (held_by old)) × LacksNext old.delimiter.needle (held_by old)
+  Kept = (seen limits s ≡ seen limits old) × (¬ ClosesMultipart old.delimiter.needle (held_by old)) × LacksNextInMultipart old.delimiter.needle (held_by old)
 
   abbrev End : Type 0
-  End = (seen limits s ≡ closed (seen limits old)) × ((has_ended old.stage ≡ true) ⊎ Closes old.delimiter.needle (held_by old))
+  End = (seen limits s ≡ closed (seen limits old)) × ((sections_have_ended old.stage ≡ true) ⊎ ClosesMultipart old.delimiter.needle (held_by old))
 
-  idle_kept : has_ended s.stage ≡ false → SameSections old s → (¬ Closes old.delimiter.needle (held_by old)) → LacksNext old.delimiter.needle (held_by old)
+  idle_kept : sections_have_ended s.stage ≡ false → SameSections old s → (¬ ClosesMultipart old.delimiter.needle (held_by old)) → LacksNextInMultipart old.delimiter.needle (held_by old)
       → IsIdle (seen limits old) (seen limits s)
   idle_kept on same still_open lacks =
       let unchanged : seen limits s ≡ seen limits old =
@@ -354,20 +354,20 @@ module _ (limits : Limits) (old s : Sections) where
 
   -- then it changed nothing, or the close delimiter was read
   pub idle_after : (stage : Stage) → s.stage ≡ stage → s.delimiter.needle ≡ old.delimiter.needle → AfterSearch stage old s → stage ≢ Found → IsIdle (seen limits old) (seen limits s)
-  idle_after Preamble is delimiter after not_found = idle_kept (ap has_ended is) after.0 after.2 after.3
-  idle_after Waiting is delimiter after not_found = idle_kept (ap has_ended is) after.0 after.2 after.3
+  idle_after Preamble is delimiter after not_found = idle_kept (ap sections_have_ended is) after.0 after.2 after.3
+  idle_after Waiting is delimiter after not_found = idle_kept (ap sections_have_ended is) after.0 after.2 after.3
   idle_after Found is delimiter after not_found = absurd (not_found refl)
   idle_after Ended is delimiter after not_found =
-      let nothing : held_by s ≡ [] = ap (λ stage. held_at stage s.delimiter.needle s.preamble (concat s.found.segments) (waiting_in s)) is in
+      let nothing : held_by s ≡ [] = ap (λ stage. held_in_sections stage s.delimiter.needle s.preamble (concat s.found.segments) (waiting_in s)) is in
       let ended : seen limits s ≡ closed (seen limits old) =
-      λ i. record { delimiter = delimiter i; limits = limits; ended = ap has_ended is i; held = nothing i } in
-      let why : (has_ended old.stage ≡ true) ⊎ Closes old.delimiter.needle (held_by old) = elim after [ inl before ↦ inl (ap has_ended before) | inr closing ↦ inr closing ] in
-      subst (λ b. MatchBool b End Kept) (sym (ap has_ended is)) (ended, why)
+      λ i. record { delimiter = delimiter i; limits = limits; ended = ap sections_have_ended is i; held = nothing i } in
+      let why : (sections_have_ended old.stage ≡ true) ⊎ ClosesMultipart old.delimiter.needle (held_by old) = elim after [ inl before ↦ inl (ap sections_have_ended before) | inr closing ↦ inr closing ] in
+      subst (λ b. MatchBool b End Kept) (sym (ap sections_have_ended is)) (ended, why)
 
   -- few bytes wait then, if they are within the limits
   module _ (short : length s.preamble ≤ limits.head + limits.body) (few : length (waiting_in s) ≤ limits.head + limits.body + length s.delimiter.needle) where
-    pub few_wait : (stage : Stage) → AfterSearch stage old s → stage ≢ Found → AreApart stage s.delimiter.needle s.preamble (concat s.found.segments) (waiting_in s)
-        → FewWait s.delimiter.needle limits (held_at stage s.delimiter.needle s.preamble (concat s.found.segments) (waiting_in s))
+    pub few_wait : (stage : Stage) → AfterSearch stage old s → stage ≢ Found → AreSectionsApart stage s.delimiter.needle s.preamble (concat s.found.segments) (waiting_in s)
+        → FewWaitInMultipart s.delimiter.needle limits (held_in_sections stage s.delimiter.needle s.preamble (concat s.found.segments) (waiting_in s))
     few_wait Preamble after not_found parts =
         few_before limits s.delimiter.needle (waiting_in s) (subst (λ d. ¬ Occurs d (waiting_in s)) (sym after.0.delimiter) after.1) few
     few_wait Waiting after not_found parts = few_after limits s.delimiter.needle s.preamble (waiting_in s) parts short few
@@ -377,12 +377,12 @@ module _ (limits : Limits) (old s : Sections) where
   -- if they are not, no part comes
   module _ (more : List ℕ) where
     same_none : (stage : Stage) → s.stage ≡ stage → SameSections old s
-        → NoPart s.delimiter.needle limits (held_at stage s.delimiter.needle s.preamble (concat s.found.segments) (waiting_in s) ++ more) → NoPart old.delimiter.needle limits (held_by old ++ more)
+        → NoPart s.delimiter.needle limits (held_in_sections stage s.delimiter.needle s.preamble (concat s.found.segments) (waiting_in s) ++ more) → NoPart old.delimiter.needle limits (held_by old ++ more)
     same_none stage is same none =
         none_of_same old s same limits more
-        (subst (λ stage. NoPart s.delimiter.needle limits (held_at stage s.delimiter.needle s.preamble (concat s.found.segments) (waiting_in s) ++ more)) (sym is) none)
+        (subst (λ stage. NoPart s.delimiter.needle limits (held_in_sections stage s.delimiter.needle s.preamble (concat s.found.segments) (waiting_in s) ++ more)) (sym is) none)
 
-    pub over_limits : (stage : Stage) → s.stage ≡ stage → AfterSearch stage old s → AreApart stage s.delimiter.needle s.preamble (concat s.found.segments) (waiting_in s)
+    pub over_limits : (stage : Stage) → s.stage ≡ stage → AfterSearch stage old s → AreSectionsApart stage s.delimiter.needle s.preamble (concat s.found.segments) (waiting_in s)
         → ((limits.head + limits.body < length s.preamble) ⊎ ((s.stage ≢ Found) × (limits.head + limits.body + length s.delimiter.needle < length (waiting_in s))))
         → NoPart old.delimiter.needle limits (held_by old ++ more)
     over_limits Preamble is after parts (inl much) = absurd (omega (arith, much, ap length parts))
@@ -422,13 +422,13 @@ split_at_text p text (Some x) splits =
     }
 
 module _ (key text before after : List ℕ) (begins : TakesFrame key text before after) where
-  pub quoted_to : (value rest : List ℕ) → TakesFrame quote after value rest → IsQuoted key text value
+  pub quoted_to : (value rest : List ℕ) → TakesFrame multipart_quote after value rest → IsQuotedInMultipart key text value
   quoted_to value rest ends = record { before = before; after = after; begins = begins; rest = rest; ends = ends }
 
-  pub no_quote : (¬ Occurs quote after) → (other : List ℕ) → ¬ IsQuoted key text other
+  pub no_quote : (¬ Occurs multipart_quote after) → (other : List ℕ) → ¬ IsQuotedInMultipart key text other
   no_quote none other is =
       let same = TakesFrame-same key text before is.before after is.after begins is.begins in
-      none (length other, subst (λ l. OccursAt quote l (length other)) (sym same.1) is.ends.first.here)
+      none (length other, subst (λ l. OccursAt multipart_quote l (length other)) (sym same.1) is.ends.first.here)
 
 -- the lines before these are no such header, and this one is
 pub first_of : (all before : List (List ℕ)) (line : List ℕ) (others : List (List ℕ)) (value : List ℕ) → all ≡ before ++ line ∷ others → All NoDisposition before → IsDisposition line value
@@ -438,23 +438,23 @@ first_of all before line others value parts none is = record { before = before; 
 -- ---- what is in a raw part
 
 -- no head ends
-pub no_head_end : (limits : Limits) (raw : List ℕ) (part : PartBytes) → (¬ Occurs head_end raw) → ¬ IsPart limits raw part
+pub no_head_end : (limits : Limits) (raw : List ℕ) (part : PartBytes) → (¬ Occurs multipart_head_end raw) → ¬ IsPart limits raw part
 no_head_end limits raw part none is = none (length is.front, is.cut.first.here)
 
 -- what is before the end of the head is no head
-pub no_head : (limits : Limits) (raw front body : List ℕ) (part : PartBytes) → TakesFrame head_end raw front body → ((head : List ℕ) → ¬ IsHeadIn front head) → ¬ IsPart limits raw part
+pub no_head : (limits : Limits) (raw front body : List ℕ) (part : PartBytes) → TakesFrame multipart_head_end raw front body → ((head : List ℕ) → ¬ IsMultipartHead front head) → ¬ IsPart limits raw part
 no_head limits raw front body part cut none is =
-    let same = TakesFrame-same head_end raw front is.front body part.body cut is.cut in
-    none part.head (subst (λ l. IsHeadIn l part.head) (sym same.0) is.head)
+    let same = TakesFrame-same multipart_head_end raw front is.front body part.body cut is.cut in
+    none part.head (subst (λ l. IsMultipartHead l part.head) (sym same.0) is.head)
 
 -- a head that ends within the limits, and a body within them
-pub is_part : (limits : Limits) (raw : List ℕ) (len : ℕ) (head : List ℕ) → TakesFrame head_end raw (take len raw) (drop (len + length head_end) raw) → IsHeadIn (take len raw) head
-    → len + length head_end ≤ length raw → len + length head_end ≤ limits.head → length raw - (len + length head_end) ≤ limits.body
-    → IsPart limits raw (part_bytes head (drop (len + length head_end) raw))
+pub is_part : (limits : Limits) (raw : List ℕ) (len : ℕ) (head : List ℕ) → TakesFrame multipart_head_end raw (take len raw) (drop (len + length multipart_head_end) raw) → IsMultipartHead (take len raw) head
+    → len + length multipart_head_end ≤ length raw → len + length multipart_head_end ≤ limits.head → length raw - (len + length multipart_head_end) ≤ limits.body
+    → IsPart limits raw (part_bytes head (drop (len + length multipart_head_end) raw))
 is_part limits raw len head cut is within small short = record {
   front = take len raw;
   cut = cut;
   head = is;
   small = omega (arith, small, length-take-le len raw (omega (arith, within)));
-  short = omega (arith, short, length-drop (len + length head_end) raw);
+  short = omega (arith, short, length-drop (len + length multipart_head_end) raw);
 }

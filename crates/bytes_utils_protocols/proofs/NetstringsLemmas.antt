@@ -1,11 +1,11 @@
 -- Netstrings, read part by part.
 use Rattle.std.proofs.Common.{◌≡◌, ℕ, ◌+◌, ◌<◌, List, [], ◌∷◌, ◌++◌, length, ap, ◌∙◌, sym, subst, arith, append_assoc, append-nil, length-append}
 use Rattle.std.specs.Str.Parse.{digits_value}
-use Rattle.bytes_utils_codec.specs.Cursor.{IsBegun, NeverBegins, TakesFirst}
+use Rattle.bytes_utils_codec.specs.Cursor.{IsBegunAtCursor, NeverBeginsAtCursor, CursorTakesFirst}
 use Rattle.bytes_utils_codec.specs.Frames.{TakesFrame}
 use Rattle.bytes_utils_codec.proofs.FramesLemmas.{TakesFrame-more, TakesFrame-same}
 use Rattle.bytes_utils.proofs.Joins.{append_same}
-use Rattle.bytes_utils_protocols.specs.Netstrings.{NoNetstring, TakesNetstring, comma}
+use Rattle.bytes_utils_protocols.specs.Netstrings.{NoNetstring, TakesNetstring, netstring_comma}
 use Rattle.bytes_utils_protocols.specs.Digits.{WriteNumber, colon}
 
 -- the bytes up to the first colon, and those after it
@@ -23,22 +23,22 @@ module _ (bytes digits after : List ℕ) (front : TakesFrame (colon ∷ []) byte
     size : (more text rest : List ℕ) → TakesNetstring (bytes ++ more) text rest → len ≡ length text
     size more text rest takes = sym number.1 ∙ ap (digits_value 10) (parts more text rest takes).0 ∙ takes.len.1
 
-    whole : (more text rest : List ℕ) → TakesNetstring (bytes ++ more) text rest → after ++ more ≡ text ++ (comma ∷ rest)
+    whole : (more text rest : List ℕ) → TakesNetstring (bytes ++ more) text rest → after ++ more ≡ text ++ (netstring_comma ∷ rest)
     whole more text rest takes = (parts more text rest takes).1 ∙ takes.bytes
 
     -- the text and the comma are after the colon
     pub too_few : length after < len + 1 → NoNetstring bytes
     too_few few = subst NoNetstring (append-nil bytes) (λ text rest takes.
         let all = ap length (whole [] text rest takes) in
-        omega (arith, few, size [] text rest takes, all, length-append after [], length-append text (comma ∷ rest)))
+        omega (arith, few, size [] text rest takes, all, length-append after [], length-append text (netstring_comma ∷ rest)))
 
-    module _ (text left : List ℕ) (first : TakesFirst len after text left) where
-      pub no_comma : IsBegun (comma ∷ []) left → NoNetstring bytes
+    module _ (text left : List ℕ) (first : CursorTakesFirst len after text left) where
+      pub no_comma : IsBegunAtCursor (netstring_comma ∷ []) left → NoNetstring bytes
       no_comma begun = too_few
           (omega (arith, ap length begun.1, begun.2, length-append left begun.0, ap length first.bytes, first.size, length-append text left))
 
-      pub wrong_comma : NeverBegins (comma ∷ []) left → (more : List ℕ) → NoNetstring (bytes ++ more)
+      pub wrong_comma : NeverBeginsAtCursor (netstring_comma ∷ []) left → (more : List ℕ) → NoNetstring (bytes ++ more)
       wrong_comma never more other rest takes =
-          let joined : text ++ (left ++ more) ≡ other ++ (comma ∷ rest) =
+          let joined : text ++ (left ++ more) ≡ other ++ (netstring_comma ∷ rest) =
           sym (append_assoc text left more) ∙ ap (λ l. l ++ more) (sym first.bytes) ∙ whole more other rest takes in
-          never more rest (append_same text other (left ++ more) (comma ∷ rest) (first.size ∙ size more other rest takes) joined).1
+          never more rest (append_same text other (left ++ more) (netstring_comma ∷ rest) (first.size ∙ size more other rest takes) joined).1

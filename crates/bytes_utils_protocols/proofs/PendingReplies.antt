@@ -8,13 +8,14 @@ use Rattle.bytes.proofs.Ranges.{drop-take_less}
 use Rattle.bytes_utils_buf.specs.Packing.{Packing}
 use Rattle.bytes_utils_buf.specs.declared.refused.Reason.{Reason}
 use Rattle.bytes_utils_buf.specs.declared.refused.Reason.TheVariants.{OutOfMemory}
-use Rattle.bytes_utils_codec.specs.Cursor.{Reading, passed_on, unread}
+use Rattle.bytes_utils_codec.specs.Cursor.{CursorReading, passed_on, unread}
 use Rattle.bytes_utils_codec.specs.Frames.{TakesFrame}
-use Rattle.bytes_utils_codec.specs.StreamRuns.{AreFirst}
+use Rattle.bytes_utils_codec.specs.StreamRuns.{AreFirstOfRun}
 use Rattle.bytes_utils_codec.proofs.FramesLemmas.{TakesFrame-more}
-use Rattle.bytes_utils_codec.proofs.StreamRunsLemmas.{AreFirst-more}
-use Rattle.bytes_utils_protocols.specs.Redis.{line_end, BeginsBody, HasNoBody, IsLineOf, IsTextLine, TakesItem, TakesReply, ArePending, NoItem, items_in}
-use Rattle.bytes_utils_protocols.specs.PendingReply.{AwaitsBody, AwaitsItem, HasItem, IsNext, IsNoItem, IsPending, IsReadAs, held_by, unread_by}
+use Rattle.bytes_utils_codec.proofs.StreamRunsLemmas.{AreFirstOfRun-more}
+use Rattle.bytes_utils_protocols.specs.Redis.{redis_line_end, BeginsRedisBody, HasNoRedisBody, IsLineOf, IsRedisTextLine, TakesItem, TakesReply, LeaveItemsDue, NoItem, items_in}
+use Rattle.bytes_utils_protocols.specs.RedisLine.{IsReadAs}
+use Rattle.bytes_utils_protocols.specs.RedisPending.{AwaitsPendingBody, AwaitsPendingItem, HasPendingItem, IsPendingNext, IsNoPendingItem, IsPending, held_by, unread_by}
 use Rattle.bytes_utils_protocols.specs.declared.redis.item.Item.{Item}
 use Rattle.bytes_utils_protocols.specs.declared.redis.item.Item.TheVariants.{Simple, Error}
 use Rattle.bytes_utils_protocols.specs.declared.redis.limits.Limits.{Limits}
@@ -28,12 +29,12 @@ use Rattle.bytes_utils_protocols.proofs.ReplyBeginnings.{begins_bulk}
 
 -- ---- more bytes come
 
-still_next : (limits : Limits) (u piece : List ℕ) (next : Next) → IsNext limits u next → IsNext limits (u ++ piece) next
+still_next : (limits : Limits) (u piece : List ℕ) (next : Next) → IsPendingNext limits u next → IsPendingNext limits (u ++ piece) next
 still_next limits u piece (InLine begun) is =
     (omega (arith, is.0, length-append u piece), subst (IsReadAs begun.line) (sym (take-append-le begun.len u piece is.0)) is.1)
 still_next limits u piece (InBody start len) is = record {
   line = is.line;
-  framed = subst (TakesFrame line_end (u ++ piece) is.line) (sym (drop-append-le start u piece is.within)) (TakesFrame-more line_end u is.line (drop start u) piece is.framed);
+  framed = subst (TakesFrame redis_line_end (u ++ piece) is.line) (sym (drop-append-le start u piece is.within)) (TakesFrame-more redis_line_end u is.line (drop start u) piece is.framed);
   is = is.is;
   short = is.short;
   small = is.small;
@@ -45,12 +46,12 @@ module _ (limits : Limits) (p : Pending) (pieces : Packing) (piece : List ℕ) w
   pushed more fits is =
       let all : p.passed ++ concat pieces.held.segments ≡ held_by p ++ piece = ap (λ l. p.passed ++ l) more ∙ sym (append_assoc p.passed (unread_by p) piece) in
       record {
-        are = subst (λ l. AreFirst (TakesItem limits) l p.items.items (concat pieces.held.segments)) (sym all)
-            (subst (λ l. AreFirst (TakesItem limits) (held_by p ++ piece) p.items.items l) (sym more)
-            (AreFirst-more (λ l x. l ++ x) (TakesItem limits) (TakesItem-more limits) (held_by p) p.items.items (unread_by p) piece is.are));
+        are = subst (λ l. AreFirstOfRun (TakesItem limits) l p.items.items (concat pieces.held.segments)) (sym all)
+            (subst (λ l. AreFirstOfRun (TakesItem limits) (held_by p ++ piece) p.items.items l) (sym more)
+            (AreFirstOfRun-more (λ l x. l ++ x) (TakesItem limits) (TakesItem-more limits) (held_by p) p.items.items (unread_by p) piece is.are));
         due = is.due;
         within = is.within;
-        next = subst (λ l. IsNext limits l p.next) (sym more) (still_next limits (unread_by p) piece p.next is.next);
+        next = subst (λ l. IsPendingNext limits l p.next) (sym more) (still_next limits (unread_by p) piece p.next is.next);
         fits = omega (arith, fits, ap length all, length-append (held_by p) piece);
       }
 
@@ -63,8 +64,8 @@ module _ (limits : Limits) (p : Pending) (pieces : Packing) (piece : List ℕ) w
 -- the same items, in whatever room
 pub same_items : (limits : Limits) (p : Pending) (items : Vec Item) → items.items ≡ p.items.items → IsPending limits p → IsPending limits (record p { items = items })
 same_items limits p items same is = record {
-  are = subst (λ l. AreFirst (TakesItem limits) (held_by p) l (unread_by p)) (sym same) is.are;
-  due = subst (λ l. ArePending 1 l p.due) (sym same) is.due;
+  are = subst (λ l. AreFirstOfRun (TakesItem limits) (held_by p) l (unread_by p)) (sym same) is.are;
+  due = subst (λ l. LeaveItemsDue 1 l p.due) (sym same) is.due;
   within = λ some. omega (arith, is.within some, ap length same);
   next = is.next;
   fits = is.fits;
@@ -72,12 +73,12 @@ same_items limits p items same is = record {
 
 -- ---- nothing was read
 
-pub nothing_read : (limits : Limits) (p : Pending) → p.passed ≡ [] → p.items.items ≡ [] → p.due ≡ 1 → IsNext limits (unread_by p) p.next → length (unread_by p) < 2 ^ 64 → IsPending limits p
+pub nothing_read : (limits : Limits) (p : Pending) → p.passed ≡ [] → p.items.items ≡ [] → p.due ≡ 1 → IsPendingNext limits (unread_by p) p.next → length (unread_by p) < 2 ^ 64 → IsPending limits p
 nothing_read limits p passed items due next fits =
     let all : held_by p ≡ unread_by p = ap (λ l. l ++ unread_by p) passed in
     record {
-      are = subst (λ l. AreFirst (TakesItem limits) (held_by p) l (unread_by p)) (sym items) all;
-      due = subst (λ l. ArePending 1 l p.due) (sym items) (sym due);
+      are = subst (λ l. AreFirstOfRun (TakesItem limits) (held_by p) l (unread_by p)) (sym items) all;
+      due = subst (λ l. LeaveItemsDue 1 l p.due) (sym items) (sym due);
       within = λ some. omega (arith, some, due, ap length items);
       next = next;
       fits = omega (arith, fits, ap length all);
@@ -85,7 +86,7 @@ nothing_read limits p passed items due next fits =
 
 -- ---- a text
 
-module _ (u : List ℕ) (len : ℕ) (line : IsTextLine (take len u)) where
+module _ (u : List ℕ) (len : ℕ) (line : IsRedisTextLine (take len u)) where
   begins_with : slice_get u 0 ≡ Some line.kind
   begins_with = ap (λ l. slice_get l 0) (sym (take-append-drop len u) ∙ ap (λ l. l ++ drop len u) line.parts)
 
@@ -107,38 +108,38 @@ module _ (u : List ℕ) (len : ℕ) (line : IsTextLine (take len u)) where
 
 -- ---- a bulk item
 
-pub cursor_at : (u : List ℕ) (start : ℕ) (first next : Reading) → first ≡ record { all = u; at = 0 } → next ≡ passed_on start first → unread next ≡ drop start u
+pub cursor_at : (u : List ℕ) (start : ℕ) (first next : CursorReading) → first ≡ record { all = u; at = 0 } → next ≡ passed_on start first → unread next ≡ drop start u
 cursor_at u start first next is passed =
     let same : 0 + start ≡ start = omega arith in
     ap unread passed ∙ ap (λ r. unread (passed_on start r)) is ∙ ap (λ n. drop n u) same
 
-module _ (limits : Limits) (room : ℕ) (u : List ℕ) (start len : ℕ) (awaits : AwaitsBody limits u start len) where
-  pub no_bulk_item : (e : ReplyError) → (e ≡ Malformed → (more : List ℕ) → HasNoBody len (drop start u ++ more)) → e ≢ TooLarge → ((reason : Reason) → e ≡ Refused reason → reason ≡ OutOfMemory)
-      → IsNoItem limits room u e
+module _ (limits : Limits) (room : ℕ) (u : List ℕ) (start len : ℕ) (awaits : AwaitsPendingBody limits u start len) where
+  pub no_bulk_item : (e : ReplyError) → (e ≡ Malformed → (more : List ℕ) → HasNoRedisBody len (drop start u ++ more)) → e ≢ TooLarge → ((reason : Reason) → e ≡ Refused reason → reason ≡ OutOfMemory)
+      → IsNoPendingItem limits room u e
   no_bulk_item e malformed too_large reason = record {
     malformed = λ is any more. no_body any u more awaits.line (drop start u) awaits.framed len awaits.is (malformed is more);
     too_large = λ is. absurd (too_large is);
     memory = reason;
   }
 
-  pub awaits_bulk : HasNoBody len (drop start u) → BeginsBody len (drop start u) → AwaitsItem limits room u
+  pub awaits_bulk : HasNoRedisBody len (drop start u) → BeginsRedisBody len (drop start u) → AwaitsPendingItem limits room u
   awaits_bulk none begins = record {
-    none = subst (NoItem limits) (append-nil u) (no_body limits u [] awaits.line (drop start u) awaits.framed len awaits.is (subst (HasNoBody len) (sym (append-nil (drop start u))) none));
+    none = subst (NoItem limits) (append-nil u) (no_body limits u [] awaits.line (drop start u) awaits.framed len awaits.is (subst (HasNoRedisBody len) (sym (append-nil (drop start u))) none));
     begins = begins_bulk limits room u awaits.line (drop start u) len awaits.framed awaits.is awaits.short awaits.small begins;
   }
 
 -- ---- an item is kept
 
 pub one_kept : (limits : Limits) (room : ℕ) (p next : Pending) (item : Item) (len : ℕ) → IsPending limits p → 0 < p.due → length p.items.items + p.due + room ≤ limits.items
-    → HasItem limits room (unread_by p) item len → next.items.items ≡ p.items.items ++ item ∷ [] → next.due ≡ (p.due - 1) + items_in item → unread_by next ≡ drop len (unread_by p)
-    → held_by next ≡ held_by p → IsNext limits (unread_by next) next.next → IsPending limits next
+    → HasPendingItem limits room (unread_by p) item len → next.items.items ≡ p.items.items ++ item ∷ [] → next.due ≡ (p.due - 1) + items_in item → unread_by next ≡ drop len (unread_by p)
+    → held_by next ≡ held_by p → IsPendingNext limits (unread_by next) next.next → IsPending limits next
 one_kept limits room p next item len is some full has items due rest held at =
     let read = read_one limits limits [] (held_by p) p.items.items (unread_by p) p.due is.are is.due item (drop len (unread_by p)) (items_in item) some has.takes refl in
     record {
-      are = subst (λ l. AreFirst (TakesItem limits) (held_by next) l (unread_by next)) (sym items)
-          (subst (λ l. AreFirst (TakesItem limits) (held_by next) (p.items.items ++ item ∷ []) l) (sym rest)
-          (subst (λ l. AreFirst (TakesItem limits) l (p.items.items ++ item ∷ []) (drop len (unread_by p))) (sym held) read.0));
-      due = subst (λ l. ArePending 1 l next.due) (sym items) (subst (ArePending 1 (p.items.items ++ item ∷ [])) (sym due) read.1);
+      are = subst (λ l. AreFirstOfRun (TakesItem limits) (held_by next) l (unread_by next)) (sym items)
+          (subst (λ l. AreFirstOfRun (TakesItem limits) (held_by next) (p.items.items ++ item ∷ []) l) (sym rest)
+          (subst (λ l. AreFirstOfRun (TakesItem limits) l (p.items.items ++ item ∷ []) (drop len (unread_by p))) (sym held) read.0));
+      due = subst (λ l. LeaveItemsDue 1 l next.due) (sym items) (subst (LeaveItemsDue 1 (p.items.items ++ item ∷ [])) (sym due) read.1);
       within = λ _. omega (arith, full, has.few, due, some, ap length items, length-append p.items.items (item ∷ []));
       next = at;
       fits = omega (arith, is.fits, ap length held);
@@ -147,4 +148,4 @@ one_kept limits room p next item len is some full has items due rest held at =
 -- all items of a reply are kept
 pub reply_read : (limits : Limits) (p : Pending) → IsPending limits p → 0 < limits.items → p.due ≡ 0 → TakesReply limits (held_by p) p.items.items (unread_by p)
 reply_read limits p is some none =
-    whole_reply limits (held_by p) p.items.items (unread_by p) is.are (subst (ArePending 1 p.items.items) none is.due) (omega (arith, is.within some))
+    whole_reply limits (held_by p) p.items.items (unread_by p) is.are (subst (LeaveItemsDue 1 p.items.items) none is.due) (omega (arith, is.within some))

@@ -5,17 +5,17 @@ use Rattle.std.specs.Option.{option_map}
 use Rattle.std.proofs.lemmas.Bool.Decides.{nat_tests}
 use Rattle.std.proofs.lemmas.List.{append_cancel_left}
 use Rattle.std.proofs.lemmas.Str.Parse.{digit_at}
-use Rattle.bytes_utils_codec.specs.Cursor.{IsBegun, NeverBegins, TakesFirst}
+use Rattle.bytes_utils_codec.specs.Cursor.{IsBegunAtCursor, NeverBeginsAtCursor, CursorTakesFirst}
 use Rattle.bytes_utils_codec.specs.Frames.{TakesFrame}
 use Rattle.bytes_utils.specs.Occurrence.{Occurs}
-use Rattle.bytes_utils_codec.specs.StreamRuns.{AreFirst}
+use Rattle.bytes_utils_codec.specs.StreamRuns.{AreFirstOfRun}
 use Rattle.bytes_utils_codec.proofs.FramesLemmas.{TakesFrame-more, TakesFrame-same}
 use Rattle.bytes_utils.proofs.Joins.{append_same}
-use Rattle.bytes_utils_codec.proofs.StreamRunsLemmas.{AreFirst-next}
+use Rattle.bytes_utils_codec.proofs.StreamRunsLemmas.{AreFirstOfRun-next}
 use Rattle.bytes_utils_protocols.specs.Digits.{WriteNumber}
-use Rattle.bytes_utils_protocols.specs.Redis.{line_end, no_length, IsPlain, WriteInteger, WriteLength, first_byte, Says, IsLineOf, body, after_line, items_in, HasNoBody, TakesItem, NoItem, NoItemWithin, AreWhole, ArePending, TakesReply, NoReply}
-use Rattle.bytes_utils_protocols.specs.PendingReply.{IsHeadOf}
-use Rattle.bytes_utils_protocols.specs.declared.redis.line.Head.TheVariants.{Body}
+use Rattle.bytes_utils_protocols.specs.Redis.{redis_line_end, redis_no_length, IsRedisPlain, WriteRedisInteger, WriteRedisLength, first_byte, Says, IsLineOf, body, after_line, items_in, HasNoRedisBody, TakesItem, NoItem, NoItemWithin, AreWhole, LeaveItemsDue, TakesReply, NoReply}
+use Rattle.bytes_utils_protocols.specs.RedisLine.{IsHeadOf}
+use Rattle.bytes_utils_protocols.specs.declared.redis.line.LineHead.TheVariants.{Body}
 use Rattle.bytes_utils_protocols.specs.declared.redis.item.Item.{Item}
 use Rattle.bytes_utils_protocols.specs.declared.redis.item.Item.TheVariants.{Simple, Error, Integer, Bulk, Array}
 use Rattle.bytes_utils_protocols.specs.declared.redis.limits.Limits.{Limits}
@@ -23,14 +23,14 @@ use Rattle.bytes_utils_protocols.specs.declared.redis.limits.Limits.{Limits}
 -- ---- one item
 
 -- what says that nothing is there is no number
-no_number : (said : List ℕ) (n : ℕ) → said ≡ no_length → WriteNumber said n → ⊥
+no_number : (said : List ℕ) (n : ℕ) → said ≡ redis_no_length → WriteNumber said n → ⊥
 no_number said n is number =
     let first = digit_at said 0 number.0.1 number.0.0 in
     let minus : get_or said 0 0 ≡ 45 = ap (λ l. get_or l 0 0) is in
     grind (arith, nat_tests, first, minus)
 
 -- the length that is written
-same_length : (said : List ℕ) (a b : Option ℕ) → WriteLength said a → WriteLength said b → a ≡ b
+same_length : (said : List ℕ) (a b : Option ℕ) → WriteRedisLength said a → WriteRedisLength said b → a ≡ b
 same_length said None None p q = refl
 same_length said None (Some n) p q = absurd (no_number said n p q)
 same_length said (Some m) None p q = absurd (no_number said m q p)
@@ -45,8 +45,8 @@ same_item (Bulk None) (Bulk None) said r s e p q t = (refl, t)
 same_item (Bulk None) (Bulk (Some b)) said r s e p q t = absurd (no_number said (length b) p q)
 same_item (Bulk (Some a)) (Bulk None) said r s e p q t = absurd (no_number said (length a) q p)
 same_item (Bulk (Some a)) (Bulk (Some b)) said r s e p q t =
-    let same = append_same a b (line_end ++ r) (line_end ++ s) (sym p.1 ∙ q.1) (sym (append_assoc a line_end r) ∙ t ∙ append_assoc b line_end s) in
-    (ap (λ l. Bulk (Some l)) same.0, append_cancel_left line_end r s same.1)
+    let same = append_same a b (redis_line_end ++ r) (redis_line_end ++ s) (sym p.1 ∙ q.1) (sym (append_assoc a redis_line_end r) ∙ t ∙ append_assoc b redis_line_end s) in
+    (ap (λ l. Bulk (Some l)) same.0, append_cancel_left redis_line_end r s same.1)
 same_item (Array a) (Array b) said r s e p q t = (ap Array (same_length said a b p q), t)
 same_item (Simple a) (Error b) said r s e p q t = absurd (omega (arith, e))
 same_item (Simple a) (Integer b) said r s e p q t = absurd (omega (arith, e))
@@ -78,7 +78,7 @@ same_line x y line p q =
 -- what bytes begin with is one item, whatever the limits are
 pub TakesItem-same : (limits other : Limits) (old : List ℕ) (x y : Item) (r s : List ℕ) → TakesItem limits old x r → TakesItem other old y s → (x ≡ y) × (r ≡ s)
 TakesItem-same limits other old x y r s p q =
-    let same = TakesFrame-same line_end old p.line q.line (after_line x ++ r) (after_line y ++ s) p.bytes q.bytes in
+    let same = TakesFrame-same redis_line_end old p.line q.line (after_line x ++ r) (after_line y ++ s) p.bytes q.bytes in
     let q_is : IsLineOf y p.line = subst (IsLineOf y) (sym same.0) q.is in
     let said = same_line x y p.line p.is q_is in
     same_item x y p.is.0 r s said.0 p.is.2 (subst (Says y) (sym said.1) q_is.2) same.1
@@ -88,8 +88,8 @@ pub TakesItem-more : (limits : Limits) (old : List ℕ) (item : Item) (rest more
 TakesItem-more limits old item rest more takes = record {
   line = takes.line;
   is = takes.is;
-  bytes = subst (TakesFrame line_end (old ++ more) takes.line) (append_assoc (after_line item) rest more)
-      (TakesFrame-more line_end old takes.line (after_line item ++ rest) more takes.bytes);
+  bytes = subst (TakesFrame redis_line_end (old ++ more) takes.line) (append_assoc (after_line item) rest more)
+      (TakesFrame-more redis_line_end old takes.line (after_line item ++ rest) more takes.bytes);
   short = takes.short;
   small = takes.small;
 }
@@ -98,24 +98,24 @@ TakesItem-more limits old item rest more takes = record {
 
 module _ (limits : Limits) (old more : List ℕ) where
   -- no line ends
-  pub no_line : (¬ Occurs line_end old) → NoItem limits old
+  pub no_line : (¬ Occurs redis_line_end old) → NoItem limits old
   no_line none item rest takes = none (length takes.line, takes.bytes.first.here)
 
-  module _ (line mid : List ℕ) (framed : TakesFrame line_end old line mid) where
+  module _ (line mid : List ℕ) (framed : TakesFrame redis_line_end old line mid) where
     -- the line that an item has
     its_line : (item : Item) (rest : List ℕ) (takes : TakesItem limits (old ++ more) item rest) → IsLineOf item line × (mid ++ more ≡ after_line item ++ rest)
     its_line item rest takes =
-        let same = TakesFrame-same line_end (old ++ more) line takes.line (mid ++ more) (after_line item ++ rest) (TakesFrame-more line_end old line mid more framed) takes.bytes in
+        let same = TakesFrame-same redis_line_end (old ++ more) line takes.line (mid ++ more) (after_line item ++ rest) (TakesFrame-more redis_line_end old line mid more framed) takes.bytes in
         (subst (IsLineOf item) (sym same.0) takes.is, same.1)
 
     -- the line is that of a bulk item
     module _ (len : ℕ) (head : IsHeadOf (Body len) line) where
       its_body : (item : Item) (rest : List ℕ) (said : List ℕ) → line ≡ first_byte item ∷ said → Says item said → mid ++ more ≡ after_line item ++ rest
-          → (length (body item) ≡ len) × (mid ++ more ≡ body item ++ (line_end ++ rest))
+          → (length (body item) ≡ len) × (mid ++ more ≡ body item ++ (redis_line_end ++ rest))
       its_body (Bulk (Some b)) rest said is says following =
           let same : head.0 ≡ said = ap (drop 1) (sym head.1 ∙ is) in
           let number = subst (λ l. WriteNumber l len) same head.2 in
-          (sym says.1 ∙ number.1, following ∙ append_assoc b line_end rest)
+          (sym says.1 ∙ number.1, following ∙ append_assoc b redis_line_end rest)
       its_body (Bulk None) rest said is says following =
           let same : head.0 ≡ said = ap (drop 1) (sym head.1 ∙ is) in
           absurd (no_number said len says (subst (λ l. WriteNumber l len) same head.2))
@@ -125,28 +125,28 @@ module _ (limits : Limits) (old more : List ℕ) where
       its_body (Array a) rest said is says following = absurd (omega (arith, ap (λ l. get_or l 0 0) (sym head.1 ∙ is)))
 
       -- its bytes are not there
-      pub no_body : HasNoBody len (mid ++ more) → NoItem limits (old ++ more)
+      pub no_body : HasNoRedisBody len (mid ++ more) → NoItem limits (old ++ more)
       no_body none item rest takes =
           let its = its_line item rest takes in
           let has = its_body item rest its.0.0 its.0.1 its.0.2 its.1 in
           none (body item) rest has.0 has.1
 
-module _ (len : ℕ) (old bytes mid : List ℕ) (first : TakesFirst len old bytes mid) where
+module _ (len : ℕ) (old bytes mid : List ℕ) (first : CursorTakesFirst len old bytes mid) where
   -- what follows the bytes
-  following : (more front rest : List ℕ) → length front ≡ len → old ++ more ≡ front ++ (line_end ++ rest) → mid ++ more ≡ line_end ++ rest
+  following : (more front rest : List ℕ) → length front ≡ len → old ++ more ≡ front ++ (redis_line_end ++ rest) → mid ++ more ≡ redis_line_end ++ rest
   following more front rest size same =
-      (append_same bytes front (mid ++ more) (line_end ++ rest) (first.size ∙ sym size) (sym (append_assoc bytes mid more) ∙ ap (λ l. l ++ more) (sym first.bytes) ∙ same)).1
+      (append_same bytes front (mid ++ more) (redis_line_end ++ rest) (first.size ∙ sym size) (sym (append_assoc bytes mid more) ∙ ap (λ l. l ++ more) (sym first.bytes) ∙ same)).1
 
   -- another end follows the bytes
-  pub wrong_end : NeverBegins line_end mid → (more : List ℕ) → HasNoBody len (old ++ more)
+  pub wrong_end : NeverBeginsAtCursor redis_line_end mid → (more : List ℕ) → HasNoRedisBody len (old ++ more)
   wrong_end never more front rest size same = never more rest (following more front rest size same)
 
   -- their end is to come
-  pub no_end : IsBegun line_end mid → HasNoBody len old
+  pub no_end : IsBegunAtCursor redis_line_end mid → HasNoRedisBody len old
   no_end begun front rest size same =
-      let ends : mid ++ [] ≡ line_end ++ rest = following [] front rest size (append-nil old ∙ same) in
-      let two : length line_end ≡ 2 = refl in
-      omega (arith, two, ap length ends, length-append mid [], length-append line_end rest, ap length begun.1, length-append mid begun.0, begun.2)
+      let ends : mid ++ [] ≡ redis_line_end ++ rest = following [] front rest size (append-nil old ∙ same) in
+      let two : length redis_line_end ≡ 2 = refl in
+      omega (arith, two, ap length ends, length-append mid [], length-append redis_line_end rest, ap length begun.1, length-append mid begun.0, begun.2)
 
 -- ---- lines that are those of no item
 
@@ -158,7 +158,7 @@ module _ (kind : ℕ) (said : List ℕ) where
   pub of_kind : ((item : Item) → kind ≡ first_byte item → ¬ Says item said) → (item : Item) → ¬ IsLineOf item (kind ∷ said)
   of_kind none item is = none item (ap (λ l. get_or l 0 0) is.1) (subst (Says item) (sym (ap (drop 1) is.1)) is.2)
 
-pub no_simple : (said : List ℕ) → (¬ IsPlain said) → (item : Item) → ¬ IsLineOf item (43 ∷ said)
+pub no_simple : (said : List ℕ) → (¬ IsRedisPlain said) → (item : Item) → ¬ IsLineOf item (43 ∷ said)
 no_simple said none = of_kind 43 said no_item
   where
     no_item : (item : Item) → 43 ≡ first_byte item → ¬ Says item said
@@ -168,7 +168,7 @@ no_simple said none = of_kind 43 said no_item
     no_item (Bulk a) e says = omega (arith, e)
     no_item (Array a) e says = omega (arith, e)
 
-pub no_error : (said : List ℕ) → (¬ IsPlain said) → (item : Item) → ¬ IsLineOf item (45 ∷ said)
+pub no_error : (said : List ℕ) → (¬ IsRedisPlain said) → (item : Item) → ¬ IsLineOf item (45 ∷ said)
 no_error said none = of_kind 45 said no_item
   where
     no_item : (item : Item) → 45 ≡ first_byte item → ¬ Says item said
@@ -178,7 +178,7 @@ no_error said none = of_kind 45 said no_item
     no_item (Bulk a) e says = omega (arith, e)
     no_item (Array a) e says = omega (arith, e)
 
-pub no_integer : (said : List ℕ) → ((n : ℤ) → ¬ WriteInteger said n) → (item : Item) → ¬ IsLineOf item (58 ∷ said)
+pub no_integer : (said : List ℕ) → ((n : ℤ) → ¬ WriteRedisInteger said n) → (item : Item) → ¬ IsLineOf item (58 ∷ said)
 no_integer said none = of_kind 58 said no_item
   where
     no_item : (item : Item) → 58 ≡ first_byte item → ¬ Says item said
@@ -188,7 +188,7 @@ no_integer said none = of_kind 58 said no_item
     no_item (Bulk a) e says = omega (arith, e)
     no_item (Array a) e says = omega (arith, e)
 
-pub no_bulk : (said : List ℕ) → ((len : Option ℕ) → ¬ WriteLength said len) → (item : Item) → ¬ IsLineOf item (36 ∷ said)
+pub no_bulk : (said : List ℕ) → ((len : Option ℕ) → ¬ WriteRedisLength said len) → (item : Item) → ¬ IsLineOf item (36 ∷ said)
 no_bulk said none = of_kind 36 said no_item
   where
     no_item : (item : Item) → 36 ≡ first_byte item → ¬ Says item said
@@ -198,7 +198,7 @@ no_bulk said none = of_kind 36 said no_item
     no_item (Bulk a) e says = none (option_map length a) says
     no_item (Array a) e says = omega (arith, e)
 
-pub no_array : (said : List ℕ) → ((len : Option ℕ) → ¬ WriteLength said len) → (item : Item) → ¬ IsLineOf item (42 ∷ said)
+pub no_array : (said : List ℕ) → ((len : Option ℕ) → ¬ WriteRedisLength said len) → (item : Item) → ¬ IsLineOf item (42 ∷ said)
 no_array said none = of_kind 42 said no_item
   where
     no_item : (item : Item) → 42 ≡ first_byte item → ¬ Says item said
@@ -210,13 +210,13 @@ no_array said none = of_kind 42 said no_item
 
 -- ---- items in a row
 
-pub ArePending-next : (n : ℕ) (items : List Item) (item : Item) (due : ℕ) → 0 < due → ArePending n items due → ArePending n (items ++ item ∷ []) ((due - 1) + items_in item)
-ArePending-next n [] item due some pending = (omega (arith, some, pending), ap (λ k. (k - 1) + items_in item) pending)
-ArePending-next n (x ∷ items) item due some pending = (pending.0, ArePending-next ((n - 1) + items_in x) items item due some pending.1)
+pub LeaveItemsDue-next : (n : ℕ) (items : List Item) (item : Item) (due : ℕ) → 0 < due → LeaveItemsDue n items due → LeaveItemsDue n (items ++ item ∷ []) ((due - 1) + items_in item)
+LeaveItemsDue-next n [] item due some pending = (omega (arith, some, pending), ap (λ k. (k - 1) + items_in item) pending)
+LeaveItemsDue-next n (x ∷ items) item due some pending = (pending.0, LeaveItemsDue-next ((n - 1) + items_in x) items item due some pending.1)
 
-pub ArePending-none : (n : ℕ) (items : List Item) → ArePending n items 0 → AreWhole n items
-ArePending-none n [] pending = pending
-ArePending-none n (x ∷ items) pending = (pending.0, ArePending-none ((n - 1) + items_in x) items pending.1)
+pub LeaveItemsDue-none : (n : ℕ) (items : List Item) → LeaveItemsDue n items 0 → AreWhole n items
+LeaveItemsDue-none n [] pending = pending
+LeaveItemsDue-none n (x ∷ items) pending = (pending.0, LeaveItemsDue-none ((n - 1) + items_in x) items pending.1)
 
 -- whole items are at least as many as were to come
 at_least : (n : ℕ) (items : List Item) → AreWhole n items → n ≤ length items
@@ -225,24 +225,24 @@ at_least n (x ∷ items) whole = omega (arith, at_least ((n - 1) + items_in x) i
 
 module _ (limits other : Limits) (more : List ℕ) where
   -- any whole items begin with those that were read
-  walk : (n : ℕ) (bytes : List ℕ) (xs : List Item) (left : List ℕ) (due : ℕ) (zs : List Item) (rest : List ℕ) → AreFirst (TakesItem limits) bytes xs left → ArePending n xs due
-      → AreFirst (TakesItem other) (bytes ++ more) zs rest → AreWhole n zs → (ys : List Item) × (zs ≡ xs ++ ys) × AreWhole due ys × AreFirst (TakesItem other) (left ++ more) ys rest
+  walk : (n : ℕ) (bytes : List ℕ) (xs : List Item) (left : List ℕ) (due : ℕ) (zs : List Item) (rest : List ℕ) → AreFirstOfRun (TakesItem limits) bytes xs left → LeaveItemsDue n xs due
+      → AreFirstOfRun (TakesItem other) (bytes ++ more) zs rest → AreWhole n zs → (ys : List Item) × (zs ≡ xs ++ ys) × AreWhole due ys × AreFirstOfRun (TakesItem other) (left ++ more) ys rest
   walk n bytes [] left due zs rest are pending their whole =
-      (zs, refl, subst (λ k. AreWhole k zs) pending whole, subst (λ l. AreFirst (TakesItem other) (l ++ more) zs rest) are their)
+      (zs, refl, subst (λ k. AreWhole k zs) pending whole, subst (λ l. AreFirstOfRun (TakesItem other) (l ++ more) zs rest) are their)
   walk n bytes (x ∷ xs) left due [] rest are pending their whole = absurd (omega (arith, pending.0, whole))
   walk n bytes (x ∷ xs) left due (z ∷ zs) rest are pending their whole =
       let same = TakesItem-same limits other (bytes ++ more) x z (are.0 ++ more) their.0 (TakesItem-more limits bytes x are.0 more are.1) their.1 in
-      let later = walk ((n - 1) + items_in x) are.0 xs left due zs rest are.2 pending.1 (subst (λ l. AreFirst (TakesItem other) l zs rest) (sym same.1) their.2)
+      let later = walk ((n - 1) + items_in x) are.0 xs left due zs rest are.2 pending.1 (subst (λ l. AreFirstOfRun (TakesItem other) l zs rest) (sym same.1) their.2)
       (subst (λ k. AreWhole ((n - 1) + items_in k) zs) (sym same.0) whole.1) in
       (later.0, (λ i. sym same.0 i ∷ later.1 i), later.2, later.3)
 
-  module _ (bytes : List ℕ) (xs : List Item) (left : List ℕ) (due : ℕ) (are : AreFirst (TakesItem limits) bytes xs left) (pending : ArePending 1 xs due) where
+  module _ (bytes : List ℕ) (xs : List Item) (left : List ℕ) (due : ℕ) (are : AreFirstOfRun (TakesItem limits) bytes xs left) (pending : LeaveItemsDue 1 xs due) where
     -- the next item is read
     pub read_one : (item : Item) (rest : List ℕ) (following : ℕ) → 0 < due → TakesItem limits left item rest → following ≡ items_in item
-        → AreFirst (TakesItem limits) bytes (xs ++ item ∷ []) rest × ArePending 1 (xs ++ item ∷ []) ((due - 1) + following)
+        → AreFirstOfRun (TakesItem limits) bytes (xs ++ item ∷ []) rest × LeaveItemsDue 1 (xs ++ item ∷ []) ((due - 1) + following)
     read_one item rest following some takes is = (
-      AreFirst-next (TakesItem limits) bytes xs left item rest are takes,
-      subst (λ n. ArePending 1 (xs ++ item ∷ []) ((due - 1) + n)) (sym is) (ArePending-next 1 xs item due some pending),
+      AreFirstOfRun-next (TakesItem limits) bytes xs left item rest are takes,
+      subst (λ n. LeaveItemsDue 1 (xs ++ item ∷ []) ((due - 1) + n)) (sym is) (LeaveItemsDue-next 1 xs item due some pending),
     )
 
     -- an item is to come, and there is none
@@ -251,7 +251,7 @@ module _ (limits other : Limits) (more : List ℕ) where
         let later = walk 1 bytes xs left due zs rest are pending takes.are takes.whole in
         has_none due later.0 some later.2 later.3
       where
-        has_none : (k : ℕ) (ys : List Item) → 0 < k → AreWhole k ys → AreFirst (TakesItem other) (left ++ more) ys rest → ⊥
+        has_none : (k : ℕ) (ys : List Item) → 0 < k → AreWhole k ys → AreFirstOfRun (TakesItem other) (left ++ more) ys rest → ⊥
         has_none k [] some whole are = omega (arith, some, whole)
         has_none k (y ∷ ys) some whole are = none y are.0 are.1
 
@@ -262,24 +262,24 @@ module _ (limits other : Limits) (more : List ℕ) where
         let many = more_than due later.0 some later.2 later.3 in
         omega (arith, full, many, takes.few, ap length later.1, length-append xs later.0)
       where
-        more_than : (k : ℕ) (ys : List Item) → 0 < k → AreWhole k ys → AreFirst (TakesItem other) (left ++ more) ys rest → k + room < length ys
+        more_than : (k : ℕ) (ys : List Item) → 0 < k → AreWhole k ys → AreFirstOfRun (TakesItem other) (left ++ more) ys rest → k + room < length ys
         more_than k [] some whole are = absurd (omega (arith, some, whole))
         more_than k (y ∷ ys) some whole are = omega (arith, some, none y are.0 are.1, at_least ((k - 1) + items_in y) ys whole.1)
 
 -- no item is to come
-pub whole_reply : (limits : Limits) (bytes : List ℕ) (items : List Item) (rest : List ℕ) → AreFirst (TakesItem limits) bytes items rest → ArePending 1 items 0
+pub whole_reply : (limits : Limits) (bytes : List ℕ) (items : List Item) (rest : List ℕ) → AreFirstOfRun (TakesItem limits) bytes items rest → LeaveItemsDue 1 items 0
     → length items ≤ limits.items → TakesReply limits bytes items rest
-whole_reply limits bytes items rest are pending few = record { are = are; whole = ArePending-none 1 items pending; few = few }
+whole_reply limits bytes items rest are pending few = record { are = are; whole = LeaveItemsDue-none 1 items pending; few = few }
 
 -- ---- a reply takes bytes
 
 item_takes : (limits : Limits) (old : List ℕ) (item : Item) (rest : List ℕ) → TakesItem limits old item rest → length rest < length old
 item_takes limits old item rest takes =
-    let two : length line_end ≡ 2 = refl in
+    let two : length redis_line_end ≡ 2 = refl in
     let following = after_line item ++ rest in
-    omega (arith, two, ap length takes.bytes.bytes, length-append takes.line (line_end ++ following), length-append line_end following, length-append (after_line item) rest)
+    omega (arith, two, ap length takes.bytes.bytes, length-append takes.line (redis_line_end ++ following), length-append redis_line_end following, length-append (after_line item) rest)
 
-items_take : (limits : Limits) (items : List Item) (old rest : List ℕ) → AreFirst (TakesItem limits) old items rest → length rest ≤ length old
+items_take : (limits : Limits) (items : List Item) (old rest : List ℕ) → AreFirstOfRun (TakesItem limits) old items rest → length rest ≤ length old
 items_take limits [] old rest same = omega (arith, ap length same)
 items_take limits (item ∷ items) old rest are = omega (arith, item_takes limits old item are.0 are.1, items_take limits items are.0 rest are.2)
 

@@ -3,16 +3,16 @@ use Rattle.std.proofs.Common.{◌≡◌, ℕ, zero, suc, ◌+◌, ◌-◌, ◌<�
 use Rattle.std.specs.Prelude.{replicate}
 use Rattle.std.proofs.lemmas.Bool.{cases_lt}
 use Rattle.std.proofs.lemmas.List.{append_cancel_left, length-replicate}
-use Rattle.bytes_utils_codec.specs.Cursor.{IsBegun, TakesFirst}
+use Rattle.bytes_utils_codec.specs.Cursor.{IsBegunAtCursor, CursorTakesFirst}
 use Rattle.bytes_utils_codec.specs.Frames.{TakesFrame}
 use Rattle.bytes_utils.specs.Lines.{carriage_return, line_feed}
-use Rattle.bytes_utils_codec.specs.StreamRuns.{AreFirst}
+use Rattle.bytes_utils_codec.specs.StreamRuns.{AreFirstOfRun}
 use Rattle.bytes_utils_codec.proofs.FramesLemmas.{TakesFrame-more}
-use Rattle.bytes_utils_codec.proofs.StreamRunsLemmas.{AreFirst-more}
+use Rattle.bytes_utils_codec.proofs.StreamRunsLemmas.{AreFirstOfRun-more}
 use Rattle.bytes_utils_protocols.specs.Digits.{WriteNumber}
-use Rattle.bytes_utils_protocols.specs.Redis.{line_end, BeginsBody, BeginsItem, BeginsReply, IsLineOf, IsLineWithin, NoItem, NoItemWithin, TakesItem, AreWhole, ArePending, after_line, items_in}
-use Rattle.bytes_utils_protocols.specs.PendingReply.{IsHeadOf, NoReturn, NoneEnds}
-use Rattle.bytes_utils_protocols.specs.declared.redis.line.Head.TheVariants.{Body}
+use Rattle.bytes_utils_protocols.specs.Redis.{redis_line_end, BeginsRedisBody, BeginsItem, BeginsReply, IsLineOf, IsLineWithin, NoItem, NoItemWithin, TakesItem, AreWhole, LeaveItemsDue, after_line, items_in}
+use Rattle.bytes_utils_protocols.specs.RedisLine.{IsHeadOf, NoLineReturn, NoLineEnds}
+use Rattle.bytes_utils_protocols.specs.declared.redis.line.LineHead.TheVariants.{Body}
 use Rattle.bytes_utils_protocols.specs.declared.redis.item.Item.{Item}
 use Rattle.bytes_utils_protocols.specs.declared.redis.item.Item.TheVariants.{Simple, Bulk}
 use Rattle.bytes_utils_protocols.specs.declared.redis.limits.Limits.{Limits}
@@ -21,11 +21,11 @@ use Rattle.bytes_utils_protocols.proofs.ReplyLines.{line_no_return, no_return_wi
 
 -- ---- a line can become an item
 
-whole_item : (limits : Limits) (room : ℕ) (item : Item) (line : List ℕ) → IsLineWithin limits room item line → TakesItem limits (line ++ (line_end ++ after_line item)) item []
+whole_item : (limits : Limits) (room : ℕ) (item : Item) (line : List ℕ) → IsLineWithin limits room item line → TakesItem limits (line ++ (redis_line_end ++ after_line item)) item []
 whole_item limits room item line within = record {
   line = line;
   is = within.is;
-  bytes = subst (TakesFrame line_end (line ++ (line_end ++ after_line item)) line) (sym (append-nil (after_line item)))
+  bytes = subst (TakesFrame redis_line_end (line ++ (redis_line_end ++ after_line item)) line) (sym (append-nil (after_line item)))
       (framed_line line (after_line item) (line_no_return item line within.is));
   short = within.short;
   small = within.small;
@@ -35,9 +35,9 @@ module _ (limits : Limits) (room : ℕ) (item : Item) where
   -- the rest of the line, its end, and what follows it are to come
   pub begun_item : (begun more : List ℕ) → IsLineWithin limits room item (begun ++ more) → BeginsItem limits room begun
   begun_item begun more within = (
-    more ++ (line_end ++ after_line item),
+    more ++ (redis_line_end ++ after_line item),
     item,
-    subst (λ l. TakesItem limits l item []) (append_assoc begun more (line_end ++ after_line item)) (whole_item limits room item (begun ++ more) within),
+    subst (λ l. TakesItem limits l item []) (append_assoc begun more (redis_line_end ++ after_line item)) (whole_item limits room item (begun ++ more) within),
     within.few,
   )
 
@@ -60,12 +60,12 @@ front_of (b ∷ short) rest (c ∷ long) more same le =
     let later = front_of short rest long more (ap (drop 1) same) (omega (arith, le)) in
     (later.0, λ i. ap (λ l. get_or l 0 0) (sym same) i ∷ later.1 i)
 
-module _ (limits : Limits) (front rest more : List ℕ) (none : NoneEnds (length front) ((front ++ rest) ++ more)) where
+module _ (limits : Limits) (front rest more : List ℕ) (none : NoLineEnds (length front) ((front ++ rest) ++ more)) where
   -- the line of an item begins with the bytes before any end of a line
   its_line : (item : Item) (left : List ℕ) (takes : TakesItem limits ((front ++ rest) ++ more) item left) → (x : List ℕ) × (takes.line ≡ front ++ x)
   its_line item left takes = ⊎_elim
       (λ ends. absurd (none (length takes.line) ends takes.bytes.first.here))
-      (λ le. front_of front (rest ++ more) takes.line (line_end ++ (after_line item ++ left)) (sym (append_assoc front rest more) ∙ takes.bytes.bytes) le)
+      (λ le. front_of front (rest ++ more) takes.line (redis_line_end ++ (after_line item ++ left)) (sym (append_assoc front rest more) ∙ takes.bytes.bytes) le)
       (cases_lt (length takes.line) (length front))
 
   pub no_begun : ((item : Item) (x : List ℕ) → ¬ IsLineOf item (front ++ x)) → NoItem limits ((front ++ rest) ++ more)
@@ -88,39 +88,39 @@ module _ (limits : Limits) (front rest more : List ℕ) (none : NoneEnds (length
       nothing : (x : List ℕ) → takes.line ≡ front ++ x → x ≡ []
       nothing [] same = refl
       nothing (c ∷ x) same =
-          let tail : rest ++ more ≡ (c ∷ x) ++ (line_end ++ (after_line item ++ left)) =
-          append_cancel_left front (rest ++ more) ((c ∷ x) ++ (line_end ++ (after_line item ++ left)))
-          (sym (append_assoc front rest more) ∙ takes.bytes.bytes ∙ ap (λ l. l ++ (line_end ++ (after_line item ++ left))) same ∙ append_assoc front (c ∷ x) (line_end ++ (after_line item ++ left))) in
+          let tail : rest ++ more ≡ (c ∷ x) ++ (redis_line_end ++ (after_line item ++ left)) =
+          append_cancel_left front (rest ++ more) ((c ∷ x) ++ (redis_line_end ++ (after_line item ++ left)))
+          (sym (append_assoc front rest more) ∙ takes.bytes.bytes ∙ ap (λ l. l ++ (redis_line_end ++ (after_line item ++ left))) same ∙ append_assoc front (c ∷ x) (redis_line_end ++ (after_line item ++ left))) in
           let return : carriage_return ≡ c = ap (λ l. get_or l 0 0) (ap (λ l. l ++ more) (sym ended) ∙ tail) in
           absurd (no_return_within front x
-          (subst NoReturn (same ∙ ap (λ b. front ++ b ∷ x) (sym return) ∙ sym (append_assoc front (carriage_return ∷ []) x)) (line_no_return item takes.line takes.is)))
+          (subst NoLineReturn (same ∙ ap (λ b. front ++ b ∷ x) (sym return) ∙ sym (append_assoc front (carriage_return ∷ []) x)) (line_no_return item takes.line takes.is)))
 
 -- ---- the bytes of a bulk item
 
 -- some of the bytes are to come
-pub begins_body : (len : ℕ) (bytes : List ℕ) → length bytes < len → BeginsBody len bytes
+pub begins_body : (len : ℕ) (bytes : List ℕ) → length bytes < len → BeginsRedisBody len bytes
 begins_body len bytes less = (
-  replicate (len - length bytes) 0 ++ line_end,
+  replicate (len - length bytes) 0 ++ redis_line_end,
   bytes ++ replicate (len - length bytes) 0,
   omega (arith, less, length-append bytes (replicate (len - length bytes) 0), length-replicate {A = ℕ} (len - length bytes) 0),
-  sym (append_assoc bytes (replicate (len - length bytes) 0) line_end),
+  sym (append_assoc bytes (replicate (len - length bytes) 0) redis_line_end),
 )
 
 -- some of their end is to come
-pub begins_end : (len : ℕ) (old bytes mid : List ℕ) → TakesFirst len old bytes mid → IsBegun line_end mid → BeginsBody len old
+pub begins_end : (len : ℕ) (old bytes mid : List ℕ) → CursorTakesFirst len old bytes mid → IsBegunAtCursor redis_line_end mid → BeginsRedisBody len old
 begins_end len old bytes mid first begun =
     (begun.0, bytes, first.size, ap (λ l. l ++ begun.0) first.bytes ∙ append_assoc bytes mid begun.0 ∙ ap (λ l. bytes ++ l) (sym begun.1))
 
 -- after a whole line
-pub begins_bulk : (limits : Limits) (room : ℕ) (old line mid : List ℕ) (len : ℕ) → TakesFrame line_end old line mid → IsHeadOf (Body len) line → length line ≤ limits.line
-    → len ≤ limits.bulk → BeginsBody len mid → BeginsItem limits room old
+pub begins_bulk : (limits : Limits) (room : ℕ) (old line mid : List ℕ) (len : ℕ) → TakesFrame redis_line_end old line mid → IsHeadOf (Body len) line → length line ≤ limits.line
+    → len ≤ limits.bulk → BeginsRedisBody len mid → BeginsItem limits room old
 begins_bulk limits room old line mid len framed head short small (more, front, size, same) = (
   more,
   Bulk (Some front),
   record {
     line = line;
     is = (head.0, head.1, subst (WriteNumber head.0) (sym size) head.2);
-    bytes = subst (TakesFrame line_end (old ++ more) line) (same ∙ sym (append-nil (front ++ line_end))) (TakesFrame-more line_end old line mid more framed);
+    bytes = subst (TakesFrame redis_line_end (old ++ more) line) (same ∙ sym (append-nil (front ++ redis_line_end))) (TakesFrame-more redis_line_end old line mid more framed);
     short = short;
     small = omega (arith, size, small);
   },
@@ -142,7 +142,7 @@ length-texts : (n : ℕ) → length (texts n) ≡ n
 length-texts zero = refl
 length-texts (suc n) = ap suc (length-texts n)
 
-texts_first : (limits : Limits) (n : ℕ) → 1 ≤ limits.line → AreFirst (TakesItem limits) (text_bytes n) (texts n) []
+texts_first : (limits : Limits) (n : ℕ) → 1 ≤ limits.line → AreFirstOfRun (TakesItem limits) (text_bytes n) (texts n) []
 texts_first limits zero some = refl
 texts_first limits (suc n) some = (
   text_bytes n,
@@ -162,25 +162,25 @@ texts_whole (suc n) = let same : n ≡ (suc n - 1) + 0 = omega arith in (omega a
 
 module _ {A : Type 0} (Takes : List ℕ → A → List ℕ → Type 0) where
   -- items, and others after them
-  first_after : (bytes : List ℕ) (xs : List A) (mid : List ℕ) (ys : List A) (rest : List ℕ) → AreFirst Takes bytes xs mid → AreFirst Takes mid ys rest → AreFirst Takes bytes (xs ++ ys) rest
-  first_after bytes [] mid ys rest one other = subst (λ l. AreFirst Takes l ys rest) (sym one) other
+  first_after : (bytes : List ℕ) (xs : List A) (mid : List ℕ) (ys : List A) (rest : List ℕ) → AreFirstOfRun Takes bytes xs mid → AreFirstOfRun Takes mid ys rest → AreFirstOfRun Takes bytes (xs ++ ys) rest
+  first_after bytes [] mid ys rest one other = subst (λ l. AreFirstOfRun Takes l ys rest) (sym one) other
   first_after bytes (x ∷ xs) mid ys rest one other = (one.0, one.1, first_after one.0 xs mid ys rest one.2 other)
 
 -- all that were to come follow
-whole_after : (n : ℕ) (xs : List Item) (due : ℕ) (ys : List Item) → ArePending n xs due → AreWhole due ys → AreWhole n (xs ++ ys)
+whole_after : (n : ℕ) (xs : List Item) (due : ℕ) (ys : List Item) → LeaveItemsDue n xs due → AreWhole due ys → AreWhole n (xs ++ ys)
 whole_after n [] due ys pending whole = subst (λ k. AreWhole k ys) (sym pending) whole
 whole_after n (x ∷ xs) due ys pending whole = (pending.0, whole_after ((n - 1) + items_in x) xs due ys pending.1 whole)
 
 some_line : (limits : Limits) (old : List ℕ) (item : Item) (rest : List ℕ) → TakesItem limits old item rest → 1 ≤ limits.line
 some_line limits old item rest takes = omega (arith, takes.short, ap length takes.is.1)
 
-module _ (limits : Limits) (bytes : List ℕ) (xs : List Item) (left : List ℕ) (due : ℕ) (are : AreFirst (TakesItem limits) bytes xs left) (pending : ArePending 1 xs due) where
+module _ (limits : Limits) (bytes : List ℕ) (xs : List Item) (left : List ℕ) (due : ℕ) (are : AreFirstOfRun (TakesItem limits) bytes xs left) (pending : LeaveItemsDue 1 xs due) where
   -- an item is to come and begins: then come those that are due after it, as texts
   pub begins_reply : (room : ℕ) → 0 < due → length xs + due + room ≤ limits.items → BeginsItem limits room left → BeginsReply limits bytes
   begins_reply room some full (more, item, takes, few) =
       let n = (due - 1) + items_in item in
       let later = more ++ text_bytes n in
-      let front = AreFirst-more (λ l piece. l ++ piece) (TakesItem limits) (TakesItem-more limits) bytes xs left later are in
+      let front = AreFirstOfRun-more (λ l piece. l ++ piece) (TakesItem limits) (TakesItem-more limits) bytes xs left later are in
       let one = subst (λ l. TakesItem limits l item (text_bytes n)) (append_assoc left more (text_bytes n)) (TakesItem-more limits (left ++ more) item [] (text_bytes n) takes) in
       let others = texts_first limits n (some_line limits (left ++ more) item [] takes) in (
         later,

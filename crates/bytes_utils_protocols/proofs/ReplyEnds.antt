@@ -12,13 +12,14 @@ use Rattle.bytes_utils_buf.specs.declared.refused.Reason.{Reason}
 use Rattle.bytes_utils_codec.specs.Frames.{TakesFrame}
 use Rattle.bytes_utils.specs.Lines.{carriage_return}
 use Rattle.bytes_utils.specs.Occurrence.{Occurs, OccursAt}
-use Rattle.bytes_utils_protocols.specs.Redis.{line_end, BeginsItem, IsLineOf, IsLineWithin, LacksByte, NoItem, NoItemWithin}
-use Rattle.bytes_utils_protocols.specs.PendingReply.{AwaitsItem, FindsHead, IsHead, IsHeadOf, IsHeadWithin, IsNoItem, IsReadAs, NoneEnds, NoReturn}
+use Rattle.bytes_utils_protocols.specs.Redis.{redis_line_end, BeginsItem, IsLineOf, IsLineWithin, LacksRedisByte, NoItem, NoItemWithin}
+use Rattle.bytes_utils_protocols.specs.RedisLine.{IsHead, IsHeadOf, IsHeadWithin, IsReadAs, NoLineEnds, NoLineReturn}
+use Rattle.bytes_utils_protocols.specs.RedisPending.{AwaitsPendingItem, FindsPendingHead, IsNoPendingItem}
 use Rattle.bytes_utils_protocols.specs.declared.redis.item.Item.{Item}
 use Rattle.bytes_utils_protocols.specs.declared.redis.limits.Limits.{Limits}
 use Rattle.bytes_utils_protocols.specs.declared.redis.limits.ReplyError.{ReplyError}
 use Rattle.bytes_utils_protocols.specs.declared.redis.limits.ReplyError.TheVariants.{Refused, Malformed, TooLarge}
-use Rattle.bytes_utils_protocols.specs.declared.redis.line.Head.{Head}
+use Rattle.bytes_utils_protocols.specs.declared.redis.line.LineHead.{LineHead}
 use Rattle.bytes_utils_protocols.specs.declared.redis.line.Line.{Line}
 use Rattle.bytes_utils_protocols.proofs.RedisLemmas.{no_line}
 use Rattle.bytes_utils_protocols.proofs.ReplyLines.{completed_within, framed_line, line_within, long_line}
@@ -28,19 +29,19 @@ use Rattle.bytes_utils_protocols.proofs.LineSteps.{read_no_return}
 -- ---- where no line ends
 
 -- an end that begins and ends within the bytes
-within : (bytes more : List ℕ) (k : ℕ) → k + 2 ≤ length bytes → OccursAt line_end (bytes ++ more) k → OccursAt line_end bytes k
+within : (bytes more : List ℕ) (k : ℕ) → k + 2 ≤ length bytes → OccursAt redis_line_end (bytes ++ more) k → OccursAt redis_line_end bytes k
 within [] more k fits here = absurd (omega (arith, fits))
 within (b ∷ []) more k fits here = absurd (omega (arith, fits))
 within (b ∷ c ∷ bytes) more zero fits here = here
 within (b ∷ c ∷ bytes) more (suc k) fits here = within (c ∷ bytes) more k (omega (arith, fits)) here
 
 -- none begins where no carriage return is
-not_at : (bytes more : List ℕ) (k : ℕ) → get_or bytes k 0 ≢ carriage_return → k < length bytes → ¬ OccursAt line_end (bytes ++ more) k
+not_at : (bytes more : List ℕ) (k : ℕ) → get_or bytes k 0 ≢ carriage_return → k < length bytes → ¬ OccursAt redis_line_end (bytes ++ more) k
 not_at [] more k other below here = omega (arith, below)
 not_at (b ∷ bytes) more zero other below here = other (ap (λ l. get_or l 0 0) here)
 not_at (b ∷ bytes) more (suc k) other below here = not_at bytes more k other (omega (arith, below)) here
 
-not_read : (bytes more : List ℕ) (read k : ℕ) → NoReturn (take read bytes) → k < read → read ≤ length bytes → ¬ OccursAt line_end (bytes ++ more) k
+not_read : (bytes more : List ℕ) (read k : ℕ) → NoLineReturn (take read bytes) → k < read → read ≤ length bytes → ¬ OccursAt redis_line_end (bytes ++ more) k
 not_read [] more read k none low fits here = omega (arith, low, fits)
 not_read (b ∷ bytes) more zero k none low fits here = omega (arith, low)
 not_read (b ∷ bytes) more (suc read) zero none low fits here = none.0 (ap (λ l. get_or l 0 0) here)
@@ -49,22 +50,22 @@ not_read (b ∷ bytes) more (suc read) (suc k) none low fits here = not_read byt
 abbrev bytes_none : List ℕ
 bytes_none = []
 
-after_front : (bytes : List ℕ) (read k : ℕ) → read ≤ k → OccursAt line_end bytes k → (j : ℕ) × (k ≡ read + j) × OccursAt line_end (drop read bytes) j
+after_front : (bytes : List ℕ) (read k : ℕ) → read ≤ k → OccursAt redis_line_end bytes k → (j : ℕ) × (k ≡ read + j) × OccursAt redis_line_end (drop read bytes) j
 after_front bytes zero k low here = (k, omega arith, here)
 after_front [] (suc read) k low here = absurd (omega (arith, ap length here, length-take 2 (drop k bytes_none), length-drop k bytes_none))
 after_front (b ∷ bytes) (suc read) zero low here = absurd (omega (arith, low))
 after_front (b ∷ bytes) (suc read) (suc k) low here = let later = after_front bytes read k (omega (arith, low)) here in (later.0, omega (arith, later.1), later.2)
 
-module _ (bytes : List ℕ) (read : ℕ) (fits : read ≤ length bytes) (none : NoReturn (take read bytes)) where
+module _ (bytes : List ℕ) (read : ℕ) (fits : read ≤ length bytes) (none : NoLineReturn (take read bytes)) where
   -- no end is in the bytes after those that were read, up to this place
-  pub none_ends : (place : ℕ) → ((k : ℕ) → k < place → k + 2 ≤ length bytes) → ((j : ℕ) → OccursAt line_end (drop read bytes) j → place ≤ read + j) → (more : List ℕ) → NoneEnds place (bytes ++ more)
+  pub none_ends : (place : ℕ) → ((k : ℕ) → k < place → k + 2 ≤ length bytes) → ((j : ℕ) → OccursAt redis_line_end (drop read bytes) j → place ≤ read + j) → (more : List ℕ) → NoLineEnds place (bytes ++ more)
   none_ends place whole first more k below here = ⊎_elim
       (λ low. not_read bytes more read k none low fits here)
       (λ high. let at = after_front bytes read k high (within bytes more k (whole k below) here) in omega (arith, below, at.1, first at.0 at.2))
       (cases_lt k read)
 
   -- nor is one in all of them, whose last byte is no carriage return
-  pub none_open : (get_or bytes (length bytes - 1) 0 ≢ carriage_return) ⊎ (length bytes ≤ read) → (¬ Occurs line_end (drop read bytes)) → (more : List ℕ) → NoneEnds (length bytes) (bytes ++ more)
+  pub none_open : (get_or bytes (length bytes - 1) 0 ≢ carriage_return) ⊎ (length bytes ≤ read) → (¬ Occurs redis_line_end (drop read bytes)) → (more : List ℕ) → NoLineEnds (length bytes) (bytes ++ more)
   none_open (inr all) missing more k below here = not_read bytes more read k none (omega (arith, all, below)) fits here
   none_open (inl other) missing more k below here = ⊎_elim
       (λ fits. none_ends (length bytes - 1) (λ i l. omega (arith, l)) (λ j at. absurd (missing (j, at))) more k (omega (arith, fits)) here)
@@ -99,15 +100,15 @@ read_on bytes a b ordered = let same : a + (b - a) ≡ b = omega (arith, ordered
 pub half_after : (u : List ℕ) (len : ℕ) → len ≤ length u → u ≡ take len u ++ carriage_return ∷ [] → drop len u ≡ carriage_return ∷ []
 half_after u len fits half = append_cancel_left (take len u) (drop len u) (carriage_return ∷ []) (take-append-drop len u ∙ half)
 
-pub end_after : (u : List ℕ) (len : ℕ) → len ≤ length u → u ≡ take len u ++ (line_end ++ drop (len + 2) u) → drop len u ≡ carriage_return ∷ (10 ∷ drop (len + 2) u)
-end_after u len fits whole = append_cancel_left (take len u) (drop len u) (line_end ++ drop (len + 2) u) (take-append-drop len u ∙ whole)
+pub end_after : (u : List ℕ) (len : ℕ) → len ≤ length u → u ≡ take len u ++ (redis_line_end ++ drop (len + 2) u) → drop len u ≡ carriage_return ∷ (10 ∷ drop (len + 2) u)
+end_after u len fits whole = append_cancel_left (take len u) (drop len u) (redis_line_end ++ drop (len + 2) u) (take-append-drop len u ∙ whole)
 
-module _ (limits : Limits) (room : ℕ) (u : List ℕ) (len : ℕ) (fits : len ≤ length u) (none : (more : List ℕ) → NoneEnds len (u ++ more)) where
+module _ (limits : Limits) (room : ℕ) (u : List ℕ) (len : ℕ) (fits : len ≤ length u) (none : (more : List ℕ) → NoLineEnds len (u ++ more)) where
   size : length (take len u) ≡ len
   size = length-take-le len u fits
 
-  none_in_front : (more : List ℕ) → NoneEnds (length (take len u)) ((take len u ++ drop len u) ++ more)
-  none_in_front more = subst (λ n. NoneEnds n ((take len u ++ drop len u) ++ more)) (sym size) (subst (λ l. NoneEnds len (l ++ more)) (sym (take-append-drop len u)) (none more))
+  none_in_front : (more : List ℕ) → NoLineEnds (length (take len u)) ((take len u ++ drop len u) ++ more)
+  none_in_front more = subst (λ n. NoLineEnds n ((take len u ++ drop len u) ++ more)) (sym size) (subst (λ l. NoLineEnds len (l ++ more)) (sym (take-append-drop len u)) (none more))
 
   -- no item's line begins with these bytes
   pub stays_none : ((item : Item) (x : List ℕ) → ¬ IsLineOf item (take len u ++ x)) → (any : Limits) (more : List ℕ) → NoItem any (u ++ more)
@@ -127,11 +128,11 @@ module _ (limits : Limits) (room : ℕ) (u : List ℕ) (len : ℕ) (fits : len �
 
   module _ (line : Line) (read : IsReadAs line (take len u)) where
     -- what a check of the line found
-    abbrev Gives : Head → Type 0
+    abbrev Gives : LineHead → Type 0
     Gives head = IsHeadWithin limits.bulk room head × ((bytes : List ℕ) → IsReadAs line bytes → IsHeadOf head bytes)
 
     abbrev Lacks : Bool → Type 0
-    Lacks ended = (len < limits.line) × (¬ (ended ≡ true)) × ((bytes : List ℕ) → IsReadAs line bytes → LacksByte bytes)
+    Lacks ended = (len < limits.line) × (¬ (ended ≡ true)) × ((bytes : List ℕ) → IsReadAs line bytes → LacksRedisByte bytes)
 
     abbrev NeverHas : Bool → Type 0
     NeverHas ended = (bytes : List ℕ) → IsReadAs line bytes → MatchBool ended ((item : Item) → ¬ IsLineOf item bytes) ((item : Item) (more : List ℕ) → ¬ IsLineOf item (bytes ++ more))
@@ -141,7 +142,7 @@ module _ (limits : Limits) (room : ℕ) (u : List ℕ) (len : ℕ) (fits : len �
 
     -- a line that was checked is none
     pub not_checked : (ended : Bool) → MatchBool ended ((after : List ℕ) × (drop len u ≡ carriage_return ∷ after)) (Unit {0}) → (e : ReplyError)
-        → (e ≡ Malformed → NeverHas ended) → (e ≡ TooLarge → NeverWithin) → ((reason : Reason) → ¬ (e ≡ Refused reason)) → IsNoItem limits room u e
+        → (e ≡ Malformed → NeverHas ended) → (e ≡ TooLarge → NeverWithin) → ((reason : Reason) → ¬ (e ≡ Refused reason)) → IsNoPendingItem limits room u e
     not_checked true return e malformed too_large reason = record {
       malformed = λ is. stays_ended return.0 return.1 (malformed is (take len u) read);
       too_large = λ is. stays_large (too_large is (take len u) read size);
@@ -154,23 +155,23 @@ module _ (limits : Limits) (room : ℕ) (u : List ℕ) (len : ℕ) (fits : len �
     }
 
     module _ (short : len ≤ limits.line) where
-      item_within : (head : Head) → IsHeadWithin limits.bulk room head → IsHeadOf head (take len u) → (item : Item) × IsLineWithin limits room item (take len u)
+      item_within : (head : LineHead) → IsHeadWithin limits.bulk room head → IsHeadOf head (take len u) → (item : Item) × IsLineWithin limits room item (take len u)
       item_within head small is = line_within limits room (take len u) (omega (arith, short, size)) head is small
 
       -- no end has come
-      pub awaits_line : length u ≡ len → (next : Option Head) → IfSome next Gives → IfNone next (Lacks false) → AwaitsItem limits room u
+      pub awaits_line : length u ≡ len → (next : Option LineHead) → IfSome next Gives → IfNone next (Lacks false) → AwaitsPendingItem limits room u
       awaits_line all next gives lacks = record { none = no_line limits u [] missing; begins = begins next gives lacks }
         where
-          missing : ¬ Occurs line_end u
+          missing : ¬ Occurs redis_line_end u
           missing (k, here) = ⊎_elim
-              (λ low. none [] k low (subst (λ l. OccursAt line_end l k) (sym (append-nil u)) here))
+              (λ low. none [] k low (subst (λ l. OccursAt redis_line_end l k) (sym (append-nil u)) here))
               (λ high. omega (arith, high, all, ap length here, length-take 2 (drop k u), length-drop k u))
               (cases_lt k len)
 
           same : take len u ≡ u
           same = take_all len u (omega (arith, all))
 
-          begins : (next : Option Head) → IfSome next Gives → IfNone next (Lacks false) → BeginsItem limits room u
+          begins : (next : Option LineHead) → IfSome next Gives → IfNone next (Lacks false) → BeginsItem limits room u
           begins None gives lacks =
               let later = completed_within limits room (take len u) (lacks.2 (take len u) read) (omega (arith, lacks.0, size)) in
               subst (BeginsItem limits room) same (begun_item limits room later.1 (take len u) later.0 later.2)
@@ -179,36 +180,36 @@ module _ (limits : Limits) (room : ℕ) (u : List ℕ) (len : ℕ) (fits : len �
               subst (BeginsItem limits room) same (begun_item limits room item.0 (take len u) [] (subst (IsLineWithin limits room item.0) (sym (append-nil (take len u))) item.1))
 
       -- a carriage return has come
-      pub awaits_feed : u ≡ take len u ++ carriage_return ∷ [] → (next : Option Head) → IfSome next Gives → IfNone next (Lacks true) → AwaitsItem limits room u
+      pub awaits_feed : u ≡ take len u ++ carriage_return ∷ [] → (next : Option LineHead) → IfSome next Gives → IfNone next (Lacks true) → AwaitsPendingItem limits room u
       awaits_feed half next gives lacks = record { none = no_line limits u [] missing; begins = begins next gives lacks }
         where
           two : length u ≡ len + 1
           two = omega (arith, ap length half, length-append (take len u) (carriage_return ∷ []), size)
 
-          missing : ¬ Occurs line_end u
+          missing : ¬ Occurs redis_line_end u
           missing (k, here) = ⊎_elim
-              (λ low. none [] k low (subst (λ l. OccursAt line_end l k) (sym (append-nil u)) here))
+              (λ low. none [] k low (subst (λ l. OccursAt redis_line_end l k) (sym (append-nil u)) here))
               (λ high. omega (arith, high, two, ap length here, length-take 2 (drop k u), length-drop k u))
               (cases_lt k len)
 
-          begins : (next : Option Head) → IfSome next Gives → IfNone next (Lacks true) → BeginsItem limits room u
+          begins : (next : Option LineHead) → IfSome next Gives → IfNone next (Lacks true) → BeginsItem limits room u
           begins None gives lacks = absurd (lacks.1 refl)
           begins (Some head) gives lacks =
               let item = item_within head gives.0 (gives.1 (take len u) read) in subst (BeginsItem limits room) (sym half) (ended_item limits room item.0 (take len u) item.1)
 
       -- the line and its end have come
-      is_head : u ≡ take len u ++ (line_end ++ drop (len + 2) u) → (head : Head) → Gives head → IsHead limits room u head len
+      is_head : u ≡ take len u ++ (redis_line_end ++ drop (len + 2) u) → (head : LineHead) → Gives head → IsHead limits room u head len
       is_head whole head gives = record {
-        framed = subst (λ l. TakesFrame line_end l (take len u) (drop (len + 2) u)) (sym whole) (framed_line (take len u) (drop (len + 2) u) (read_no_return line (take len u) read));
+        framed = subst (λ l. TakesFrame redis_line_end l (take len u) (drop (len + 2) u)) (sym whole) (framed_line (take len u) (drop (len + 2) u) (read_no_return line (take len u) read));
         is = gives.1 (take len u) read;
         short = short;
         within = gives.0;
-        fits = omega (arith, ap length whole, length-append (take len u) (line_end ++ drop (len + 2) u), length-append line_end (drop (len + 2) u), size);
+        fits = omega (arith, ap length whole, length-append (take len u) (redis_line_end ++ drop (len + 2) u), length-append redis_line_end (drop (len + 2) u), size);
       }
 
-      pub finds_head : u ≡ take len u ++ (line_end ++ drop (len + 2) u) → (result : Result (Option Head) ReplyError) → IfOk result (λ next. IfSome next Gives) → IfOk result (λ next. IfNone next (Lacks true))
+      pub finds_head : u ≡ take len u ++ (redis_line_end ++ drop (len + 2) u) → (result : Result (Option LineHead) ReplyError) → IfOk result (λ next. IfSome next Gives) → IfOk result (λ next. IfNone next (Lacks true))
           → IfErr result (λ e. e ≡ Malformed → NeverHas true) → IfErr result (λ e. e ≡ TooLarge → NeverWithin) → IfErr result (λ e. (reason : Reason) → ¬ (e ≡ Refused reason))
-          → FindsHead limits room u result len
+          → FindsPendingHead limits room u result len
       finds_head whole (Ok (Some head)) gives lacks malformed too_large reason = is_head whole head gives
       finds_head whole (Ok None) gives lacks malformed too_large reason = absurd (lacks.1 refl)
       finds_head whole (Err e) gives lacks malformed too_large reason = not_checked true (10 ∷ drop (len + 2) u, end_after u len fits whole) e malformed too_large reason

@@ -12,10 +12,10 @@ use Rattle.bytes_utils_codec.specs.Frames.{TakesFrame}
 use Rattle.bytes_utils.specs.Lines.{carriage_return, line_feed}
 use Rattle.bytes_utils.specs.Occurrence.{OccursAt}
 use Rattle.bytes_utils_protocols.specs.Digits.{WriteNumber}
-use Rattle.bytes_utils_protocols.specs.Redis.{line_end, no_length, IsPlain, IsTextLine, IsLineWithin, LacksByte, LacksDigit, LacksLength, WriteInteger, WriteLength, first_byte, Says, IsLineOf, body, items_in}
-use Rattle.bytes_utils_protocols.specs.PendingReply.{IsHeadOf, IsHeadWithin, NoReturn}
-use Rattle.bytes_utils_protocols.specs.declared.redis.line.Head.{Head}
-use Rattle.bytes_utils_protocols.specs.declared.redis.line.Head.TheVariants.{Whole, Plain, Body}
+use Rattle.bytes_utils_protocols.specs.Redis.{redis_line_end, redis_no_length, IsRedisPlain, IsRedisTextLine, IsLineWithin, LacksRedisByte, LacksRedisDigit, LacksRedisLength, WriteRedisInteger, WriteRedisLength, first_byte, Says, IsLineOf, body, items_in}
+use Rattle.bytes_utils_protocols.specs.RedisLine.{IsHeadOf, IsHeadWithin, NoLineReturn}
+use Rattle.bytes_utils_protocols.specs.declared.redis.line.LineHead.{LineHead}
+use Rattle.bytes_utils_protocols.specs.declared.redis.line.LineHead.TheVariants.{Whole, Plain, Body}
 use Rattle.bytes_utils_protocols.specs.declared.redis.item.Item.{Item}
 use Rattle.bytes_utils_protocols.specs.declared.redis.item.Item.TheVariants.{Simple, Error, Integer, Bulk, Array}
 use Rattle.bytes_utils_protocols.specs.declared.redis.limits.Limits.{Limits}
@@ -23,11 +23,11 @@ use Rattle.bytes_utils_protocols.proofs.RedisLemmas.{no_item_of_none, no_integer
 
 -- ---- fronts of texts and numbers
 
-plain_front : (xs ys : List ℕ) → IsPlain (xs ++ ys) → IsPlain xs
+plain_front : (xs ys : List ℕ) → IsRedisPlain (xs ++ ys) → IsRedisPlain xs
 plain_front xs ys plain k low high passes =
     plain k low (omega (arith, high, length-append xs ys)) (ap (is_byte2 carriage_return line_feed) (get_or_append_left xs ys 0 k high) ∙ passes)
 
-plain_none : IsPlain []
+plain_none : IsRedisPlain []
 plain_none k low high = absurd (omega (arith, low, high))
 
 digits_front : (xs ys : List ℕ) → AllDigits 10 (xs ++ ys) → AllDigits 10 xs
@@ -42,7 +42,7 @@ number_front : (said x : List ℕ) (n : ℕ) → 0 < length said → WriteNumber
 number_front said x n some writes = ((some, digits_front said x writes.0.1), refl, omega (arith, value_front said x, writes.1, writes.2))
 
 -- a front of a length is one, or lacks a digit
-length_front : (said x : List ℕ) (len : Option ℕ) → WriteLength (said ++ x) len → ((other : Option ℕ) × WriteLength said other) ⊎ LacksLength said
+length_front : (said x : List ℕ) (len : Option ℕ) → WriteRedisLength (said ++ x) len → ((other : Option ℕ) × WriteRedisLength said other) ⊎ LacksRedisLength said
 length_front [] x len writes = inr (inl refl)
 length_front (c ∷ said) x (Some n) writes = inl (Some (digits_value 10 (c ∷ said)), number_front (c ∷ said) x n (omega arith) writes)
 length_front (c ∷ []) x None writes = inr (inr (ap (λ l. get_or l 0 0 ∷ []) writes))
@@ -68,7 +68,7 @@ number_with minus plus text = cond minus (neg_ℤ (pos (digits_value 10 (digits_
 abbrev Writes : Bool → Bool → List ℕ → Type 0
 Writes minus plus text = IsNumeral 10 (digits_of minus plus text) × FitsSigned w64 (number_with minus plus text)
 
-signed_front : (c : ℕ) (t x : List ℕ) (minus plus : Bool) → (c == 45) ≡ minus → (c == 43) ≡ plus → Writes minus plus (c ∷ (t ++ x)) → Writes minus plus (c ∷ t) ⊎ LacksDigit (c ∷ t)
+signed_front : (c : ℕ) (t x : List ℕ) (minus plus : Bool) → (c == 45) ≡ minus → (c == 43) ≡ plus → Writes minus plus (c ∷ (t ++ x)) → Writes minus plus (c ∷ t) ⊎ LacksRedisDigit (c ∷ t)
 signed_front c [] x true plus is_minus is_plus writes = let is : c ≡ 45 = grind (arith, nat_tests, is_minus) in inr (inl (inr (ap (λ b. b ∷ []) is)))
 signed_front c (d ∷ t) x true plus is_minus is_plus writes =
     inl ((omega arith, digits_front (d ∷ t) x writes.0.1), neg_front (digits_value 10 (d ∷ t)) (digits_value 10 (d ∷ (t ++ x))) (value_front (d ∷ t) x) writes.1)
@@ -79,40 +79,40 @@ signed_front c t x false false is_minus is_plus writes =
     inl ((omega arith, digits_front (c ∷ t) x writes.0.1), pos_front (digits_value 10 (c ∷ t)) (digits_value 10 (c ∷ (t ++ x))) (value_front (c ∷ t) x) writes.1)
 
 -- a front of an integer is one, or lacks a digit
-integer_front : (said x : List ℕ) (n : ℤ) → WriteInteger (said ++ x) n → ((m : ℤ) × WriteInteger said m) ⊎ LacksDigit said
+integer_front : (said x : List ℕ) (n : ℤ) → WriteRedisInteger (said ++ x) n → ((m : ℤ) × WriteRedisInteger said m) ⊎ LacksRedisDigit said
 integer_front [] x n writes = inr (inl (inl refl))
 integer_front (c ∷ t) x n writes =
     ⊎_elim (λ w. inl (signed_digits_value 10 (c ∷ t), (w.0, w.1, refl))) (λ lacks. inr lacks) (signed_front c t x (c == 45) (c == 43) refl refl (writes.0, writes.1))
 
 -- ---- no carriage return is in a line
 
-pub plain_no_return : (text : List ℕ) → IsPlain text → NoReturn text
+pub plain_no_return : (text : List ℕ) → IsRedisPlain text → NoLineReturn text
 plain_no_return [] plain = tt
 plain_no_return (c ∷ t) plain = (
   λ is. plain 0 (omega arith) (omega arith) (ap (is_byte2 carriage_return line_feed) is),
   plain_no_return t (λ k low high passes. plain (suc k) (omega arith) (omega (arith, high)) passes),
 )
 
-pub digits_no_return : (ds : List ℕ) → AllDigits 10 ds → NoReturn ds
+pub digits_no_return : (ds : List ℕ) → AllDigits 10 ds → NoLineReturn ds
 digits_no_return [] digits = tt
 digits_no_return (c ∷ ds) digits = (λ is. omega (arith, is, digit_from_value c digits.0), digits_no_return ds digits.1)
 
-signed_no_return : (c : ℕ) (t : List ℕ) (minus plus : Bool) → (c == 45) ≡ minus → (c == 43) ≡ plus → IsNumeral 10 (digits_of minus plus (c ∷ t)) → NoReturn (c ∷ t)
+signed_no_return : (c : ℕ) (t : List ℕ) (minus plus : Bool) → (c == 45) ≡ minus → (c == 43) ≡ plus → IsNumeral 10 (digits_of minus plus (c ∷ t)) → NoLineReturn (c ∷ t)
 signed_no_return c t true plus is_minus is_plus number =
     let is : c ≡ 45 = grind (arith, nat_tests, is_minus) in (λ return. omega (arith, is, return), digits_no_return t number.1)
 signed_no_return c t false true is_minus is_plus number =
     let is : c ≡ 43 = grind (arith, nat_tests, is_plus) in (λ return. omega (arith, is, return), digits_no_return t number.1)
 signed_no_return c t false false is_minus is_plus number = digits_no_return (c ∷ t) number.1
 
-integer_no_return : (said : List ℕ) (n : ℤ) → WriteInteger said n → NoReturn said
+integer_no_return : (said : List ℕ) (n : ℤ) → WriteRedisInteger said n → NoLineReturn said
 integer_no_return [] n writes = tt
 integer_no_return (c ∷ t) n writes = signed_no_return c t (c == 45) (c == 43) refl refl writes.0
 
-length_no_return : (said : List ℕ) (len : Option ℕ) → WriteLength said len → NoReturn said
-length_no_return said None writes = subst NoReturn (sym writes) (λ is. omega (arith, is), (λ is. omega (arith, is), tt))
+length_no_return : (said : List ℕ) (len : Option ℕ) → WriteRedisLength said len → NoLineReturn said
+length_no_return said None writes = subst NoLineReturn (sym writes) (λ is. omega (arith, is), (λ is. omega (arith, is), tt))
 length_no_return said (Some n) writes = digits_no_return said writes.0.1
 
-says_no_return : (item : Item) (said : List ℕ) → Says item said → NoReturn said
+says_no_return : (item : Item) (said : List ℕ) → Says item said → NoLineReturn said
 says_no_return (Simple a) said says = plain_no_return said says.1
 says_no_return (Error a) said says = plain_no_return said says.1
 says_no_return (Integer n) said says = integer_no_return said n says
@@ -126,23 +126,23 @@ first_no_return (Integer a) is = omega (arith, is)
 first_no_return (Bulk a) is = omega (arith, is)
 first_no_return (Array a) is = omega (arith, is)
 
-pub line_no_return : (item : Item) (line : List ℕ) → IsLineOf item line → NoReturn line
-line_no_return item line is = subst NoReturn (sym is.1) (first_no_return item, says_no_return item is.0 is.2)
+pub line_no_return : (item : Item) (line : List ℕ) → IsLineOf item line → NoLineReturn line
+line_no_return item line is = subst NoLineReturn (sym is.1) (first_no_return item, says_no_return item is.0 is.2)
 
-pub no_return_within : (front x : List ℕ) → ¬ NoReturn ((front ++ carriage_return ∷ []) ++ x)
+pub no_return_within : (front x : List ℕ) → ¬ NoLineReturn ((front ++ carriage_return ∷ []) ++ x)
 no_return_within [] x none = none.0 refl
 no_return_within (c ∷ front) x none = no_return_within front x none.1
 
-line_first : (line rest : List ℕ) → NoReturn line → (j : ℕ) → OccursAt line_end (line ++ (line_end ++ rest)) j → length line ≤ j
+line_first : (line rest : List ℕ) → NoLineReturn line → (j : ℕ) → OccursAt redis_line_end (line ++ (redis_line_end ++ rest)) j → length line ≤ j
 line_first [] rest none j here = omega arith
 line_first (c ∷ line) rest none zero here = absurd (none.0 (ap (λ l. get_or l 0 0) here))
 line_first (c ∷ line) rest none (suc j) here = omega (arith, line_first line rest none.1 j here)
 
 -- a line and its end
-pub framed_line : (line rest : List ℕ) → NoReturn line → TakesFrame line_end (line ++ (line_end ++ rest)) line rest
+pub framed_line : (line rest : List ℕ) → NoLineReturn line → TakesFrame redis_line_end (line ++ (redis_line_end ++ rest)) line rest
 framed_line line rest none = record {
   bytes = refl;
-  first = record { here = ap (take 2) (drop_at line (line_end ++ rest) (length line) refl); none_before = line_first line rest none };
+  first = record { here = ap (take 2) (drop_at line (redis_line_end ++ rest) (length line) refl); none_before = line_first line rest none };
 }
 
 -- ---- a beginning of a line
@@ -150,12 +150,12 @@ framed_line line rest none = record {
 line_of : (item : Item) (kind : ℕ) (said : List ℕ) → kind ≡ first_byte item → Says item said → IsLineOf item (kind ∷ said)
 line_of item kind said is says = (said, ap (λ b. b ∷ said) is, says)
 
-bulk_of : (kind : ℕ) (said : List ℕ) → kind ≡ 36 → (len : Option ℕ) → WriteLength said len → (item : Item) × IsLineOf item (kind ∷ said)
+bulk_of : (kind : ℕ) (said : List ℕ) → kind ≡ 36 → (len : Option ℕ) → WriteRedisLength said len → (item : Item) × IsLineOf item (kind ∷ said)
 bulk_of kind said is None writes = (Bulk None, line_of (Bulk None) kind said is writes)
 bulk_of kind said is (Some n) writes =
     (Bulk (Some (replicate n 0)), line_of (Bulk (Some (replicate n 0))) kind said is (subst (WriteNumber said) (sym (length-replicate {A = ℕ} n 0)) writes))
 
-said_line : (item : Item) (kind : ℕ) (said x : List ℕ) → kind ≡ first_byte item → Says item (said ++ x) → ((other : Item) × IsLineOf other (kind ∷ said)) ⊎ LacksByte (kind ∷ said)
+said_line : (item : Item) (kind : ℕ) (said x : List ℕ) → kind ≡ first_byte item → Says item (said ++ x) → ((other : Item) × IsLineOf other (kind ∷ said)) ⊎ LacksRedisByte (kind ∷ said)
 said_line (Simple a) kind said x is says = inl (Simple said, line_of (Simple said) kind said is (refl, plain_front said x says.1))
 said_line (Error a) kind said x is says = inl (Error said, line_of (Error said) kind said is (refl, plain_front said x says.1))
 said_line (Integer n) kind said x is says =
@@ -166,17 +166,17 @@ said_line (Array count) kind said x is says =
     ⊎_elim (λ w. inl (Array w.0, line_of (Array w.0) kind said is w.1)) (λ lacks. inr (inr (inr is, lacks))) (length_front said x count says)
 
 -- a beginning of a line is one, or lacks a byte
-begun_line : (item : Item) (begun x : List ℕ) → IsLineOf item (begun ++ x) → ((other : Item) × IsLineOf other begun) ⊎ LacksByte begun
+begun_line : (item : Item) (begun x : List ℕ) → IsLineOf item (begun ++ x) → ((other : Item) × IsLineOf other begun) ⊎ LacksRedisByte begun
 begun_line item [] x is = inr tt
 begun_line item (kind ∷ said) x is =
     said_line item kind said x (ap (λ l. get_or l 0 0) is.1) (subst (Says item) (sym (ap (drop 1) is.1)) is.2)
 
-lacks_digit : (said : List ℕ) → LacksDigit said → (n : ℤ) → ¬ WriteInteger said n
-lacks_digit said (inl (inl none)) n writes = let w : WriteInteger [] n = subst (λ l. WriteInteger l n) none writes in omega (arith, w.0.0)
-lacks_digit said (inr plus) n writes = let w : WriteInteger (43 ∷ []) n = subst (λ l. WriteInteger l n) plus writes in omega (arith, w.0.0)
-lacks_digit said (inl (inr minus)) n writes = let w : WriteInteger (45 ∷ []) n = subst (λ l. WriteInteger l n) minus writes in omega (arith, w.0.0)
+lacks_digit : (said : List ℕ) → LacksRedisDigit said → (n : ℤ) → ¬ WriteRedisInteger said n
+lacks_digit said (inl (inl none)) n writes = let w : WriteRedisInteger [] n = subst (λ l. WriteRedisInteger l n) none writes in omega (arith, w.0.0)
+lacks_digit said (inr plus) n writes = let w : WriteRedisInteger (43 ∷ []) n = subst (λ l. WriteRedisInteger l n) plus writes in omega (arith, w.0.0)
+lacks_digit said (inl (inr minus)) n writes = let w : WriteRedisInteger (45 ∷ []) n = subst (λ l. WriteRedisInteger l n) minus writes in omega (arith, w.0.0)
 
-lacks_length : (said : List ℕ) → LacksLength said → (len : Option ℕ) → ¬ WriteLength said len
+lacks_length : (said : List ℕ) → LacksRedisLength said → (len : Option ℕ) → ¬ WriteRedisLength said len
 lacks_length said (inl none) None writes = omega (arith, ap length (sym none ∙ writes))
 lacks_length said (inl none) (Some n) writes = omega (arith, ap length none, writes.0.0)
 lacks_length said (inr minus) None writes = omega (arith, ap length (sym minus ∙ writes))
@@ -184,11 +184,11 @@ lacks_length said (inr minus) (Some n) writes =
     let w : WriteNumber (45 ∷ []) n = subst (λ l. WriteNumber l n) minus writes in omega (arith, digit_from_value 45 w.0.1.0)
 
 -- what is no line and lacks no byte stays no line
-pub still_none : (begun : List ℕ) → (¬ LacksByte begun) → ((item : Item) → ¬ IsLineOf item begun) → (item : Item) (more : List ℕ) → ¬ IsLineOf item (begun ++ more)
+pub still_none : (begun : List ℕ) → (¬ LacksRedisByte begun) → ((item : Item) → ¬ IsLineOf item begun) → (item : Item) (more : List ℕ) → ¬ IsLineOf item (begun ++ more)
 still_none begun whole none item more is = ⊎_elim (λ line. none line.0 line.1) (λ lacks. whole lacks) (begun_line item begun more is)
 
 -- what lacks a byte is no line
-pub lacks_none : (begun : List ℕ) → LacksByte begun → (item : Item) → ¬ IsLineOf item begun
+pub lacks_none : (begun : List ℕ) → LacksRedisByte begun → (item : Item) → ¬ IsLineOf item begun
 lacks_none [] lacks = no_item_of_none
 lacks_none (kind ∷ said) (inl lacks) =
     subst (λ k. (item : Item) → ¬ IsLineOf item (k ∷ said)) (sym lacks.0) (no_integer said (lacks_digit said lacks.1))
@@ -211,15 +211,15 @@ zero_digits = (omega arith, tt)
 zero_number : WriteNumber (48 ∷ []) 0
 zero_number = ((omega arith, zero_digits), refl, omega arith)
 
-zero_after : (said : List ℕ) → LacksDigit said → WriteInteger (said ++ 48 ∷ []) (signed_digits_value 10 (said ++ 48 ∷ []))
-zero_after said (inl (inl none)) = subst (λ l. WriteInteger (l ++ 48 ∷ []) (signed_digits_value 10 (l ++ 48 ∷ []))) (sym none) ((omega arith, zero_digits), record { sfits = omega arith }, refl)
-zero_after said (inr plus) = subst (λ l. WriteInteger (l ++ 48 ∷ []) (signed_digits_value 10 (l ++ 48 ∷ []))) (sym plus) ((omega arith, zero_digits), record { sfits = omega arith }, refl)
-zero_after said (inl (inr minus)) = subst (λ l. WriteInteger (l ++ 48 ∷ []) (signed_digits_value 10 (l ++ 48 ∷ []))) (sym minus) ((omega arith, zero_digits), record { sfits = omega arith }, refl)
+zero_after : (said : List ℕ) → LacksRedisDigit said → WriteRedisInteger (said ++ 48 ∷ []) (signed_digits_value 10 (said ++ 48 ∷ []))
+zero_after said (inl (inl none)) = subst (λ l. WriteRedisInteger (l ++ 48 ∷ []) (signed_digits_value 10 (l ++ 48 ∷ []))) (sym none) ((omega arith, zero_digits), record { sfits = omega arith }, refl)
+zero_after said (inr plus) = subst (λ l. WriteRedisInteger (l ++ 48 ∷ []) (signed_digits_value 10 (l ++ 48 ∷ []))) (sym plus) ((omega arith, zero_digits), record { sfits = omega arith }, refl)
+zero_after said (inl (inr minus)) = subst (λ l. WriteRedisInteger (l ++ 48 ∷ []) (signed_digits_value 10 (l ++ 48 ∷ []))) (sym minus) ((omega arith, zero_digits), record { sfits = omega arith }, refl)
 
 one_more : (item : Item) (kind byte : ℕ) (said : List ℕ) → kind ≡ first_byte item → Says item (said ++ byte ∷ []) → body item ≡ [] → items_in item ≡ 0 → IsOneMore (kind ∷ said)
 one_more item kind byte said is says none alone = record { byte = byte; item = item; is = line_of item kind (said ++ byte ∷ []) is says; no_body = none; alone = alone }
 
-completed : (begun : List ℕ) → LacksByte begun → IsOneMore begun
+completed : (begun : List ℕ) → LacksRedisByte begun → IsOneMore begun
 completed [] lacks = record { byte = 43; item = Simple []; is = ([], refl, (refl, plain_none)); no_body = refl; alone = refl }
 completed (kind ∷ said) (inl lacks) =
     one_more (Integer (signed_digits_value 10 (said ++ 48 ∷ []))) kind 48 said lacks.0 (zero_after said lacks.1) refl refl
@@ -232,7 +232,7 @@ completed (kind ∷ said) (inr (inr array, inr minus)) = one_more (Array None) k
 
 -- ---- a longer line reports no less
 
-no_longer : (said x : List ℕ) (n : ℕ) → WriteNumber said n → said ++ x ≢ no_length
+no_longer : (said x : List ℕ) (n : ℕ) → WriteNumber said n → said ++ x ≢ redis_no_length
 no_longer said x n number is =
     let first = digit_at said 0 number.0.1 number.0.0 in
     omega (arith, first, sym (get_or_append_left said x 0 0 number.0.0) ∙ ap (λ l. get_or l 0 0) is)
@@ -276,7 +276,7 @@ bulk_line : (len : ℕ) (line : List ℕ) → IsHeadOf (Body len) line → IsLin
 bulk_line len line head = (head.0, head.1, subst (WriteNumber head.0) (sym (length-replicate {A = ℕ} len 0)) head.2)
 
 module _ (limits : Limits) (room : ℕ) (line : List ℕ) where
-  pub large_head : (head : Head) → IsHeadOf head line → (¬ IsHeadWithin limits.bulk room head) → (item : Item) (more : List ℕ) → ¬ IsLineWithin limits room item (line ++ more)
+  pub large_head : (head : LineHead) → IsHeadOf head line → (¬ IsHeadWithin limits.bulk room head) → (item : Item) (more : List ℕ) → ¬ IsLineWithin limits room item (line ++ more)
   large_head (Whole one) is large item more within =
       let grows = line_grows one item line more is.0 within.is in large (omega (arith, grows.1, within.few))
   large_head Plain is large item more within = large tt
@@ -285,13 +285,13 @@ module _ (limits : Limits) (room : ℕ) (line : List ℕ) where
       large (omega (arith, grows.0, within.small, length-replicate {A = ℕ} len 0))
 
   module _ (short : length line ≤ limits.line) where
-    text_within : IsTextLine line → (item : Item) × IsLineWithin limits room item line
+    text_within : IsRedisTextLine line → (item : Item) × IsLineWithin limits room item line
     text_within text = ⊎_elim
         (λ simple. (Simple text.text, record { is = (text.text, text.parts ∙ ap (λ b. b ∷ text.text) simple, (refl, text.plain)); short = short; small = omega arith; few = omega arith }))
         (λ error. (Error text.text, record { is = (text.text, text.parts ∙ ap (λ b. b ∷ text.text) error, (refl, text.plain)); short = short; small = omega arith; few = omega arith }))
         text.is
 
-    pub line_within : (head : Head) → IsHeadOf head line → IsHeadWithin limits.bulk room head → (item : Item) × IsLineWithin limits room item line
+    pub line_within : (head : LineHead) → IsHeadOf head line → IsHeadWithin limits.bulk room head → (item : Item) × IsLineWithin limits room item line
     line_within (Whole item) is within = (item, record { is = is.0; short = short; small = omega (arith, ap length is.2); few = within })
     line_within Plain is within = text_within is
     line_within (Body len) is within =
@@ -302,7 +302,7 @@ module _ (limits : Limits) (room : ℕ) (line : List ℕ) where
   long_line long item more within = omega (arith, long, within.short, length-append line more)
 
   -- it lacks a byte, for which there is a place
-  pub completed_within : LacksByte line → length line < limits.line → (more : List ℕ) × (item : Item) × IsLineWithin limits room item (line ++ more)
+  pub completed_within : LacksRedisByte line → length line < limits.line → (more : List ℕ) × (item : Item) × IsLineWithin limits room item (line ++ more)
   completed_within lacks short =
       let done = completed line lacks in (
         done.byte ∷ [],

@@ -4,10 +4,10 @@ use Rattle.bytes_utils_protocols.specs.declared.events.Data.{Data}
 use Rattle.bytes_utils_protocols.specs.declared.events.Data.TheVariants.{One, More as Several}
 
 -- the text of some lines of data
-abbrev pub text_of : Data → List ℕ
-text_of (One text) = text
-text_of (Several text) = string_bytes text
+abbrev pub event_data_text : Data → List ℕ
+event_data_text (One text) = text
+event_data_text (Several text) = string_bytes text
 
-abbrev pub text_if_any : Option Data → Option (List ℕ)
-text_if_any None = None
-text_if_any (Some lines) = Some (text_of lines)
+abbrev pub event_data_if_any : Option Data → Option (List ℕ)
+event_data_if_any None = None
+event_data_if_any (Some lines) = Some (event_data_text lines)

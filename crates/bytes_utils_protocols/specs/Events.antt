@@ -1,23 +1,24 @@
 -- Event streams, as the HTML standard defines them (sections 9.2.5 and 9.2.6, https://html.spec.whatwg.org/multipage/server-sent-events.html).
-use Rattle.std.specs.Prelude.{◌≡◌, ◌≢◌, ℕ, ◌+◌, Bool, false, ◌<◌, ◌≤◌, ◌⊎◌, ◌==◌, ◌&&◌, not, if◌then◌else◌, nat_eq, nat_lt, ◌^◌, List, [], ◌∷◌, ◌++◌, length, drop, codes, Option, None, Some, MatchOption, Result, Ok, Err, IsUtf8}
+use Rattle.std.specs.Prelude.{◌≡◌, ◌≢◌, ℕ, ◌+◌, Bool, false, ◌<◌, ◌≤◌, ◌⊎◌, ◌==◌, ◌&&◌, not, if◌then◌else◌, nat_eq, nat_lt, ◌^◌, List, [], ◌∷◌, ◌++◌, length, drop, codes, Option, None, Some, MatchOption, Result, Ok, Err, IsUtf8, true}
 use Rattle.std.specs.Cmp.Lexicographic.{pointwise}
 use Rattle.std.specs.Char.{digit_value}
-use Rattle.std.specs.List.{after_first, before_first, list_all, list_any, starts_with}
-use Rattle.std.specs.Option.{option_or}
+use Rattle.std.specs.List.{after_first, before_first, list_all, list_any, starts_with, flat_map}
+use Rattle.std.specs.Option.{option_or, option_to_list}
 use Rattle.std.specs.Str.Parse.{digits_value}
 use Rattle.bytes_utils.specs.Lines.{line_feed}
-use Rattle.bytes_utils_codec.specs.Decoding.{Decoding, HasSameNext, Item, fed}
-use Rattle.bytes_utils_codec.specs.StreamRuns.{AreFirst}
-use Rattle.bytes_utils_codec.specs.UniversalItems.{AwaitsUniversal, UniversalReading, gives_universal}
+use Rattle.bytes_utils_codec.specs.Decoding.{Decoding, HasSameNext, Item, fed, starting}
+use Rattle.bytes_utils_codec.specs.StreamRuns.{AreFirstOfRun, IsRunOver, SameFirstOfRunLaw, StreamEvent, given_by, pushed_by}
+use Rattle.bytes_utils_codec.specs.UniversalReading.{AwaitsUniversal, UniversalReading, gives_universal, universal_reading}
 use Rattle.bytes_utils_codec.specs.declared.decode.lines.LineFault.{LineFault}
 use Rattle.bytes_utils_codec.specs.declared.decode.lines.LineFault.TheVariants.{NotUtf8 as NotText, TooLong}
 use Rattle.bytes_utils_protocols.specs.declared.events.Event.{Event}
 use Rattle.bytes_utils_protocols.specs.declared.events.EventError.{EventError}
 use Rattle.bytes_utils_protocols.specs.declared.events.EventError.TheVariants.{NotUtf8, TooLarge}
+use Rattle.bytes_utils_protocols.specs.declared.events.Limits.{Limits}
 
 -- What the lines since the last event said of the next one: its name, and its text, which is the lines of data, joined. The identifier and the time
 -- to wait before connecting again, in milliseconds, are the last ones of the stream.
-pub record Telling : Type 0 where
+pub record EventTelling : Type 0 where
   pub name : Option (List ℕ)
   pub text : Option (List ℕ)
   pub id : Option (List ℕ)
@@ -29,10 +30,10 @@ pub record Eventing : Type 0 where
   pub lines : Decoding UniversalReading
   pub waiting : Option (List ℕ)
   pub at_start : Bool
-  pub told : Telling
+  pub told : EventTelling
   pub max_data : ℕ
 
-abbrev pub nothing_told : Telling
+abbrev pub nothing_told : EventTelling
 nothing_told = record { name = None; text = None; id = None; retry = None }
 
 -- a piece came
@@ -40,74 +41,74 @@ abbrev pub pushed : Eventing → List ℕ → Eventing
 pushed old piece = record old { lines = fed old.lines piece }
 
 -- how much is to be read: the held bytes, and one more for a line that waits
-abbrev pub waiting_count : Option (List ℕ) → ℕ
-waiting_count None = 0
-waiting_count (Some line) = 1
+abbrev pub waiting_event_lines : Option (List ℕ) → ℕ
+waiting_event_lines None = 0
+waiting_event_lines (Some line) = 1
 
 abbrev pub left_to_read : Eventing → ℕ
-left_to_read reading = length reading.lines.held + waiting_count reading.waiting
+left_to_read reading = length reading.lines.held + waiting_event_lines reading.waiting
 
 -- ---- what one line says
 
 -- U+FEFF
-abbrev pub byte_order_mark : List ℕ
-byte_order_mark = 0xEF ∷ 0xBB ∷ 0xBF ∷ []
+abbrev pub event_byte_order_mark : List ℕ
+event_byte_order_mark = 0xEF ∷ 0xBB ∷ 0xBF ∷ []
 
 -- a mark at the very start of the stream is no part of its first line
-abbrev pub content : Bool → List ℕ → List ℕ
-content at_start line = if at_start && starts_with nat_eq line byte_order_mark then drop 3 line else line
+abbrev pub event_content : Bool → List ℕ → List ℕ
+event_content at_start line = if at_start && starts_with nat_eq line event_byte_order_mark then drop 3 line else line
 
-abbrev pub is_colon : ℕ → Bool
-is_colon c = c == 58
+abbrev pub is_event_colon : ℕ → Bool
+is_event_colon c = c == 58
 
 -- the bytes without one space at their start, if they have one there
-abbrev pub without_space : List ℕ → List ℕ
-without_space [] = []
-without_space (c ∷ t) = if c == 32 then t else c ∷ t
+abbrev pub event_value_of : List ℕ → List ℕ
+event_value_of [] = []
+event_value_of (c ∷ t) = if c == 32 then t else c ∷ t
 
 -- A line is a field. Its name is what is before the first colon, or all of the line if there is none. A comment is a field without a name.
-abbrev pub field_name : List ℕ → List ℕ
-field_name line = before_first is_colon line
+abbrev pub event_field_name : List ℕ → List ℕ
+event_field_name line = before_first is_event_colon line
 
-abbrev pub field_value : List ℕ → List ℕ
-field_value line = without_space (after_first is_colon line)
+abbrev pub event_field_value : List ℕ → List ℕ
+event_field_value line = event_value_of (after_first is_event_colon line)
 
 -- an empty name is none
-abbrev pub some_name : List ℕ → Option (List ℕ)
-some_name [] = None
-some_name (c ∷ t) = Some (c ∷ t)
+abbrev pub event_name_of : List ℕ → Option (List ℕ)
+event_name_of [] = None
+event_name_of (c ∷ t) = Some (c ∷ t)
 
 -- the data so far, and one more line of it
-abbrev pub with_line : Option (List ℕ) → List ℕ → List ℕ
-with_line None line = line
-with_line (Some before) line = before ++ line_feed ∷ line
+abbrev pub with_event_line : Option (List ℕ) → List ℕ → List ℕ
+with_event_line None line = line
+with_event_line (Some before) line = before ++ line_feed ∷ line
 
 -- the bytes are one ASCII digit or more and nothing else, and the number that they write is below 2 ^ 64
-abbrev pub is_number : List ℕ → Bool
-is_number digits = nat_lt 0 (length digits) && (list_all (λ c. nat_lt (digit_value c) 10) digits && nat_lt (digits_value 10 digits) (2 ^ 64))
+abbrev pub is_event_number : List ℕ → Bool
+is_event_number digits = nat_lt 0 (length digits) && (list_all (λ c. nat_lt (digit_value c) 10) digits && nat_lt (digits_value 10 digits) (2 ^ 64))
 
-abbrev pub number_of : List ℕ → Option ℕ
-number_of digits = if is_number digits then Some (digits_value 10 digits) else None
+abbrev pub event_number_of : List ℕ → Option ℕ
+event_number_of digits = if is_event_number digits then Some (digits_value 10 digits) else None
 
 -- What a field of this name and value makes of what was said. An identifier with a zero, and a time that is no number, change nothing, and neither does
 -- a field of any other name.
-abbrev pub after_field : Telling → List ℕ → List ℕ → Telling
+abbrev pub after_field : EventTelling → List ℕ → List ℕ → EventTelling
 after_field told name value =
-    if pointwise nat_eq name (codes "data") then record told { text = Some (with_line told.text value) }
-    else if pointwise nat_eq name (codes "event") then record told { name = some_name value }
+    if pointwise nat_eq name (codes "data") then record told { text = Some (with_event_line told.text value) }
+    else if pointwise nat_eq name (codes "event") then record told { name = event_name_of value }
     else if pointwise nat_eq name (codes "id") && not (list_any (λ c. nat_eq c 0) value) then record told { id = Some value }
-    else if pointwise nat_eq name (codes "retry") then record told { retry = option_or (number_of value) told.retry }
+    else if pointwise nat_eq name (codes "retry") then record told { retry = option_or (event_number_of value) told.retry }
     else told
 
 -- an empty line that ends no event takes the name back
-abbrev pub after_line : Telling → List ℕ → Telling
+abbrev pub after_line : EventTelling → List ℕ → EventTelling
 after_line told [] = record told { name = None }
-after_line told (c ∷ t) = after_field told (field_name (c ∷ t)) (field_value (c ∷ t))
+after_line told (c ∷ t) = after_field told (event_field_name (c ∷ t)) (event_field_value (c ∷ t))
 
 -- the number of bytes of the lines of data
-abbrev pub text_len : Option (List ℕ) → ℕ
-text_len None = 0
-text_len (Some text) = length text
+abbrev pub event_text_len : Option (List ℕ) → ℕ
+event_text_len None = 0
+event_text_len (Some text) = length text
 
 -- ---- lines that are read
 
@@ -119,13 +120,13 @@ pub record TakesNext (old : Eventing) (line : List ℕ) (new : Eventing) : Type 
 -- The line, which was taken and is a text, does what it says, within the limit of the data. It ends no event: it is not empty, or there is no data.
 pub record DoesLine (old : Eventing) (line : List ℕ) (new : Eventing) : Type 0 where
   pub utf8 : IsUtf8 line
-  pub ends_none : content old.at_start line ≡ [] → old.told.text ≡ None
-  pub after : new ≡ record old { at_start = false; told = after_line old.told (content old.at_start line) }
-  pub small : text_len new.told.text ≤ old.max_data
+  pub ends_none : event_content old.at_start line ≡ [] → old.told.text ≡ None
+  pub after : new ≡ record old { at_start = false; told = after_line old.told (event_content old.at_start line) }
+  pub small : event_text_len new.told.text ≤ old.max_data
 
 -- the line, which was taken, is empty and ends this event
 pub record EndsEvent (old : Eventing) (line : List ℕ) (event : Event) (new : Eventing) : Type 0 where
-  pub empty : content old.at_start line ≡ []
+  pub empty : event_content old.at_start line ≡ []
   pub text : old.told.text ≡ Some event.data
   pub name : event.name ≡ old.told.name
   pub id : event.id ≡ old.told.id
@@ -139,7 +140,7 @@ pub record ReadsLine (old : Eventing) (line : List ℕ) (new : Eventing) : Type 
 
 -- some lines are read, none of which ends an event
 abbrev pub Reads : Eventing → Eventing → Type 0
-Reads old new = (lines : List (List ℕ)) × AreFirst ReadsLine old lines new
+Reads old new = (lines : List (List ℕ)) × AreFirstOfRun ReadsLine old lines new
 
 -- some lines are read, and then the empty line that ends this event
 pub record Gives (old : Eventing) (event : Event) (new : Eventing) : Type 0 where
@@ -202,7 +203,7 @@ GivesItem old (Err error) new = PassesFault old error new
 
 -- the line is not empty, and the data with it passes its limit
 abbrev pub IsTooLarge : Eventing → List ℕ → Type 0
-IsTooLarge old line = (content old.at_start line ≢ []) × (old.max_data < text_len (after_line old.told (content old.at_start line)).text)
+IsTooLarge old line = (event_content old.at_start line ≢ []) × (old.max_data < event_text_len (after_line old.told (event_content old.at_start line)).text)
 
 -- a line waits that can't be read, whatever comes after it
 abbrev pub WaitsTooLarge : Eventing → Type 0
@@ -211,5 +212,48 @@ WaitsTooLarge reading = (line : List ℕ) × (reading.waiting ≡ Some line) × 
 -- ---- what the code takes of a line
 
 -- the line ends with this text
-abbrev pub IsEndOf : List ℕ → List ℕ → Type 0
-IsEndOf line text = (front : List ℕ) × (line ≡ front ++ text)
+abbrev pub IsEndOfEventLine : List ℕ → List ℕ → Type 0
+IsEndOfEventLine line text = (front : List ℕ) × (line ≡ front ++ text)
+
+-- ---- runs of calls
+
+-- before any byte
+abbrev pub nothing_held : Limits → Eventing
+nothing_held limits = record {
+  lines = starting (universal_reading limits.line) 512;
+  waiting = None;
+  at_start = true;
+  told = nothing_told;
+  max_data = limits.data;
+}
+
+-- what a call gives: an event, the error of a line that is passed over, or nothing
+abbrev pub EventGiven : Type 0
+EventGiven = Option (Result Event EventError)
+
+-- what one call does: it gives something, or it gives nothing and loses nothing
+abbrev pub Returns : Eventing → EventGiven → Eventing → Type 0
+Returns old None new = LosesNothing old new
+Returns old (Some item) new = GivesItem old item new
+
+-- these pieces and calls lead from a reader that holds nothing to the last state
+abbrev pub IsEventRun : Limits → List (StreamEvent EventGiven) → Eventing → Type 0
+IsEventRun limits events end = IsRunOver pushed Returns (nothing_held limits) events end
+
+-- Whatever the pieces are, whenever events are asked for, and whichever of the calls are refused memory, a run gives the first events of the joined
+-- pieces, with the lines that are passed over in their places, and loses nothing of what is after them.
+abbrev pub EventRunLaw : Type 0
+EventRunLaw = (limits : Limits) (events : List (StreamEvent EventGiven)) (end : Eventing) → IsEventRun limits events end
+    → (mid : Eventing) × AreFirstOfRun GivesItem (pushed (nothing_held limits) (pushed_by events)) (flat_map option_to_list (given_by events)) mid × LosesNothing mid end
+
+-- if a call gave none, and wasn't refused, none was there
+abbrev pub NoEventLaw : Type 0
+NoEventLaw = (old new : Eventing) → Waits old new → (item : Result Event EventError) (end : Eventing) → ¬ GivesItem old item end
+
+-- nor if the data with the next line passes its limit
+abbrev pub LargeEventLaw : Type 0
+LargeEventLaw = (old new : Eventing) → LosesNothing old new → WaitsTooLarge new → (item : Result Event EventError) (end : Eventing) → ¬ GivesItem old item end
+
+-- two lists of first events of the same bytes that have the same length are the same, with the same state after them
+abbrev pub SameEventLaw : Type 0
+SameEventLaw = SameFirstOfRunLaw GivesItem

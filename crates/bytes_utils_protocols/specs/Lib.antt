@@ -2,11 +2,11 @@ pub mod Digits
 pub mod Records
 pub mod Requests
 pub mod Redis
-pub mod PassedBytes
-pub mod PendingReply
+pub mod RedisPassed
+pub mod RedisLine
+pub mod RedisPending
 pub mod Multipart
 pub mod Netstrings
 pub mod NetstringsLaws
 pub mod EventData
 pub mod Events
-pub mod EventRuns

@@ -9,7 +9,7 @@ use Rattle.bytes_utils_codec.specs.Frames.{TakesFrame}
 use Rattle.bytes_utils.specs.Occurrence.{Occurs}
 use Rattle.bytes_utils.specs.Lines.{carriage_return, line_feed}
 use Rattle.bytes_utils_codec.specs.Search.{NoneBegins}
-use Rattle.bytes_utils_codec.specs.StreamRuns.{StreamEvent, IsRunOver, AreFirst, SameFirstLaw, pushed_by, given_by}
+use Rattle.bytes_utils_codec.specs.StreamRuns.{StreamEvent, IsRunOver, AreFirstOfRun, SameFirstOfRunLaw, pushed_by, given_by}
 use Rattle.bytes_utils_protocols.specs.Digits.{colon}
 use Rattle.bytes_utils_protocols.specs.declared.multipart.limits.Limits.{Limits}
 use Rattle.bytes_utils_protocols.specs.declared.multipart.Part.{Part}
@@ -25,19 +25,19 @@ pub record Parting : Type 0 where
   pub ended : Bool
   pub held : List ℕ
 
-abbrev pub line_end : List ℕ
-line_end = carriage_return ∷ line_feed ∷ []
+abbrev pub multipart_line_end : List ℕ
+multipart_line_end = carriage_return ∷ line_feed ∷ []
 
-abbrev pub dashes : List ℕ
-dashes = 45 ∷ 45 ∷ []
+abbrev pub multipart_dashes : List ℕ
+multipart_dashes = 45 ∷ 45 ∷ []
 
 -- a line end, two dashes and the boundary
-abbrev pub delimiter_of : List ℕ → List ℕ
-delimiter_of boundary = line_end ++ (dashes ++ boundary)
+abbrev pub multipart_delimiter : List ℕ → List ℕ
+multipart_delimiter boundary = multipart_line_end ++ (multipart_dashes ++ boundary)
 
 -- the end of the last line of a head, and the empty line after it
-abbrev pub head_end : List ℕ
-head_end = line_end ++ line_end
+abbrev pub multipart_head_end : List ℕ
+multipart_head_end = multipart_line_end ++ multipart_line_end
 
 -- ---- one part
 
@@ -53,23 +53,23 @@ abbrev pub bytes_of : Part → PartBytes
 bytes_of part = part_bytes part.head (concat part.body.segments)
 
 -- a space or a tab
-abbrev pub is_padding : ℕ → Bool
-is_padding b = b == 32 || b == 9
+abbrev pub is_multipart_head_padding : ℕ → Bool
+is_multipart_head_padding b = b == 32 || b == 9
 
 -- what follows the spaces and tabs after a delimiter
-abbrev pub without_padding : List ℕ → List ℕ
-without_padding front = drop (prefix_len is_padding front) front
+abbrev pub without_multipart_padding : List ℕ → List ℕ
+without_multipart_padding front = drop (prefix_len is_multipart_head_padding front) front
 
 -- between a delimiter and the end of the head: padding, a line end and the head, or padding alone, if there is no header
-abbrev pub IsHeadIn : List ℕ → List ℕ → Type 0
-IsHeadIn front head = ((without_padding front ≡ []) × (head ≡ [])) ⊎ (without_padding front ≡ line_end ++ head)
+abbrev pub IsMultipartHead : List ℕ → List ℕ → Type 0
+IsMultipartHead front head = ((without_multipart_padding front ≡ []) × (head ≡ [])) ⊎ (without_multipart_padding front ≡ multipart_line_end ++ head)
 
 -- what is between two delimiters: up to the first empty line the head, and after it the body
 pub record IsPart (limits : Limits) (raw : List ℕ) (part : PartBytes) : Type 0 where
   pub front : List ℕ
-  pub cut : TakesFrame head_end raw front part.body
-  pub head : IsHeadIn front part.head
-  pub small : length front + length head_end ≤ limits.head
+  pub cut : TakesFrame multipart_head_end raw front part.body
+  pub head : IsMultipartHead front part.head
+  pub small : length front + length multipart_head_end ≤ limits.head
   pub short : length part.body ≤ limits.body
 
 -- The old bytes are a preamble, a delimiter, what is between this one and the next, and that next one with the bytes after it, which are left.
@@ -99,15 +99,15 @@ abbrev pub NoPart : List ℕ → Limits → List ℕ → Type 0
 NoPart delimiter limits bytes = (part : PartBytes) (rest : List ℕ) → ¬ TakesPart delimiter limits bytes part rest
 
 -- the first delimiter is a close delimiter: two dashes follow it
-abbrev pub Closes : List ℕ → List ℕ → Type 0
-Closes delimiter bytes = (preamble : List ℕ) × (rest : List ℕ) × TakesFrame delimiter bytes preamble (dashes ++ rest)
+abbrev pub ClosesMultipart : List ℕ → List ℕ → Type 0
+ClosesMultipart delimiter bytes = (preamble : List ℕ) × (rest : List ℕ) × TakesFrame delimiter bytes preamble (multipart_dashes ++ rest)
 
 -- the delimiter after the first one has not come
-abbrev pub LacksNext : List ℕ → List ℕ → Type 0
-LacksNext delimiter bytes = (preamble after : List ℕ) → TakesFrame delimiter bytes preamble after → ¬ Occurs delimiter after
+abbrev pub LacksNextInMultipart : List ℕ → List ℕ → Type 0
+LacksNextInMultipart delimiter bytes = (preamble after : List ℕ) → TakesFrame delimiter bytes preamble after → ¬ Occurs delimiter after
 
 -- Few bytes wait: those before the first delimiter are within the limits, and those that wait for a delimiter pass them by at most the length of one.
-pub record FewWait (delimiter : List ℕ) (limits : Limits) (bytes : List ℕ) : Type 0 where
+pub record FewWaitInMultipart (delimiter : List ℕ) (limits : Limits) (bytes : List ℕ) : Type 0 where
   pub for_first : (¬ Occurs delimiter bytes) → length bytes ≤ limits.head + limits.body + length delimiter
   pub before : (preamble after : List ℕ) → TakesFrame delimiter bytes preamble after → length preamble ≤ limits.head + limits.body
   pub for_next : (preamble after : List ℕ) → TakesFrame delimiter bytes preamble after → length after ≤ limits.head + limits.body + length delimiter
@@ -139,85 +139,85 @@ pub record IsFirstDisposition (all : List (List ℕ)) (value : List ℕ) : Type 
 abbrev pub HasDisposition : List (List ℕ) → Option (List ℕ) → Type 0
 HasDisposition all r = MatchOption r (All NoDisposition all) (λ value. IsFirstDisposition all value)
 
-abbrev pub quote : List ℕ
-quote = 34 ∷ []
+abbrev pub multipart_quote : List ℕ
+multipart_quote = 34 ∷ []
 
 -- the value is what is between the first key and the next quote after it
-pub record IsQuoted (key text value : List ℕ) : Type 0 where
+pub record IsQuotedInMultipart (key text value : List ℕ) : Type 0 where
   pub before : List ℕ
   pub after : List ℕ
   pub begins : TakesFrame key text before after
   pub rest : List ℕ
-  pub ends : TakesFrame quote after value rest
+  pub ends : TakesFrame multipart_quote after value rest
 
 -- that value, or `None` if there is none
-abbrev pub Quotes : List ℕ → Option (List ℕ) → Option (List ℕ) → Type 0
-Quotes key None r = r ≡ None
-Quotes key (Some text) r = MatchOption r ((value : List ℕ) → ¬ IsQuoted key text value) (λ value. IsQuoted key text value)
+abbrev pub QuotesInMultipart : List ℕ → Option (List ℕ) → Option (List ℕ) → Type 0
+QuotesInMultipart key None r = r ≡ None
+QuotesInMultipart key (Some text) r = MatchOption r ((value : List ℕ) → ¬ IsQuotedInMultipart key text value) (λ value. IsQuotedInMultipart key text value)
 
 -- what follows the key in the disposition of a head
-abbrev pub HasParameter : List ℕ → List ℕ → Option (List ℕ) → Type 0
-HasParameter key head r = (disposition : Option (List ℕ)) × HasDisposition (lines head) disposition × Quotes key disposition r
+abbrev pub HasMultipartParameter : List ℕ → List ℕ → Option (List ℕ) → Type 0
+HasMultipartParameter key head r = (disposition : Option (List ℕ)) × HasDisposition (lines head) disposition × QuotesInMultipart key disposition r
 
-abbrev pub name_key : List ℕ
-name_key = codes "; name=\""
+abbrev pub multipart_name_key : List ℕ
+multipart_name_key = codes "; name=\""
 
-abbrev pub file_name_key : List ℕ
-file_name_key = codes "; filename=\""
+abbrev pub multipart_file_name_key : List ℕ
+multipart_file_name_key = codes "; filename=\""
 
 -- ---- what the reader holds
 
 -- The bytes that are held: those that wait, or the preamble and a delimiter before them, or what was found after that, too, with the delimiter after
 -- it.
-abbrev pub held_at : Stage → List ℕ → List ℕ → List ℕ → List ℕ → List ℕ
-held_at Preamble delimiter preamble found waiting = waiting
-held_at Waiting delimiter preamble found waiting = preamble ++ (delimiter ++ waiting)
-held_at Found delimiter preamble found waiting = preamble ++ (delimiter ++ (found ++ (delimiter ++ waiting)))
-held_at Ended delimiter preamble found waiting = []
+abbrev pub held_in_sections : Stage → List ℕ → List ℕ → List ℕ → List ℕ → List ℕ
+held_in_sections Preamble delimiter preamble found waiting = waiting
+held_in_sections Waiting delimiter preamble found waiting = preamble ++ (delimiter ++ waiting)
+held_in_sections Found delimiter preamble found waiting = preamble ++ (delimiter ++ (found ++ (delimiter ++ waiting)))
+held_in_sections Ended delimiter preamble found waiting = []
 
 -- Each delimiter is the first one there. Before the first one, and after the close delimiter, nothing else is kept.
-abbrev pub AreApart : Stage → List ℕ → List ℕ → List ℕ → List ℕ → Type 0
-AreApart Preamble delimiter preamble found waiting = preamble ≡ []
-AreApart Waiting delimiter preamble found waiting = TakesFrame delimiter (preamble ++ (delimiter ++ waiting)) preamble waiting
-AreApart Found delimiter preamble found waiting =
+abbrev pub AreSectionsApart : Stage → List ℕ → List ℕ → List ℕ → List ℕ → Type 0
+AreSectionsApart Preamble delimiter preamble found waiting = preamble ≡ []
+AreSectionsApart Waiting delimiter preamble found waiting = TakesFrame delimiter (preamble ++ (delimiter ++ waiting)) preamble waiting
+AreSectionsApart Found delimiter preamble found waiting =
     TakesFrame delimiter (preamble ++ (delimiter ++ (found ++ (delimiter ++ waiting)))) preamble (found ++ (delimiter ++ waiting))
     × TakesFrame delimiter (found ++ (delimiter ++ waiting)) found waiting
-AreApart Ended delimiter preamble found waiting = (preamble ≡ []) × (waiting ≡ [])
+AreSectionsApart Ended delimiter preamble found waiting = (preamble ≡ []) × (waiting ≡ [])
 
-abbrev pub has_ended : Stage → Bool
-has_ended Preamble = false
-has_ended Waiting = false
-has_ended Found = false
-has_ended Ended = true
+abbrev pub sections_have_ended : Stage → Bool
+sections_have_ended Preamble = false
+sections_have_ended Waiting = false
+sections_have_ended Found = false
+sections_have_ended Ended = true
 
 -- the bytes that wait for the next delimiter
 abbrev pub waiting_in : Sections → List ℕ
 waiting_in s = concat s.waiting.held.segments
 
 abbrev pub held_by : Sections → List ℕ
-held_by s = held_at s.stage s.delimiter.needle s.preamble (concat s.found.segments) (waiting_in s)
+held_by s = held_in_sections s.stage s.delimiter.needle s.preamble (concat s.found.segments) (waiting_in s)
 
 -- of the bytes that wait, the search has passed none in which a delimiter begins, whatever comes after them
 abbrev pub NonePassed : Sections → Type 0
 NonePassed s = NoneBegins s.delimiter.needle (waiting_in s) s.delimiter.searched
 
 abbrev pub IsDivided : Sections → Type 0
-IsDivided s = AreApart s.stage s.delimiter.needle s.preamble (concat s.found.segments) (waiting_in s) × NonePassed s
+IsDivided s = AreSectionsApart s.stage s.delimiter.needle s.preamble (concat s.found.segments) (waiting_in s) × NonePassed s
 
 -- the same delimiter, end and bytes
 pub record SameSections (old new : Sections) : Type 0 where
   pub delimiter : new.delimiter.needle ≡ old.delimiter.needle
-  pub ended : has_ended new.stage ≡ has_ended old.stage
+  pub ended : sections_have_ended new.stage ≡ sections_have_ended old.stage
   pub held : held_by new ≡ held_by old
 
 -- after a search, by what was found
 abbrev pub AfterSearch : Stage → Sections → Sections → Type 0
 AfterSearch Preamble old new =
-    SameSections old new × (¬ Occurs old.delimiter.needle (waiting_in new)) × (¬ Closes old.delimiter.needle (held_by old)) × LacksNext old.delimiter.needle (held_by old)
+    SameSections old new × (¬ Occurs old.delimiter.needle (waiting_in new)) × (¬ ClosesMultipart old.delimiter.needle (held_by old)) × LacksNextInMultipart old.delimiter.needle (held_by old)
 AfterSearch Waiting old new =
-    SameSections old new × (¬ Occurs old.delimiter.needle (waiting_in new)) × (¬ Closes old.delimiter.needle (held_by old)) × LacksNext old.delimiter.needle (held_by old)
+    SameSections old new × (¬ Occurs old.delimiter.needle (waiting_in new)) × (¬ ClosesMultipart old.delimiter.needle (held_by old)) × LacksNextInMultipart old.delimiter.needle (held_by old)
 AfterSearch Found old new = SameSections old new
-AfterSearch Ended old new = (old.stage ≡ Ended) ⊎ Closes old.delimiter.needle (held_by old)
+AfterSearch Ended old new = (old.stage ≡ Ended) ⊎ ClosesMultipart old.delimiter.needle (held_by old)
 
 -- ---- a run of calls
 
@@ -231,8 +231,8 @@ closed s = record s { ended = true; held = [] }
 
 -- Without a part the close delimiter is read, or nothing changes: then the first delimiter is no close delimiter, and the next one has not come.
 abbrev pub IsIdle : Parting → Parting → Type 0
-IsIdle old new = MatchBool new.ended ((new ≡ closed old) × ((old.ended ≡ true) ⊎ Closes old.delimiter old.held))
-    ((new ≡ old) × (¬ Closes old.delimiter old.held) × LacksNext old.delimiter old.held)
+IsIdle old new = MatchBool new.ended ((new ≡ closed old) × ((old.ended ≡ true) ⊎ ClosesMultipart old.delimiter old.held))
+    ((new ≡ old) × (¬ ClosesMultipart old.delimiter old.held) × LacksNextInMultipart old.delimiter old.held)
 
 -- what a call did that returned a part, or none
 abbrev pub IsPartCall : Parting → Option PartBytes → Parting → Type 0
@@ -245,19 +245,19 @@ IsPartRun s events end = IsRunOver appended IsPartCall s events end
 
 -- the state of a new reader
 abbrev pub started : List ℕ → Limits → Parting
-started delimiter limits = record { delimiter = delimiter; limits = limits; ended = false; held = line_end }
+started delimiter limits = record { delimiter = delimiter; limits = limits; ended = false; held = multipart_line_end }
 
 -- These are the first parts of the bytes. The bytes after them are held, or the close delimiter was read there.
 pub record AreParts (delimiter : List ℕ) (limits : Limits) (bytes : List ℕ) (parts : List PartBytes) (ended : Bool) (held : List ℕ) : Type 0 where
   pub rest : List ℕ
-  pub are : AreFirst (TakesPart delimiter limits) bytes parts rest
-  pub left : MatchBool ended (Closes delimiter rest) (rest ≡ held)
+  pub are : AreFirstOfRun (TakesPart delimiter limits) bytes parts rest
+  pub left : MatchBool ended (ClosesMultipart delimiter rest) (rest ≡ held)
 
 -- Whatever the pieces are and whenever parts are asked for, a run gives the first parts of the joined pieces.
 abbrev pub PartsLaw : Type 0
 PartsLaw = (delimiter : List ℕ) (limits : Limits) (events : List (StreamEvent (Option PartBytes))) (end : Parting) → IsPartRun (started delimiter limits) events end
-    → AreParts delimiter limits (line_end ++ pushed_by events) (flat_map option_to_list (given_by events)) end.ended end.held
+    → AreParts delimiter limits (multipart_line_end ++ pushed_by events) (flat_map option_to_list (given_by events)) end.ended end.held
 
 -- two lists of first parts of the same bytes that have the same length are the same, with the same bytes after them
 abbrev pub SamePartsLaw : Type 0
-SamePartsLaw = (delimiter : List ℕ) (limits : Limits) → SameFirstLaw (TakesPart delimiter limits)
+SamePartsLaw = (delimiter : List ℕ) (limits : Limits) → SameFirstOfRunLaw (TakesPart delimiter limits)

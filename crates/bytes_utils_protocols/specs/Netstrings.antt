@@ -8,8 +8,8 @@ use Rattle.bytes_utils_protocols.specs.declared.netstrings.NetstringError.{Netst
 use Rattle.bytes_utils_protocols.specs.declared.netstrings.NetstringError.TheVariants.{Refused, Malformed}
 
 -- the code of a comma
-abbrev pub comma : ℕ
-comma = 44
+abbrev pub netstring_comma : ℕ
+netstring_comma = 44
 
 -- the old bytes are the netstring of this text and the rest: up to the first colon are the digits of its length
 pub record TakesNetstring (old text rest : List ℕ) : Type 0 where
@@ -17,7 +17,7 @@ pub record TakesNetstring (old text rest : List ℕ) : Type 0 where
   pub after : List ℕ
   pub front : TakesFrame (colon ∷ []) old digits after
   pub len : WriteNumber digits (length text)
-  pub bytes : after ≡ text ++ comma ∷ rest
+  pub bytes : after ≡ text ++ netstring_comma ∷ rest
 
 -- the bytes begin with no whole netstring
 abbrev pub NoNetstring : List ℕ → Type 0

@@ -7,7 +7,7 @@ use Rattle.bytes_utils_codec.specs.Taking.{AreTaken}
 use Rattle.bytes_utils_codec.proofs.FramesLemmas.{TakesFrame-more, TakesFrame-same}
 use Rattle.bytes_utils.proofs.Joins.{append_same}
 use Rattle.bytes_utils_protocols.specs.Digits.{colon}
-use Rattle.bytes_utils_protocols.specs.Netstrings.{TakesNetstring, awaits_netstring, comma, takes_netstring}
+use Rattle.bytes_utils_protocols.specs.Netstrings.{TakesNetstring, awaits_netstring, netstring_comma, takes_netstring}
 
 netstring_more : (old text rest more : List ℕ) → TakesNetstring old text rest → TakesNetstring (old ++ more) text (rest ++ more)
 netstring_more old text rest more takes = record {
@@ -15,15 +15,15 @@ netstring_more old text rest more takes = record {
   after = takes.after ++ more;
   front = TakesFrame-more (colon ∷ []) old takes.digits takes.after more takes.front;
   len = takes.len;
-  bytes = ap (λ l. l ++ more) takes.bytes ∙ append_assoc text (comma ∷ rest) more;
+  bytes = ap (λ l. l ++ more) takes.bytes ∙ append_assoc text (netstring_comma ∷ rest) more;
 }
 
 netstring_same : (old f g x y : List ℕ) → TakesNetstring old f x → TakesNetstring old g y → (f ≡ g) × (x ≡ y)
 netstring_same old f g x y s t =
     let same = TakesFrame-same (colon ∷ []) old s.digits t.digits s.after t.after s.front t.front in
     let size : length f ≡ length g = sym s.len.1 ∙ ap (digits_value 10) same.0 ∙ t.len.1 in
-    let texts = append_same f g (comma ∷ x) (comma ∷ y) size (sym s.bytes ∙ same.1 ∙ t.bytes) in
-    (texts.0, append_cancel_left (comma ∷ []) x y texts.1)
+    let texts = append_same f g (netstring_comma ∷ x) (netstring_comma ∷ y) size (sym s.bytes ∙ same.1 ∙ t.bytes) in
+    (texts.0, append_cancel_left (netstring_comma ∷ []) x y texts.1)
 
 pub netstring_facts : {D : Type 0} → AreTaken (takes_netstring {D = D}) awaits_netstring
 netstring_facts = record {

@@ -11,12 +11,12 @@ abbrev pub record_end : List ℕ
 record_end = codes "\r\n\r\n"
 
 -- the record of a frame: its bytes as a text, or that they are none, or that the frame is longer than the limit
-abbrev pub IsTextOf : Result (List ℕ) FrameTooLong → Result (List ℕ) RecordFault → Type 0
-IsTextOf (Ok bytes) (Ok text) = (text ≡ bytes) × IsUtf8 bytes
-IsTextOf (Ok bytes) (Err (NotUtf8 back)) = (back ≡ bytes) × (¬ IsUtf8 bytes)
-IsTextOf (Ok bytes) (Err TooLong) = ⊥
-IsTextOf (Err over) given = given ≡ Err TooLong
+abbrev pub IsRecordOf : Result (List ℕ) FrameTooLong → Result (List ℕ) RecordFault → Type 0
+IsRecordOf (Ok bytes) (Ok text) = (text ≡ bytes) × IsUtf8 bytes
+IsRecordOf (Ok bytes) (Err (NotUtf8 back)) = (back ≡ bytes) × (¬ IsUtf8 bytes)
+IsRecordOf (Ok bytes) (Err TooLong) = ⊥
+IsRecordOf (Err over) given = given ≡ Err TooLong
 
 -- the next frame is given, as a record
 abbrev pub GivesRecord : Decoding Delimiting → Result (List ℕ) RecordFault → Decoding Delimiting → Type 0
-GivesRecord old given new = (frame : Result (List ℕ) FrameTooLong) × gives_delimited old (Item frame) new × IsTextOf frame given
+GivesRecord old given new = (frame : Result (List ℕ) FrameTooLong) × gives_delimited old (Item frame) new × IsRecordOf frame given

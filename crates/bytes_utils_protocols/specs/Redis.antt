@@ -5,7 +5,7 @@ use Rattle.std.specs.Str.Parse.{IsNumeral, signed_digits_value, without_leading_
 use Rattle.memchr.specs.Find.{Nowhere, Passes, is_byte2}
 use Rattle.bytes_utils_codec.specs.Frames.{TakesFrame}
 use Rattle.bytes_utils.specs.Lines.{carriage_return, line_feed}
-use Rattle.bytes_utils_codec.specs.StreamRuns.{AreFirst}
+use Rattle.bytes_utils_codec.specs.StreamRuns.{AreFirstOfRun}
 use Rattle.bytes_utils_protocols.specs.Digits.{WriteNumber}
 use Rattle.bytes_utils_protocols.specs.declared.redis.item.Item.{Item}
 use Rattle.bytes_utils_protocols.specs.declared.redis.item.Item.TheVariants.{Simple, Error, Integer, Bulk, Array}
@@ -17,25 +17,25 @@ pub record Replying : Type 0 where
   pub limits : Limits
 
 -- the end of each line
-abbrev pub line_end : List ℕ
-line_end = carriage_return ∷ line_feed ∷ []
+abbrev pub redis_line_end : List ℕ
+redis_line_end = carriage_return ∷ line_feed ∷ []
 
 -- the text of a length that says that nothing is there: `-1`
-abbrev pub no_length : List ℕ
-no_length = 45 ∷ 49 ∷ []
+abbrev pub redis_no_length : List ℕ
+redis_no_length = 45 ∷ 49 ∷ []
 
 -- no byte is a carriage return or a line feed
-abbrev pub IsPlain : List ℕ → Type 0
-IsPlain text = Nowhere (Passes (is_byte2 carriage_return line_feed) text) 0 (length text)
+abbrev pub IsRedisPlain : List ℕ → Type 0
+IsRedisPlain text = Nowhere (Passes (is_byte2 carriage_return line_feed) text) 0 (length text)
 
 -- the bytes are digits after a sign, if there is one, and they write the number n, which is an `i64`
-abbrev pub WriteInteger : List ℕ → ℤ → Type 0
-WriteInteger text n = IsNumeral 10 (without_leading_sign text) × FitsSigned w64 (signed_digits_value 10 text) × (n ≡ signed_digits_value 10 text)
+abbrev pub WriteRedisInteger : List ℕ → ℤ → Type 0
+WriteRedisInteger text n = IsNumeral 10 (without_leading_sign text) × FitsSigned w64 (signed_digits_value 10 text) × (n ≡ signed_digits_value 10 text)
 
 -- the bytes write this length, or that nothing is there
-abbrev pub WriteLength : List ℕ → Option ℕ → Type 0
-WriteLength text None = text ≡ no_length
-WriteLength text (Some n) = WriteNumber text n
+abbrev pub WriteRedisLength : List ℕ → Option ℕ → Type 0
+WriteRedisLength text None = text ≡ redis_no_length
+WriteRedisLength text (Some n) = WriteNumber text n
 
 -- the first byte of the item's line
 abbrev pub first_byte : Item → ℕ
@@ -46,16 +46,16 @@ first_byte (Bulk body) = 36
 first_byte (Array count) = 42
 
 -- the first byte of the line of a text or of an error
-abbrev pub IsText : ℕ → Type 0
-IsText kind = (kind ≡ 43) ⊎ (kind ≡ 45)
+abbrev pub IsRedisText : ℕ → Type 0
+IsRedisText kind = (kind ≡ 43) ⊎ (kind ≡ 45)
 
 -- the bytes of the item's line after the first one
 abbrev pub Says : Item → List ℕ → Type 0
-Says (Simple text) said = (text ≡ said) × IsPlain said
-Says (Error text) said = (text ≡ said) × IsPlain said
-Says (Integer n) said = WriteInteger said n
-Says (Bulk body) said = WriteLength said (option_map length body)
-Says (Array count) said = WriteLength said count
+Says (Simple text) said = (text ≡ said) × IsRedisPlain said
+Says (Error text) said = (text ≡ said) × IsRedisPlain said
+Says (Integer n) said = WriteRedisInteger said n
+Says (Bulk body) said = WriteRedisLength said (option_map length body)
+Says (Array count) said = WriteRedisLength said count
 
 abbrev pub IsLineOf : Item → List ℕ → Type 0
 IsLineOf item line = (said : List ℕ) × (line ≡ first_byte item ∷ said) × Says item said
@@ -75,7 +75,7 @@ after_line (Simple text) = []
 after_line (Error text) = []
 after_line (Integer n) = []
 after_line (Bulk None) = []
-after_line (Bulk (Some bytes)) = bytes ++ line_end
+after_line (Bulk (Some bytes)) = bytes ++ redis_line_end
 after_line (Array count) = []
 
 -- the number of items that follow as those of this one
@@ -91,17 +91,17 @@ items_in (Array (Some count)) = count
 pub record TakesItem (limits : Limits) (old : List ℕ) (item : Item) (rest : List ℕ) : Type 0 where
   pub line : List ℕ
   pub is : IsLineOf item line
-  pub bytes : TakesFrame line_end old line (after_line item ++ rest)
+  pub bytes : TakesFrame redis_line_end old line (after_line item ++ rest)
   pub short : length line ≤ limits.line
   pub small : length (body item) ≤ limits.bulk
 
 -- the line is that of a text or of an error
-pub record IsTextLine (line : List ℕ) : Type 0 where
+pub record IsRedisTextLine (line : List ℕ) : Type 0 where
   pub kind : ℕ
   pub text : List ℕ
   pub parts : line ≡ kind ∷ text
-  pub is : IsText kind
-  pub plain : IsPlain text
+  pub is : IsRedisText kind
+  pub plain : IsRedisPlain text
 
 -- the line is that of an item within the limits, which has at most `room` items of its own
 pub record IsLineWithin (limits : Limits) (room : ℕ) (item : Item) (line : List ℕ) : Type 0 where
@@ -111,25 +111,25 @@ pub record IsLineWithin (limits : Limits) (room : ℕ) (item : Item) (line : Lis
   pub few : items_in item ≤ room
 
 -- what follows the first byte of a line with a length is nothing, or a sign whose digit is to come
-abbrev pub LacksLength : List ℕ → Type 0
-LacksLength said = (said ≡ []) ⊎ (said ≡ 45 ∷ [])
+abbrev pub LacksRedisLength : List ℕ → Type 0
+LacksRedisLength said = (said ≡ []) ⊎ (said ≡ 45 ∷ [])
 
 -- the same of an integer's line
-abbrev pub LacksDigit : List ℕ → Type 0
-LacksDigit said = LacksLength said ⊎ (said ≡ 43 ∷ [])
+abbrev pub LacksRedisDigit : List ℕ → Type 0
+LacksRedisDigit said = LacksRedisLength said ⊎ (said ≡ 43 ∷ [])
 
 -- the line is that of no item, and one byte more can make it one: the first byte of all, or the first digit
-abbrev pub LacksByte : List ℕ → Type 0
-LacksByte [] = ⊤
-LacksByte (kind ∷ said) = ((kind ≡ 58) × LacksDigit said) ⊎ (((kind ≡ 36) ⊎ (kind ≡ 42)) × LacksLength said)
+abbrev pub LacksRedisByte : List ℕ → Type 0
+LacksRedisByte [] = ⊤
+LacksRedisByte (kind ∷ said) = ((kind ≡ 58) × LacksRedisDigit said) ⊎ (((kind ≡ 36) ⊎ (kind ≡ 42)) × LacksRedisLength said)
 
 -- the bytes don't begin with this number of bytes and an end of a line
-abbrev pub HasNoBody : ℕ → List ℕ → Type 0
-HasNoBody len bytes = (front rest : List ℕ) → length front ≡ len → bytes ≢ front ++ (line_end ++ rest)
+abbrev pub HasNoRedisBody : ℕ → List ℕ → Type 0
+HasNoRedisBody len bytes = (front rest : List ℕ) → length front ≡ len → bytes ≢ front ++ (redis_line_end ++ rest)
 
 -- with some bytes after them, the bytes are this number of bytes and an end of a line
-abbrev pub BeginsBody : ℕ → List ℕ → Type 0
-BeginsBody len bytes = (more : List ℕ) × (front : List ℕ) × (length front ≡ len) × (bytes ++ more ≡ front ++ line_end)
+abbrev pub BeginsRedisBody : ℕ → List ℕ → Type 0
+BeginsRedisBody len bytes = (more : List ℕ) × (front : List ℕ) × (length front ≡ len) × (bytes ++ more ≡ front ++ redis_line_end)
 
 -- the bytes don't begin with an item
 abbrev pub NoItem : Limits → List ℕ → Type 0
@@ -149,13 +149,13 @@ AreWhole n [] = n ≡ 0
 AreWhole n (item ∷ items) = (0 < n) × AreWhole ((n - 1) + items_in item) items
 
 -- n items were to come, and after these items this number still is
-abbrev pub ArePending : ℕ → List Item → ℕ → Type 0
-ArePending n [] due = n ≡ due
-ArePending n (item ∷ items) due = (0 < n) × ArePending ((n - 1) + items_in item) items due
+abbrev pub LeaveItemsDue : ℕ → List Item → ℕ → Type 0
+LeaveItemsDue n [] due = n ≡ due
+LeaveItemsDue n (item ∷ items) due = (0 < n) × LeaveItemsDue ((n - 1) + items_in item) items due
 
 -- the old bytes are one whole item, an array with its items, and the rest
 pub record TakesReply (limits : Limits) (old : List ℕ) (items : List Item) (rest : List ℕ) : Type 0 where
-  pub are : AreFirst (TakesItem limits) old items rest
+  pub are : AreFirstOfRun (TakesItem limits) old items rest
   pub whole : AreWhole 1 items
   pub few : length items ≤ limits.items
 

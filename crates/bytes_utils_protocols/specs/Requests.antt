@@ -9,26 +9,26 @@ use Rattle.bytes_utils_protocols.specs.declared.requests.LengthError.{LengthErro
 use Rattle.bytes_utils_protocols.specs.declared.requests.LengthError.TheVariants.{NotAHeader, NotANumber, Unequal, UnknownFraming}
 
 -- the end of a head
-abbrev pub head_end : List ℕ
-head_end = codes "\r\n\r\n"
+abbrev pub request_head_end : List ℕ
+request_head_end = codes "\r\n\r\n"
 
 -- the lines of a head after its first: a line ends at each line feed (RFC 9112, 2.2)
-abbrev pub header_lines : List ℕ → List (List ℕ)
-header_lines head = drop 1 (slice_split (λ b. b == line_feed) head)
+abbrev pub request_header_lines : List ℕ → List (List ℕ)
+request_header_lines head = drop 1 (slice_split (λ b. b == line_feed) head)
 
 -- what a name is made of: visible ASCII without the colon
-abbrev pub is_name_byte : ℕ → Bool
-is_name_byte b = is_ascii_graphic b && not (b == colon)
+abbrev pub is_request_name_byte : ℕ → Bool
+is_request_name_byte b = is_ascii_graphic b && not (b == colon)
 
 -- the line is a name, a colon and a value (RFC 9112, 5)
-pub record IsHeader (line name value : List ℕ) : Type 0 where
+pub record IsRequestHeader (line name value : List ℕ) : Type 0 where
   pub parts : line ≡ name ++ colon ∷ value
   pub some : 0 < length name
-  pub visible : AllPass is_name_byte name
+  pub visible : AllPass is_request_name_byte name
 
 -- the name is this one, given in lower case, whatever its own case is (RFC 9110, 5.1)
-abbrev pub IsNamed : List ℕ → List ℕ → Type 0
-IsNamed lowercase name = str_to_ascii_lowercase name ≡ lowercase
+abbrev pub IsRequestNamed : List ℕ → List ℕ → Type 0
+IsRequestNamed lowercase name = str_to_ascii_lowercase name ≡ lowercase
 
 abbrev pub content_length : List ℕ
 content_length = codes "content-length"
@@ -37,49 +37,49 @@ abbrev pub transfer_encoding : List ℕ
 transfer_encoding = codes "transfer-encoding"
 
 -- a space or a tab (RFC 9110, 5.6.3), or a carriage return, which is read as a space (RFC 9112, 2.2)
-abbrev pub is_blank : ℕ → Bool
-is_blank b = b == 32 || b == 9 || b == carriage_return
+abbrev pub is_request_blank : ℕ → Bool
+is_request_blank b = b == 32 || b == 9 || b == carriage_return
 
-abbrev pub without_leading_blanks : List ℕ → List ℕ
-without_leading_blanks value = drop (prefix_len is_blank value) value
+abbrev pub without_leading_request_blanks : List ℕ → List ℕ
+without_leading_request_blanks value = drop (prefix_len is_request_blank value) value
 
-abbrev pub without_trailing_blanks : List ℕ → List ℕ
-without_trailing_blanks value = take (length value - suffix_len is_blank value) value
+abbrev pub without_trailing_request_blanks : List ℕ → List ℕ
+without_trailing_request_blanks value = take (length value - suffix_len is_request_blank value) value
 
 -- a value without the blanks at both ends
-abbrev pub trimmed : List ℕ → List ℕ
-trimmed value = without_trailing_blanks (without_leading_blanks value)
+abbrev pub trimmed_request_value : List ℕ → List ℕ
+trimmed_request_value value = without_trailing_request_blanks (without_leading_request_blanks value)
 
 -- what a header with this name and this value reports of the body: its length, nothing, or why the length isn't known
-abbrev pub HeaderReports : List ℕ → List ℕ → Result (Option ℕ) LengthError → Type 0
-HeaderReports name value (Ok (Some n)) = IsNamed content_length name × WriteNumber (trimmed value) n
-HeaderReports name value (Ok None) = (¬ IsNamed content_length name) × (¬ IsNamed transfer_encoding name)
-HeaderReports name value (Err NotAHeader) = ⊥
-HeaderReports name value (Err NotANumber) = IsNamed content_length name × ((n : ℕ) → ¬ WriteNumber (trimmed value) n)
-HeaderReports name value (Err Unequal) = ⊥
-HeaderReports name value (Err UnknownFraming) = IsNamed transfer_encoding name
+abbrev pub RequestHeaderReports : List ℕ → List ℕ → Result (Option ℕ) LengthError → Type 0
+RequestHeaderReports name value (Ok (Some n)) = IsRequestNamed content_length name × WriteNumber (trimmed_request_value value) n
+RequestHeaderReports name value (Ok None) = (¬ IsRequestNamed content_length name) × (¬ IsRequestNamed transfer_encoding name)
+RequestHeaderReports name value (Err NotAHeader) = ⊥
+RequestHeaderReports name value (Err NotANumber) = IsRequestNamed content_length name × ((n : ℕ) → ¬ WriteNumber (trimmed_request_value value) n)
+RequestHeaderReports name value (Err Unequal) = ⊥
+RequestHeaderReports name value (Err UnknownFraming) = IsRequestNamed transfer_encoding name
 
 -- what a line reports: what it reports as a header, or that it is no header
-abbrev pub Reports : List ℕ → Result (Option ℕ) LengthError → Type 0
-Reports line report = ((name : List ℕ) × (value : List ℕ) × IsHeader line name value × HeaderReports name value report)
-    ⊎ ((report ≡ Err NotAHeader) × ((name value : List ℕ) → ¬ IsHeader line name value))
+abbrev pub RequestLineReports : List ℕ → Result (Option ℕ) LengthError → Type 0
+RequestLineReports line report = ((name : List ℕ) × (value : List ℕ) × IsRequestHeader line name value × RequestHeaderReports name value report)
+    ⊎ ((report ≡ Err NotAHeader) × ((name value : List ℕ) → ¬ IsRequestHeader line name value))
 
 -- the lines report this length: each line reports this one or nothing, and the length is 0 if all report nothing
-pub record ReportLength (lines : List (List ℕ)) (len : ℕ) : Type 0 where
-  pub each : All (λ line. Reports line (Ok None) ⊎ Reports line (Ok (Some len))) lines
-  pub none : All (λ line. Reports line (Ok None)) lines → len ≡ 0
+pub record ReportRequestLength (lines : List (List ℕ)) (len : ℕ) : Type 0 where
+  pub each : All (λ line. RequestLineReports line (Ok None) ⊎ RequestLineReports line (Ok (Some len))) lines
+  pub none : All (λ line. RequestLineReports line (Ok None)) lines → len ≡ 0
 
 -- two lines report lengths that differ
-abbrev pub Differ : List ℕ → List ℕ → Type 0
-Differ one other = (m : ℕ) × (n : ℕ) × Reports one (Ok (Some m)) × Reports other (Ok (Some n)) × (m ≢ n)
+abbrev pub RequestLinesDiffer : List ℕ → List ℕ → Type 0
+RequestLinesDiffer one other = (m : ℕ) × (n : ℕ) × RequestLineReports one (Ok (Some m)) × RequestLineReports other (Ok (Some n)) × (m ≢ n)
 
 -- The lines report this error, of the first line at fault. The lines before it report a length. It reports the error itself, or it reports
 -- a length that differs from that of a line before it.
-pub record ReportError (lines : List (List ℕ)) (error : LengthError) : Type 0 where
+pub record ReportRequestError (lines : List (List ℕ)) (error : LengthError) : Type 0 where
   pub before : List (List ℕ)
   pub line : List ℕ
   pub others : List (List ℕ)
   pub parts : lines ≡ before ++ line ∷ others
   pub len : ℕ
-  pub sound : ReportLength before len
-  pub fault : Reports line (Err error) ⊎ ((error ≡ Unequal) × Any (λ one. Differ one line) before)
+  pub sound : ReportRequestLength before len
+  pub fault : RequestLineReports line (Err error) ⊎ ((error ≡ Unequal) × Any (λ one. RequestLinesDiffer one line) before)

@@ -3,10 +3,9 @@ ghost use Rattle.std.specs.Prelude.{◌≡◌, ◌≢◌, ◌+◌, ◌^◌, ◌<
 ghost use Rattle.std.specs.Option.{option_or};
 ghost use Rattle.bytes_utils.specs.Lines.{line_feed};
 ghost use Rattle.bytes_utils_codec.specs.Pushing.{IsPush};
-ghost use Rattle.bytes_utils_codec.specs.UniversalItems.{AwaitsUniversal};
-ghost use Rattle.bytes_utils_protocols.specs.EventData.{text_if_any, text_of};
-ghost use Rattle.bytes_utils_protocols.specs.EventRuns.{EventRunLaw, LargeEventLaw, NoEventLaw, SameEventLaw, nothing_held};
-ghost use Rattle.bytes_utils_protocols.specs.Events.{DoesLine, EndsEvent, Gives, IsEndOf, IsTooLarge, Keeps, LosesNothing, PassesFault, TakesFault, TakesNext, Waits, WaitsTooLarge, after_field, content, text_len, field_name, field_value, left_to_read, number_of, pushed, some_name, with_line, without_space};
+ghost use Rattle.bytes_utils_codec.specs.UniversalReading.{AwaitsUniversal};
+ghost use Rattle.bytes_utils_protocols.specs.EventData.{event_data_if_any, event_data_text};
+ghost use Rattle.bytes_utils_protocols.specs.Events.{DoesLine, EndsEvent, EventRunLaw, Gives, IsEndOfEventLine, IsTooLarge, Keeps, LargeEventLaw, LosesNothing, NoEventLaw, PassesFault, SameEventLaw, TakesFault, TakesNext, Waits, WaitsTooLarge, after_field, event_content, event_field_name, event_field_value, event_name_of, event_number_of, event_text_len, event_value_of, left_to_read, nothing_held, pushed, with_event_line};
 
 use crate::number::number;
 use bytes::Bytes;
@@ -110,8 +109,8 @@ pub struct EventReader {
 
 impl Model for EventReader {
     ghost use Rattle.std.specs.Prelude.{◌≤◌};
-    ghost use Rattle.bytes_utils_protocols.specs.EventData.{text_if_any};
-    ghost use Rattle.bytes_utils_protocols.specs.Events.{Eventing, text_len};
+    ghost use Rattle.bytes_utils_protocols.specs.EventData.{event_data_if_any};
+    ghost use Rattle.bytes_utils_protocols.specs.Events.{Eventing, event_text_len};
 
     ghost Value = { Eventing };
 
@@ -119,11 +118,11 @@ impl Model for EventReader {
       lines = r.lines;
       waiting = r.waiting;
       at_start = r.at_start;
-      told = record { name = r.name; text = text_if_any r.text; id = r.id; retry = r.retry };
+      told = record { name = r.name; text = event_data_if_any r.text; id = r.id; retry = r.retry };
       max_data = r.max_data;
     } };
 
-    ghost invariant = { λ r. text_len (text_if_any r.text) ≤ r.max_data };
+    ghost invariant = { λ r. event_text_len (event_data_if_any r.text) ≤ r.max_data };
 }
 
 impl EventReader {
@@ -221,7 +220,7 @@ impl EventReader {
         ensures value { result ≡ length self.now.lines.held }
 
         // True of every value, after any calls.
-        ensures small { text_len self.now.told.text ≤ self.now.max_data }
+        ensures small { event_text_len self.now.told.text ≤ self.now.max_data }
     {
         self.lines.remaining()
     }
@@ -270,7 +269,7 @@ impl EventReader {
         ensures reason { IfErr result (λ e. (reason : _) → e ≡ EventError.Refused reason
             → reason ≡ Reason.OutOfMemory) }
     {
-        let text = content(self.at_start, line.as_str());
+        let text = event_content(self.at_start, line.as_str());
         let event = if text.is_empty() {
             self.end_event(alloc)?
         } else {
@@ -299,7 +298,7 @@ impl EventReader {
             self.name = None;
             return Ok(None);
         };
-        match data_and_id(alloc, data, &self.id) {
+        match event_data_and_id(alloc, data, &self.id) {
             Ok((data, id)) => {
                 let name = self.name.take();
                 Ok(Some(Event { name, data, id }))
@@ -313,27 +312,27 @@ impl EventReader {
 
     /// Does what the field says that is at the end of the line.
     fn read_field(&mut self, alloc: Global, line: &Str, text: &str) -> Result<(), EventError>
-        requires { IsEndOf line.now text.now }
+        requires { IsEndOfEventLine line.now text.now }
         ensures ok { OnOk result (self.new ≡ record self.old {
           told = after_field self.old.told
-              (field_name text.now) (field_value text.now);
+              (event_field_name text.now) (event_field_value text.now);
         }) }
         ensures err { OnErr result (self.new ≡ self.old) }
         ensures too_large { IfErr result (λ e. e ≡ EventError.TooLarge → self.old.max_data
-            < text_len (after_field self.old.told (field_name text.now) (field_value text.now)).text) }
+            < event_text_len (after_field self.old.told (event_field_name text.now) (event_field_value text.now)).text) }
         ensures utf8 { IfErr result (λ e. e ≢ EventError.NotUtf8) }
         ensures reason { IfErr result (λ e. (reason : _) → e ≡ EventError.Refused reason
             → reason ≡ Reason.OutOfMemory) }
     {
-        let (name, value) = field_of(text);
+        let (name, value) = event_field_of(text);
         if name == "data" {
             self.add_line(alloc, line, value)?;
         } else if name == "event" {
-            self.name = some_name(line, value)?;
+            self.name = event_name_of(line, value)?;
         } else if name == "id" && !value.as_bytes().contains(&0) {
-            self.id = Some(end_of(line, value)?);
+            self.id = Some(end_of_event_line(line, value)?);
         } else if name == "retry" {
-            set_number(&mut self.retry, value);
+            set_event_retry(&mut self.retry, value);
         }
         Ok(())
     }
@@ -341,20 +340,20 @@ impl EventReader {
     /// Adds `value` to the data, as one more line: it is the end of `line`. Fails with `TooLarge` if the
     /// data would pass its limit.
     fn add_line(&mut self, alloc: Global, line: &Str, value: &str) -> Result<(), EventError>
-        requires { IsEndOf line.now value.now }
+        requires { IsEndOfEventLine line.now value.now }
         ensures ok { OnOk result (self.new ≡ record self.old {
           told = record self.old.told {
-            text = Some (with_line self.old.told.text value.now);
+            text = Some (with_event_line self.old.told.text value.now);
           };
         }) }
         ensures err { OnErr result (self.new ≡ self.old) }
         ensures too_large { IfErr result (λ e. e ≡ EventError.TooLarge
-            → self.old.max_data < length (with_line self.old.told.text value.now)) }
+            → self.old.max_data < length (with_event_line self.old.told.text value.now)) }
         ensures utf8 { IfErr result (λ e. e ≢ EventError.NotUtf8) }
         ensures reason { IfErr result (λ e. (reason : _) → e ≡ EventError.Refused reason
             → reason ≡ Reason.OutOfMemory) }
     {
-        if !has_room(&self.text, value, self.max_data) {
+        if !has_room_in_event(&self.text, value, self.max_data) {
             return Err(EventError::TooLarge);
         }
         add_line(alloc, &mut self.text, line, value)?;
@@ -376,8 +375,8 @@ pub fn event_laws()
 {}
 
 /// Whether the data may have one more line.
-fn has_room(so_far: &Option<Data>, line: &str, limit: usize) -> bool
-    ensures { IsTrue result ↔ (length (with_line (text_if_any so_far.now) line.now) ≤ limit) }
+fn has_room_in_event(so_far: &Option<Data>, line: &str, limit: usize) -> bool
+    ensures { IsTrue result ↔ (length (with_event_line (event_data_if_any so_far.now) line.now) ≤ limit) }
 {
     let len = match so_far {
         Some(Data::One(text)) => text.len(),
@@ -389,33 +388,33 @@ fn has_room(so_far: &Option<Data>, line: &str, limit: usize) -> bool
 
 /// Adds `value` to the data, as one more line: it is the end of `line`.
 fn add_line(alloc: Global, so_far: &mut Option<Data>, line: &Str, value: &str) -> Result<(), Reason>
-    requires { IsEndOf line.now value.now }
+    requires { IsEndOfEventLine line.now value.now }
     ensures ok { OnOk result
-        (text_if_any so_far.new ≡ Some (with_line (text_if_any so_far.old) value.now)) }
-    ensures err { OnErr result (text_if_any so_far.new ≡ text_if_any so_far.old) }
+        (event_data_if_any so_far.new ≡ Some (with_event_line (event_data_if_any so_far.old) value.now)) }
+    ensures err { OnErr result (event_data_if_any so_far.new ≡ event_data_if_any so_far.old) }
     ensures reason { IfErr result (λ reason. reason ≡ Reason.OutOfMemory) }
 {
     let more = match so_far {
-        Some(Data::More(text)) => return push_line(text, value),
-        Some(Data::One(first)) => Data::More(joined(alloc, first.as_str(), value)?),
-        None => Data::One(end_of(line, value)?),
+        Some(Data::More(text)) => return push_event_line(text, value),
+        Some(Data::One(first)) => Data::More(joined_event_lines(alloc, first.as_str(), value)?),
+        None => Data::One(end_of_event_line(line, value)?),
     };
     *so_far = Some(more);
     Ok(())
 }
 
 /// The data as one text, and the identifier once more. If either is refused, the data comes back.
-fn data_and_id(
+fn event_data_and_id(
     alloc: Global,
     so_far: Data,
     id: &Option<Str>,
 ) -> Result<(Str, Option<Str>), Refused<Data>>
-    ensures text { IfOk result (λ both. both.0 ≡ text_of so_far) }
+    ensures text { IfOk result (λ both. both.0 ≡ event_data_text so_far) }
     ensures id { IfOk result (λ both. both.1 ≡ id.now) }
-    ensures back { IfErr result (λ e. text_of e.back ≡ text_of so_far) }
+    ensures back { IfErr result (λ e. event_data_text e.back ≡ event_data_text so_far) }
     ensures reason { IfErr result (λ e. e.reason ≡ Reason.OutOfMemory) }
 {
-    let id = match same(id) {
+    let id = match same_event_id(id) {
         Ok(id) => id,
         Err(reason) => return Err(Refused {
             reason,
@@ -435,7 +434,7 @@ fn data_and_id(
 }
 
 /// The same text once more, if there is one.
-fn same(text: &Option<Str>) -> Result<Option<Str>, Reason>
+fn same_event_id(text: &Option<Str>) -> Result<Option<Str>, Reason>
     ensures ok { IfOk result (λ copy. copy ≡ text.now) }
     ensures reason { IfErr result (λ reason. reason ≡ Reason.OutOfMemory) }
 {
@@ -446,8 +445,8 @@ fn same(text: &Option<Str>) -> Result<Option<Str>, Reason>
 }
 
 /// A line without a byte order mark at its start, if it is the first one.
-fn content(at_start: bool, line: &str) -> &str
-    ensures { result.now ≡ content at_start line.now }
+fn event_content(at_start: bool, line: &str) -> &str
+    ensures { result.now ≡ event_content at_start line.now }
 {
     if !at_start {
         return line;
@@ -456,36 +455,36 @@ fn content(at_start: bool, line: &str) -> &str
 }
 
 /// The name and the value of a field.
-fn field_of(text: &str) -> (&str, &str)
-    ensures name { result.0.now ≡ field_name text.now }
-    ensures value { result.1.now ≡ field_value text.now }
+fn event_field_of(text: &str) -> (&str, &str)
+    ensures name { result.0.now ≡ event_field_name text.now }
+    ensures value { result.1.now ≡ event_field_value text.now }
 {
     let (name, value) = text.split_once(':').unwrap_or((text, ""));
-    (name, without_space(value))
+    (name, event_value_of(value))
 }
 
 /// A text without one space at its start.
-fn without_space(text: &str) -> &str
-    ensures { result.now ≡ without_space text.now }
+fn event_value_of(text: &str) -> &str
+    ensures { result.now ≡ event_value_of text.now }
 {
     text.strip_prefix(' ').unwrap_or(text)
 }
 
 /// The end of a line as a name, which is none if it is empty.
-fn some_name(line: &Str, end: &str) -> Result<Option<Str>, Reason>
-    requires { IsEndOf line.now end.now }
-    ensures ok { IfOk result (λ name. name ≡ some_name end.now) }
+fn event_name_of(line: &Str, end: &str) -> Result<Option<Str>, Reason>
+    requires { IsEndOfEventLine line.now end.now }
+    ensures ok { IfOk result (λ name. name ≡ event_name_of end.now) }
     ensures reason { IfErr result (λ reason. reason ≡ Reason.OutOfMemory) }
 {
     if end.is_empty() {
         return Ok(None);
     }
-    Ok(Some(end_of(line, end)?))
+    Ok(Some(end_of_event_line(line, end)?))
 }
 
 /// The end of a line as a text that shares its bytes.
-fn end_of(line: &Str, end: &str) -> Result<Str, Reason>
-    requires { IsEndOf line.now end.now }
+fn end_of_event_line(line: &Str, end: &str) -> Result<Str, Reason>
+    requires { IsEndOfEventLine line.now end.now }
     ensures ok { IfOk result (λ text. text ≡ end.now) }
     ensures reason { IfErr result (λ reason. reason ≡ Reason.OutOfMemory) }
 {
@@ -493,8 +492,8 @@ fn end_of(line: &Str, end: &str) -> Result<Str, Reason>
 }
 
 /// Sets the number to the one that the text writes, if it writes one.
-fn set_number(number_so_far: &mut Option<u64>, text: &str)
-    ensures { number_so_far.new ≡ option_or (number_of text.now) number_so_far.old }
+fn set_event_retry(number_so_far: &mut Option<u64>, text: &str)
+    ensures { number_so_far.new ≡ option_or (event_number_of text.now) number_so_far.old }
 {
     if let Some(n) = number(text.as_bytes()) {
         *number_so_far = Some(n as u64);
@@ -502,18 +501,18 @@ fn set_number(number_so_far: &mut Option<u64>, text: &str)
 }
 
 /// Two lines as one text.
-fn joined(alloc: Global, first: &str, second: &str) -> Result<String, Reason>
+fn joined_event_lines(alloc: Global, first: &str, second: &str) -> Result<String, Reason>
     ensures ok { IfOk result
         (λ text. string_bytes text ≡ first.now ++ line_feed ∷ second.now) }
     ensures reason { IfErr result (λ reason. reason ≡ Reason.OutOfMemory) }
 {
     let mut text = String::from_str(alloc, first)?;
-    push_line(&mut text, second)?;
+    push_event_line(&mut text, second)?;
     Ok(text)
 }
 
 /// Appends a line feed and a line. Fails with `OutOfMemory`; then nothing has changed.
-fn push_line(text: &mut String, line: &str) -> Result<(), Reason>
+fn push_event_line(text: &mut String, line: &str) -> Result<(), Reason>
     ensures ok { OnOk result
         (string_bytes text.new ≡ string_bytes text.old ++ line_feed ∷ line.now) }
     ensures err { OnErr result (string_bytes text.new ≡ string_bytes text.old) }

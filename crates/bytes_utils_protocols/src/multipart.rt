@@ -2,7 +2,7 @@
 //! (RFC 2046, section 5.1.1; RFC 7578).
 ghost use Rattle.std.specs.Prelude.{◌≡◌, ◌+◌, ◌-◌, ◌^◌, ◌<◌, ◌≤◌, ◌↔◌, ℕ, List, [], ◌++◌, length, min, false, true, IsUtf8, IsOk, IsTrue, IfOk, IfErr, IfSome, IfNone, OnOk, OnErr};
 ghost use Rattle.bytes_utils_codec.specs.Pushing.{IsPush};
-ghost use Rattle.bytes_utils_protocols.specs.Multipart.{FewWait, HasParameter, IsDivided, IsIdle, IsPartDue, NoPart, PartBytes, PartsLaw, SamePartsLaw, TakesPart, appended, bytes_of, delimiter_of, file_name_key, held_by, line_end, name_key};
+ghost use Rattle.bytes_utils_protocols.specs.Multipart.{FewWaitInMultipart, HasMultipartParameter, IsDivided, IsIdle, IsPartDue, NoPart, PartBytes, PartsLaw, SamePartsLaw, TakesPart, appended, bytes_of, multipart_delimiter, multipart_file_name_key, held_by, multipart_line_end, multipart_name_key};
 
 mod head;
 mod limits;
@@ -11,7 +11,7 @@ mod sections;
 
 use bytes::{Buf, Bytes};
 use bytes_utils::{Reason, Refused, SegmentedBuf, Str};
-use head::{disposition_of, parameter, read_head};
+use head::{disposition_of_head, head_parameter, read_head};
 pub use limits::{Limits, PartError};
 use sections::{Sections, Stage};
 use std::alloc::Global;
@@ -57,14 +57,14 @@ pub struct PartReader {
 }
 
 impl Model for PartReader {
-    ghost use Rattle.bytes_utils_protocols.specs.Multipart.{IsDivided, Parting, has_ended, held_by};
+    ghost use Rattle.bytes_utils_protocols.specs.Multipart.{IsDivided, Parting, sections_have_ended, held_by};
 
     ghost Value = { Parting };
 
     ghost view = { λ r. record {
       delimiter = r.sections.delimiter.needle;
       limits = r.limits;
-      ended = has_ended r.sections.stage;
+      ended = sections_have_ended r.sections.stage;
       held = held_by r.sections;
     } };
 
@@ -76,10 +76,10 @@ impl PartReader {
     /// without quotes. Fails with `OutOfMemory` if memory is refused.
     pub fn new(alloc: Global, boundary: &[u8], limits: Limits) -> Result<PartReader, Reason>
         ensures ok { IfOk result (λ r. r ≡ record {
-          delimiter = delimiter_of boundary.now;
+          delimiter = multipart_delimiter boundary.now;
           limits = limits;
           ended = false;
-          held = line_end;
+          held = multipart_line_end;
         }) }
         ensures reason { IfErr result (λ reason. reason ≡ Reason.OutOfMemory) }
     {
@@ -151,9 +151,9 @@ impl PartReader {
         ensures fewer { IfOk result (λ next. IfSome next
             (λ _. length self.new.held < length self.old.held)) }
         ensures name { IfOk result (λ next. IfSome next
-            (λ part. HasParameter name_key part.head part.name)) }
+            (λ part. HasMultipartParameter multipart_name_key part.head part.name)) }
         ensures file_name { IfOk result (λ next. IfSome next
-            (λ part. HasParameter file_name_key part.head part.file_name)) }
+            (λ part. HasMultipartParameter multipart_file_name_key part.head part.file_name)) }
         ensures goes_on { IfOk result (λ next. IfSome next
             (λ _. (self.old.ended ≡ false)
             × (self.new ≡ record self.old { held = self.new.held }))) }
@@ -161,7 +161,7 @@ impl PartReader {
             (NoPart self.old.delimiter self.old.limits self.old.held)) }
         ensures idle { IfOk result (λ next. IfNone next (IsIdle self.old self.new)) }
         ensures few { IfOk result (λ next. IfNone next
-            (FewWait self.new.delimiter self.new.limits self.new.held)) }
+            (FewWaitInMultipart self.new.delimiter self.new.limits self.new.held)) }
         ensures err { OnErr result (self.new ≡ self.old) }
         ensures malformed { IfErr result (λ e. e ≡ PartError.Malformed
             → (limits : Limits) (more : List ℕ)
@@ -178,7 +178,7 @@ impl PartReader {
             → reason ≡ Reason.OutOfMemory) }
     {
         self.sections.search(alloc)?;
-        if self.sections.is_over(most(self.limits)) {
+        if self.sections.is_over(most_multipart_bytes(self.limits)) {
             return Err(PartError::TooLarge);
         }
         match self.sections.stage {
@@ -197,7 +197,7 @@ pub fn part_laws()
 {}
 
 /// The most bytes between two delimiters.
-fn most(limits: Limits) -> usize
+fn most_multipart_bytes(limits: Limits) -> usize
     ensures { result ≡ min (limits.head + limits.body) (2 ^ 64 - 1) }
 {
     limits.head.saturating_add(limits.body)
@@ -211,8 +211,8 @@ fn take_part(sections: &mut Sections, alloc: Global, limits: Limits) -> Result<P
     ensures divided { IsDivided sections.new }
     ensures part { IfOk result (λ part. TakesPart sections.old.delimiter.needle limits
         (held_by sections.old) (bytes_of part) (held_by sections.new)) }
-    ensures name { IfOk result (λ part. HasParameter name_key part.head part.name) }
-    ensures file_name { IfOk result (λ part. HasParameter file_name_key part.head part.file_name) }
+    ensures name { IfOk result (λ part. HasMultipartParameter multipart_name_key part.head part.name) }
+    ensures file_name { IfOk result (λ part. HasMultipartParameter multipart_file_name_key part.head part.file_name) }
     ensures goes_on { OnOk result (sections.new.stage ≡ Stage.Waiting) }
     ensures delimiter { sections.new.delimiter.needle ≡ sections.old.delimiter.needle }
     ensures err { OnErr result (sections.new ≡ sections.old) }
@@ -231,9 +231,9 @@ fn take_part(sections: &mut Sections, alloc: Global, limits: Limits) -> Result<P
         → reason ≡ Reason.OutOfMemory) }
 {
     let (head, start) = read_head(&sections.found, alloc, limits)?;
-    let disposition = disposition_of(head.as_str());
-    let name = parameter(alloc, disposition, "; name=\"")?;
-    let file_name = parameter(alloc, disposition, "; filename=\"")?;
+    let disposition = disposition_of_head(head.as_str());
+    let name = head_parameter(alloc, disposition, "; name=\"")?;
+    let file_name = head_parameter(alloc, disposition, "; filename=\"")?;
     let mut body = sections.take(alloc);
     body.advance(start);
     Ok(Part {

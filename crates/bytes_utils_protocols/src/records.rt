@@ -3,7 +3,7 @@ ghost use Rattle.std.specs.Prelude.{◌≡◌, [], length, IfErr, IfNone, IfOk, 
 ghost use Rattle.bytes_utils_codec.specs.Decoding.{fed, starting};
 ghost use Rattle.bytes_utils_codec.specs.Delimited.{AwaitsFrame, delimiting, fails_delimited, keeps_delimited};
 ghost use Rattle.bytes_utils_codec.specs.Pushing.{IsPush};
-ghost use Rattle.bytes_utils_protocols.specs.Records.{GivesRecord, IsTextOf, record_end};
+ghost use Rattle.bytes_utils_protocols.specs.Records.{GivesRecord, IsRecordOf, record_end};
 
 use bytes::Bytes;
 use bytes_utils::{Reason, Refused, Str};
@@ -78,7 +78,7 @@ impl Records {
     {
         match self.frames.next_item(alloc)? {
             None => Ok(None),
-            Some(frame) => Ok(Some(text_of(frame))),
+            Some(frame) => Ok(Some(record_of(frame))),
         }
     }
 
@@ -94,8 +94,8 @@ impl Records {
 }
 
 /// The text of a frame.
-fn text_of(frame: Result<Bytes, FrameTooLong>) -> Record
-    ensures { IsTextOf frame result }
+fn record_of(frame: Result<Bytes, FrameTooLong>) -> Record
+    ensures { IsRecordOf frame result }
 {
     let Ok(bytes) = frame else {
         return Err(RecordFault::TooLong);

@@ -40,7 +40,7 @@ pub struct ReplyReader {
 
 impl Model for ReplyReader {
     ghost use Rattle.bytes_utils_protocols.specs.Redis.{Replying};
-    ghost use Rattle.bytes_utils_protocols.specs.PendingReply.{IsPending, held_by};
+    ghost use Rattle.bytes_utils_protocols.specs.RedisPending.{IsPending, held_by};
 
     ghost Value = { Replying };
 

@@ -8,7 +8,7 @@ ghost use Rattle.bytes_utils_codec.specs.Decoding.{Decodes, fed, passed, startin
 ghost use Rattle.bytes_utils_codec.specs.Delimited.{AwaitsFrame, delimiting, fails_delimited, gives_delimited, keeps_delimited, ready};
 ghost use Rattle.bytes_utils_codec.specs.Pushing.{IsPush};
 ghost use Rattle.bytes_utils_protocols.specs.Digits.{WriteNumber};
-ghost use Rattle.bytes_utils_protocols.specs.Requests.{IsHeader, ReportError, ReportLength, Reports, head_end, header_lines, is_blank, is_name_byte, trimmed};
+ghost use Rattle.bytes_utils_protocols.specs.Requests.{IsRequestHeader, ReportRequestError, ReportRequestLength, RequestLineReports, request_head_end, request_header_lines, is_request_blank, is_request_name_byte, trimmed_request_value};
 
 use crate::number::number;
 use bytes::Bytes;
@@ -52,20 +52,20 @@ impl Model for Requests {
     ghost use Rattle.std.specs.Prelude.{◌≡◌};
     ghost use Rattle.bytes_utils_codec.specs.Decoding.{Decoding};
     ghost use Rattle.bytes_utils_codec.specs.Delimited.{Delimiting};
-    ghost use Rattle.bytes_utils_protocols.specs.Requests.{head_end};
+    ghost use Rattle.bytes_utils_protocols.specs.Requests.{request_head_end};
 
     ghost Value = { Decoding Delimiting };
 
     ghost view = { λ r. r.heads };
 
-    ghost invariant = { λ r. r.heads.decoder.separator ≡ head_end };
+    ghost invariant = { λ r. r.heads.decoder.separator ≡ request_head_end };
 }
 
 impl Requests {
     /// Makes a reader of heads of at most `max_head` bytes. Fails with `OutOfMemory` if memory is
     /// refused.
     pub fn new(alloc: Global, max_head: usize) -> Result<Requests, Reason>
-        ensures ok { IfOk result (λ r. r ≡ starting (delimiting head_end max_head) 512) }
+        ensures ok { IfOk result (λ r. r ≡ starting (delimiting request_head_end max_head) 512) }
         ensures reason { IfErr result (λ reason. reason ≡ Reason.OutOfMemory) }
     {
         let decoder = Delimited::with_limit(alloc, b"\r\n\r\n", max_head)?;
@@ -120,19 +120,22 @@ impl Requests {
 /// 0 if there is none. The error is that of the first line at fault.
 pub fn body_len(head: &[u8]) -> Result<usize, LengthError>
     ensures ok { (len : ℕ)
-        → (result ≡ Ok len) ↔ ReportLength (header_lines head.now) len }
+        → (result ≡ Ok len) ↔ ReportRequestLength (request_header_lines head.now) len }
     ensures err { (error : LengthError)
-        → (result ≡ Err error) ↔ ReportError (header_lines head.now) error }
+        → (result ≡ Err error) ↔ ReportRequestError (request_header_lines head.now) error }
 {
     let mut known = None;
     for line in head.split(|byte| *byte == b'\n').skip(1) {
-        known = agreed(known, reported_len(line)?)?;
+        known = agreed_request_len(known, reported_request_len(line)?)?;
     }
     Ok(known.unwrap_or(0))
 }
 
 /// The length that is known or reported, if any, or an error if the two differ.
-fn agreed(known: Option<usize>, reported: Option<usize>) -> Result<Option<usize>, LengthError>
+fn agreed_request_len(
+    known: Option<usize>,
+    reported: Option<usize>,
+) -> Result<Option<usize>, LengthError>
     ensures ok { IfOk result (λ agreed. (agreed ≡ option_or known reported)
         × IfSome known (λ one. IfSome reported (λ other. one ≡ other))) }
     ensures err { IfErr result (λ error. (error ≡ LengthError.Unequal)
@@ -145,26 +148,26 @@ fn agreed(known: Option<usize>, reported: Option<usize>) -> Result<Option<usize>
 }
 
 /// The length that a line reports, if any.
-fn reported_len(line: &[u8]) -> Result<Option<usize>, LengthError>
-    ensures { Reports line.now result }
+fn reported_request_len(line: &[u8]) -> Result<Option<usize>, LengthError>
+    ensures { RequestLineReports line.now result }
 {
-    let (name, value) = header_of(line).ok_or(LengthError::NotAHeader)?;
+    let (name, value) = request_header_of(line).ok_or(LengthError::NotAHeader)?;
     if name.eq_ignore_ascii_case(b"Transfer-Encoding") {
         return Err(LengthError::UnknownFraming);
     }
     if !name.eq_ignore_ascii_case(b"Content-Length") {
         return Ok(None);
     }
-    let len = number(trimmed(value)).ok_or(LengthError::NotANumber)?;
+    let len = number(trimmed_request_value(value)).ok_or(LengthError::NotANumber)?;
     Ok(Some(len))
 }
 
 /// The name and the value of a header, or `None` if the line isn't a header.
-fn header_of(line: &[u8]) -> Option<(&[u8], &[u8])>
-    ensures some { IfSome result (λ parts. IsHeader line.now parts.0.now parts.1.now) }
-    ensures none { IfNone result ((name value : List ℕ) → ¬ IsHeader line.now name value) }
+fn request_header_of(line: &[u8]) -> Option<(&[u8], &[u8])>
+    ensures some { IfSome result (λ parts. IsRequestHeader line.now parts.0.now parts.1.now) }
+    ensures none { IfNone result ((name value : List ℕ) → ¬ IsRequestHeader line.now name value) }
 {
-    let (name, rest) = line.split_at(name_len(line));
+    let (name, rest) = line.split_at(request_name_len(line));
     let (colon, value) = rest.split_first()?;
     if name.is_empty() || *colon != b':' {
         return None;
@@ -173,51 +176,56 @@ fn header_of(line: &[u8]) -> Option<(&[u8], &[u8])>
 }
 
 /// The number of bytes at the beginning that a name may have.
-fn name_len(line: &[u8]) -> usize
+fn request_name_len(line: &[u8]) -> usize
     ensures bound { result ≤ length line.now }
-    ensures count { result ≡ prefix_len is_name_byte line.now }
+    ensures count { result ≡ prefix_len is_request_name_byte line.now }
 {
-    line.iter().take_while(|byte| is_name_byte(**byte)).count()
+    line.iter()
+        .take_while(|byte| is_request_name_byte(**byte))
+        .count()
 }
 
 /// Whether a name may have the byte.
-fn is_name_byte(byte: u8) -> bool
-    ensures { result ≡ is_name_byte byte }
+fn is_request_name_byte(byte: u8) -> bool
+    ensures { result ≡ is_request_name_byte byte }
 {
     byte.is_ascii_graphic() && byte != b':'
 }
 
 /// Whether the byte is a space, a tab or a carriage return.
-fn is_blank(byte: u8) -> bool
-    ensures { result ≡ is_blank byte }
+fn is_request_blank(byte: u8) -> bool
+    ensures { result ≡ is_request_blank byte }
 {
     matches!(byte, b' ' | b'\t' | b'\r')
 }
 
 /// A value without the blanks at both ends.
-fn trimmed(value: &[u8]) -> &[u8]
-    ensures { result.now ≡ trimmed value.now }
+fn trimmed_request_value(value: &[u8]) -> &[u8]
+    ensures { result.now ≡ trimmed_request_value value.now }
 {
-    let value = &value[leading_blanks(value)..];
-    &value[..value.len() - trailing_blanks(value)]
+    let value = &value[leading_request_blanks(value)..];
+    &value[..value.len() - trailing_request_blanks(value)]
 }
 
 /// The number of blanks at the beginning.
-fn leading_blanks(value: &[u8]) -> usize
+fn leading_request_blanks(value: &[u8]) -> usize
     ensures bound { result ≤ length value.now }
-    ensures count { result ≡ prefix_len is_blank value.now }
+    ensures count { result ≡ prefix_len is_request_blank value.now }
 {
-    value.iter().take_while(|byte| is_blank(**byte)).count()
+    value
+        .iter()
+        .take_while(|byte| is_request_blank(**byte))
+        .count()
 }
 
 /// The number of blanks at the end.
-fn trailing_blanks(value: &[u8]) -> usize
+fn trailing_request_blanks(value: &[u8]) -> usize
     ensures bound { result ≤ length value.now }
-    ensures count { result ≡ suffix_len is_blank value.now }
+    ensures count { result ≡ suffix_len is_request_blank value.now }
 {
     value
         .iter()
         .rev()
-        .take_while(|byte| is_blank(**byte))
+        .take_while(|byte| is_request_blank(**byte))
         .count()
 }

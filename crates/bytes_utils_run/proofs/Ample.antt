@@ -6,13 +6,12 @@ use Rattle.std.proofs.lemmas.Bool.{cases_lt}
 use Rattle.std.proofs.lemmas.List.{length-map}
 use Rattle.std.proofs.lemmas.List.Elements.{All-cons, All-head, All-nil, All-tail}
 use Rattle.bytes.specs.Unread.{IsChunkOf}
-use Rattle.bytes_utils_buf.specs.Segments.{Held, NoneEmpty, Skips, after_accepting, count_unread, cut_front, front_of}
+use Rattle.bytes_utils_buf.specs.Segments.{HeldSegments, NoSegmentEmpty, SkipsSegments, after_accepting, count_unread_segments, cut_front_segment, front_segment}
 use Rattle.bytes_utils_buf.specs.Copies.{CountsCopy}
 use Rattle.bytes_utils_buf.specs.Tally.{lined_up}
-use Rattle.bytes_utils_buf.proofs.Lists.{Skips-from_count, count_unread-Skips, length-Skips}
+use Rattle.bytes_utils_buf.proofs.Lists.{SkipsSegments-from_count, count_unread_segments-SkipsSegments, length-SkipsSegments}
 use Rattle.bytes_utils_run.proofs.Fitting.{Fits, fits-accepting, fits-call, fits-skip}
-use Rattle.bytes_utils_run.specs.Calls.{AreSlices, IsCall, IsRun}
-use Rattle.bytes_utils_run.specs.Request.{lacks_memory}
+use Rattle.bytes_utils_run.specs.Calls.{AreCallSlices, IsCall, IsRunOfCalls, reply_lacks_memory}
 use Rattle.bytes_utils_run.specs.declared.calls.call.Call.{Call}
 use Rattle.bytes_utils_run.specs.declared.calls.call.Call.TheVariants.{Push, Segments, Read}
 use Rattle.bytes_utils_run.specs.declared.calls.call.ReadCall.TheVariants.{Remaining, Chunk, Advance, CopyOut, Chunks}
@@ -31,7 +30,7 @@ record Sliced (n : ℕ) (xs : List ℕ) : Type 0 where
   whole : length all < n → rest ≡ []
   count : length all ≤ n
   size : 4 * length all ≤ length xs + 3
-  some : NoneEmpty (map (λ s. s.items) all)
+  some : NoSegmentEmpty (map (λ s. s.items) all)
 
 sliced : {Y : Type 0} (like : Vec Y) (n : ℕ) (xs : List ℕ) → Sliced n xs
 sliced like zero xs = record { all = []; rest = xs; parts = refl; whole = λ few. absurd (omega (arith, few)); count = omega arith; size = omega arith; some = All-nil (λ s. 0 < length s) }
@@ -50,8 +49,8 @@ sliced like (suc n) (x ∷ xs) =
       some = All-cons (λ s. 0 < length s) first others (omega arith) more.some;
     }
 
-AreSlices-sliced : (n : ℕ) (xs : List ℕ) (slices : Sliced n xs) → AreSlices n (map (λ s. s.items) slices.all) xs
-AreSlices-sliced n xs slices =
+AreCallSlices-sliced : (n : ℕ) (xs : List ℕ) (slices : Sliced n xs) → AreCallSlices n (map (λ s. s.items) slices.all) xs
+AreCallSlices-sliced n xs slices =
     let all = concat (map (λ (s : Vec ℕ). s.items) slices.all) in
     let size = length-map slices.all (λ (s : Vec ℕ). s.items) in
     record {
@@ -76,24 +75,24 @@ place (list ∷ lists) m le = elim (cases_lt m (length list)) [
   ))
 ]
 
-skip : (lists : List (List ℕ)) (m : ℕ) → m ≤ length (concat lists) → (left : List (List ℕ)) × Skips m lists left
+skip : (lists : List (List ℕ)) (m : ℕ) → m ≤ length (concat lists) → (left : List (List ℕ)) × SkipsSegments m lists left
 skip lists m le =
     let found = place lists m le in
-    (cut_front found.1 (drop found.0 lists), Skips-from_count lists _ found.0 found.1 m found.2 found.3 le found.4 refl)
+    (cut_front_segment found.1 (drop found.0 lists), SkipsSegments-from_count lists _ found.0 found.1 m found.2 found.3 le found.4 refl)
 
 abbrev IsWhole : Reply → Type 0
-IsWhole reply = lacks_memory reply ≡ false
+IsWhole reply = reply_lacks_memory reply ≡ false
 
 -- a reply that is right for the call and doesn't say that memory was refused, and the state after it
-record Ample (call : Call (List ℕ)) (old : Held) : Type 0 where
+record Ample (call : Call (List ℕ)) (old : HeldSegments) : Type 0 where
   reply : Reply
-  next : Held
+  next : HeldSegments
   is : IsCall (λ bytes. bytes) call old reply next
   whole : IsWhole reply
   fits : Fits next.segments
 
 -- one call counted, with `advances` advances in it and the turns of a call that left these segments
-abbrev counted : ℕ → Held → List (List ℕ) → Held
+abbrev counted : ℕ → HeldSegments → List (List ℕ) → HeldSegments
 counted advances old segments =
     record {
       segments = segments;
@@ -105,34 +104,34 @@ counted advances old segments =
       };
     }
 
-cost-counted : (n advances : ℕ) (old : Held) (segments : List (List ℕ)) → Skips n old.segments segments
+cost-counted : (n advances : ℕ) (old : HeldSegments) (segments : List (List ℕ)) → SkipsSegments n old.segments segments
     → lined_up segments (counted advances old segments).tally ≡ lined_up old.segments old.tally
-cost-counted n advances old segments skips = omega (arith, length-Skips n old.segments segments skips)
+cost-counted n advances old segments skips = omega (arith, length-SkipsSegments n old.segments segments skips)
 
 -- the number of advances that a copy of n bytes may be counted with
-copies : (n : ℕ) (old : Held) (segments : List (List ℕ)) → Skips n old.segments segments → (advances : ℕ) × CountsCopy n n old (counted advances old segments)
-copies n old segments skips = elim (cases_lt (length (front_of old.segments)) n) [
+copies : (n : ℕ) (old : HeldSegments) (segments : List (List ℕ)) → SkipsSegments n old.segments segments → (advances : ℕ) × CountsCopy n n old (counted advances old segments)
+copies n old segments skips = elim (cases_lt (length (front_segment old.segments)) n) [
   | inl across ↦ (passed, counts passed (omega arith) (λ front. absurd (omega (arith, front, across))) (λ _. omega arith))
   | inr alone ↦ (0, counts 0 (omega arith) (λ _. omega arith) (λ past. absurd (omega (arith, past, alone))))
 ]
   where
     passed : ℕ
-    passed = count_unread old.segments - count_unread segments
+    passed = count_unread_segments old.segments - count_unread_segments segments
 
-    counts : (advances : ℕ) → advances ≤ passed → (n ≤ length (front_of old.segments) → advances ≡ 0)
-        → (length (front_of old.segments) < n → count_unread old.segments ≤ advances + count_unread segments) → CountsCopy n n old (counted advances old segments)
+    counts : (advances : ℕ) → advances ≤ passed → (n ≤ length (front_segment old.segments) → advances ≡ 0)
+        → (length (front_segment old.segments) < n → count_unread_segments old.segments ≤ advances + count_unread_segments segments) → CountsCopy n n old (counted advances old segments)
     counts advances few alone across = record {
       given = refl;
       dropped = refl;
       least = omega arith;
-      most = omega (arith, few, count_unread-Skips n old.segments segments skips);
+      most = omega (arith, few, count_unread_segments-SkipsSegments n old.segments segments skips);
       alone = λ front. omega (arith, alone front);
       across = λ past. omega (arith, across past);
       turns = cost-counted n advances old segments skips;
     }
 
 module _ {Y : Type 0} (like : Vec Y) where
-  ample : (call : Call (List ℕ)) (old : Held) → Fits old.segments → Ample call old
+  ample : (call : Call (List ℕ)) (old : HeldSegments) → Fits old.segments → Ample call old
   ample (Push bytes) old fits = elim (cases_lt (length (concat old.segments) + length bytes) (2 ^ 64)) [
     | inl room ↦ record { reply = Done; next = after_accepting old (bytes ∷ []); is = (room, refl); whole = refl; fits = fits-accepting old bytes room }
     | inr full ↦ record { reply = TooLong; next = old; is = (full, refl); whole = refl; fits = fits }
@@ -181,14 +180,14 @@ module _ {Y : Type 0} (like : Vec Y) where
       record {
         reply = Slices (vec_of like slices.all (omega (arith, fits, slices.size)));
         next = old;
-        is = ((AreSlices-sliced n (concat old.segments) slices, refl), refl);
+        is = ((AreCallSlices-sliced n (concat old.segments) slices, refl), refl);
         whole = refl;
         fits = fits;
       }
 
   -- a run of calls whose replies are all right, and none says that memory was refused
-  ample-run : (calls : List (Call (List ℕ))) (old : Held) → Fits old.segments
-      → (replies : List Reply) × (left : Held) × IsRun (IsCall (λ bytes. bytes)) calls old replies left × All IsWhole replies × (length replies ≡ length calls)
+  ample-run : (calls : List (Call (List ℕ))) (old : HeldSegments) → Fits old.segments
+      → (replies : List Reply) × (left : HeldSegments) × IsRunOfCalls (IsCall (λ bytes. bytes)) calls old replies left × All IsWhole replies × (length replies ≡ length calls)
   ample-run [] old fits = ([], old, refl, All-nil IsWhole, refl)
   ample-run (call ∷ calls) old fits =
       let one = ample call old fits in
@@ -197,9 +196,9 @@ module _ {Y : Type 0} (like : Vec Y) where
 
   -- If the first `count` replies of a run don't say that memory was refused, a whole run without such a reply begins
   -- with them.
-  pub stopped : (calls : List (Call (List ℕ))) (old : Held) (replies : List Reply) (left : Held) → IsRun (IsCall (λ bytes. bytes)) calls old replies left
+  pub stopped : (calls : List (Call (List ℕ))) (old : HeldSegments) (replies : List Reply) (left : HeldSegments) → IsRunOfCalls (IsCall (λ bytes. bytes)) calls old replies left
       → Fits old.segments → (count : ℕ) → count < length replies → All IsWhole (take count replies)
-      → (others : List Reply) × (0 < length others) × (end : Held) × IsRun (IsCall (λ bytes. bytes)) calls old (take count replies ++ others) end
+      → (others : List Reply) × (0 < length others) × (end : HeldSegments) × IsRunOfCalls (IsCall (λ bytes. bytes)) calls old (take count replies ++ others) end
       × All IsWhole (take count replies ++ others)
   stopped [] old [] left run fits count within whole = absurd (omega (arith, within))
   stopped [] old (reply ∷ replies) left run fits count within whole = absurd run

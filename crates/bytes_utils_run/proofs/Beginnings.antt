@@ -4,7 +4,7 @@ use Rattle.std.proofs.Math.Seq.{take-append-add}
 use Rattle.std.proofs.lemmas.List.{take-append-le, take_all}
 use Rattle.std.proofs.KnownBytes.{Appends-trans}
 use Rattle.std.specs.Io.KnownBytes.{Appends}
-use Rattle.bytes_utils_run.specs.Moves.{AppendsBeginning}
+use Rattle.bytes_utils_run.specs.AppendsAndConsumes.{AppendsBeginning}
 
 -- writing all of xs is writing first bytes of xs
 pub AppendsBeginning-all : (a b : Option (List ℕ)) (xs : List ℕ) → Appends a b xs → AppendsBeginning a b xs

@@ -6,15 +6,15 @@ use Rattle.std.proofs.lemmas.List.{take_at}
 use Rattle.std.proofs.Math.Seq.{take-append_seam, drop-append-add}
 use Rattle.std.specs.Str.{chars, encode_utf8_all as encodes, NonePass, NoCharPasses}
 use Rattle.std.specs.Str.Pattern.{HasTextAt, LacksTextAt, FindsText, RFindsText, FindsChar, FindsBy, HasCharAt}
-use Rattle.bytes_utils.specs.Text.{byte_place}
+use Rattle.bytes_utils.specs.Characters.{character_place}
 use Rattle.bytes_utils.specs.Occurrence.{OccursAt, Occurs, OccursFirstAt, OccursLastAt}
 use Rattle.bytes_utils.proofs.Boundaries.{HasNeedleAt-from_occurs, OccursAt-fits}
 use Rattle.bytes_utils.proofs.OccurrenceLemmas.{OccursAt-between}
 use Rattle.bytes_utils.proofs.SearchLemmas.{chars-some, law, in_chars}
-use Rattle.bytes_utils.proofs.Places.{byte_place-less}
+use Rattle.bytes_utils.proofs.Places.{character_place-less}
 use Rattle.bytes_utils.proofs.PartCut.{end_boundary, next_boundary, chars_before, chars_after}
 use Rattle.bytes_utils.proofs.WordsLemmas.{NonePass-chars}
-use Rattle.bytes_utils_run.specs.Borrowed.{finds_text, rfinds_text, keeps_text, keeps_character, finds_tested, keeps_tested}
+use Rattle.bytes_utils_run.specs.Borrowed.{finds_borrowed_text, rfinds_borrowed_text, keeps_borrowed_text, keeps_character, finds_tested, keeps_tested}
 use Rattle.bytes_utils_run.proofs.TextBeginnings.{between}
 
 -- p occurs in the characters of the text from byte i to byte j, at the place of which Best holds, and both are character boundaries
@@ -50,7 +50,7 @@ pub record Seeks {P : Type 0} (finds : P → List ℕ → Option (ℕ × ℕ) �
 module _ (text sep : List ℕ) (text_is : IsUtf8 text) (sep_is : IsUtf8 sep) (some : 0 < length sep) where
   -- the byte place of a character
   abbrev place_of : ℕ → ℕ
-  place_of = byte_place (chars text)
+  place_of = character_place (chars text)
 
   -- if `str` finds a text in the bytes, it occurs there
   has : (i j : ℕ) → HasTextAt sep text i j → OccursAt sep text i
@@ -100,7 +100,7 @@ module _ (text sep : List ℕ) (text_is : IsUtf8 text) (sep_is : IsUtf8 sep) (so
         here = at.2;
         none_before = λ m there.
             let not_before : m < at.0 → ⊥ = λ less.
-            lacks m there (λ fits. found.0 (place_of m) (omega (arith, at.1, byte_place-less (chars text) m at.0 less (chars_fit at.0 at.2)))) in
+            lacks m there (λ fits. found.0 (place_of m) (omega (arith, at.1, character_place-less (chars text) m at.0 less (chars_fit at.0 at.2)))) in
             omega (arith, not_before);
       })
 
@@ -113,19 +113,19 @@ module _ (text sep : List ℕ) (text_is : IsUtf8 text) (sep_is : IsUtf8 sep) (so
         here = at.2;
         none_after = λ m there.
             let not_after : at.0 < m → ⊥ = λ less.
-            lacks m there (λ fits. found.0 (place_of m) (omega (arith, at.1, byte_place-less (chars text) at.0 m less (chars_fit m there))) fits) in
+            lacks m there (λ fits. found.0 (place_of m) (omega (arith, at.1, character_place-less (chars text) at.0 m less (chars_fit m there))) fits) in
             omega (arith, not_after);
       })
 
 module _ (sep : List ℕ) (sep_is : IsUtf8 sep) (some : 0 < length sep) where
-  pub Seeks-text : Seeks finds_text keeps_text First (chars sep) (λ pattern. pattern.now ≡ sep)
+  pub Seeks-text : Seeks finds_borrowed_text keeps_borrowed_text First (chars sep) (λ pattern. pattern.now ≡ sep)
   Seeks-text = record {
     some = chars-some sep sep_is some;
     cuts = λ pattern text found is text_is finds. finds_first text sep text_is sep_is some found (subst (λ p. FindsText p text found) is finds);
     kept = λ pattern after is keeps. keeps ∙ is;
   }
 
-  pub Seeks-text_back : Seeks rfinds_text keeps_text Last (chars sep) (λ pattern. pattern.now ≡ sep)
+  pub Seeks-text_back : Seeks rfinds_borrowed_text keeps_borrowed_text Last (chars sep) (λ pattern. pattern.now ≡ sep)
   Seeks-text_back = record {
     some = chars-some sep sep_is some;
     cuts = λ pattern text found is text_is finds. finds_last text sep text_is sep_is some found (subst (λ p. RFindsText p text found) is finds);

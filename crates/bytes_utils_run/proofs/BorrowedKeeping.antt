@@ -8,14 +8,14 @@ use Rattle.std.specs.Str.Pattern.{EndsAtFirstMatch}
 use Rattle.std.specs.Str.Iter.{split_inclusive_steps, split_inclusive_text, split_inclusive_pattern}
 use Rattle.std.specs.declared.str.SplitInclusive.{SplitInclusive}
 use Rattle.bytes_utils.specs.Occurrence.{Occurs}
-use Rattle.bytes_utils.specs.Parts.{AreInclusiveParts, EndsAtFirst}
+use Rattle.bytes_utils.specs.Parts.{AreInclusiveParts, PartEndsAtFirst}
 use Rattle.bytes_utils.proofs.Boundaries.{OccursAt-fits}
 use Rattle.bytes_utils.proofs.Inclusive.{AreInclusiveParts-none, AreInclusiveParts-more, AreInclusiveParts-last, ends_whole, has_inclusive_parts}
 use Rattle.bytes_utils.proofs.NextPart.{no_chars}
 use Rattle.bytes_utils.proofs.SearchLemmas.{chars-some}
 use Rattle.bytes_utils.proofs.Unique.{inclusive_same}
-use Rattle.bytes_utils_run.specs.Borrowed.{GivesParts}
-use Rattle.bytes_utils_run.proofs.BorrowedRuns.{GivesParts-from_steps}
+use Rattle.bytes_utils_run.specs.Borrowed.{GivesBorrowedParts}
+use Rattle.bytes_utils_run.proofs.BorrowedRuns.{GivesBorrowedParts-from_steps}
 use Rattle.bytes_utils_run.proofs.BorrowedCuts.{FindsCut, First, IsCutAt, Seeks}
 
 -- the empty text has no parts
@@ -31,7 +31,7 @@ module _ (p : List ℕ) (some : 0 < length p) where
   Follows text part rest = IsUtf8 rest × ((others : List (List ℕ)) → AreInclusiveParts (chars rest) p others → AreInclusiveParts (chars text) p (chars part ∷ others))
 
   -- the last part is all of the text
-  Follows-last : (text part rest : List ℕ) → IsUtf8 text → text ≡ part ++ rest → part ≡ text → 0 < length text → EndsAtFirst p (chars text) ⊎ (¬ Occurs p (chars text)) → Follows text part rest
+  Follows-last : (text part rest : List ℕ) → IsUtf8 text → text ≡ part ++ rest → part ≡ text → 0 < length text → PartEndsAtFirst p (chars text) ⊎ (¬ Occurs p (chars text)) → Follows text part rest
   Follows-last text part rest text_is whole part_is long ends =
       let nothing : length rest ≡ 0 = omega (arith, ap length whole, length-append part rest, ap length part_is) in (
         subst IsUtf8 (sym (nil_from_length rest nothing)) IsUtf8-nil,
@@ -59,7 +59,7 @@ module _ (p : List ℕ) (some : 0 < length p) where
         sym (ap (take (cut.place + length p)) parted ∙ take_at (chars (take j text)) (chars (drop j text)) (cut.place + length p) size)
 
     -- a separator at the end of the text ends the last part
-    at_end : j ≡ length text → EndsAtFirst p (chars text)
+    at_end : j ≡ length text → PartEndsAtFirst p (chars text)
     at_end end =
         let nothing : length (drop j text) ≡ 0 = omega (arith, length-drop j text, end) in
         ends_whole p (chars text) cut.place cut.found (omega (arith, size_after, ap length (no_chars (drop j text) nothing)))
@@ -88,10 +88,10 @@ module _ (p : List ℕ) (some : 0 < length p) where
 
 module _ {P : Type 0} {finds : P → List ℕ → Option (ℕ × ℕ) → Type 0} {keeps : P → P → Type 0} {p : List ℕ} {is : P → Type 0} where
   pub split_inclusive-gives : Seeks finds keeps First p is → (s : SplitInclusive P) (text : List ℕ) → split_inclusive_text s ≡ text → IsUtf8 text → is (split_inclusive_pattern s)
-      → GivesParts (split_inclusive_steps finds keeps) s (AreInclusiveParts (chars text) p)
+      → GivesBorrowedParts (split_inclusive_steps finds keeps) s (AreInclusiveParts (chars text) p)
   split_inclusive-gives seeks s text text_is utf8 pattern_is =
-      subst (λ t. GivesParts (split_inclusive_steps finds keeps) s (AreInclusiveParts (chars t) p)) text_is
-      (GivesParts-from_steps (split_inclusive_steps finds keeps) (λ s. IsUtf8 (split_inclusive_text s) × is (split_inclusive_pattern s))
+      subst (λ t. GivesBorrowedParts (split_inclusive_steps finds keeps) s (AreInclusiveParts (chars t) p)) text_is
+      (GivesBorrowedParts-from_steps (split_inclusive_steps finds keeps) (λ s. IsUtf8 (split_inclusive_text s) × is (split_inclusive_pattern s))
       (λ s. AreInclusiveParts (chars (split_inclusive_text s)) p)
       (λ s s_is. has_inclusive_parts p (chars (split_inclusive_text s)) seeks.some)
       (λ s u s_is step. none_to_come p (split_inclusive_text s) step.1.0)

@@ -10,7 +10,7 @@ use Rattle.bytes_utils.specs.Parts.{ArePartsFromFront, ArePartsFromBack}
 use Rattle.bytes_utils.proofs.Forward.{AreForwardParts-rest}
 use Rattle.bytes_utils.proofs.Backward.{AreBackwardParts-rest}
 use Rattle.bytes_utils.proofs.FromEnds.{front-none, back-none, front-from, back-from, has_front, has_back}
-use Rattle.bytes_utils_run.specs.Borrowed.{GivesParts}
+use Rattle.bytes_utils_run.specs.Borrowed.{GivesBorrowedParts}
 use Rattle.bytes_utils_run.proofs.BorrowedCuts.{First, Last, Seeks}
 use Rattle.bytes_utils_run.proofs.BorrowedParts.{ToCome, Leads, Leads-first, Leads-last, from_front, from_back, gives}
 
@@ -52,7 +52,7 @@ module _ {S P : Type 0} (steps : S → Option (Bor (List ℕ)) → S → Type 0)
     (lives : (s t : S) (x : Option (Bor (List ℕ))) → steps s x t → is_some x ≡ (nat_lt 0 (count s) && more s))
     (leads : (s t : S) (x : Bor (List ℕ)) → IsUtf8 (text s) → is (pattern s) → steps s (Some x) t → (count t ≡ count s - 1) × (count s ≡ 1 → x.now ≡ text s)
     × (1 < count s → Leads Are (text s) x.now (more t) (text t) (Some (count s)) (Some (count s - 1)) × is (pattern t))) where
-  gives_limited : (s : S) (t : List ℕ) (most : ℕ) → text s ≡ t → more s ≡ true → count s ≡ most → IsUtf8 t → is (pattern s) → GivesParts steps s (Are (chars t) (Some most))
+  gives_limited : (s : S) (t : List ℕ) (most : ℕ) → text s ≡ t → more s ≡ true → count s ≡ most → IsUtf8 t → is (pattern s) → GivesBorrowedParts steps s (Are (chars t) (Some most))
   gives_limited s t most text_is goes_on count_is utf8 pattern_is =
       gives steps text (λ s. Some (count s)) (λ s. nat_lt 0 (count s) && more s) pattern is Are has lives
       (λ s t x utf8 pattern_is step.
@@ -67,7 +67,7 @@ module _ {S P : Type 0} (steps : S → Option (Bor (List ℕ)) → S → Type 0)
 
 module _ {P : Type 0} {finds : P → List ℕ → Option (ℕ × ℕ) → Type 0} {keeps : P → P → Type 0} {p : List ℕ} {is : P → Type 0} where
   pub splitn-gives : Seeks finds keeps First p is → (s : SplitN P) (text : List ℕ) (most : ℕ) → split_text (splitn_parts s) ≡ text → split_has_more (splitn_parts s) ≡ true → splitn_count s ≡ most
-      → IsUtf8 text → is (split_pattern (splitn_parts s)) → GivesParts (splitn_steps finds keeps) s (ArePartsFromFront (chars text) p (Some most))
+      → IsUtf8 text → is (split_pattern (splitn_parts s)) → GivesBorrowedParts (splitn_steps finds keeps) s (ArePartsFromFront (chars text) p (Some most))
   splitn-gives seeks =
       gives_limited (splitn_steps finds keeps) (λ s. split_text (splitn_parts s)) splitn_count (λ s. split_has_more (splitn_parts s)) (λ s. split_pattern (splitn_parts s)) is
       (from_front p) (λ t. has_front t p) (λ t parts. (front-none t p parts).1)
@@ -82,7 +82,7 @@ module _ {P : Type 0} {finds : P → List ℕ → Option (ℕ × ℕ) → Type 0
       ))
 
   pub rsplitn-gives : Seeks finds keeps Last p is → (s : RSplitN P) (text : List ℕ) (most : ℕ) → rsplit_text (rsplitn_parts s) ≡ text → rsplit_has_more (rsplitn_parts s) ≡ true → rsplitn_count s ≡ most
-      → IsUtf8 text → is (rsplit_pattern (rsplitn_parts s)) → GivesParts (rsplitn_steps finds keeps) s (ArePartsFromBack (chars text) p (Some most))
+      → IsUtf8 text → is (rsplit_pattern (rsplitn_parts s)) → GivesBorrowedParts (rsplitn_steps finds keeps) s (ArePartsFromBack (chars text) p (Some most))
   rsplitn-gives seeks =
       gives_limited (rsplitn_steps finds keeps) (λ s. rsplit_text (rsplitn_parts s)) rsplitn_count (λ s. rsplit_has_more (rsplitn_parts s)) (λ s. rsplit_pattern (rsplitn_parts s)) is
       (from_back p) (λ t. has_back t p) (λ t. back-none t p)

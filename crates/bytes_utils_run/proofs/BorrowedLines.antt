@@ -14,7 +14,7 @@ use Rattle.bytes_utils.proofs.LinesLemmas.{LacksFeed, LacksFeed-front, lines-who
 use Rattle.bytes_utils.proofs.Boundaries.{OccursAt-fits}
 use Rattle.bytes_utils.proofs.SearchLemmas.{chars-some}
 use Rattle.bytes_utils.proofs.WordsLemmas.{NonePass-chars}
-use Rattle.bytes_utils_run.specs.Borrowed.{GivesParts}
+use Rattle.bytes_utils_run.specs.Borrowed.{GivesBorrowedParts}
 use Rattle.bytes_utils_run.proofs.BorrowedRuns.{gives_all_of}
 
 -- if no character passes the test for a line feed, none is a line feed
@@ -79,6 +79,6 @@ module _ (text x rest : List ℕ) (text_is : IsUtf8 text) (some : 0 < length tex
   first_line : IsUtf8 rest × (lines (chars text) ≡ chars x ∷ lines (chars rest))
   first_line = ⊎_elim at_end at_feed (eq-or-lt_of_le (omega (arith, first.3)))
 
-pub lines-gives : (s : Lines) (text : List ℕ) → lines_rest s ≡ text → IsUtf8 text → GivesParts lines_steps s (λ parts. parts ≡ lines (chars text))
+pub lines-gives : (s : Lines) (text : List ℕ) → lines_rest s ≡ text → IsUtf8 text → GivesBorrowedParts lines_steps s (λ parts. parts ≡ lines (chars text))
 lines-gives = gives_all_of lines_steps lines_rest lines (λ s u s_is step. lines-none (lines_rest s) step.0.0)
     (λ s t x s_is step. first_line (lines_rest s) x.now (lines_rest t) s_is step.0.0 step.0.2)

@@ -13,7 +13,7 @@ use Rattle.std.specs.declared.str.SplitAsciiWhitespace.{SplitAscii}
 use Rattle.bytes_utils.specs.Words.{words, ends_word}
 use Rattle.bytes_utils.proofs.SearchLemmas.{chars-some}
 use Rattle.bytes_utils.proofs.WordsLemmas.{is_other, words-none, words-after_space, words-run}
-use Rattle.bytes_utils_run.specs.Borrowed.{GivesParts}
+use Rattle.bytes_utils_run.specs.Borrowed.{GivesBorrowedParts}
 use Rattle.bytes_utils_run.proofs.BorrowedRuns.{gives_all_of}
 use Rattle.bytes_utils_run.proofs.TextBeginnings.{following, between}
 use Rattle.bytes_utils_run.proofs.WordRunsLemmas.{NonePass-spaces}
@@ -37,7 +37,7 @@ module _ (is_space : ℕ → Bool) where
             ∙ words-run is_space (chars x) (chars rest) (chars-some x cut.0 some) (subst (NonePass is_space) (sym cut.3) others.2) (ends cut.1),
       )
 
-pub words-gives : (s : SplitWhitespace) (text : List ℕ) → split_whitespace_rest s ≡ text → IsUtf8 text → GivesParts split_whitespace_steps s (λ parts. parts ≡ words is_whitespace (chars text))
+pub words-gives : (s : SplitWhitespace) (text : List ℕ) → split_whitespace_rest s ≡ text → IsUtf8 text → GivesBorrowedParts split_whitespace_steps s (λ parts. parts ≡ words is_whitespace (chars text))
 words-gives = gives_all_of split_whitespace_steps split_whitespace_rest (words is_whitespace)
     (λ s u s_is step. sym (words-none is_whitespace (split_whitespace_rest s) s_is step.1))
     (λ s t x s_is step. first_word is_whitespace (split_whitespace_rest s) step.0 x.now (split_whitespace_rest t) s_is step.1 step.2 step.3 step.4
@@ -69,7 +69,7 @@ after_word (c ∷ sep) rest sep_is both_is =
       ap (words is_ascii_whitespace) cut.1 ∙ words-after_space is_ascii_whitespace (c ∷ sep) (chars rest) (NonePass-spaces is_ascii_whitespace (c ∷ sep) sep_is.0),
     )
 
-pub ascii_words-gives : (s : SplitAscii) (text : List ℕ) → split_ascii_whitespace_text s ≡ text → IsUtf8 text → GivesParts split_ascii_whitespace_steps s (λ parts. parts ≡ words is_ascii_whitespace (chars text))
+pub ascii_words-gives : (s : SplitAscii) (text : List ℕ) → split_ascii_whitespace_text s ≡ text → IsUtf8 text → GivesBorrowedParts split_ascii_whitespace_steps s (λ parts. parts ≡ words is_ascii_whitespace (chars text))
 ascii_words-gives = gives_all_of split_ascii_whitespace_steps split_ascii_whitespace_text (words is_ascii_whitespace)
     (λ s u s_is step. sym (words-none is_ascii_whitespace (split_ascii_whitespace_text s) s_is (NoCharPasses-spaces (split_ascii_whitespace_text s) step.0)))
     (λ s t x s_is step.

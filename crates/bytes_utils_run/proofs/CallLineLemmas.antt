@@ -2,8 +2,8 @@
 use Rattle.std.proofs.Common.{◌≡◌, refl, sym, subst, ℕ, List, [], ◌∷◌, ◌++◌, Option, Some}
 use Rattle.std.specs.Str.{chars}
 use Rattle.bytes_utils.specs.Lines.{AreLinesToCome, lines}
-use Rattle.bytes_utils.specs.Step.{GivesFirst, HasGiven}
-use Rattle.bytes_utils.proofs.StepLemmas.{HasGiven-none, HasGiven-more}
+use Rattle.bytes_utils.specs.Step.{StepGivesFirst, StepsHaveGiven}
+use Rattle.bytes_utils.proofs.StepLemmas.{StepsHaveGiven-none, StepsHaveGiven-more}
 use Rattle.bytes_utils_run.specs.CallLine.{AreCallLines, IsCallLine}
 use Rattle.bytes_utils_run.specs.declared.calls.call.Call.{Call}
 use Rattle.bytes_utils_run.specs.declared.calls.call.Call.TheVariants.{Push, Segments, Read}
@@ -31,40 +31,40 @@ pub no-kind : (line : List ℕ)
     → ((n : ℕ) → (¬ IsCallLine (Read (Advance n)) line) × (¬ IsCallLine (Read (CopyOut n)) line) × (¬ IsCallLine (Read (Chunks n)) line))
     → ((bytes : List ℕ) → ¬ IsCallLine (Push bytes) line)
     → (call : Call (List ℕ)) → ¬ IsCallLine call line
-no-kind line plain numbered pushed (Push bytes) = pushed bytes
-no-kind line plain numbered pushed Segments = plain.0
-no-kind line plain numbered pushed (Read Remaining) = plain.1
-no-kind line plain numbered pushed (Read Chunk) = plain.2
-no-kind line plain numbered pushed (Read (Advance n)) = (numbered n).0
-no-kind line plain numbered pushed (Read (CopyOut n)) = (numbered n).1
-no-kind line plain numbered pushed (Read (Chunks n)) = (numbered n).2
+no-kind line plain call_line_number pushed (Push bytes) = pushed bytes
+no-kind line plain call_line_number pushed Segments = plain.0
+no-kind line plain call_line_number pushed (Read Remaining) = plain.1
+no-kind line plain call_line_number pushed (Read Chunk) = plain.2
+no-kind line plain call_line_number pushed (Read (Advance n)) = (call_line_number n).0
+no-kind line plain call_line_number pushed (Read (CopyOut n)) = (call_line_number n).1
+no-kind line plain call_line_number pushed (Read (Chunks n)) = (call_line_number n).2
 
 -- The calls read so far: the splitter gave lines that ask for them.
 pub record HasRead (text : List ℕ) (calls : List (Call (List ℕ))) (state : Option (List ℕ)) : Type 0 where
   pub read : List (List ℕ)
   pub asked : AreCallLines calls read
-  pub had : HasGiven AreLinesToCome (Some text) read state
+  pub had : StepsHaveGiven AreLinesToCome (Some text) read state
 
 -- no call yet
 pub HasRead-none : (text : List ℕ) (calls : List (Call (List ℕ))) (state : Option (List ℕ)) → calls ≡ [] → state ≡ Some text → HasRead text calls state
 HasRead-none text calls state none is = record {
   read = [];
   asked = subst (λ cs. AreCallLines cs []) (sym none) tt;
-  had = HasGiven-none AreLinesToCome (Some text) (lines (chars text), refl) refl is;
+  had = StepsHaveGiven-none AreLinesToCome (Some text) (lines (chars text), refl) refl is;
 }
 
 -- one more call
 pub HasRead-more : (text : List ℕ) (calls new : List (Call (List ℕ))) (state next : Option (List ℕ)) (call : Call (List ℕ)) (line : List ℕ)
-    → HasRead text calls state → GivesFirst AreLinesToCome state line next → IsCallLine call line → new ≡ calls ++ call ∷ [] → HasRead text new next
+    → HasRead text calls state → StepGivesFirst AreLinesToCome state line next → IsCallLine call line → new ≡ calls ++ call ∷ [] → HasRead text new next
 HasRead-more text calls new state next call line old gives is pushed = record {
   read = old.read ++ line ∷ [];
   asked = subst (λ cs. AreCallLines cs (old.read ++ line ∷ [])) (sym pushed) (AreCallLines-push calls old.read call line old.asked is);
-  had = HasGiven-more AreLinesToCome (Some text) line old.had gives;
+  had = StepsHaveGiven-more AreLinesToCome (Some text) line old.had gives;
 }
 
 -- if the next line asks for no call, the lines of the text are not all call lines
 pub no-calls-read : (text : List ℕ) (calls : List (Call (List ℕ))) (state next : Option (List ℕ)) (line : List ℕ)
-    → HasRead text calls state → GivesFirst AreLinesToCome state line next → ((call : Call (List ℕ)) → ¬ IsCallLine call line)
+    → HasRead text calls state → StepGivesFirst AreLinesToCome state line next → ((call : Call (List ℕ)) → ¬ IsCallLine call line)
     → (all : List (Call (List ℕ))) → ¬ AreCallLines all (lines (chars text))
 no-calls-read text calls state next line old gives none all are =
     let whole = old.had.each (line ∷ gives.some.0) (gives.each gives.some.0 gives.some.1) in

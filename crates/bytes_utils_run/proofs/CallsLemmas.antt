@@ -2,17 +2,17 @@
 use Rattle.std.proofs.Common.{◌≡◌, ℕ, ◌+◌, ◌≤◌, List, [], ◌∷◌, ◌++◌, vec_len, vec_capacity, length, length-drop, drop, refl, sym, ap, subst, ◌∙◌, append_assoc, arith, append-nil}
 use Rattle.std.specs.Global.{Vec}
 use Rattle.std.specs.List.{concat}
-use Rattle.bytes_utils_buf.specs.Segments.{Skips}
-use Rattle.bytes_utils_buf.proofs.Lists.{concat-without_empty}
-use Rattle.bytes_utils_run.specs.Calls.{IsRun, lists_of}
+use Rattle.bytes_utils_buf.specs.Segments.{SkipsSegments}
+use Rattle.bytes_utils_buf.proofs.Lists.{concat-unread_segments}
+use Rattle.bytes_utils_run.specs.Calls.{IsRunOfCalls, lists_for_calls}
 use Rattle.bytes_utils_run.specs.declared.calls.call.Reply.{Reply}
 
 -- the lists of a buffer, joined, are its unread bytes
-pub concat_lists_of : (unread : List ℕ) → concat (lists_of unread) ≡ unread
-concat_lists_of unread = concat-without_empty (unread ∷ []) ∙ append-nil unread
+pub concat_lists_of : (unread : List ℕ) → concat (lists_for_calls unread) ≡ unread
+concat_lists_of unread = concat-unread_segments (unread ∷ []) ∙ append-nil unread
 
 -- dropping the first n bytes skips n bytes
-pub skips_lists_of : (n : ℕ) (old new : List ℕ) → new ≡ drop n old → Skips n (lists_of old) (lists_of new)
+pub skips_lists_of : (n : ℕ) (old new : List ℕ) → new ≡ drop n old → SkipsSegments n (lists_for_calls old) (lists_for_calls new)
 skips_lists_of n [] [] is = record {
   passed = 0;
   cut = 0;
@@ -40,12 +40,12 @@ skips_lists_of n (b ∷ old) (c ∷ new) is = record {
 }
 
 -- one more call
-pub IsRun-push : {C S : Type 0} (Is : C → S → Reply → S → Type 0) (calls : List C) (old : S) (replies : List Reply) (mid : S) (call : C) (reply : Reply) (new : S)
-    (after : List Reply) → after ≡ replies ++ reply ∷ [] → IsRun Is calls old replies mid → Is call mid reply new → IsRun Is (calls ++ call ∷ []) old after new
-IsRun-push {C} {S} Is calls old replies mid call reply new after is run one =
-    subst (λ all. IsRun Is (calls ++ call ∷ []) old all new) (sym is) (pushed calls old replies run)
+pub IsRunOfCalls-push : {C S : Type 0} (Is : C → S → Reply → S → Type 0) (calls : List C) (old : S) (replies : List Reply) (mid : S) (call : C) (reply : Reply) (new : S)
+    (after : List Reply) → after ≡ replies ++ reply ∷ [] → IsRunOfCalls Is calls old replies mid → Is call mid reply new → IsRunOfCalls Is (calls ++ call ∷ []) old after new
+IsRunOfCalls-push {C} {S} Is calls old replies mid call reply new after is run one =
+    subst (λ all. IsRunOfCalls Is (calls ++ call ∷ []) old all new) (sym is) (pushed calls old replies run)
   where
-    pushed : (calls : List C) (old : S) (replies : List Reply) → IsRun Is calls old replies mid → IsRun Is (calls ++ call ∷ []) old (replies ++ reply ∷ []) new
+    pushed : (calls : List C) (old : S) (replies : List Reply) → IsRunOfCalls Is calls old replies mid → IsRunOfCalls Is (calls ++ call ∷ []) old (replies ++ reply ∷ []) new
     pushed [] old [] run = (new, subst (λ state. Is call state reply new) run one, refl)
     pushed [] old (r ∷ replies) run = absurd run
     pushed (c ∷ calls) old [] run = absurd run

@@ -16,9 +16,9 @@ use Rattle.std.specs.Str.Pattern.{LacksTextAt, FindsText, FindsTextPrefix}
 use Rattle.std.specs.Str.{chars, encode_utf8_all as encodes}
 use Rattle.std.specs.Char.{encode_utf8, digit_value, is_ascii}
 use Rattle.std.specs.List.{list_all}
-use Rattle.bytes_utils_run.specs.CallLine.{IsNumbered}
-use Rattle.bytes_utils_run.specs.Command.{IsCommand, IsCounted, IsCountedAfter}
-use Rattle.bytes_utils_run.specs.Cutting.{Cutting, ByWords, ByAsciiWords, ByLines, FromFront, FromBack, Keeping, IsAllowed, cutting}
+use Rattle.bytes_utils_run.specs.CallLine.{IsNumberedCallLine}
+use Rattle.bytes_utils_run.specs.Command.{IsCommand, IsCommandCount, IsCommandCountAfter}
+use Rattle.bytes_utils_run.specs.Cutting.{Cutting, ByWords, ByAsciiWords, ByLines, FromFront, FromBack, Keeping, IsCuttingAllowed, cutting}
 use Rattle.bytes_utils_run.specs.declared.how.How.{How}
 use Rattle.bytes_utils_run.specs.Number.{IsNumber}
 
@@ -102,7 +102,7 @@ rest_after_utf8 line word line_is (Some x) strip =
     subst IsUtf8 (sym (strip.2 ∙ ap (λ k. drop k line) strip.1.0)) (IsUtf8-drop line (length word) line_is strip.1.2)
 
 -- a text without a space has no number before a space
-pub no-space : (text : List ℕ) → IsUtf8 text → FindsText (codes " ") text None → (most : ℕ) (rest : List ℕ) → ¬ IsCounted (chars text) most rest
+pub no-space : (text : List ℕ) → IsUtf8 text → FindsText (codes " ") text None → (most : ℕ) (rest : List ℕ) → ¬ IsCommandCount (chars text) most rest
 no-space text text_is lacks most rest is =
     let whole = counted-bytes text is.0 rest text_is is.1.digits.1 is.2 in
     lacks (length is.0) (omega (arith, ap length whole, length-append is.0 (codes " " ++ encodes rest))) (encodes rest)
@@ -120,7 +120,7 @@ module _ (text front back : List ℕ) (text_is : IsUtf8 text) (i j : ℕ) (finds
       let seam : IsCharBoundary text (length front) = IsCharBoundary-at_seam text front (codes " " ++ back) whole (IsUtf8-append (codes " ") back space-utf8 following) in
       subst IsUtf8 (sym (front_is ∙ ap (λ k. take k text) (sym size))) (IsUtf8-take text (length front) text_is seam)
 
-  pub counted-found : (n : ℕ) → IsNumber (chars front) n → IsCounted (chars text) n (chars back)
+  pub counted-found : (n : ℕ) → IsNumber (chars front) n → IsCommandCount (chars text) n (chars back)
   counted-found n is = (
     chars front,
     is,
@@ -128,7 +128,7 @@ module _ (text front back : List ℕ) (text_is : IsUtf8 text) (i j : ℕ) (finds
         ∙ ap (λ z. chars front ++ z) (chars-append (codes " ") back space-utf8 ∙ ap (λ z. z ++ chars back) (chars_word (codes " ") refl)),
   )
 
-  pub no-number : ((n : ℕ) → ¬ IsNumber (chars front) n) → (most : ℕ) (rest : List ℕ) → ¬ IsCounted (chars text) most rest
+  pub no-number : ((n : ℕ) → ¬ IsNumber (chars front) n) → (most : ℕ) (rest : List ℕ) → ¬ IsCommandCount (chars text) most rest
   no-number none most rest is =
       let all = is.1.digits.1 in
       let bytes = counted-bytes text is.0 rest text_is all is.2 in
@@ -138,13 +138,13 @@ module _ (text front back : List ℕ) (text_is : IsUtf8 text) (i j : ℕ) (finds
       none most (subst (λ z. IsNumber z most) (sym (ap chars same ∙ chars-IsAscii is.0 (IsAscii-from_digits is.0 all))) is.1)
 
 -- a number and a space after a word, if the text after the word begins with them
-pub counted-rest_after-is : (line word text : List ℕ) → chars line ≡ chars word ++ chars text → (r : Option (ℕ × Bor (List ℕ)))
-    → MatchOption r ((most : ℕ) (rest : List ℕ) → ¬ IsCounted (chars text) most rest) (λ found. IsCounted (chars text) found.0 (chars found.1.now))
-    → MatchOption r ((most : ℕ) (rest : List ℕ) → ¬ IsCountedAfter (chars word) (chars line) most rest)
-    (λ found. IsCountedAfter (chars word) (chars line) found.0 (chars found.1.now))
-counted-rest_after-is line word text e None none = λ most rest is.
-    none most rest (subst (λ z. IsCounted z most rest) (append_cancel_left (chars word) is.0 (chars text) (sym is.2 ∙ e)) is.1)
-counted-rest_after-is line word text e (Some found) is = (chars text, is, e)
+pub counted-rest_after_word-is : (line word text : List ℕ) → chars line ≡ chars word ++ chars text → (r : Option (ℕ × Bor (List ℕ)))
+    → MatchOption r ((most : ℕ) (rest : List ℕ) → ¬ IsCommandCount (chars text) most rest) (λ found. IsCommandCount (chars text) found.0 (chars found.1.now))
+    → MatchOption r ((most : ℕ) (rest : List ℕ) → ¬ IsCommandCountAfter (chars word) (chars line) most rest)
+    (λ found. IsCommandCountAfter (chars word) (chars line) found.0 (chars found.1.now))
+counted-rest_after_word-is line word text e None none = λ most rest is.
+    none most rest (subst (λ z. IsCommandCount z most rest) (append_cancel_left (chars word) is.0 (chars text) (sym is.2 ∙ e)) is.1)
+counted-rest_after_word-is line word text e (Some found) is = (chars text, is, e)
 
 no-way : (line : List ℕ) → (line ≢ codes "words") × (line ≢ codes "ascii") × (line ≢ codes "lines")
     → ((p : List ℕ) → (¬ IsCommand (FromFront p None) line) × (¬ IsCommand (FromBack p None) line) × (¬ IsCommand (Keeping p) line))
@@ -163,14 +163,14 @@ no-way line plain separator limit (Keeping p) = (separator p).2
 pub split_mode_is : (line : List ℕ) → (line ≢ codes "words") × (line ≢ codes "ascii") × (line ≢ codes "lines")
     → ((p : List ℕ) → (¬ IsCommand (FromFront p None) line) × (¬ IsCommand (FromBack p None) line) × (¬ IsCommand (Keeping p) line))
     → (r : Option How) → MatchOption r ((p : List ℕ) (most : ℕ) → (¬ IsCommand (FromFront p (Some most)) line) × (¬ IsCommand (FromBack p (Some most)) line))
-    (λ how. IsAllowed how × IsCommand (cutting how) line)
-    → MatchOption r ((way : Cutting) → ¬ IsCommand way line) (λ how. IsAllowed how × IsCommand (cutting how) line)
+    (λ how. IsCuttingAllowed how × IsCommand (cutting how) line)
+    → MatchOption r ((way : Cutting) → ¬ IsCommand way line) (λ how. IsCuttingAllowed how × IsCommand (cutting how) line)
 split_mode_is line plain separator None limit = no-way line plain separator limit
 split_mode_is line plain separator (Some how) is = is
 
 -- a number after a word, if the rest of the line is a number
-pub numbered-is : (line word rest : List ℕ) → chars line ≡ chars word ++ chars rest → (r : Option ℕ)
+pub call_line_number-is : (line word rest : List ℕ) → chars line ≡ chars word ++ chars rest → (r : Option ℕ)
     → MatchOption r ((n : ℕ) → ¬ IsNumber (chars rest) n) (λ n. IsNumber (chars rest) n)
-    → MatchOption r ((n : ℕ) → ¬ IsNumbered (chars word) n (chars line)) (λ n. IsNumbered (chars word) n (chars line))
-numbered-is line word rest e None none = λ n is. none n (subst (λ z. IsNumber z n) (append_cancel_left (chars word) is.0 (chars rest) (sym is.2 ∙ e)) is.1)
-numbered-is line word rest e (Some n) is = (chars rest, is, e)
+    → MatchOption r ((n : ℕ) → ¬ IsNumberedCallLine (chars word) n (chars line)) (λ n. IsNumberedCallLine (chars word) n (chars line))
+call_line_number-is line word rest e None none = λ n is. none n (subst (λ z. IsNumber z n) (append_cancel_left (chars word) is.0 (chars rest) (sym is.2 ∙ e)) is.1)
+call_line_number-is line word rest e (Some n) is = (chars rest, is, e)

@@ -6,7 +6,7 @@ use Rattle.std.specs.Prelude.{nat_lt, nat_eq, ◌==◌, ◌&&◌, if◌then◌el
 use Rattle.std.proofs.lemmas.Bool.{cond_both, ltb-true}
 use Rattle.std.proofs.lemmas.List.{length-map, length-reverse}
 use Rattle.std.proofs.lemmas.List.Elements.{All-head, All-tail}
-use Rattle.bytes_utils.specs.EmptySeparator.{elements, by_element, by_element_backward}
+use Rattle.bytes_utils.specs.EmptySeparator.{each_by_empty_separator, by_empty_separator, by_empty_separator_backward}
 use Rattle.bytes_utils.specs.Lines.{line_feed, carriage_return, lines, first_led_by}
 use Rattle.bytes_utils.specs.Outcome.{Outcome}
 use Rattle.bytes_utils.specs.Parts.{ArePartsFromFront, ArePartsFromBack, join}
@@ -32,27 +32,27 @@ length-join_nothing (part ∷ next ∷ parts) some =
       length-append part (join [] (next ∷ parts)),
     )
 
-length-elements : {X : Type 0} (t : List X) → length (elements t) ≡ length t + 1
-length-elements {X} t = omega (arith, length-append (map (λ x. x ∷ []) t) ([] ∷ []), length-map t (λ (x : X). x ∷ []))
+length-each_by_empty_separator : {X : Type 0} (t : List X) → length (each_by_empty_separator t) ≡ length t + 1
+length-each_by_empty_separator {X} t = omega (arith, length-append (map (λ x. x ∷ []) t) ([] ∷ []), length-map t (λ (x : X). x ∷ []))
 
 -- the empty separator gives an empty part, the characters, and an empty part, or fewer parts
-length-by_element : {X : Type 0} (t : List X) (limit : Option ℕ) → length (by_element t limit) ≤ length t + 2
-length-by_element t None = omega (arith, length-elements t)
-length-by_element t (Some zero) = omega arith
-length-by_element t (Some (suc zero)) = omega arith
-length-by_element t (Some (suc (suc most))) =
-    cond_both (nat_lt most (length t)) (take most (elements t) ++ (drop most t ∷ [])) (elements t) (λ parts. length ([] ∷ parts) ≤ length t + 2)
-    (λ below. omega (arith, ltb-true most (length t) below, length-append (take most (elements t)) (drop most t ∷ []), length-take most (elements t)))
-    (λ _. omega (arith, length-elements t))
+length-by_empty_separator : {X : Type 0} (t : List X) (limit : Option ℕ) → length (by_empty_separator t limit) ≤ length t + 2
+length-by_empty_separator t None = omega (arith, length-each_by_empty_separator t)
+length-by_empty_separator t (Some zero) = omega arith
+length-by_empty_separator t (Some (suc zero)) = omega arith
+length-by_empty_separator t (Some (suc (suc most))) =
+    cond_both (nat_lt most (length t)) (take most (each_by_empty_separator t) ++ (drop most t ∷ [])) (each_by_empty_separator t) (λ parts. length ([] ∷ parts) ≤ length t + 2)
+    (λ below. omega (arith, ltb-true most (length t) below, length-append (take most (each_by_empty_separator t)) (drop most t ∷ []), length-take most (each_by_empty_separator t)))
+    (λ _. omega (arith, length-each_by_empty_separator t))
 
 length-front : (t p : List ℕ) (limit : Option ℕ) (parts : List (List ℕ)) → ArePartsFromFront t p limit parts → length parts ≤ length t + 2
-length-front t [] limit parts are = omega (arith, ap length are, length-by_element t limit)
+length-front t [] limit parts are = omega (arith, ap length are, length-by_empty_separator t limit)
 length-front t (c ∷ p) None parts are = omega (arith, ap length are.joined, length-join (c ∷ p) parts (omega arith))
 length-front t (c ∷ p) (Some zero) parts are = omega (arith, ap length are)
 length-front t (c ∷ p) (Some (suc most)) parts are = omega (arith, ap length are.joined, length-join (c ∷ p) parts (omega arith))
 
-length-backward : (t : List ℕ) (limit : Option ℕ) → length (by_element_backward t limit) ≤ length t + 2
-length-backward t limit = omega (arith, length-map (by_element (reverse t) limit) reverse, length-by_element (reverse t) limit, length-reverse t)
+length-backward : (t : List ℕ) (limit : Option ℕ) → length (by_empty_separator_backward t limit) ≤ length t + 2
+length-backward t limit = omega (arith, length-map (by_empty_separator (reverse t) limit) reverse, length-by_empty_separator (reverse t) limit, length-reverse t)
 
 length-back : (t p : List ℕ) (limit : Option ℕ) (parts : List (List ℕ)) → ArePartsFromBack t p limit parts → length parts ≤ length t + 2
 length-back t [] limit parts are = omega (arith, ap length are, length-backward t limit)

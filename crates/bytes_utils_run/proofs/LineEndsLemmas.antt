@@ -4,7 +4,7 @@ use Rattle.std.proofs.lemmas.Bool.{eqb-false, and_parts, and_from}
 use Rattle.std.specs.List.{starts_with}
 use Rattle.bytes_utils.specs.Lines.{lines, line_feed, carriage_return, first_led_by}
 use Rattle.bytes_utils.proofs.LinesLemmas.{LacksFeed as NoFeed, lines-whole, lines-at_end}
-use Rattle.bytes_utils_run.specs.LineEnds.{IsLineEnd, AreEndedLines, LinesLaw}
+use Rattle.bytes_utils_run.specs.LineEnds.{IsLineEnd, AreEndedLines, LineEndsLaw}
 
 NoFeed-nil : NoFeed []
 NoFeed-nil (zero, here) = cc
@@ -82,5 +82,5 @@ lines-from_ended t [] are = sym (ap lines are)
 lines-from_ended t (line ∷ ls) are =
     sym (ap lines are.2 ∙ lines-at_any_end line are.0 are.1 are.3 are.4 ∙ ap (λ z. line ∷ z) (sym (lines-from_ended are.1 ls are.5)))
 
-pub lines_law : LinesLaw
+pub lines_law : LineEndsLaw
 lines_law t parts = (λ are. subst (AreEndedLines t) (sym are) (AreEndedLines-lines t), lines-from_ended t parts)

@@ -5,15 +5,15 @@ use Rattle.std.proofs.lemmas.Bool.{cases_lt}
 use Rattle.std.proofs.lemmas.List.Elements.{All-head, All-map, All-nil, All-push, All-same, All-tail}
 use Rattle.std.specs.List.{concat}
 use Rattle.std.specs.Prelude.{All}
-use Rattle.bytes_utils_buf.specs.Slices.{joined, FillsTable}
-use Rattle.bytes_utils_buf.specs.Segments.{NoneEmpty}
-use Rattle.bytes_utils_buf.proofs.SlicesLemmas.{joined-push, FillsTable-full, FillsTable-same}
-use Rattle.bytes_utils_run.specs.Calls.{AreSlices}
-use Rattle.bytes_utils_run.specs.Odd.{pieces}
+use Rattle.bytes_utils_buf.specs.Slices.{joined_slices, FillsSlices}
+use Rattle.bytes_utils_buf.specs.Segments.{NoSegmentEmpty}
+use Rattle.bytes_utils_buf.proofs.SlicesLemmas.{joined_slices-push, FillsSlices-full, FillsSlices-same}
+use Rattle.bytes_utils_run.specs.Calls.{AreCallSlices}
+use Rattle.bytes_utils_run.specs.Odd.{odd_pieces}
 
 -- of no bytes, no place is filled
-pub FillsTable_none : (dst : List (Bor (List ℕ))) → FillsTable 0 dst dst []
-FillsTable_none dst = record {
+pub FillsSlices_none : (dst : List (Bor (List ℕ))) → FillsSlices 0 dst dst []
+FillsSlices_none dst = record {
   count = omega arith;
   some = All-nil (λ s. 0 < length s.now);
   front = refl;
@@ -22,13 +22,13 @@ FillsTable_none dst = record {
 }
 
 -- one more place is filled
-pub FillsTable-one : (n : ℕ) (old mid : List (Bor (List ℕ))) (x : Bor (List ℕ)) (xs : List ℕ) → n < length old → length mid ≡ length old
-    → 0 < length x.now → FillsTable n old mid xs → FillsTable (n + 1) old (set mid n x) (xs ++ x.now)
-FillsTable-one n old mid x xs room same some fills =
+pub FillsSlices-one : (n : ℕ) (old mid : List (Bor (List ℕ))) (x : Bor (List ℕ)) (xs : List ℕ) → n < length old → length mid ≡ length old
+    → 0 < length x.now → FillsSlices n old mid xs → FillsSlices (n + 1) old (set mid n x) (xs ++ x.now)
+FillsSlices-one n old mid x xs room same some fills =
     let P = λ (s : Bor (List ℕ)). 0 < length s.now in
     let taken = take_more_set mid n x (omega (arith, same, room)) in
-    let bytes : joined (take (n + 1) (set mid n x)) ≡ xs ++ x.now =
-    ap joined taken ∙ joined-push (take n mid) x ∙ ap (λ l. l ++ x.now) (fills.whole room) in
+    let bytes : joined_slices (take (n + 1) (set mid n x)) ≡ xs ++ x.now =
+    ap joined_slices taken ∙ joined_slices-push (take n mid) x ∙ ap (λ l. l ++ x.now) (fills.whole room) in
     record {
       count = omega (arith, room);
       some = All-same P _ _ taken (All-push P (take n mid) x fills.some some);
@@ -40,43 +40,43 @@ FillsTable-one n old mid x xs room same some fills =
     }
 
 -- a chunk of zero bytes is shown
-pub FillsTable-zeros : (n shown size : ℕ) (old mid : List (Bor (List ℕ))) (x : Bor (List ℕ)) → n < length old → length mid ≡ length old
-    → 0 < size → size ≤ 8 → x.now ≡ take size (replicate 8 0) → FillsTable n old mid (replicate shown 0)
-    → FillsTable (n + 1) old (set mid n x) (replicate (shown + size) 0)
-FillsTable-zeros n shown size old mid x room same some most is fills =
+pub FillsSlices-zeros : (n shown size : ℕ) (old mid : List (Bor (List ℕ))) (x : Bor (List ℕ)) → n < length old → length mid ≡ length old
+    → 0 < size → size ≤ 8 → x.now ≡ take size (replicate 8 0) → FillsSlices n old mid (replicate shown 0)
+    → FillsSlices (n + 1) old (set mid n x) (replicate (shown + size) 0)
+FillsSlices-zeros n shown size old mid x room same some most is fills =
     let zero : ℕ = 0 in
     let zeros = is ∙ take-replicate size 8 zero most in
     let all = ap (λ l. replicate shown zero ++ l) zeros ∙ replicate-append-replicate shown size zero in
-    FillsTable-same (n + 1) old (set mid n x) _ _ (sym all)
-    (FillsTable-one n old mid x _ room same (omega (arith, ap length zeros, length-replicate size zero)) fills)
+    FillsSlices-same (n + 1) old (set mid n x) _ _ (sym all)
+    (FillsSlices-one n old mid x _ room same (omega (arith, ap length zeros, length-replicate size zero)) fills)
 
 -- a table that is full, or has all of the zero bytes
-pub FillsTable_all_zeros : (n shown left : ℕ) (old mid : List (Bor (List ℕ))) → shown ≤ left → length old ≤ n
-    → FillsTable n old mid (replicate shown 0) → FillsTable n old mid (replicate left 0)
-FillsTable_all_zeros n shown left old mid most full fills =
+pub FillsSlices_all_zeros : (n shown left : ℕ) (old mid : List (Bor (List ℕ))) → shown ≤ left → length old ≤ n
+    → FillsSlices n old mid (replicate shown 0) → FillsSlices n old mid (replicate left 0)
+FillsSlices_all_zeros n shown left old mid most full fills =
     let zero : ℕ = 0 in
     let rest : shown + (left - shown) ≡ left = omega arith in
-    FillsTable-same n old mid _ _ (sym (replicate-append-replicate shown (left - shown) zero ∙ ap (λ k. replicate k zero) rest))
-    (FillsTable-full n old mid (replicate shown zero) (replicate (left - shown) zero) full fills)
+    FillsSlices-same n old mid _ _ (sym (replicate-append-replicate shown (left - shown) zero ∙ ap (λ k. replicate k zero) rest))
+    (FillsSlices-full n old mid (replicate shown zero) (replicate (left - shown) zero) full fills)
 
 -- a byte is shown
-pub FillsTable-byte : (i : ℕ) (old mid : List (Bor (List ℕ))) (x : Bor (List ℕ)) (bytes : List ℕ) → i < length old → length mid ≡ length old
-    → i < length bytes → x.now ≡ take (i + 1 - i) (drop i bytes) → FillsTable i old mid (take i bytes)
-    → FillsTable (i + 1) old (set mid i x) (take (i + 1) bytes)
-FillsTable-byte i old mid x bytes room same within is fills =
+pub FillsSlices-byte : (i : ℕ) (old mid : List (Bor (List ℕ))) (x : Bor (List ℕ)) (bytes : List ℕ) → i < length old → length mid ≡ length old
+    → i < length bytes → x.now ≡ take (i + 1 - i) (drop i bytes) → FillsSlices i old mid (take i bytes)
+    → FillsSlices (i + 1) old (set mid i x) (take (i + 1) bytes)
+FillsSlices-byte i old mid x bytes room same within is fills =
     let one : i + 1 - i ≡ 1 = omega arith in
     let byte : x.now ≡ take 1 (drop i bytes) = is ∙ ap (λ k. take k (drop i bytes)) one in
     let all = ap (λ l. take i bytes ++ l) byte ∙ sym (take-add i 1 bytes) in
     let size = length-take-le 1 (drop i bytes) (omega (arith, length-drop i bytes, within)) in
-    FillsTable-same (i + 1) old (set mid i x) _ _ (sym all)
-    (FillsTable-one i old mid x _ room same (omega (arith, ap length byte, size)) fills)
+    FillsSlices-same (i + 1) old (set mid i x) _ _ (sym all)
+    (FillsSlices-one i old mid x _ room same (omega (arith, ap length byte, size)) fills)
 
 -- a table that is full, or has all of the bytes
-pub FillsTable-all_bytes : (n : ℕ) (old mid : List (Bor (List ℕ))) (bytes : List ℕ) → n ≡ min (length bytes) (length old)
-    → FillsTable n old mid (take n bytes) → FillsTable n old mid bytes
-FillsTable-all_bytes n old mid bytes is fills = elim (cases_lt n (length old)) [
-  | inl less ↦ FillsTable-same n old mid _ _ (sym (take_all n bytes (omega (arith, is, less)))) fills
-  | inr full ↦ FillsTable-same n old mid _ _ (sym (take-append-drop n bytes)) (FillsTable-full n old mid (take n bytes) (drop n bytes) full fills)
+pub FillsSlices-all_bytes : (n : ℕ) (old mid : List (Bor (List ℕ))) (bytes : List ℕ) → n ≡ min (length bytes) (length old)
+    → FillsSlices n old mid (take n bytes) → FillsSlices n old mid bytes
+FillsSlices-all_bytes n old mid bytes is fills = elim (cases_lt n (length old)) [
+  | inl less ↦ FillsSlices-same n old mid _ _ (sym (take_all n bytes (omega (arith, is, less)))) fills
+  | inr full ↦ FillsSlices-same n old mid _ _ (sym (take-append-drop n bytes)) (FillsSlices-full n old mid (take n bytes) (drop n bytes) full fills)
 ]
 
 -- one more place has a slice of one byte
@@ -91,17 +91,17 @@ All_one-push i mid x bytes room within is ones =
     All-same P _ _ (take_more_set mid i x room) (All-push P (take i mid) x ones fits)
 
 -- one piece more is the pieces before, and the piece after them
-pub pieces-more : (size count : ℕ) (bytes : List ℕ) → pieces size (count + 1) bytes ≡ pieces size count bytes ++ take size (drop (count * size) bytes) ∷ []
-pieces-more size zero bytes =
+pub odd_pieces-more : (size count : ℕ) (bytes : List ℕ) → odd_pieces size (count + 1) bytes ≡ odd_pieces size count bytes ++ take size (drop (count * size) bytes) ∷ []
+odd_pieces-more size zero bytes =
     let none : 0 ≡ zero * size = omega arith in
     ap (λ k. take size (drop k bytes) ∷ []) none
-pieces-more size (suc count) bytes =
+odd_pieces-more size (suc count) bytes =
     let next : suc count + 1 ≡ suc (count + 1) = omega arith in
     let past : size + count * size ≡ suc count * size = omega arith in
     let following = drop-drop (count * size) size bytes ∙ ap (λ k. drop k bytes) past in
-    ap (λ k. pieces size k bytes) next
-    ∙ ap (λ l. take size bytes ∷ l) (pieces-more size count (drop size bytes))
-    ∙ ap (λ p. take size bytes ∷ (pieces size count (drop size bytes) ++ take size p ∷ [])) following
+    ap (λ k. odd_pieces size k bytes) next
+    ∙ ap (λ l. take size bytes ∷ l) (odd_pieces-more size count (drop size bytes))
+    ∙ ap (λ p. take size bytes ∷ (odd_pieces size count (drop size bytes) ++ take size p ∷ [])) following
 
 -- the first eight of `left` zero bytes
 pub take_zeros : (size left : ℕ) → size ≡ min left 8 → take 8 (replicate left zero) ≡ replicate size zero
@@ -110,11 +110,11 @@ take_zeros size left is =
     ∙ take-replicate size left zero (omega (arith, is))
 
 -- one more place has the next piece of `left` zero bytes
-pub pieces-zeros : (n left shown size : ℕ) (mid : List (Bor (List ℕ))) (x : Bor (List ℕ)) → n < length mid → shown < left
+pub odd_pieces-zeros : (n left shown size : ℕ) (mid : List (Bor (List ℕ))) (x : Bor (List ℕ)) → n < length mid → shown < left
     → shown ≡ min (n * 8) left → size ≡ min (left - shown) 8 → x.now ≡ take size (replicate 8 0)
-    → map (λ s. s.now) (take n mid) ≡ pieces 8 n (replicate left 0)
-    → map (λ s. s.now) (take (n + 1) (set mid n x)) ≡ pieces 8 (n + 1) (replicate left 0)
-pieces-zeros n left shown size mid x room more at is shows before =
+    → map (λ s. s.now) (take n mid) ≡ odd_pieces 8 n (replicate left 0)
+    → map (λ s. s.now) (take (n + 1) (set mid n x)) ≡ odd_pieces 8 (n + 1) (replicate left 0)
+odd_pieces-zeros n left shown size mid x room more at is shows before =
     let here : n * 8 ≡ shown = omega (arith, more, at) in
     let most : size ≤ 8 = omega (arith, is) in
     let rest : drop (n * 8) (replicate left zero) ≡ replicate (left - shown) zero =
@@ -124,11 +124,11 @@ pieces-zeros n left shown size mid x room more at is shows before =
     ap (map (λ s. s.now)) (take_more_set mid n x room)
     ∙ map-append (λ (s : Bor (List ℕ)). s.now) (take n mid) (x ∷ [])
     ∙ ap (λ l. l ++ x.now ∷ []) before
-    ∙ ap (λ p. pieces 8 n (replicate left zero) ++ p ∷ []) piece
-    ∙ sym (pieces-more 8 n (replicate left zero))
+    ∙ ap (λ p. odd_pieces 8 n (replicate left zero) ++ p ∷ []) piece
+    ∙ sym (odd_pieces-more 8 n (replicate left zero))
 
 -- lists that aren't empty have at least a byte each
-pub length-none_empty : (lists : List (List ℕ)) → NoneEmpty lists → length lists ≤ length (concat lists)
+pub length-none_empty : (lists : List (List ℕ)) → NoSegmentEmpty lists → length lists ≤ length (concat lists)
 length-none_empty [] some = omega arith
 length-none_empty (s ∷ lists) some =
     let more = length-none_empty lists (All-tail (λ s. 0 < length s) s lists some) in
@@ -136,12 +136,12 @@ length-none_empty (s ∷ lists) some =
     omega (arith, more, first, length-append s (concat lists))
 
 -- the slices in a table of `min n (length unread)` places are those in a table of n places
-pub AreSlices-table : (n filled : ℕ) (old new : List (Bor (List ℕ))) (unread : List ℕ) → length old ≡ min n (length unread) → length new ≡ length old
-    → FillsTable filled old new unread → AreSlices n (map (λ s. s.now) (take filled new)) unread
-AreSlices-table n filled old new unread places same fills =
+pub AreCallSlices-table : (n filled : ℕ) (old new : List (Bor (List ℕ))) (unread : List ℕ) → length old ≡ min n (length unread) → length new ≡ length old
+    → FillsSlices filled old new unread → AreCallSlices n (map (λ s. s.now) (take filled new)) unread
+AreCallSlices-table n filled old new unread places same fills =
     let slices = map (λ (s : Bor (List ℕ)). s.now) (take filled new) in
     let count : length slices ≡ filled = length-map (take filled new) (λ s. s.now) ∙ length-take-le filled new (omega (arith, fills.count, same)) in
-    let some : NoneEmpty slices = All-map (λ s. 0 < length s) (λ s. s.now) (take filled new) fills.some in
+    let some : NoSegmentEmpty slices = All-map (λ s. 0 < length s) (λ s. s.now) (take filled new) fills.some in
     let bytes = length-none_empty slices some in
     let front : concat slices ≡ take (length (concat slices)) unread =
     sym (take_at (concat slices) (drop (length (concat slices)) unread) (length (concat slices)) refl) ∙ ap (take (length (concat slices))) fills.front in

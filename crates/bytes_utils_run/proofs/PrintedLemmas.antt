@@ -5,7 +5,7 @@ use Rattle.std.proofs.lemmas.List.{drop_more, map-append, take_more}
 use Rattle.std.proofs.lemmas.List.Folds.{concat-append}
 use Rattle.std.specs.Io.KnownBytes.{Appends}
 use Rattle.std.specs.List.{concat}
-use Rattle.bytes_utils_run.specs.Moves.{AppendsBeginning}
+use Rattle.bytes_utils_run.specs.AppendsAndConsumes.{AppendsBeginning}
 use Rattle.bytes_utils_run.proofs.Beginnings.{AppendsBeginning-after, AppendsBeginning-more}
 
 module _ {X : Type 0} (f : X → List ℕ) (xs : List X) (x : X) where

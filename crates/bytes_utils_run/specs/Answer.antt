@@ -1,23 +1,14 @@
--- What the program reads from a command line, and what it prints of the results.
-use Rattle.std.specs.Prelude.{◌≡◌, ℕ, List, Option, map, codes, ⊤}
+-- What the program prints of the results.
+use Rattle.std.specs.Prelude.{◌≡◌, ℕ, List, Option, map, ⊤}
 use Rattle.std.specs.Io.KnownBytes.{Appends}
 use Rattle.std.specs.List.{concat}
 use Rattle.bytes_utils.specs.Outcome.{Outcome}
-use Rattle.bytes_utils_run.specs.Coming.{AreToCome}
-use Rattle.bytes_utils_run.specs.Command.{IsCommand}
-use Rattle.bytes_utils_run.specs.Cutting.{IsAllowed, cutting}
-use Rattle.bytes_utils_run.specs.Moves.{AppendsBeginning}
+use Rattle.bytes_utils_run.specs.AnySplitter.{AreToCome}
+use Rattle.bytes_utils_run.specs.AppendsAndConsumes.{AppendsBeginning}
 use Rattle.bytes_utils_run.specs.Printed.{printed_part, printed_reply}
 use Rattle.bytes_utils_run.specs.declared.program.answer.Answer.{Answer}
 use Rattle.bytes_utils_run.specs.declared.program.answer.Answer.TheVariants.{Splitter, Replies}
-use Rattle.bytes_utils_run.specs.declared.program.command.Command.{Command}
-use Rattle.bytes_utils_run.specs.declared.program.command.Command.TheVariants.{Cut, Buf}
 use Rattle.bytes_utils_buf.specs.declared.refused.Reason.{Reason}
-
--- the line is this command
-abbrev pub IsReadFrom : List ℕ → Command → Type 0
-IsReadFrom line (Cut how) = IsAllowed how × IsCommand (cutting how) line
-IsReadFrom line Buf = line ≡ codes "buf"
 
 -- These are the results so far, each as it is printed, and the reason if some are missing. Parts are an outcome of the parts to come;
 -- replies are as they are.

@@ -7,8 +7,8 @@ use Rattle.bytes_utils_run.specs.declared.calls.call.Call.TheVariants.{Push, Seg
 use Rattle.bytes_utils_run.specs.declared.calls.call.ReadCall.TheVariants.{Remaining, Chunk, Advance, CopyOut, Chunks}
 
 -- the line is a word with its space, and then a number
-abbrev pub IsNumbered : List ℕ → ℕ → List ℕ → Type 0
-IsNumbered word n line = (digits : List ℕ) × IsNumber digits n × (line ≡ word ++ digits)
+abbrev pub IsNumberedCallLine : List ℕ → ℕ → List ℕ → Type 0
+IsNumberedCallLine word n line = (digits : List ℕ) × IsNumber digits n × (line ≡ word ++ digits)
 
 -- The line asks for this call. There is one space between a word and what follows it. The bytes to push are those of the
 -- text after its space.
@@ -17,9 +17,9 @@ IsCallLine (Push bytes) line = IsUtf8 bytes × (line ≡ codes "push " ++ chars 
 IsCallLine Segments line = line ≡ codes "segments"
 IsCallLine (Read Remaining) line = line ≡ codes "remaining"
 IsCallLine (Read Chunk) line = line ≡ codes "chunk"
-IsCallLine (Read (Advance n)) line = IsNumbered (codes "advance ") n line
-IsCallLine (Read (CopyOut n)) line = IsNumbered (codes "copy ") n line
-IsCallLine (Read (Chunks n)) line = IsNumbered (codes "chunks ") n line
+IsCallLine (Read (Advance n)) line = IsNumberedCallLine (codes "advance ") n line
+IsCallLine (Read (CopyOut n)) line = IsNumberedCallLine (codes "copy ") n line
+IsCallLine (Read (Chunks n)) line = IsNumberedCallLine (codes "chunks ") n line
 
 -- the lines ask for these calls, one call a line
 abbrev pub AreCallLines : List (Call (List ℕ)) → List (List ℕ) → Type 0

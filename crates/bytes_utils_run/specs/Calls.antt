@@ -1,11 +1,11 @@
 -- Lists of calls on a buffer, and the replies to them. The lists of bytes below are the unread bytes of each segment of
 -- a `SegmentedBuf`, first segment first. For `read_calls` every buffer, segmented or not, is one list, or none if it is
 -- empty.
-use Rattle.std.specs.Prelude.{◌≡◌, ℕ, ◌+◌, ◌^◌, ◌<◌, ◌≤◌, List, [], ◌∷◌, Option, None, Some, length, map, take, ⊤}
+use Rattle.std.specs.Prelude.{◌≡◌, ℕ, ◌+◌, ◌^◌, ◌<◌, ◌≤◌, List, [], ◌∷◌, Option, None, Some, Bool, true, false, length, map, take, ⊤}
 use Rattle.std.specs.List.{concat}
 use Rattle.bytes.specs.Unread.{IsChunkOf}
 use Rattle.bytes_utils_buf.specs.Copies.{CountsCopy}
-use Rattle.bytes_utils_buf.specs.Segments.{CountsPass, Held, NoneEmpty, Skips, after_accepting, without_empty}
+use Rattle.bytes_utils_buf.specs.Segments.{CountsPass, HeldSegments, NoSegmentEmpty, SkipsSegments, after_accepting, unread_segments}
 use Rattle.bytes_utils_run.specs.declared.calls.call.Call.{Call}
 use Rattle.bytes_utils_run.specs.declared.calls.call.Call.TheVariants.{Push, Segments, Read}
 use Rattle.bytes_utils_run.specs.declared.calls.call.ReadCall.{ReadCall}
@@ -14,14 +14,14 @@ use Rattle.bytes_utils_run.specs.declared.calls.call.Reply.{Reply}
 use Rattle.bytes_utils_run.specs.declared.calls.call.Reply.TheVariants.{Done, PastEnd, TooLong, NoMemory, CopyStopped, Number, Piece, Shown, Slices}
 
 -- the unread bytes of a buffer as one list, or none if there are no bytes
-abbrev pub lists_of : List ℕ → List (List ℕ)
-lists_of unread = without_empty (unread ∷ [])
+abbrev pub lists_for_calls : List ℕ → List (List ℕ)
+lists_for_calls unread = unread_segments (unread ∷ [])
 
 -- at most n slices of the unread bytes: none is empty, and joined they are the first of these bytes, or all of them if
 -- there are fewer than n slices
-pub record AreSlices (n : ℕ) (slices : List (List ℕ)) (unread : List ℕ) : Type 0 where
+pub record AreCallSlices (n : ℕ) (slices : List (List ℕ)) (unread : List ℕ) : Type 0 where
   pub count : length slices ≤ n
-  pub some : NoneEmpty slices
+  pub some : NoSegmentEmpty slices
   pub front : concat slices ≡ take (length (concat slices)) unread
   pub whole : length slices < n → concat slices ≡ unread
 
@@ -35,7 +35,7 @@ IsReply (Advance n) unread PastEnd = length unread < n
 IsReply (CopyOut n) unread (Piece piece) = (n ≤ length unread) × (piece ≡ take n unread)
 IsReply (CopyOut n) unread (CopyStopped taken) = (n ≤ length unread) × (taken ≤ n)
 IsReply (CopyOut n) unread PastEnd = length unread < n
-IsReply (Chunks n) unread (Slices slices) = AreSlices n (map (λ s. s.items) slices.items) unread
+IsReply (Chunks n) unread (Slices slices) = AreCallSlices n (map (λ s. s.items) slices.items) unread
 IsReply (Chunks n) unread NoMemory = ⊤
 IsReply call unread reply = ⊥
 
@@ -47,24 +47,24 @@ skipped_by_read (CopyOut n) (CopyStopped taken) = Some taken
 skipped_by_read call reply = None
 
 -- n bytes are skipped, or nothing changes
-abbrev pub SkipsOrKeeps : Option ℕ → List (List ℕ) → List (List ℕ) → Type 0
-SkipsOrKeeps (Some n) old new = Skips n old new
-SkipsOrKeeps None old new = new ≡ old
+abbrev pub CallSkipsOrKeeps : Option ℕ → List (List ℕ) → List (List ℕ) → Type 0
+CallSkipsOrKeeps (Some n) old new = SkipsSegments n old new
+CallSkipsOrKeeps None old new = new ≡ old
 
 -- the reply to a read of these lists, and the lists after it
 abbrev pub IsRead : ReadCall → List (List ℕ) → Reply → List (List ℕ) → Type 0
-IsRead call old reply new = IsReply call (concat old) reply × SkipsOrKeeps (skipped_by_read call reply) old new
+IsRead call old reply new = IsReply call (concat old) reply × CallSkipsOrKeeps (skipped_by_read call reply) old new
 
 -- What a read adds to the tally. An advance that was done counts as a call, with one turn for each segment that it
 -- passed. A copy that was made or stopped counts as `CountsCopy` says. Nothing else counts.
-abbrev pub CountsRead : ReadCall → Held → Reply → Held → Type 0
+abbrev pub CountsRead : ReadCall → HeldSegments → Reply → HeldSegments → Type 0
 CountsRead (Advance n) old Done new = CountsPass 1 old new
 CountsRead (CopyOut n) old (Piece piece) new = CountsCopy n n old new
 CountsRead (CopyOut n) old (CopyStopped taken) new = CountsCopy n taken old new
 CountsRead call old reply new = new.tally ≡ old.tally
 
 -- the reply to a call on a `SegmentedBuf`, and the buffer after it
-abbrev pub IsCall : {B : Type 0} → (B → List ℕ) → Call B → Held → Reply → Held → Type 0
+abbrev pub IsCall : {B : Type 0} → (B → List ℕ) → Call B → HeldSegments → Reply → HeldSegments → Type 0
 IsCall unread (Push buf) old Done new =
     (length (concat old.segments) + length (unread buf) < 2 ^ 64) × (new ≡ after_accepting old (unread buf ∷ []))
 IsCall unread (Push buf) old TooLong new = (2 ^ 64 ≤ length (concat old.segments) + length (unread buf)) × (new ≡ old)
@@ -75,7 +75,13 @@ IsCall unread (Read call) old reply new = IsRead call old.segments reply new.seg
 IsCall unread call old reply new = ⊥
 
 -- a run of calls, one after another, each with its reply, from the first state to the last
-abbrev pub IsRun : {C S : Type 0} → (C → S → Reply → S → Type 0) → List C → S → List Reply → S → Type 0
-IsRun Is [] old [] new = new ≡ old
-IsRun {C} {S} Is (call ∷ calls) old (reply ∷ replies) new = (next : S) × Is call old reply next × IsRun Is calls next replies new
-IsRun Is calls old replies new = ⊥
+abbrev pub IsRunOfCalls : {C S : Type 0} → (C → S → Reply → S → Type 0) → List C → S → List Reply → S → Type 0
+IsRunOfCalls Is [] old [] new = new ≡ old
+IsRunOfCalls {C} {S} Is (call ∷ calls) old (reply ∷ replies) new = (next : S) × Is call old reply next × IsRunOfCalls Is calls next replies new
+IsRunOfCalls Is calls old replies new = ⊥
+
+-- the reply says that memory was refused
+abbrev pub reply_lacks_memory : Reply → Bool
+reply_lacks_memory NoMemory = true
+reply_lacks_memory (CopyStopped taken) = true
+reply_lacks_memory reply = false

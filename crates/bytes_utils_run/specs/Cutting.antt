@@ -48,6 +48,6 @@ cutting (RSplitN most separator) = FromBack (chars separator.now) (Some most)
 cutting (Inclusive separator) = Keeping (chars separator.now)
 
 -- what a caller may ask for: the separator of parts that keep it isn't empty
-abbrev pub IsAllowed : How → Type 0
-IsAllowed (Inclusive separator) = 0 < length separator.now
-IsAllowed how = ⊤
+abbrev pub IsCuttingAllowed : How → Type 0
+IsCuttingAllowed (Inclusive separator) = 0 < length separator.now
+IsCuttingAllowed how = ⊤

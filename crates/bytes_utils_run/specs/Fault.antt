@@ -4,11 +4,11 @@ use Rattle.bytes_utils_run.specs.declared.program.fault.Fault.{Fault}
 use Rattle.bytes_utils_run.specs.declared.program.fault.Fault.TheVariants.{UnknownCommand, NotUtf8, OutOfMemory, Io}
 
 -- the exit status of the program
-abbrev pub status_of : Fault → ℕ
-status_of UnknownCommand = 2
-status_of NotUtf8 = 3
-status_of OutOfMemory = 4
-status_of Io = 5
+abbrev pub fault_status : Fault → ℕ
+fault_status UnknownCommand = 2
+fault_status NotUtf8 = 3
+fault_status OutOfMemory = 4
+fault_status Io = 5
 
 -- the message for a fault, without a line feed
 abbrev pub fault_text : Fault → List ℕ

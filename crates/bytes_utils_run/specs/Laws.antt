@@ -2,7 +2,7 @@
 use Rattle.std.specs.Prelude.{◌≡◌, ◌⊎◌, ◌↔◌, ℕ, ◌-◌, ◌<◌, List, [], ◌∷◌, ◌++◌, length, map, take, drop, reverse, Option, None, Some, IfSome, if◌then◌else◌, nat_lt, All, IsUtf8}
 use Rattle.std.specs.Str.{chars, encode_utf8_all}
 use Rattle.bytes_utils.specs.Indices.{indexed}
-use Rattle.bytes_utils.specs.Occurrence.{NoneOverlap, OccursAt}
+use Rattle.bytes_utils.specs.Occurrence.{NoOccurrencesOverlap, OccursAt}
 use Rattle.bytes_utils.specs.Parts.{join, AreForwardParts, AreBackwardParts, AreSeparable, ArePartsFromFront}
 
 -- Any two elements are the same or different, as any two characters are. Without this nothing decides where a separator occurs.
@@ -25,7 +25,7 @@ MirrorLaw X = (t p : List X) (limit : Option ℕ) (parts : List (List X)) → 0 
 
 -- if no two occurrences of p in t overlap, the parts from the back are those from the front in reverse, without a limit
 abbrev pub AgreeLaw : Type 0 → Type 0
-AgreeLaw X = (t p : List X) (parts : List (List X)) → 0 < length p → NoneOverlap p t
+AgreeLaw X = (t p : List X) (parts : List (List X)) → 0 < length p → NoOccurrencesOverlap p t
     → AreForwardParts t p None parts ↔ AreBackwardParts t p None (reverse parts)
 
 -- All parts, if there are at most `most`. Otherwise the first ones, one fewer than the limit, and then the rest, not split, which `uncut`

@@ -15,5 +15,5 @@ AreEndedLines t (line ∷ lines) = (end : List ℕ) × (rest : List ℕ) × (t �
     × IsLineEnd line end rest × AreEndedLines rest lines
 
 -- the lines of a text are the lines that, with their ends, make up the text, and no other list is
-abbrev pub LinesLaw : Type 0
-LinesLaw = (t : List ℕ) (parts : List (List ℕ)) → (parts ≡ lines t) ↔ AreEndedLines t parts
+abbrev pub LineEndsLaw : Type 0
+LineEndsLaw = (t : List ℕ) (parts : List (List ℕ)) → (parts ≡ lines t) ↔ AreEndedLines t parts

@@ -2,7 +2,7 @@
 ghost use Rattle.std.specs.Prelude.{◌≡◌, [], Some, IfNone, OnSome, IfSome};
 ghost use Rattle.bytes_utils_buf.specs.Segments.{IsPaid};
 ghost use Rattle.bytes_utils_buf.specs.Tally.{IsBalanced, IsCovered};
-ghost use Rattle.bytes_utils_run.specs.Calls.{IsCall, IsRead, IsRun, lists_of};
+ghost use Rattle.bytes_utils_run.specs.Calls.{IsCall, IsRead, IsRunOfCalls, lists_for_calls};
 ghost use Rattle.bytes_utils_buf.specs.declared.refused.Reason.{Reason as WhyRefused};
 
 mod call;
@@ -14,8 +14,8 @@ use bytes::Buf;
 use bytes_utils::parts::BufParts;
 use bytes_utils::{Reason, SegmentedBuf};
 pub use call::{Call, ReadCall, Reply};
-use read::read;
-use segmented::make;
+use read::make_read;
+use segmented::make_segmented;
 use std::alloc::Global;
 
 /// The replies to calls, and the reason if there are none.
@@ -49,7 +49,7 @@ pub fn drive<B: BufParts + Drop>(
     calls: Vec<Call<B>>,
 ) -> Replies
     ensures run { IfNone result.refused
-        (IsRun (IsCall B.unread) calls.items buf.old result.given.items buf.new) }
+        (IsRunOfCalls (IsCall B.unread) calls.items buf.old result.given.items buf.new) }
     ensures refused { IfSome result.refused (λ reason. reason ≡ WhyRefused.OutOfMemory) }
     ensures none { OnSome result.refused (result.given.items ≡ []) }
     ensures same { OnSome result.refused (buf.new ≡ buf.old) }
@@ -67,7 +67,7 @@ pub fn drive<B: BufParts + Drop>(
         return Replies::without_place(alloc);
     };
     for call in calls {
-        given.push_reserved(make(alloc, buf, call));
+        given.push_reserved(make_segmented(alloc, buf, call));
     }
     prove!(buf.segments() <= buf.remaining());
     Replies {
@@ -78,8 +78,8 @@ pub fn drive<B: BufParts + Drop>(
 
 /// Makes these calls on any buffer, one after another, as `drive` does on a `SegmentedBuf`.
 pub fn read_calls<B: BufParts>(alloc: Global, buf: &mut B, calls: Vec<ReadCall>) -> Replies
-    ensures run { IfNone result.refused (IsRun IsRead calls.items (lists_of (B.unread buf.old))
-        result.given.items (lists_of (B.unread buf.new))) }
+    ensures run { IfNone result.refused (IsRunOfCalls IsRead calls.items (lists_for_calls (B.unread buf.old))
+        result.given.items (lists_for_calls (B.unread buf.new))) }
     ensures refused { IfSome result.refused (λ reason. reason ≡ WhyRefused.OutOfMemory) }
     ensures none { OnSome result.refused (result.given.items ≡ []) }
     ensures same { OnSome result.refused (buf.new ≡ buf.old) }
@@ -89,7 +89,7 @@ pub fn read_calls<B: BufParts>(alloc: Global, buf: &mut B, calls: Vec<ReadCall>)
         return Replies::without_place(alloc);
     };
     for call in calls {
-        given.push_reserved(read(alloc, buf, call));
+        given.push_reserved(make_read(alloc, buf, call));
     }
     Replies {
         given,

@@ -3,8 +3,8 @@ ghost use Rattle.std.specs.Prelude.{◌≡◌, ◌+◌, ◌≤◌, ◌⊎◌, �
 ghost use Rattle.std.specs.Result.{result_err};
 ghost use Rattle.std.specs.Str.{chars};
 ghost use Rattle.bytes_utils.specs.Outcome.{Outcome};
-ghost use Rattle.bytes_utils_run.specs.Coming.{AreToCome};
-ghost use Rattle.bytes_utils_run.specs.Cutting.{ArePartsBy, JoinTo, cutting, IsAllowed};
+ghost use Rattle.bytes_utils_run.specs.AnySplitter.{AreToCome};
+ghost use Rattle.bytes_utils_run.specs.Cutting.{ArePartsBy, JoinTo, cutting, IsCuttingAllowed};
 
 use crate::how::How;
 use crate::splitter::AnySplitter;
@@ -22,7 +22,7 @@ pub struct Parts<S: Storage> {
 }
 
 /// Appends all the parts that a splitter gives to an empty list.
-fn gather<S: Storage>(
+fn gather_cut<S: Storage>(
     given: &mut Vec<StrInner<S>>,
     splitter: &mut AnySplitter<'_, S>,
 ) -> Result<(), Reason>
@@ -41,7 +41,7 @@ fn gather<S: Storage>(
 /// Splits a text into all of its parts, up to the first refusal: of a split by the storage, or of
 /// memory for the list. Requires that the separator of `Inclusive` isn't empty (test: `is_empty`).
 pub fn cut_all<S: Storage>(alloc: Global, text: StrInner<S>, how: How<'_>) -> Parts<S>
-    requires { IsAllowed how }
+    requires { IsCuttingAllowed how }
     ensures outcome { Outcome (ArePartsBy (cutting how.entry) (chars text))
         (map chars result.given.items) result.refused }
     ensures few { length result.given.items ≤ length (chars text) + 2 }
@@ -53,7 +53,7 @@ pub fn cut_all<S: Storage>(alloc: Global, text: StrInner<S>, how: How<'_>) -> Pa
 {
     let mut given = Vec::new(alloc);
     let mut splitter = AnySplitter::new(text, how);
-    let refused = gather(&mut given, &mut splitter).err();
+    let refused = gather_cut(&mut given, &mut splitter).err();
     drop(splitter); // An implicit drop would be proved here again, case by case.
     Parts { given, refused }
 }

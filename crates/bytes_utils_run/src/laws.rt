@@ -18,8 +18,8 @@ ghost use Rattle.bytes_utils.specs.Parts.{ArePartsFromFront, ArePartsFromBack};
 ghost use Rattle.bytes_utils.specs.Splitting.{AreForwardPartsToCome, AreBackwardPartsToCome};
 ghost use Rattle.bytes_utils.specs.Words.{AreWordsToCome};
 ghost use Rattle.bytes_utils_run.specs.Borrowed.{OwnedAsBorrowedLaw, OnceAsBorrowedLaw};
-ghost use Rattle.bytes_utils_run.specs.LineEnds.{LinesLaw};
-ghost use Rattle.bytes_utils_run.specs.WordRuns.{WordsLaw};
+ghost use Rattle.bytes_utils_run.specs.LineEnds.{LineEndsLaw};
+ghost use Rattle.bytes_utils_run.specs.WordRuns.{WordRunsLaw};
 
 pub mod borrowed;
 
@@ -127,11 +127,11 @@ pub fn once_as_borrowed()
 /// The words of a text are its maximal runs of characters that aren't white space.
 #[tactic(auto, using(crate::proofs::WordRunsLemmas::words_law))]
 pub fn words_are_runs()
-    ensures { WordsLaw }
+    ensures { WordRunsLaw }
 {}
 
 /// The lines of a text, each followed by its line end, make up the text. No other lines do.
 #[tactic(auto, using(crate::proofs::LineEndsLemmas::lines_law))]
 pub fn lines_have_ends()
-    ensures { LinesLaw }
+    ensures { LineEndsLaw }
 {}

@@ -3,8 +3,8 @@ ghost use Rattle.std.specs.Prelude.{ℕ, List};
 ghost use Rattle.std.specs.Iterator.{at_most};
 ghost use Rattle.std.specs.Str.{chars};
 ghost use Rattle.bytes_utils.specs.Step.{IsStep};
-ghost use Rattle.bytes_utils_run.specs.Coming.{AreToCome, Cuts, most_to_come};
-ghost use Rattle.bytes_utils_run.specs.Cutting.{ArePartsBy, cutting, IsAllowed};
+ghost use Rattle.bytes_utils_run.specs.AnySplitter.{AreToCome, Cuts, most_to_come};
+ghost use Rattle.bytes_utils_run.specs.Cutting.{ArePartsBy, cutting, IsCuttingAllowed};
 
 use crate::how::How;
 use bytes_utils::Reason;
@@ -35,7 +35,7 @@ impl<'s, S: Storage> AnySplitter<'s, S> {
     /// Makes the splitter of a text for this way to split. Requires that the separator of
     /// `Inclusive` isn't empty (test: `is_empty`).
     pub fn new(text: StrInner<S>, how: How<'s>) -> Self
-        requires { IsAllowed how }
+        requires { IsCuttingAllowed how }
         ensures some { (parts : List (List ℕ)) × AreToCome result parts }
         ensures right { (parts : List (List ℕ)) → AreToCome result parts
             → ArePartsBy (cutting how.entry) (chars text) parts }

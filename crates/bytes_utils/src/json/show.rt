@@ -6,7 +6,7 @@ use std::fmt;
 
 impl fmt::Display for JsonRefused {
     ghost use Rattle.std.specs.Prelude.{Some};
-    ghost use Rattle.bytes_utils.specs.Errors.{json_refused_text};
+    ghost use Rattle.bytes_utils.specs.Json.{json_refused_text};
 
     ghost output = { λ refused. Some (json_refused_text refused) };
 

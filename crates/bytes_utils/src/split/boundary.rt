@@ -1,6 +1,6 @@
 //! The law that a separator's bytes occur in a text's bytes exactly where its characters occur in
 //! the text.
-ghost use Rattle.bytes_utils.specs.Occurrence.{BoundariesLaw};
+ghost use Rattle.bytes_utils.specs.Occurrence.{OccurrenceBoundariesLaw};
 
 /// States, for a separator that isn't empty, that its bytes occur in a text's bytes exactly at the
 /// places at which its characters occur in the text. Both are UTF-8, which is self-synchronizing
@@ -8,5 +8,5 @@ ghost use Rattle.bytes_utils.specs.Occurrence.{BoundariesLaw};
 /// call does nothing.
 #[tactic(auto, using(crate::proofs::Boundaries::boundaries_law))]
 pub fn boundaries()
-    ensures { BoundariesLaw }
+    ensures { OccurrenceBoundariesLaw }
 {}

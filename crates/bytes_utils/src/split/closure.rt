@@ -2,9 +2,9 @@
 ghost use Rattle.std.specs.Prelude.{◌≡◌, ◌<◌, ℕ, List, Result, Some, length, IfOk, IfErr, IfSome, IsUtf8};
 ghost use Rattle.std.specs.Iterator.{at_most, Drains};
 ghost use Rattle.std.specs.Str.{chars};
-ghost use Rattle.bytes_utils.specs.Walk.{IsLawfulCut, IsLawfulClosure, IsWalkStep, IsWholeWalk};
+ghost use Rattle.bytes_utils.specs.ClosureWalk.{IsLawfulClosureCut, IsLawfulClosure, IsWalkStep, IsWholeWalk};
 ghost use Rattle.bytes_utils_buf.specs.declared.refused.Reason.{Reason as WhyRefused};
-ghost use Rattle.bytes_utils.specs.Walk.{chunk_at, most_chunks, rest_at};
+ghost use Rattle.bytes_utils.specs.ClosureWalk.{walk_chunk_at, most_chunks, walk_rest_at};
 
 use super::cut::{Cut, cut_around, yield_part};
 use super::direction::Direction;
@@ -14,18 +14,18 @@ use std::marker::Model;
 
 /// Splits off the chunk between the edges that a closure returned, and returns it with the rest.
 #[inline(always)]
-fn chunk_and_rest<S: Storage>(
+fn cut_by_closure<S: Storage>(
     text: StrInner<S>,
     direction: Direction,
     chunk_edge: usize,
     separator_edge: usize,
 ) -> Result<Cut<S>, Reason>
     requires text { IsUtf8 text }
-    requires cut { IsLawfulCut direction text chunk_edge separator_edge }
+    requires cut { IsLawfulClosureCut direction text chunk_edge separator_edge }
     ensures chunk { IfOk result
-        (λ cut. cut.0 ≡ chunk_at direction text chunk_edge separator_edge) }
+        (λ cut. cut.0 ≡ walk_chunk_at direction text chunk_edge separator_edge) }
     ensures rest { IfOk result
-        (λ cut. cut.1 ≡ Some (rest_at direction text chunk_edge separator_edge)) }
+        (λ cut. cut.1 ≡ Some (walk_rest_at direction text chunk_edge separator_edge)) }
     ensures fewer { IfOk result
         (λ cut. IfSome cut.1 (λ rest. length (chars rest) < length (chars text))) }
     ensures reason { IfErr result S.refuses }
@@ -59,7 +59,7 @@ pub struct BytesIter<S: Storage, F> {
 }
 
 impl<S: Storage, F> Model for BytesIter<S, F> {
-    ghost use Rattle.bytes_utils.specs.Walk.{Walk};
+    ghost use Rattle.bytes_utils.specs.ClosureWalk.{Walk};
 
     ghost Value = { Walk F };
 
@@ -113,7 +113,7 @@ impl<S: Storage, F: FnMut(&str) -> Option<(usize, usize)> + Drop> Iterator for B
         };
         yield_part!(
             self.rest,
-            chunk_and_rest(text, self.direction, chunk_edge, separator_edge)
+            cut_by_closure(text, self.direction, chunk_edge, separator_edge)
         )
     }
 }

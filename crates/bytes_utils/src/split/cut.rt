@@ -2,7 +2,7 @@
 ghost use Rattle.std.specs.Prelude.{◌≡◌, ◌≤◌, ◌<◌, ◌+◌, ◌++◌, ℕ, length, take, drop, IsCharBoundary, IfOk, IfErr, OnErr, MatchOption};
 ghost use Rattle.std.specs.Str.{chars};
 ghost use Rattle.bytes_utils.specs.Occurrence.{OccursAt};
-ghost use Rattle.bytes_utils.specs.Text.{byte_place};
+ghost use Rattle.bytes_utils.specs.Characters.{character_place};
 
 use crate::string::{Storage, StrInner};
 use bytes_utils_buf::Reason;
@@ -37,7 +37,7 @@ pub(super) fn cut_at_separator<S: Storage>(
     separator: &str,
     at: usize,
 ) -> Result<(StrInner<S>, StrInner<S>), Reason>
-    requires { (i : ℕ) × (at ≡ byte_place (chars text) i)
+    requires { (i : ℕ) × (at ≡ character_place (chars text) i)
         × OccursAt (chars separator.now) (chars text) i }
     ensures before { IfOk result (λ pieces. pieces.0 ≡ take at text) }
     ensures after { IfOk result (λ pieces. pieces.1 ≡ drop (at + length separator.now) text) }

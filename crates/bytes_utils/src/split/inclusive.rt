@@ -4,10 +4,10 @@ ghost use Rattle.std.specs.Iterator.{at_most};
 ghost use Rattle.std.specs.Str.{chars};
 ghost use Rattle.bytes_utils.specs.Keeping.{AreInclusivePartsToCome, CutsAfterNext};
 ghost use Rattle.bytes_utils.specs.Keeping.{most_inclusive_parts};
-ghost use Rattle.bytes_utils.specs.Step.{GivesFirst, IsStep};
+ghost use Rattle.bytes_utils.specs.Step.{StepGivesFirst, IsStep};
 
 use super::cut::{Cut, yield_part};
-use super::search::find;
+use super::search::search_alone;
 use crate::string::{Storage, StrInner};
 use bytes_utils_buf::Reason;
 use std::marker::Model;
@@ -15,10 +15,10 @@ use std::marker::Model;
 /// Splits off the part up to the end of the first separator. Returns the whole text if no separator
 /// occurs in it, or first at its end.
 #[inline(always)]
-fn part_through<S: Storage>(text: StrInner<S>, separator: &str) -> Result<Cut<S>, Reason>
+fn inclusive_part<S: Storage>(text: StrInner<S>, separator: &str) -> Result<Cut<S>, Reason>
     requires separator { 0 < length separator.now }
     requires text { 0 < length text }
-    ensures gives { IfOk result (λ cut. GivesFirst AreInclusivePartsToCome
+    ensures gives { IfOk result (λ cut. StepGivesFirst AreInclusivePartsToCome
         (record { rest = Some text; separator = separator.now }) (chars cut.0)
         (record { rest = cut.1; separator = separator.now })) }
     ensures shorter { IfOk result (λ cut. IfSome cut.1 (λ rest. length rest < length text)) }
@@ -26,7 +26,7 @@ fn part_through<S: Storage>(text: StrInner<S>, separator: &str) -> Result<Cut<S>
         (CutsAfterNext (record { rest = Some text; separator = separator.now })) }
     ensures reason { IfErr result S.refuses }
 {
-    let Some(at) = find(text.as_str(), separator) else {
+    let Some(at) = search_alone(text.as_str(), separator) else {
         return Ok((text, None));
     };
     let end = at + separator.len();
@@ -85,6 +85,6 @@ impl<'s, S: Storage> Iterator for SplitInclusiveBytes<'s, S> {
         if text.as_str().is_empty() {
             return None;
         }
-        yield_part!(self.rest, part_through(text, self.separator))
+        yield_part!(self.rest, inclusive_part(text, self.separator))
     }
 }

@@ -6,7 +6,7 @@ ghost use Rattle.bytes_utils.specs.Splitting.{most_parts};
 ghost use Rattle.bytes_utils.specs.Step.{IsStepOf};
 ghost use Rattle.bytes_utils.specs.declared.split.direction.Direction.TheVariants.{Forward};
 
-use super::separated::SeparatorSplit;
+use super::separated::SeparatedText;
 use crate::string::{Storage, StrInner};
 use bytes_utils_buf::Reason;
 use std::marker::Model;
@@ -16,7 +16,7 @@ use std::mem;
 /// at which it begins. If a split is refused, the error is the last item.
 #[derive(Drop)]
 pub struct SplitIndicesBytes<'s, S: Storage> {
-    parts: SeparatorSplit<'s, S>,
+    parts: SeparatedText<'s, S>,
     total: usize,
     at: usize,
 }
@@ -38,7 +38,7 @@ impl<'s, S: Storage> Model for SplitIndicesBytes<'s, S> {
 
 impl<'s, S: Storage> SplitIndicesBytes<'s, S> {
     /// Pairs the parts to come with their byte places in what is still to be split.
-    pub(super) fn new(parts: SeparatorSplit<'s, S>) -> Self
+    pub(super) fn new(parts: SeparatedText<'s, S>) -> Self
         requires { parts.end ≡ Forward }
         ensures parts { result.parts ≡ parts.entry.state }
         ensures at { result.at ≡ 0 }

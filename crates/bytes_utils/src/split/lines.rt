@@ -3,11 +3,11 @@ ghost use Rattle.std.specs.Prelude.{◌≡◌, ◌<◌, ℕ, List, [], ◌∷◌
 ghost use Rattle.std.specs.Iterator.{at_most};
 ghost use Rattle.std.specs.Option.{option_map_or};
 ghost use Rattle.std.specs.Str.{chars};
-ghost use Rattle.bytes_utils.specs.Lines.{AreLinesToCome, HoldsLineFeed, lines, text_after};
-ghost use Rattle.bytes_utils.specs.Step.{GivesFirst, IsStep};
+ghost use Rattle.bytes_utils.specs.Lines.{AreLinesToCome, HoldsLineFeed, lines, text_after_line};
+ghost use Rattle.bytes_utils.specs.Step.{StepGivesFirst, IsStep};
 
 use super::cut::{Cut, cut_around, yield_part};
-use super::search::find;
+use super::search::search_alone;
 use crate::string::{Storage, StrInner};
 use bytes_utils_buf::Reason;
 use std::marker::Model;
@@ -37,10 +37,10 @@ pub fn line_place(text: &str) -> Option<(usize, usize)>
         (0 < length text.now → lines (chars text.now) ≡ chars text.now ∷ [])
         (λ place. lines (chars text.now)
         ≡ chars (take place.0 text.now) ∷ lines (chars (drop place.1 text.now))) }
-    ensures after { MatchOption result (text_after (chars text.now) ≡ [])
-        (λ place. chars (drop place.1 text.now) ≡ text_after (chars text.now)) }
+    ensures after { MatchOption result (text_after_line (chars text.now) ≡ [])
+        (λ place. chars (drop place.1 text.now) ≡ text_after_line (chars text.now)) }
 {
-    let at = find(text, "\n")?;
+    let at = search_alone(text, "\n")?;
     let line = &text[..at];
     let end = line.strip_suffix('\r').unwrap_or(line).len();
     Some((end, at + 1))
@@ -50,7 +50,7 @@ pub fn line_place(text: &str) -> Option<(usize, usize)>
 #[inline(always)]
 fn first_line<S: Storage>(text: StrInner<S>) -> Result<Cut<S>, Reason>
     requires { 0 < length text }
-    ensures gives { IfOk result (λ cut. GivesFirst AreLinesToCome (Some text) (chars cut.0) cut.1) }
+    ensures gives { IfOk result (λ cut. StepGivesFirst AreLinesToCome (Some text) (chars cut.0) cut.1) }
     ensures shorter { IfOk result (λ cut. IfSome cut.1 (λ rest. length rest < length text)) }
     ensures err { OnErr result (HoldsLineFeed (Some text)) }
     ensures reason { IfErr result S.refuses }

@@ -5,7 +5,7 @@ ghost use Rattle.bytes_utils.specs.Halves.{AreHalvesAtFirst, AreHalvesAtLast};
 ghost use Rattle.bytes_utils.specs.Occurrence.{Occurs};
 
 use super::cut::cut_at_separator;
-use super::search::{find, rfind};
+use super::search::{rsearch_alone, search_alone};
 use crate::string::{Storage, StrInner};
 use bytes_utils_buf::Reason;
 
@@ -33,7 +33,7 @@ impl<S: Storage> StrInner<S> {
         ensures err { OnErr result (Occurs (chars separator.now) (chars self)) }
         ensures reason { IfErr result S.refuses }
     {
-        let Some(at) = find(self.as_str(), separator) else {
+        let Some(at) = search_alone(self.as_str(), separator) else {
             return Ok((self, None));
         };
         let (before, following) = cut_at_separator(self, separator, at)?;
@@ -62,7 +62,7 @@ impl<S: Storage> StrInner<S> {
         ensures err { OnErr result (Occurs (chars separator.now) (chars self)) }
         ensures reason { IfErr result S.refuses }
     {
-        let Some(at) = rfind(self.as_str(), separator) else {
+        let Some(at) = rsearch_alone(self.as_str(), separator) else {
             return Ok((None, self));
         };
         let (before, following) = cut_at_separator(self, separator, at)?;

@@ -4,14 +4,14 @@ ghost use Rattle.std.specs.Bool.{OnTrue};
 ghost use Rattle.std.specs.Option.{option_map_or};
 ghost use Rattle.std.specs.Str.{chars};
 ghost use Rattle.bytes_utils.specs.Occurrence.{Occurs};
-ghost use Rattle.bytes_utils.specs.Search.{end_of, needle_of};
-ghost use Rattle.bytes_utils.specs.Splitting.{ArePartsToCome, AreForwardPartsToCome, AreBackwardPartsToCome, CutsNext, LeavesMore, one_less, most_parts, splitting, all_of};
-ghost use Rattle.bytes_utils.specs.Step.{GivesFirst, IsStep};
+ghost use Rattle.bytes_utils.specs.SeparatorSearch.{end_of, needle_of};
+ghost use Rattle.bytes_utils.specs.Splitting.{ArePartsToCome, AreForwardPartsToCome, AreBackwardPartsToCome, CutsNext, LeavesMoreToSplit, limit_after_split, most_parts, splitting, all_of};
+ghost use Rattle.bytes_utils.specs.Step.{StepGivesFirst, IsStep};
 
 use super::cut::{Cut, cut_at_separator, yield_part};
 use super::direction::Direction;
-use super::each_character::cut_character;
-use super::search::{Search, find_by, rfind_by};
+use super::empty_separator::cut_by_empty_separator;
+use super::search::{SeparatorSearch, rsearch_by, search_by};
 use crate::string::{Storage, StrInner};
 use bytes_utils_buf::Reason;
 use memchr::memmem::{Finder, FinderRev};
@@ -19,7 +19,7 @@ use std::marker::Model;
 
 /// Splits off the part before the first separator. Returns the whole text if there is none.
 #[inline(always)]
-fn first_part<S: Storage>(
+fn first_separated_part<S: Storage>(
     text: StrInner<S>,
     separator: &str,
     finder: &Finder,
@@ -27,15 +27,15 @@ fn first_part<S: Storage>(
 ) -> Result<Cut<S>, Reason>
     requires some { 0 < length separator.now }
     requires needle { finder.now ≡ separator.now }
-    ensures gives { IfOk result (λ cut. (limit : Option ℕ) → LeavesMore limit
-        → GivesFirst AreForwardPartsToCome
+    ensures gives { IfOk result (λ cut. (limit : Option ℕ) → LeavesMoreToSplit limit
+        → StepGivesFirst AreForwardPartsToCome
         (splitting (Some text) separator.now limit false) (chars cut.0)
-        (splitting cut.1 separator.now (one_less limit) false)) }
+        (splitting cut.1 separator.now (limit_after_split limit) false)) }
     ensures shorter { IfOk result (λ cut. IfSome cut.1 (λ rest. length rest < length text)) }
     ensures err { OnErr result (Occurs (chars separator.now) (chars text)) }
     ensures reason { IfErr result S.refuses }
 {
-    let Some(at) = find_by(finder, is_long, text.as_str()) else {
+    let Some(at) = search_by(finder, is_long, text.as_str()) else {
         return Ok((text, None));
     };
     let (part, rest) = cut_at_separator(text, separator, at)?;
@@ -44,7 +44,7 @@ fn first_part<S: Storage>(
 
 /// Splits off the part after the last separator. Returns the whole text if there is none.
 #[inline(always)]
-fn last_part<S: Storage>(
+fn last_separated_part<S: Storage>(
     text: StrInner<S>,
     separator: &str,
     finder: &FinderRev,
@@ -52,15 +52,15 @@ fn last_part<S: Storage>(
 ) -> Result<Cut<S>, Reason>
     requires some { 0 < length separator.now }
     requires needle { finder.now ≡ separator.now }
-    ensures gives { IfOk result (λ cut. (limit : Option ℕ) → LeavesMore limit
-        → GivesFirst AreBackwardPartsToCome
+    ensures gives { IfOk result (λ cut. (limit : Option ℕ) → LeavesMoreToSplit limit
+        → StepGivesFirst AreBackwardPartsToCome
         (splitting (Some text) separator.now limit false) (chars cut.0)
-        (splitting cut.1 separator.now (one_less limit) false)) }
+        (splitting cut.1 separator.now (limit_after_split limit) false)) }
     ensures shorter { IfOk result (λ cut. IfSome cut.1 (λ rest. length rest < length text)) }
     ensures err { OnErr result (Occurs (chars separator.now) (chars text)) }
     ensures reason { IfErr result S.refuses }
 {
-    let Some(at) = rfind_by(finder, is_long, text.as_str()) else {
+    let Some(at) = rsearch_by(finder, is_long, text.as_str()) else {
         return Ok((text, None));
     };
     let (rest, part) = cut_at_separator(text, separator, at)?;
@@ -70,18 +70,18 @@ fn last_part<S: Storage>(
 /// Returns the next part and the rest, if the limit leaves more than one part. A separator that
 /// isn't empty is searched for; the empty one is before and after each character.
 #[inline(always)]
-fn cut_next<S: Storage>(
+fn cut_separated<S: Storage>(
     text: StrInner<S>,
     separator: &str,
-    search: &Search,
+    search: &SeparatorSearch,
     begun: bool,
 ) -> Result<Cut<S>, Reason>
     requires begun { OnTrue begun (length separator.now ≡ 0) }
     requires needle { needle_of search.now ≡ separator.now }
-    ensures gives { IfOk result (λ cut. (limit : Option ℕ) → LeavesMore limit
-        → GivesFirst (ArePartsToCome (end_of search.now))
+    ensures gives { IfOk result (λ cut. (limit : Option ℕ) → LeavesMoreToSplit limit
+        → StepGivesFirst (ArePartsToCome (end_of search.now))
         (splitting (Some text) separator.now limit begun) (chars cut.0)
-        (splitting cut.1 separator.now (one_less limit) (length separator.now == 0))) }
+        (splitting cut.1 separator.now (limit_after_split limit) (length separator.now == 0))) }
     ensures fewer { IfOk result (λ cut. most_parts
         (splitting cut.1 separator.now None (length separator.now == 0))
         < most_parts (splitting (Some text) separator.now None begun)) }
@@ -90,61 +90,61 @@ fn cut_next<S: Storage>(
     ensures reason { IfErr result S.refuses }
 {
     if separator.is_empty() {
-        return cut_character(text, begun, search.end());
+        return cut_by_empty_separator(text, begun, search.end());
     }
     match search {
-        Search::First(finder) => first_part(text, separator, finder, false),
-        Search::FirstLong(finder) => first_part(text, separator, finder, true),
-        Search::Last(finder) => last_part(text, separator, finder, false),
-        Search::LastLong(finder) => last_part(text, separator, finder, true),
+        SeparatorSearch::First(finder) => first_separated_part(text, separator, finder, false),
+        SeparatorSearch::FirstLong(finder) => first_separated_part(text, separator, finder, true),
+        SeparatorSearch::Last(finder) => last_separated_part(text, separator, finder, false),
+        SeparatorSearch::LastLong(finder) => last_separated_part(text, separator, finder, true),
     }
 }
 
 /// Returns the next part and the rest. If the limit is one part, the part is all of the text.
 #[inline(always)]
-fn next_part<S: Storage>(
+fn next_separated_part<S: Storage>(
     text: StrInner<S>,
     separator: &str,
-    search: &Search,
+    search: &SeparatorSearch,
     limit: Option<usize>,
     begun: bool,
 ) -> Result<Cut<S>, Reason>
     requires some { limit ≢ Some 0 }
     requires begun { OnTrue begun (length separator.now ≡ 0) }
     requires needle { needle_of search.now ≡ separator.now }
-    ensures gives { IfOk result (λ cut. GivesFirst (ArePartsToCome (end_of search.now))
+    ensures gives { IfOk result (λ cut. StepGivesFirst (ArePartsToCome (end_of search.now))
         (splitting (Some text) separator.now limit begun) (chars cut.0)
-        (splitting cut.1 separator.now (one_less limit) (length separator.now == 0))) }
+        (splitting cut.1 separator.now (limit_after_split limit) (length separator.now == 0))) }
     ensures fewer { IfOk result (λ cut. most_parts
         (splitting cut.1 separator.now None (length separator.now == 0))
         < most_parts (splitting (Some text) separator.now None begun)) }
-    ensures left { IfOk result (λ cut. IfSome cut.1 (λ _. LeavesMore limit)) }
+    ensures left { IfOk result (λ cut. IfSome cut.1 (λ _. LeavesMoreToSplit limit)) }
     ensures holds { OnErr result (Occurs (chars separator.now) (chars text)) }
     ensures more { OnErr result (OnTrue begun (0 < length text)) }
     ensures reason { IfErr result S.refuses }
-    ensures limit { OnErr result (LeavesMore limit) }
+    ensures limit { OnErr result (LeavesMoreToSplit limit) }
 {
     if limit == Some(1) {
         return Ok((text, None));
     }
-    cut_next(text, separator, search, begun)
+    cut_separated(text, separator, search, begun)
 }
 
 /// What is left of a text that is split by a separator, and the number of parts that may still be
 /// returned. If a split is refused, the error is the last item.
 #[derive(Drop)]
-pub(super) struct SeparatorSplit<'s, S: Storage> {
+pub(super) struct SeparatedText<'s, S: Storage> {
     rest: Option<StrInner<S>>,
     separator: &'s str,
-    search: Search<'s>,
+    search: SeparatorSearch<'s>,
     limit: Option<usize>,
     begun: bool,
 }
 
-impl<'s, S: Storage> Model for SeparatorSplit<'s, S> {
+impl<'s, S: Storage> Model for SeparatedText<'s, S> {
     ghost use Rattle.std.specs.Prelude.{◌≡◌, ◌≢◌, length, Some, IfSome, IsUtf8};
     ghost use Rattle.std.specs.Bool.{OnTrue};
-    ghost use Rattle.bytes_utils.specs.Search.{end_of, needle_of};
+    ghost use Rattle.bytes_utils.specs.SeparatorSearch.{end_of, needle_of};
     ghost use Rattle.bytes_utils.specs.Splitting.{SplittingFrom};
 
     ghost Value = { SplittingFrom };
@@ -164,7 +164,7 @@ impl<'s, S: Storage> Model for SeparatorSplit<'s, S> {
         (λ _. OnTrue s.begun ((length s.separator.now ≡ 0) × (s.limit ≢ Some 0))) };
 }
 
-impl<'s, S: Storage> SeparatorSplit<'s, S> {
+impl<'s, S: Storage> SeparatedText<'s, S> {
     /// Starts to split all of `text` from the end `from`, into at most `limit` parts if there is a
     /// limit.
     #[inline(always)]
@@ -178,10 +178,10 @@ impl<'s, S: Storage> SeparatorSplit<'s, S> {
         ensures end { result.end ≡ from }
         ensures coming { (parts : List (List ℕ)) × ArePartsToCome from result.state parts }
     {
-        SeparatorSplit {
+        SeparatedText {
             rest: Some(text),
             separator,
-            search: Search::new(separator, from),
+            search: SeparatorSearch::new(separator, from),
             limit,
             begun: false,
         }
@@ -216,7 +216,7 @@ impl<'s, S: Storage> SeparatorSplit<'s, S> {
             return None;
         }
         let text = self.rest.take()?;
-        let cut = next_part(text, self.separator, &self.search, self.limit, self.begun);
+        let cut = next_separated_part(text, self.separator, &self.search, self.limit, self.begun);
         self.limit = self.limit.map(|most| most.saturating_sub(1));
         self.begun = self.separator.is_empty();
         yield_part!(self.rest, cut)

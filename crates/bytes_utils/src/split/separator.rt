@@ -7,7 +7,7 @@ ghost use Rattle.bytes_utils.specs.Step.{IsStep};
 
 use super::direction::Direction;
 use super::indices::SplitIndicesBytes;
-use super::separated::SeparatorSplit;
+use super::separated::SeparatedText;
 use crate::string::{Storage, StrInner};
 use bytes_utils_buf::Reason;
 use std::marker::Model;
@@ -16,7 +16,7 @@ use std::marker::Model;
 /// the error is the last item.
 #[derive(Drop)]
 pub struct SplitBytes<'s, S: Storage> {
-    parts: SeparatorSplit<'s, S>,
+    parts: SeparatedText<'s, S>,
 }
 
 /// The iterator that `splitn_bytes` returns.
@@ -54,7 +54,7 @@ impl<S: Storage> StrInner<S> {
         ensures coming { (parts : List (List ℕ)) × AreForwardPartsToCome result parts }
     {
         SplitBytes {
-            parts: SeparatorSplit::new(self, separator, None, Direction::Forward),
+            parts: SeparatedText::new(self, separator, None, Direction::Forward),
         }
     }
 
@@ -65,7 +65,7 @@ impl<S: Storage> StrInner<S> {
         ensures coming { (parts : List (List ℕ)) × AreForwardPartsToCome result parts }
     {
         SplitBytes {
-            parts: SeparatorSplit::new(self, separator, Some(most), Direction::Forward),
+            parts: SeparatedText::new(self, separator, Some(most), Direction::Forward),
         }
     }
 }
@@ -87,7 +87,7 @@ impl<'s, S: Storage> Iterator for SplitBytes<'s, S> {
 /// the error is the last item.
 #[derive(Drop)]
 pub struct RSplitBytes<'s, S: Storage> {
-    parts: SeparatorSplit<'s, S>,
+    parts: SeparatedText<'s, S>,
 }
 
 /// The iterator that `rsplitn_bytes` returns.
@@ -113,7 +113,7 @@ impl<S: Storage> StrInner<S> {
         ensures coming { (parts : List (List ℕ)) × AreBackwardPartsToCome result parts }
     {
         RSplitBytes {
-            parts: SeparatorSplit::new(self, separator, None, Direction::Backward),
+            parts: SeparatedText::new(self, separator, None, Direction::Backward),
         }
     }
 
@@ -124,7 +124,7 @@ impl<S: Storage> StrInner<S> {
         ensures coming { (parts : List (List ℕ)) × AreBackwardPartsToCome result parts }
     {
         RSplitBytes {
-            parts: SeparatorSplit::new(self, separator, Some(most), Direction::Backward),
+            parts: SeparatedText::new(self, separator, Some(most), Direction::Backward),
         }
     }
 }

@@ -2,7 +2,7 @@
 ghost use Rattle.std.specs.Prelude.{◌≡◌, [], MatchOption, IsOk, IfOk, IfErr, OnErr};
 ghost use Rattle.bytes_utils.specs.Occurrence.{Occurs};
 
-use super::search::find;
+use super::search::search_alone;
 use crate::string::{Str, StrInner};
 use bytes::Bytes;
 use bytes_utils_buf::Reason;
@@ -25,7 +25,7 @@ impl StrInner<Bytes> {
         ensures empty { part.now ≡ [] → IsOk result }
         ensures reason { IfErr result (λ reason. reason ≡ Reason.OutOfMemory) }
     {
-        let Some(start) = find(self.as_str(), part) else {
+        let Some(start) = search_alone(self.as_str(), part) else {
             return Ok(None);
         };
         Ok(Some(self.slice(start..start + part.len())?))

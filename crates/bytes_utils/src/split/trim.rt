@@ -1,7 +1,7 @@
 //! A text without the white space at its ends.
 ghost use Rattle.std.specs.Prelude.{◌≡◌, ◌<◌, length, IfOk, IfErr, OnErr};
 ghost use Rattle.std.specs.Str.{trim, trim_start, trim_end, IsTrimStart, IsTrimEnd};
-ghost use Rattle.bytes_utils.specs.Ends.{IsBetweenSpace};
+ghost use Rattle.bytes_utils.specs.Ends.{IsBetweenSpaceAtEnds};
 
 use super::cut::{cut_before, cut_front};
 use crate::string::{Storage, StrInner};
@@ -19,7 +19,7 @@ impl<S: Storage> StrInner<S> {
     /// reason, and only if white space is cut off; then the text is dropped.
     pub fn trim_bytes(self) -> Result<Self, Reason>
         ensures part { IfOk result (λ part. part ≡ trim self) }
-        ensures place { IfOk result (λ part. IsBetweenSpace part self) }
+        ensures place { IfOk result (λ part. IsBetweenSpaceAtEnds part self) }
         ensures err { OnErr result (length (trim self) < length self) }
         ensures reason { IfErr result S.refuses }
     {

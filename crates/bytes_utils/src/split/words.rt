@@ -5,7 +5,7 @@ ghost use Rattle.std.specs.Iterator.{at_most};
 ghost use Rattle.std.specs.Option.{option_map_or};
 ghost use Rattle.std.specs.Str.{chars, NoCharPasses};
 ghost use Rattle.bytes_utils.specs.Step.{IsStep};
-ghost use Rattle.bytes_utils.specs.Words.{AreWordsToCome, HoldsSpace, ends_word, words};
+ghost use Rattle.bytes_utils.specs.Words.{AreWordsToCome, HoldsSpaceBetweenWords, ends_word, words};
 
 mod graphic;
 
@@ -79,9 +79,9 @@ fn word_place<W: WhiteSpace>(text: &str) -> Option<(usize, usize)>
     ensures start { IfSome result (λ place. IsCharBoundary text.now place.0) }
     ensures end { IfSome result (λ place. IsCharBoundary text.now place.1) }
     ensures before { IfSome result (λ place. 0 < place.0
-        → HoldsSpace W.is_space (Some text.now)) }
+        → HoldsSpaceBetweenWords W.is_space (Some text.now)) }
     ensures after { IfSome result (λ place. place.1 < length text.now
-        → HoldsSpace W.is_space (Some text.now)) }
+        → HoldsSpaceBetweenWords W.is_space (Some text.now)) }
     ensures word { MatchOption result (words W.is_space (chars text.now) ≡ [])
         (λ place. words W.is_space (chars text.now)
         ≡ chars (drop place.0 (take place.1 text.now))
@@ -115,7 +115,7 @@ fn cut_word<S: Storage>(text: StrInner<S>, start: usize, end: usize) -> Result<C
 fn next_word<W: WhiteSpace, S: Storage>(
     rest: &mut Option<StrInner<S>>,
 ) -> Option<Result<StrInner<S>, Reason>>
-    ensures step { IsStep (AreWordsToCome W.is_space) (HoldsSpace W.is_space)
+    ensures step { IsStep (AreWordsToCome W.is_space) (HoldsSpaceBetweenWords W.is_space)
         S.refuses rest.old result rest.new }
     ensures shorter { OnSome result
         (option_map_or length rest.new 0 < option_map_or length rest.old 0) }
@@ -180,7 +180,7 @@ impl<S: Storage> Iterator for SplitWhitespaceBytes<S> {
     type Item = Result<StrInner<S>, Reason>;
 
     ghost next_gives = { λ s r t. IsStep (AreWordsToCome is_whitespace)
-        (HoldsSpace is_whitespace) S.refuses s r t };
+        (HoldsSpaceBetweenWords is_whitespace) S.refuses s r t };
 
     ghost remaining = { λ s. at_most (option_map_or length s 0) };
 
@@ -194,7 +194,7 @@ impl<S: Storage> Iterator for SplitAsciiWhitespaceBytes<S> {
     type Item = Result<StrInner<S>, Reason>;
 
     ghost next_gives = { λ s r t. IsStep (AreWordsToCome is_ascii_whitespace)
-        (HoldsSpace is_ascii_whitespace) S.refuses s r t };
+        (HoldsSpaceBetweenWords is_ascii_whitespace) S.refuses s r t };
 
     ghost remaining = { λ s. at_most (option_map_or length s 0) };
 

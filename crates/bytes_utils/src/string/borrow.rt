@@ -1,18 +1,9 @@
 //! Borrowing a text as a `str`, also by its methods and by generic code, and as bytes.
-ghost use Rattle.std.specs.Prelude.{◌≡◌, length};
+ghost use Rattle.std.specs.Prelude.{◌≡◌};
 
 use crate::string::{Storage, StrInner};
 use std::convert::{AsSlice, AsStr};
 use std::ops::DerefStr;
-
-impl<S: Storage> StrInner<S> {
-    /// Returns the number of bytes.
-    pub fn len(&self) -> usize
-        ensures { result ≡ length self.now }
-    {
-        self.as_str().len()
-    }
-}
 
 /// Gives a text the methods of `str`, and makes `&text` a `&str` if one is expected.
 impl<S: Storage> DerefStr for StrInner<S> {

@@ -1,9 +1,36 @@
-//! `Clone`, for types that derive it.
-ghost use Rattle.std.specs.Prelude.{◌≡◌};
+//! `try_clone`, and `Clone` for types that derive it.
+ghost use Rattle.std.specs.Prelude.{◌≡◌, IfOk, IfErr};
 
 use crate::string::{Str, StrInner, StrMut};
 use bytes::{Bytes, BytesMut};
+use bytes_utils_buf::Reason;
 use std::alloc::AllocError;
+
+impl StrInner<Bytes> {
+    /// Returns the same text, sharing the bytes. Fails with `OutOfMemory` if memory is refused.
+    pub fn try_clone(&self) -> Result<Str, Reason>
+        ensures ok { IfOk result (λ copy. copy ≡ self.now) }
+        ensures reason { IfErr result (λ reason. reason ≡ Reason.OutOfMemory) }
+    {
+        let Ok(storage) = self.storage.clone() else {
+            return Err(Reason::OutOfMemory);
+        };
+        Ok(StrInner { storage })
+    }
+}
+
+impl StrInner<BytesMut> {
+    /// Copies the text. Fails with `OutOfMemory` if memory is refused.
+    pub fn try_clone(&self) -> Result<StrMut, Reason>
+        ensures ok { IfOk result (λ copy. copy ≡ self.now) }
+        ensures reason { IfErr result (λ reason. reason ≡ Reason.OutOfMemory) }
+    {
+        match self.storage.clone() {
+            Ok(storage) => Ok(StrInner { storage }),
+            Err(_) => Err(Reason::OutOfMemory),
+        }
+    }
+}
 
 /// Shares the bytes, as `try_clone`.
 impl Clone for StrInner<Bytes> {

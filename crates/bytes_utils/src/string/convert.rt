@@ -1,6 +1,6 @@
 //! Conversions between a text and its storage.
 ghost use Rattle.std.specs.Prelude.{◌≡◌, ◌↔◌, IsUtf8, IsOk, IfOk, IfErr};
-ghost use Rattle.bytes_utils.specs.Errors.{refused_storage, fault_of, IsFaultOf};
+ghost use Rattle.bytes_utils.specs.Errors.{utf8_error_storage, utf8_error_fault, IsUtf8ErrorOf};
 
 use crate::string::{Str, StrMut, Utf8Error};
 use bytes::{Bytes, BytesMut};
@@ -10,7 +10,7 @@ impl TryFrom<Bytes> for Str {
     type Error = Utf8Error<Bytes>;
 
     ghost try_from_gives = { λ bytes r. (IsOk r ↔ IsUtf8 bytes) × IfOk r (λ text. text ≡ bytes)
-        × IfErr r (λ e. (refused_storage e ≡ bytes) × IsFaultOf (fault_of e) bytes) };
+        × IfErr r (λ e. (utf8_error_storage e ≡ bytes) × IsUtf8ErrorOf (utf8_error_fault e) bytes) };
 
     fn try_from(value: Bytes) -> Result<Self, Self::Error> {
         Str::from_inner(value)
@@ -32,7 +32,7 @@ impl TryFrom<BytesMut> for StrMut {
 
     ghost try_from_gives = { λ bytes r. (IsOk r ↔ IsUtf8 bytes.items)
         × IfOk r (λ text. text ≡ bytes.items)
-        × IfErr r (λ e. (refused_storage e ≡ bytes) × IsFaultOf (fault_of e) bytes.items) };
+        × IfErr r (λ e. (utf8_error_storage e ≡ bytes) × IsUtf8ErrorOf (utf8_error_fault e) bytes.items) };
 
     fn try_from(value: BytesMut) -> Result<Self, Self::Error> {
         StrMut::from_inner(value)

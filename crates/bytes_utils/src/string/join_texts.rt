@@ -24,13 +24,13 @@ impl StrInner<Bytes> {
         match texts {
             [] => Ok(Str::empty()),
             [text] => text.try_clone(),
-            _ => copy_joined(alloc, texts, separator),
+            _ => copy_joined_texts(alloc, texts, separator),
         }
     }
 }
 
 /// Copies the texts, with the separator between neighbours, into a block of their own.
-fn copy_joined(alloc: Global, texts: &[Str], separator: &str) -> Result<Str, Reason>
+fn copy_joined_texts(alloc: Global, texts: &[Str], separator: &str) -> Result<Str, Reason>
     ensures ok { IfOk result (λ text. text ≡ join separator.now texts.now) }
     ensures reason { IfErr result (λ reason. reason ≡ Reason.OutOfMemory) }
 {

@@ -1,4 +1,4 @@
-//! Calls of `StrMut`.
+//! Calls of `StrMut` alone.
 ghost use Rattle.std.specs.Prelude.{◌≡◌, [], map, IsOk, IfOk, IfErr, OnOk, OnErr};
 ghost use Rattle.std.specs.Char.{to_ascii_uppercase, to_ascii_lowercase};
 
@@ -17,17 +17,6 @@ impl StrInner<BytesMut> {
         ensures reason { IfErr result (λ reason. reason ≡ Reason.OutOfMemory) }
     {
         match self.storage.split() {
-            Ok(storage) => Ok(StrInner { storage }),
-            Err(_) => Err(Reason::OutOfMemory),
-        }
-    }
-
-    /// Copies the text. Fails with `OutOfMemory` if memory is refused.
-    pub fn try_clone(&self) -> Result<StrMut, Reason>
-        ensures ok { IfOk result (λ copy. copy ≡ self.now) }
-        ensures reason { IfErr result (λ reason. reason ≡ Reason.OutOfMemory) }
-    {
-        match self.storage.clone() {
             Ok(storage) => Ok(StrInner { storage }),
             Err(_) => Err(Reason::OutOfMemory),
         }

@@ -1,7 +1,7 @@
-//! Parts and copies of a `Str`, which leave it as it is.
+//! Parts of a `Str`, which leave it as it is.
 ghost use Rattle.std.specs.Prelude.{◌≡◌, ◌≤◌, length, take, drop, slice_range, IsCharBoundary, IsOk, IfOk, IfErr};
 
-use crate::string::{Str, StrInner, StrMut};
+use crate::string::{Str, StrInner};
 use bytes::Bytes;
 use bytes_utils_buf::Reason;
 use std::ops::Range;
@@ -47,16 +47,5 @@ impl StrInner<Bytes> {
         // The contract of `as_str` says that the bytes are UTF-8.
         let _ = self.as_str();
         self.slice(0..end)
-    }
-
-    /// Returns the same text, sharing the bytes. Fails with `OutOfMemory` if memory is refused.
-    pub fn try_clone(&self) -> Result<Str, Reason>
-        ensures ok { IfOk result (λ copy. copy ≡ self.now) }
-        ensures reason { IfErr result (λ reason. reason ≡ Reason.OutOfMemory) }
-    {
-        match self.storage.clone() {
-            Ok(storage) => Ok(StrInner { storage }),
-            Err(_) => Err(Reason::OutOfMemory),
-        }
     }
 }

@@ -2,7 +2,7 @@
 ghost use Rattle.std.specs.Prelude.{◌≡◌, ◌↔◌, length, take, drop, IsUtf8, IsCharBoundary, IsOk, IfOk, IfErr};
 ghost use Rattle.std.specs.Str.{valid_up_to, error_len};
 ghost use Rattle.std.specs.Str.Lossy.{utf8_valid_len, utf8_error_len};
-ghost use Rattle.bytes_utils.specs.Errors.{refused_storage, fault_of};
+ghost use Rattle.bytes_utils.specs.Errors.{utf8_error_storage, utf8_error_fault};
 
 use crate::string::{Storage, Utf8Error};
 use bytes_utils_buf::{Reason, Refused};
@@ -42,11 +42,11 @@ impl<S: Storage> StrInner<S> {
     pub fn from_inner(s: S) -> Result<Self, Utf8Error<S>>
         ensures variant { IsOk result ↔ IsUtf8 (S.stored s) }
         ensures ok { IfOk result (λ text. text ≡ S.stored s) }
-        ensures err { IfErr result (λ e. refused_storage e ≡ s) }
+        ensures err { IfErr result (λ e. utf8_error_storage e ≡ s) }
         ensures valid_len { IfErr result
-            (λ e. valid_up_to (fault_of e) ≡ utf8_valid_len (S.stored s)) }
-        ensures fault { IfErr result (λ e. error_len (fault_of e)
-            ≡ utf8_error_len (drop (valid_up_to (fault_of e)) (S.stored s))) }
+            (λ e. valid_up_to (utf8_error_fault e) ≡ utf8_valid_len (S.stored s)) }
+        ensures fault { IfErr result (λ e. error_len (utf8_error_fault e)
+            ≡ utf8_error_len (drop (valid_up_to (utf8_error_fault e)) (S.stored s))) }
     {
         match str::from_utf8(s.as_bytes()) {
             Ok(_) => Ok(StrInner { storage: s }),
@@ -87,6 +87,13 @@ impl<S: Storage> StrInner<S> {
         ensures utf8 { IsUtf8 result.now }
     {
         unsafe { str::from_utf8_unchecked(self.storage.as_bytes()) }
+    }
+
+    /// Returns the number of bytes.
+    pub fn len(&self) -> usize
+        ensures { result ≡ length self.now }
+    {
+        self.as_str().len()
     }
 
     /// Splits the text into the text before byte `at` and the text from it on. Requires that `at`

@@ -1,6 +1,6 @@
 //! The error for bytes that are not UTF-8.
 ghost use Rattle.std.specs.Prelude.{◌≡◌};
-ghost use Rattle.bytes_utils.specs.Errors.{refused_storage, fault_of};
+ghost use Rattle.bytes_utils.specs.Errors.{utf8_error_storage, utf8_error_fault};
 
 use std::error::Error;
 use std::{fmt, str};
@@ -14,15 +14,15 @@ pub struct Utf8Error<S> {
 
 impl<S> Utf8Error<S> {
     pub(crate) fn new(storage: S, fault: str::Utf8Error) -> Self
-        ensures storage { refused_storage result ≡ storage }
-        ensures fault { fault_of result ≡ fault }
+        ensures storage { utf8_error_storage result ≡ storage }
+        ensures fault { utf8_error_fault result ≡ fault }
     {
         Utf8Error { storage, fault }
     }
 
     /// Returns the storage that was refused.
     pub fn into_inner(self) -> S
-        ensures { result ≡ refused_storage self }
+        ensures { result ≡ utf8_error_storage self }
     {
         let Utf8Error { storage, fault: _ } = self;
         storage
@@ -30,7 +30,7 @@ impl<S> Utf8Error<S> {
 
     /// Returns std's error, which says what is wrong with the bytes and where.
     pub fn utf8_error(&self) -> str::Utf8Error
-        ensures { result ≡ fault_of self.now }
+        ensures { result ≡ utf8_error_fault self.now }
     {
         self.fault
     }
@@ -43,7 +43,7 @@ impl<S> fmt::Display for Utf8Error<S> {
     ghost use Rattle.bytes_utils.specs.Errors.{utf8_error_text};
 
     ghost output = { λ e.
-        Some (utf8_error_text (valid_up_to (fault_of e)) (error_len (fault_of e))) };
+        Some (utf8_error_text (valid_up_to (utf8_error_fault e)) (error_len (utf8_error_fault e))) };
 
     fn fmt<W: fmt::Write>(&self, f: &mut fmt::Formatter<W>) -> fmt::Result {
         let at = self.fault.valid_up_to();

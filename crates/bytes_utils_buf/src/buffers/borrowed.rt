@@ -1,6 +1,7 @@
 //! Borrowed buffers: each call goes to the buffer that the `&mut` borrows.
 ghost use Rattle.std.specs.Prelude.{◌≡◌, ◌≤◌, length, take, drop, slice_range, IsOk, IfOk, IfErr};
-ghost use Rattle.bytes_utils_buf.specs.Slices.{taken_by, FillsTable};
+ghost use Rattle.bytes_utils_buf.specs.Copies.{taken_by_copy};
+ghost use Rattle.bytes_utils_buf.specs.Slices.{FillsSlices};
 
 use crate::Reason;
 use crate::contiguous::ContiguousBuf;

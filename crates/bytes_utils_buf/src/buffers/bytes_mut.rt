@@ -1,7 +1,8 @@
 //! `BytesMut`: bytes that are taken out of it are shared.
 ghost use Rattle.std.specs.Prelude.{◌≡◌, ◌<◌, ◌≤◌, length, take, drop, IfOk, IfErr, OnErr};
 ghost use Rattle.bytes.specs.Adapters.{kept_spare};
-ghost use Rattle.bytes_utils_buf.specs.Slices.{taken_by, joined, FillsTable};
+ghost use Rattle.bytes_utils_buf.specs.Copies.{taken_by_copy};
+ghost use Rattle.bytes_utils_buf.specs.Slices.{joined_slices, FillsSlices};
 
 use crate::contiguous::ContiguousBuf;
 use crate::parts::{BufParts, CopyRefused, slice_into};
@@ -15,8 +16,8 @@ impl BufParts for BytesMut {
     fn copy_out(&mut self, _alloc: Global, len: usize) -> Result<Bytes, CopyRefused>
         requires { len ≤ length self.old.items }
         ensures value { IfOk result (λ copy. copy ≡ take len self.old.items) }
-        ensures taken { taken_by len result ≤ len }
-        ensures rest { self.new.items ≡ drop (taken_by len result) self.old.items }
+        ensures taken { taken_by_copy len result ≤ len }
+        ensures rest { self.new.items ≡ drop (taken_by_copy len result) self.old.items }
         ensures kept { kept_spare self.new.spare ≡ kept_spare self.old.spare }
         ensures refused { IfErr result (λ e. e.taken ≡ 0) }
         ensures same { OnErr result (self.new ≡ self.old) }
@@ -28,9 +29,9 @@ impl BufParts for BytesMut {
     }
 
     fn chunks_into<'s>(&'s self, dst: &mut [&'s [u8]]) -> usize
-        ensures fills { FillsTable result dst.old dst.new self.now.items }
+        ensures fills { FillsSlices result dst.old dst.new self.now.items }
         ensures one { result ≤ 1 }
-        ensures all { 0 < length dst.old → joined (take result dst.new) ≡ self.now.items }
+        ensures all { 0 < length dst.old → joined_slices (take result dst.new) ≡ self.now.items }
     {
         slice_into(self.as_slice(), dst)
     }

@@ -1,9 +1,10 @@
 //! `Chain`: one buffer, and then another.
 ghost use Rattle.std.specs.Prelude.{◌≡◌, ◌+◌, ◌-◌, ◌≤◌, ◌++◌, length, min, take, drop, IfOk, IfErr};
 ghost use Rattle.bytes.specs.Adapters.{chain_first, chain_last, chain_limit};
-ghost use Rattle.bytes_utils_buf.specs.Slices.{taken_by, FillsTable};
+ghost use Rattle.bytes_utils_buf.specs.Copies.{taken_by_copy};
+ghost use Rattle.bytes_utils_buf.specs.Slices.{FillsSlices};
 
-use super::pair::{first_of_both, first_slices_into};
+use super::pair::{first_of_pair, first_pair_slices_into};
 use crate::contiguous::ContiguousBuf;
 use crate::parts::{BufParts, CopyRefused};
 use bytes::buf::Chain;
@@ -16,7 +17,7 @@ impl<T: ContiguousBuf, U: ContiguousBuf> BufParts for Chain<T, U> {
     ghost loses = { λ _ taken. taken ≡ 0 };
 
     fn copy_out(&mut self, alloc: Global, len: usize) -> Result<Bytes, CopyRefused> {
-        let Ok(copy) = first_of_both(self.first_ref(), self.last_ref(), alloc, len) else {
+        let Ok(copy) = first_of_pair(self.first_ref(), self.last_ref(), alloc, len) else {
             return Err(CopyRefused { taken: 0 });
         };
         self.advance(len);
@@ -24,7 +25,7 @@ impl<T: ContiguousBuf, U: ContiguousBuf> BufParts for Chain<T, U> {
     }
 
     fn chunks_into<'s>(&'s self, dst: &mut [&'s [u8]]) -> usize {
-        first_slices_into(
+        first_pair_slices_into(
             self.first_ref().as_contiguous(),
             self.last_ref().as_contiguous(),
             self.remaining(),

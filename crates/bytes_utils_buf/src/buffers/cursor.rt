@@ -2,7 +2,8 @@
 ghost use Rattle.std.specs.Prelude.{◌≡◌, ◌≤◌, length, take, drop, IfOk, IfErr};
 ghost use Rattle.std.specs.Io.Cursor.{cursor_position, cursor_inner};
 ghost use Rattle.bytes.specs.Adapters.{cursor_kept};
-ghost use Rattle.bytes_utils_buf.specs.Slices.{taken_by, FillsTable};
+ghost use Rattle.bytes_utils_buf.specs.Copies.{taken_by_copy};
+ghost use Rattle.bytes_utils_buf.specs.Slices.{FillsSlices};
 
 use crate::contiguous::{ContiguousBuf, take_prefix};
 use crate::parts::{BufParts, CopyRefused, slice_into};

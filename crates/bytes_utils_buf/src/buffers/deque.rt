@@ -1,8 +1,9 @@
 //! Deques of bytes, which are two slices if they wrap around.
 ghost use Rattle.std.specs.Prelude.{◌≡◌, ◌≤◌, length, take, drop, IfOk, IfErr};
-ghost use Rattle.bytes_utils_buf.specs.Slices.{taken_by, FillsTable};
+ghost use Rattle.bytes_utils_buf.specs.Copies.{taken_by_copy};
+ghost use Rattle.bytes_utils_buf.specs.Slices.{FillsSlices};
 
-use super::pair::{first_of_both, slices_into};
+use super::pair::{first_of_pair, pair_slices_into};
 use crate::parts::{BufParts, CopyRefused};
 use bytes::{Buf, Bytes};
 use std::alloc::{Allocator, Global};
@@ -14,7 +15,7 @@ impl<A: Allocator> BufParts for VecDeque<u8, A> {
 
     fn copy_out(&mut self, alloc: Global, len: usize) -> Result<Bytes, CopyRefused> {
         let (front, back) = self.as_slices();
-        let Ok(copy) = first_of_both(&front, &back, alloc, len) else {
+        let Ok(copy) = first_of_pair(&front, &back, alloc, len) else {
             return Err(CopyRefused { taken: 0 });
         };
         self.advance(len);
@@ -23,6 +24,6 @@ impl<A: Allocator> BufParts for VecDeque<u8, A> {
 
     fn chunks_into<'s>(&'s self, dst: &mut [&'s [u8]]) -> usize {
         let (front, back) = self.as_slices();
-        slices_into(front, back, dst)
+        pair_slices_into(front, back, dst)
     }
 }

@@ -1,6 +1,6 @@
 //! Two buffers that are read one after the other.
 ghost use Rattle.std.specs.Prelude.{◌≡◌, ◌+◌, ◌≤◌, ◌++◌, length, take, IfOk, IfErr};
-ghost use Rattle.bytes_utils_buf.specs.Slices.{FillsTable};
+ghost use Rattle.bytes_utils_buf.specs.Slices.{FillsSlices};
 
 use crate::Reason;
 use crate::contiguous::ContiguousBuf;
@@ -10,7 +10,7 @@ use std::alloc::Global;
 
 /// Copies the first `len` bytes of both, which stay there too. If one of the two has them all, its
 /// own `prefix` returns them.
-pub(super) fn first_of_both<T: ContiguousBuf, U: ContiguousBuf>(
+pub(super) fn first_of_pair<T: ContiguousBuf, U: ContiguousBuf>(
     front: &T,
     back: &U,
     alloc: Global,
@@ -35,8 +35,8 @@ pub(super) fn first_of_both<T: ContiguousBuf, U: ContiguousBuf>(
 }
 
 /// Puts two slices into the first places of `dst`, and returns how many places it filled.
-pub(super) fn slices_into<'s>(front: &'s [u8], back: &'s [u8], dst: &mut [&'s [u8]]) -> usize
-    ensures { FillsTable result dst.old dst.new (front.now ++ back.now) }
+pub(super) fn pair_slices_into<'s>(front: &'s [u8], back: &'s [u8], dst: &mut [&'s [u8]]) -> usize
+    ensures { FillsSlices result dst.old dst.new (front.now ++ back.now) }
 {
     let filled = slice_into(front, dst);
     if filled == dst.len() {
@@ -45,18 +45,18 @@ pub(super) fn slices_into<'s>(front: &'s [u8], back: &'s [u8], dst: &mut [&'s [u
     filled + slice_into(back, &mut dst[filled..])
 }
 
-/// Like `slices_into`, but of the first `len` bytes only.
-pub(super) fn first_slices_into<'s>(
+/// Like `pair_slices_into`, but of the first `len` bytes only.
+pub(super) fn first_pair_slices_into<'s>(
     front: &'s [u8],
     back: &'s [u8],
     len: usize,
     dst: &mut [&'s [u8]],
 ) -> usize
     requires { len ≤ length front.now + length back.now }
-    ensures { FillsTable result dst.old dst.new (take len (front.now ++ back.now)) }
+    ensures { FillsSlices result dst.old dst.new (take len (front.now ++ back.now)) }
 {
     if len <= front.len() {
         return slice_into(&front[..len], dst);
     }
-    slices_into(front, &back[..len - front.len()], dst)
+    pair_slices_into(front, &back[..len - front.len()], dst)
 }

@@ -1,7 +1,8 @@
 //! `Take`: a buffer up to a limit.
 ghost use Rattle.std.specs.Prelude.{◌≡◌, ◌≤◌, length, take, drop, slice_range, IsOk, IfOk, IfErr};
 ghost use Rattle.bytes.specs.Adapters.{take_inner, take_limit, take_kept};
-ghost use Rattle.bytes_utils_buf.specs.Slices.{taken_by, FillsTable};
+ghost use Rattle.bytes_utils_buf.specs.Copies.{taken_by_copy};
+ghost use Rattle.bytes_utils_buf.specs.Slices.{FillsSlices};
 
 use crate::Reason;
 use crate::contiguous::{ContiguousBuf, take_prefix};

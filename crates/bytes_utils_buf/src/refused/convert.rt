@@ -44,9 +44,9 @@ impl<T: Drop> From<AllocFailed<T>> for Reason {
 /// Keeps the reason as a kind: `OutOfMemory`, or `FileTooLarge` for a sum of lengths.
 impl From<Reason> for io::Error {
     ghost use Rattle.std.specs.IoError.{error_kind};
-    ghost use Rattle.bytes_utils_buf.specs.Refusals.{reason_kind};
+    ghost use Rattle.bytes_utils_buf.specs.Refusals.{refusal_kind};
 
-    ghost from_gives = { λ reason error. error_kind error ≡ reason_kind reason };
+    ghost from_gives = { λ reason error. error_kind error ≡ refusal_kind reason };
 
     fn from(reason: Reason) -> io::Error {
         match reason {

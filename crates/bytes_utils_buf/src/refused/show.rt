@@ -1,6 +1,6 @@
 //! How errors print.
 ghost use Rattle.std.specs.Prelude.{Some};
-ghost use Rattle.bytes_utils_buf.specs.Refusals.{reason_text, copy_refused_text};
+ghost use Rattle.bytes_utils_buf.specs.Refusals.{refusal_text, copy_refused_text};
 
 use super::{Reason, Refused};
 use crate::parts::CopyRefused;
@@ -8,10 +8,10 @@ use std::error::Error;
 use std::fmt;
 
 impl fmt::Display for Reason {
-    ghost output = { λ reason. Some (reason_text reason) };
+    ghost output = { λ reason. Some (refusal_text reason) };
 
     // The same text in every style, such as `{:#}`.
-    ghost styled_output = { λ reason _. Some (reason_text reason) };
+    ghost styled_output = { λ reason _. Some (refusal_text reason) };
 
     fn fmt<W: fmt::Write>(&self, f: &mut fmt::Formatter<W>) -> fmt::Result {
         match self {
@@ -25,9 +25,9 @@ impl Error for Reason {}
 
 /// Prints its reason.
 impl<T> fmt::Display for Refused<T> {
-    ghost output = { λ refused. Some (reason_text refused.reason) };
+    ghost output = { λ refused. Some (refusal_text refused.reason) };
 
-    ghost styled_output = { λ refused _. Some (reason_text refused.reason) };
+    ghost styled_output = { λ refused _. Some (refusal_text refused.reason) };
 
     fn fmt<W: fmt::Write>(&self, f: &mut fmt::Formatter<W>) -> fmt::Result {
         fmt::Display::fmt(&self.reason, f)

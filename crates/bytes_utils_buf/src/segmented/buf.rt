@@ -1,28 +1,29 @@
 //! Held buffers that read as one.
-ghost use Rattle.std.specs.Prelude.{◌≡◌, ◌+◌, ◌^◌, ◌<◌, ◌≤◌, [], ◌∷◌, length, map, drop, IsTrue, ◌↔◌, IfOk, IfErr};
+ghost use Rattle.std.specs.Prelude.{◌≡◌, ◌+◌, ◌^◌, ◌<◌, ◌≤◌, List, [], ◌∷◌, length, map, drop, Some, IsTrue, ◌↔◌, IsErr, IfOk, IfErr};
+ghost use Rattle.std.specs.Iterator.{IsFinite, Drains, YieldsThen};
 ghost use Rattle.std.specs.List.{concat};
 ghost use Rattle.bytes_utils_buf.specs.Lent.{as_lent};
-ghost use Rattle.bytes_utils_buf.specs.Segments.{CountsPass, IsPaid, NoneEmpty, newly_held, nothing_held, Skips};
+ghost use Rattle.bytes_utils_buf.specs.Segments.{CountsPass, IsPaid, NoSegmentEmpty, after_accepting, newly_held, nothing_held, SkipsSegments};
 ghost use Rattle.bytes_utils_buf.specs.Tally.{IsBalanced, IsCovered};
 
 mod chunks;
 mod copy;
 mod front;
-mod grow;
 mod insert;
-mod join;
+mod last;
 mod peek;
 mod queue;
 mod range;
-mod read;
+mod read_from;
 mod remove;
 mod share;
 mod split;
 
-use super::copy::Segmented;
+use super::copy::SegmentedCopy;
+use super::skip::skip_held;
+use super::sum::sum_of_held;
 use super::tally::Tally;
-use super::walk::skip_held;
-use crate::Reason;
+use crate::{Reason, Refused};
 use bytes::Buf;
 pub use chunks::Chunks;
 use std::alloc::Global;
@@ -53,15 +54,15 @@ pub struct SegmentedBuf<B: Buf + Drop> {
 impl<B: Buf + Drop> Model for SegmentedBuf<B> {
     ghost use Rattle.std.specs.Prelude.{◌≡◌, length, map};
     ghost use Rattle.std.specs.List.{concat};
-    ghost use Rattle.bytes_utils_buf.specs.Segments.{Held, NoneEmpty};
+    ghost use Rattle.bytes_utils_buf.specs.Segments.{HeldSegments, NoSegmentEmpty};
     ghost use Rattle.bytes_utils_buf.specs.Tally.{IsBalanced};
 
-    ghost Value = { Held };
+    ghost Value = { HeldSegments };
 
     ghost view = { λ q. record { segments = map B.unread q.segments.items; tally = q.tally } };
 
     ghost invariant = { λ q. (q.remaining ≡ length (concat (map B.unread q.segments.items)))
-        × NoneEmpty (map B.unread q.segments.items)
+        × NoSegmentEmpty (map B.unread q.segments.items)
         × IsBalanced (map B.unread q.segments.items) q.tally };
 }
 
@@ -77,13 +78,86 @@ impl<B: Buf + Drop> SegmentedBuf<B> {
         }
     }
 
+    /// Holds the buffers of a vector, in its memory, and drops empty ones. It allocates nothing,
+    /// and ignores `_alloc`. Fails with `TooLong` if the sum of their unread bytes exceeds
+    /// `usize::MAX`; then `bufs` comes back.
+    pub fn from_vec(_alloc: Global, bufs: Vec<B>) -> Result<SegmentedBuf<B>, Refused<Vec<B>>>
+        ensures too_long { IsErr result ↔ (2 ^ 64 ≤ length (concat (map B.unread bufs.items))) }
+        ensures ok { IfOk result (λ all. all ≡ after_accepting nothing_held (map B.unread bufs.items)) }
+        ensures bytes { IfOk result (λ all. concat all.segments ≡ concat (map B.unread bufs.items)) }
+        ensures back { IfErr result (λ e. e.back.items ≡ bufs.items) }
+        ensures reason { IfErr result (λ e. e.reason ≡ Reason.TooLong) }
+    {
+        SegmentedBuf::from_deque(VecDeque::from_vec(bufs)).map_err(|refused| Refused {
+            reason: refused.reason,
+            back: refused.back.into_vec(),
+        })
+    }
+
+    /// Holds the buffers of a deque, in its memory, and drops empty ones. Fails with `TooLong` if
+    /// the sum of their unread bytes exceeds `usize::MAX`; then `bufs` comes back.
+    pub fn from_deque(mut bufs: VecDeque<B>) -> Result<SegmentedBuf<B>, Refused<VecDeque<B>>>
+        ensures too_long { IsErr result ↔ (2 ^ 64 ≤ length (concat (map B.unread bufs.items))) }
+        ensures ok { IfOk result (λ all. all ≡ after_accepting nothing_held (map B.unread bufs.items)) }
+        ensures bytes { IfOk result (λ all. concat all.segments ≡ concat (map B.unread bufs.items)) }
+        ensures back { IfErr result (λ e. e.back.items ≡ bufs.items) }
+        ensures reason { IfErr result (λ e. e.reason ≡ Reason.TooLong) }
+    {
+        let Some(remaining) = sum_of_held(&bufs) else {
+            return Err(Refused {
+                reason: Reason::TooLong,
+                back: bufs,
+            });
+        };
+        let mut tally = Tally::new();
+        let given = bufs.len();
+        bufs.retain(|buf| buf.remaining() > 0);
+        tally.give(given, given - bufs.len());
+        tally.call();
+        Ok(SegmentedBuf {
+            segments: bufs,
+            remaining,
+            tally,
+        })
+    }
+
+    /// Holds the items of `iter`, and drops empty ones. Requires that `iter` ends, and that its
+    /// `next` may be called. Fails at the first item with which the sum exceeds `usize::MAX`
+    /// (`TooLong`) or for which memory is refused (`OutOfMemory`). That item comes back, those
+    /// before it are dropped, and those after it too, or they stay in `iter` if it was passed as
+    /// `&mut iter`.
+    pub fn from_iter<I: Iterator<Item = B> + Drop>(
+        alloc: Global,
+        iter: I,
+    ) -> Result<SegmentedBuf<B>, Refused<B>>
+        requires can { I.can_next iter }
+        requires ends { IsFinite (I.remaining iter) }
+        ensures ok { IfOk result (λ all. (items : List B) × Drains I.next_gives iter items
+            × (all ≡ after_accepting nothing_held (map B.unread items))) }
+        ensures bytes { IfOk result (λ all. (items : List B) × Drains I.next_gives iter items
+            × (concat all.segments ≡ concat (map B.unread items))) }
+
+        // The item that comes back is the first with which the sum exceeds `usize::MAX`, or one for
+        // which memory was refused before that.
+        ensures err { IfErr result (λ e. (items : List B) × (rest : I)
+            × YieldsThen I.next_gives iter items (Some e.back) rest
+            × (length (concat (map B.unread items)) < 2 ^ 64)
+            × ((e.reason ≡ Reason.TooLong)
+            ↔ (2 ^ 64 ≤ length (concat (map B.unread items)) + length (B.unread e.back)))) }
+        ensures empty { IfErr result (λ e. 0 < length (B.unread e.back)) }
+    {
+        let mut all = SegmentedBuf::new(alloc);
+        all.extend(iter)?;
+        Ok(all)
+    }
+
     /// Returns how many segments are held.
     pub fn segments(&self) -> usize
         ensures count { result ≡ length self.now.segments }
         ensures none { (result ≡ 0) ↔ (concat self.now.segments ≡ []) }
 
         // True of every value, whatever was called before.
-        ensures none_empty { NoneEmpty self.now.segments }
+        ensures none_empty { NoSegmentEmpty self.now.segments }
         ensures balanced { IsBalanced self.now.segments self.now.tally }
         ensures covered { IsCovered self.now.segments self.now.tally }
     {
@@ -116,7 +190,7 @@ impl<B: Buf + Drop> SegmentedBuf<B> {
     #[inline]
     pub fn advance(&mut self, cnt: usize)
         requires { cnt ≤ length (concat self.old.segments) }
-        ensures skips { Skips cnt self.old.segments self.new.segments }
+        ensures skips { SkipsSegments cnt self.old.segments self.new.segments }
         ensures bytes { concat self.new.segments ≡ drop cnt (concat self.old.segments) }
 
         // Each passed segment counts one turn, on this value's own tally.
@@ -131,7 +205,7 @@ impl<B: Buf + Drop> SegmentedBuf<B> {
     /// Holds these buffers, none of which is empty, with a tally of their own.
     fn newly_held(segments: VecDeque<B>, remaining: usize) -> SegmentedBuf<B>
         requires sum { remaining ≡ length (concat (map B.unread segments.items)) }
-        requires none_empty { NoneEmpty (map B.unread segments.items) }
+        requires none_empty { NoSegmentEmpty (map B.unread segments.items) }
         ensures { result ≡ newly_held (map B.unread segments.items) }
     {
         let mut tally = Tally::new();
@@ -167,7 +241,7 @@ impl<B: Buf + Drop> From<SegmentedBuf<B>> for VecDeque<B> {
     }
 }
 
-impl<B: Buf + Drop> Segmented for SegmentedBuf<B> {
+impl<B: Buf + Drop> SegmentedCopy for SegmentedBuf<B> {
     ghost lent = { as_lent };
 
     #[inline]
@@ -203,7 +277,7 @@ impl<B: Buf + Drop> Buf for SegmentedBuf<B> {
     #[inline]
     fn advance(&mut self, cnt: usize)
         requires { cnt ≤ length (concat self.old.segments) }
-        ensures skips { Skips cnt self.old.segments self.new.segments }
+        ensures skips { SkipsSegments cnt self.old.segments self.new.segments }
         ensures value { concat self.new.segments ≡ drop cnt (concat self.old.segments) }
         ensures counts { CountsPass 1 self.old self.new }
     {

@@ -1,14 +1,14 @@
 //! Tables filled with the slices of many buffers.
 ghost use Rattle.std.specs.Prelude.{◌≡◌, ◌≤◌, length, map};
 ghost use Rattle.std.specs.List.{concat};
-ghost use Rattle.bytes_utils_buf.specs.Slices.{FillsTable};
+ghost use Rattle.bytes_utils_buf.specs.Slices.{FillsSlices};
 
 use crate::parts::BufParts;
 use std::collections::VecDeque;
 
 /// Fills the table with the slices of one buffer after another, until it is full.
 pub(super) fn fill_from<'s, B: BufParts>(bufs: &'s [B], dst: &mut [&'s [u8]]) -> usize
-    ensures { FillsTable result dst.old dst.new (concat (map B.unread bufs.now)) }
+    ensures { FillsSlices result dst.old dst.new (concat (map B.unread bufs.now)) }
 {
     let mut filled = 0;
     let mut i = 0;
@@ -24,7 +24,7 @@ pub(super) fn fill_from_held<'s, B: BufParts>(
     segments: &'s VecDeque<B>,
     dst: &mut [&'s [u8]],
 ) -> usize
-    ensures { FillsTable result dst.old dst.new (concat (map B.unread segments.now.items)) }
+    ensures { FillsSlices result dst.old dst.new (concat (map B.unread segments.now.items)) }
 {
     let (first, second) = segments.as_slices();
     let filled = fill_from(first, dst);

@@ -1,12 +1,11 @@
 //! Pieces of which small ones are copied together.
 ghost use Rattle.std.specs.Prelude.{◌≡◌, ◌+◌, ◌*◌, ◌^◌, ◌<◌, ◌≤◌, ◌↔◌, [], ◌∷◌, ◌++◌, length, take, drop, IsOk, IfOk, IfErr, OnOk, OnErr, ◌⊎◌};
 ghost use Rattle.std.specs.List.{concat};
-ghost use Rattle.bytes_utils_buf.specs.Copies.{CountsCopy};
-ghost use Rattle.bytes_utils_buf.specs.Packing.{IsPacked, Packs, last_of};
-ghost use Rattle.bytes_utils_buf.specs.Segments.{CountsPass, IsPaid, Skips, after_accepting, front_of, newly_held, nothing_held, take_bytes};
-ghost use Rattle.bytes_utils_buf.specs.Slices.{taken_by};
+ghost use Rattle.bytes_utils_buf.specs.Copies.{CountsCopy, taken_by_copy};
+ghost use Rattle.bytes_utils_buf.specs.Packing.{IsPacked, Packs, last_packed};
+ghost use Rattle.bytes_utils_buf.specs.Segments.{CountsPass, IsPaid, SkipsSegments, after_accepting, front_segment, newly_held, nothing_held, take_from_segments};
 
-mod read;
+mod read_from;
 
 use super::{BLOCK, SegmentedBuf};
 use crate::parts::{BufParts, CopyRefused};
@@ -90,7 +89,7 @@ impl PackedBuf {
 
     /// Returns the bytes of the last segment, or none if there is no segment.
     pub fn last_segment(&self) -> &[u8]
-        ensures { result.now ≡ last_of self.now.held.segments }
+        ensures { result.now ≡ last_packed self.now.held.segments }
     {
         self.held.last_segment()
     }
@@ -205,14 +204,14 @@ impl PackedBuf {
         ensures reason { IfErr result (λ reason. reason ≡ Reason.OutOfMemory) }
         ensures paid { IsPaid self.old.held self.new.held }
     {
-        self.held.make_room(alloc, bytes.len())?;
+        self.held.make_room_in_last(alloc, bytes.len())?;
         if self.held.extend_last(bytes) {
             return Ok(());
         }
         let size = self.held.last_segment().len() + bytes.len();
         if self.held.segments() > 0 && size <= self.threshold {
             self.held
-                .replace_last(alloc, bytes, block_len(size, BLOCK))?;
+                .replace_last(alloc, bytes, packed_block_len(size, BLOCK))?;
             return Ok(());
         }
         self.push_block(alloc, bytes)
@@ -254,7 +253,7 @@ impl PackedBuf {
         requires some { 0 < length bytes.now }
         requires fits { length (concat self.old.held.segments) + length bytes.now < 2 ^ 64 }
         requires over { 0 < length self.old.held.segments
-            → self.old.threshold < length (last_of self.old.held.segments) + length bytes.now }
+            → self.old.threshold < length (last_packed self.old.held.segments) + length bytes.now }
         ensures ok { OnOk result (self.new.held ≡ after_accepting self.old.held (bytes.now ∷ [])) }
         ensures bytes { OnOk result
             (concat self.new.held.segments ≡ concat self.old.held.segments ++ bytes.now) }
@@ -263,13 +262,13 @@ impl PackedBuf {
         ensures reason { IfErr result (λ reason. reason ≡ Reason.OutOfMemory) }
         ensures paid { IsPaid self.old.held self.new.held }
     {
-        let least = if self.held.segments() == 0 || self.held.ends_in_block() {
+        let least = if self.held.segments() == 0 || self.held.last_is_block() {
             BLOCK
         } else {
             SMALL_BLOCK
         };
         let emptied = replace(&mut self.emptied, BytesMut::new(alloc));
-        let mut block = with_room(alloc, emptied, bytes.len(), least)?;
+        let mut block = packed_block(alloc, emptied, bytes.len(), least)?;
         block.extend_reserved(bytes);
         Ok(self.held.push(EitherBuf::Right(block))?)
     }
@@ -285,7 +284,7 @@ impl PackedBuf {
         ensures reason { IfErr result (λ reason. reason ≡ Reason.OutOfMemory) }
         ensures paid { IsPaid self.old.held self.new.held }
     {
-        let (all, last) = self.held.take_only_segment(alloc)?;
+        let (all, last) = self.held.take_front_alone(alloc)?;
         self.keep_room(last);
         Ok(all)
     }
@@ -311,7 +310,7 @@ impl PackedBuf {
     pub fn take_bytes(&mut self, alloc: Global, len: usize) -> Result<Bytes, Reason>
         requires { len ≤ length (concat self.old.held.segments) }
         ensures value { IfOk result (λ front. front ≡ take len (concat self.old.held.segments)) }
-        ensures skips { OnOk result (Skips len self.old.held.segments self.new.held.segments) }
+        ensures skips { OnOk result (SkipsSegments len self.old.held.segments self.new.held.segments) }
         ensures bytes { OnOk result
             (concat self.new.held.segments ≡ drop len (concat self.old.held.segments)) }
         ensures threshold { self.new.threshold ≡ self.old.threshold }
@@ -333,7 +332,7 @@ impl PackedBuf {
 
     /// Returns how many bytes the first segment has, or 0 if there is none.
     fn first_len(&self) -> usize
-        ensures { result ≡ length (front_of self.now.held.segments) }
+        ensures { result ≡ length (front_segment self.now.held.segments) }
     {
         match self.held.segment(0) {
             Some(first) => first.len(),
@@ -349,12 +348,12 @@ impl PackedBuf {
     pub fn split_to(&mut self, alloc: Global, len: usize) -> Result<SegmentedBuf<Bytes>, Reason>
         requires { len ≤ length (concat self.old.held.segments) }
         ensures ok { IfOk result
-            (λ first. first ≡ newly_held (take_bytes len self.old.held.segments)) }
+            (λ first. first ≡ newly_held (take_from_segments len self.old.held.segments)) }
         ensures front { IfOk result
             (λ first. concat first.segments ≡ take len (concat self.old.held.segments)) }
         ensures bytes { OnOk result
             (concat self.new.held.segments ≡ drop len (concat self.old.held.segments)) }
-        ensures skips { OnOk result (Skips len self.old.held.segments self.new.held.segments) }
+        ensures skips { OnOk result (SkipsSegments len self.old.held.segments self.new.held.segments) }
         ensures threshold { self.new.threshold ≡ self.old.threshold }
         ensures err { OnErr result (self.new ≡ self.old) }
         ensures reason { IfErr result (λ reason. reason ≡ Reason.OutOfMemory) }
@@ -370,7 +369,7 @@ impl PackedBuf {
     /// that `cnt` is at most `remaining()` (test: `remaining`).
     pub fn advance(&mut self, cnt: usize)
         requires { cnt ≤ length (concat self.old.held.segments) }
-        ensures skips { Skips cnt self.old.held.segments self.new.held.segments }
+        ensures skips { SkipsSegments cnt self.old.held.segments self.new.held.segments }
         ensures bytes { concat self.new.held.segments ≡ drop cnt (concat self.old.held.segments) }
         ensures threshold { self.new.threshold ≡ self.old.threshold }
         ensures counts { CountsPass 1 self.old.held self.new.held }
@@ -400,7 +399,7 @@ impl PackedBuf {
 
 /// Returns an empty block with room for `len` bytes: `block`, if it has room for them or can have it
 /// without memory, or else a new one of at least `least` bytes.
-fn with_room(
+fn packed_block(
     alloc: Global,
     mut block: BytesMut,
     len: usize,
@@ -410,7 +409,7 @@ fn with_room(
     ensures room { IfOk result (λ block. len ≤ block.spare) }
 {
     block.clear();
-    let size = block_len(len, least);
+    let size = packed_block_len(len, least);
     if len <= block.capacity() || block.try_reclaim(size) {
         return Ok(block);
     }
@@ -418,7 +417,7 @@ fn with_room(
 }
 
 /// How many bytes a new block has that begins with `size` bytes: twice these, and at least `least`.
-fn block_len(size: usize, least: usize) -> usize
+fn packed_block_len(size: usize, least: usize) -> usize
     ensures room { size ≤ result }
     ensures within { (result ≤ least) ⊎ (result ≤ 2 * size) }
 {
@@ -442,7 +441,7 @@ impl Buf for PackedBuf {
 
     fn advance(&mut self, cnt: usize)
         requires { cnt ≤ length (concat self.old.held.segments) }
-        ensures skips { Skips cnt self.old.held.segments self.new.held.segments }
+        ensures skips { SkipsSegments cnt self.old.held.segments self.new.held.segments }
         ensures value { concat self.new.held.segments ≡ drop cnt (concat self.old.held.segments) }
         ensures threshold { self.new.threshold ≡ self.old.threshold }
         ensures counts { CountsPass 1 self.old.held self.new.held }
@@ -458,13 +457,13 @@ impl BufParts for PackedBuf {
     fn copy_out(&mut self, alloc: Global, len: usize) -> Result<Bytes, CopyRefused>
         requires { len ≤ length (concat self.old.held.segments) }
         ensures value { IfOk result (λ copy. copy ≡ take len (concat self.old.held.segments)) }
-        ensures taken { taken_by len result ≤ len }
-        ensures skips { Skips (taken_by len result) self.old.held.segments self.new.held.segments }
+        ensures taken { taken_by_copy len result ≤ len }
+        ensures skips { SkipsSegments (taken_by_copy len result) self.old.held.segments self.new.held.segments }
         ensures rest { concat self.new.held.segments
-            ≡ drop (taken_by len result) (concat self.old.held.segments) }
+            ≡ drop (taken_by_copy len result) (concat self.old.held.segments) }
         ensures threshold { self.new.threshold ≡ self.old.threshold }
         ensures lost { IfErr result (λ e. (e.taken ≡ 0) ⊎ (e.taken ≡ len)) }
-        ensures counts { CountsCopy len (taken_by len result) self.old.held self.new.held }
+        ensures counts { CountsCopy len (taken_by_copy len result) self.old.held self.new.held }
     {
         self.held.copy_out(alloc, len)
     }

@@ -1,7 +1,7 @@
 //! Places of bytes in held buffers.
 ghost use Rattle.std.specs.Prelude.{◌≡◌, ◌<◌, ◌≤◌, [], length, map, slice_index_or, IfSome, IfNone};
 ghost use Rattle.std.specs.List.{concat};
-ghost use Rattle.bytes_utils_buf.specs.Segments.{IsInside, IsPlace, lists_from, Skips};
+ghost use Rattle.bytes_utils_buf.specs.Segments.{IsInsideSegment, IsPlace, segments_from, SkipsSegments};
 
 use bytes::Buf;
 use std::collections::VecDeque;
@@ -25,9 +25,9 @@ pub(super) fn find_place<B: Buf>(bufs: &VecDeque<B>, len: usize, at: usize) -> P
     requires len { len ≡ length (concat (map B.unread bufs.now.items)) }
     requires within { at ≤ len }
     ensures place { IsPlace at result.passed result.offset (map B.unread bufs.now.items) }
-    ensures skips { Skips at (map B.unread bufs.now.items)
-        (lists_from result.passed result.offset (map B.unread bufs.now.items)) }
-    ensures inside { IsInside result.passed result.offset (map B.unread bufs.now.items) }
+    ensures skips { SkipsSegments at (map B.unread bufs.now.items)
+        (segments_from result.passed result.offset (map B.unread bufs.now.items)) }
+    ensures inside { IsInsideSegment result.passed result.offset (map B.unread bufs.now.items) }
 {
     if at <= len / 2 {
         place_from_front(bufs, at)
@@ -43,7 +43,7 @@ fn place_from_front<B: Buf>(bufs: &VecDeque<B>, at: usize) -> Place
 {
     let mut passed = 0;
     let mut offset = at;
-    while let Some(size) = size_within(bufs, passed, offset) {
+    while let Some(size) = size_within_place(bufs, passed, offset) {
         offset -= size;
         passed += 1;
     }
@@ -60,7 +60,7 @@ fn place_from_back<B: Buf>(bufs: &VecDeque<B>, len: usize, at: usize) -> Place
     let mut before = len;
     while before > at {
         passed -= 1;
-        before -= size_at(bufs, passed);
+        before -= size_at_place(bufs, passed);
     }
     Place {
         passed,
@@ -70,7 +70,7 @@ fn place_from_back<B: Buf>(bufs: &VecDeque<B>, len: usize, at: usize) -> Place
 
 /// Returns how many bytes the buffer at index `at` has, if they are at most `left`.
 #[inline]
-fn size_within<B: Buf>(bufs: &VecDeque<B>, at: usize, left: usize) -> Option<usize>
+fn size_within_place<B: Buf>(bufs: &VecDeque<B>, at: usize, left: usize) -> Option<usize>
     ensures some { IfSome result (λ size. (at < length bufs.now.items) × (size ≤ left)
         × (size ≡ length (slice_index_or (map B.unread bufs.now.items) at []))) }
     ensures none { IfNone result (at < length bufs.now.items
@@ -84,7 +84,7 @@ fn size_within<B: Buf>(bufs: &VecDeque<B>, at: usize, left: usize) -> Option<usi
 
 /// Returns how many bytes the buffer at index `at` has.
 #[inline]
-fn size_at<B: Buf>(bufs: &VecDeque<B>, at: usize) -> usize
+fn size_at_place<B: Buf>(bufs: &VecDeque<B>, at: usize) -> usize
     requires { at < length bufs.now.items }
     ensures { result ≡ length (slice_index_or (map B.unread bufs.now.items) at []) }
 {

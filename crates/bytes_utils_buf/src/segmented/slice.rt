@@ -2,16 +2,16 @@
 ghost use Rattle.std.specs.Prelude.{◌≡◌, ◌+◌, ◌^◌, ◌<◌, ◌≤◌, [], ◌∷◌, length, map, drop};
 ghost use Rattle.std.specs.List.{concat};
 ghost use Rattle.std.specs.Option.{SomeIff};
-ghost use Rattle.bytes_utils_buf.specs.Lent.{held_of, lists_of, IsPassedOnce, IsReading, SkipsLent};
-ghost use Rattle.bytes_utils_buf.specs.Segments.{CountsPass, IsPaid, Skips};
+ghost use Rattle.bytes_utils_buf.specs.Lent.{held_of, lists_of, IsPassedOnce, IsLentReading, SkipsLent};
+ghost use Rattle.bytes_utils_buf.specs.Segments.{CountsPass, IsPaid, SkipsSegments};
 ghost use Rattle.bytes_utils_buf.specs.Tally.{IsBalanced, IsCovered};
 
 mod copy;
 
-use super::copy::Segmented;
+use super::copy::SegmentedCopy;
+use super::skip::{skip_empty_lent, skip_lent};
 use super::sum::sum_of;
 use super::tally::Tally;
-use super::walk::{count_empty, skip_lent};
 use bytes::Buf;
 use std::marker::Model;
 use std::snapshot::Snapshot;
@@ -78,7 +78,7 @@ impl<'a, B: Buf> SegmentedSlice<'a, B> {
         requires { length (concat (map B.unread bufs.old)) < 2 ^ 64 }
         ensures handed_in { result.handed_in ≡ map B.unread bufs.old }
         ensures name { result.name ≡ bufs.entry.ghost_name }
-        ensures skips { Skips 0 (map B.unread bufs.old) result.segments }
+        ensures skips { SkipsSegments 0 (map B.unread bufs.old) result.segments }
         ensures bytes { concat result.segments ≡ concat (map B.unread bufs.old) }
         ensures place { result.place + length result.segments ≡ length bufs.old }
 
@@ -94,7 +94,7 @@ impl<'a, B: Buf> SegmentedSlice<'a, B> {
         let Some(remaining) = sum_of(bufs) else {
             unreachable!()
         };
-        let place = count_empty(bufs, &mut tally);
+        let place = skip_empty_lent(bufs, &mut tally);
         let loan = Loan { bufs };
         let handed_in = Snapshot::of(&loan);
         let Loan { bufs } = loan;
@@ -113,7 +113,7 @@ impl<'a, B: Buf> SegmentedSlice<'a, B> {
     pub fn into_lent(self) -> &'a mut [B]
         ensures lists { map B.unread result.now ≡ lists_of self.entry }
         ensures bytes { concat (map B.unread result.now) ≡ concat self.entry.segments }
-        ensures reading { IsReading self.entry }
+        ensures reading { IsLentReading self.entry }
         ensures name { result.ghost_name ≡ self.entry.name }
     {
         let SegmentedSlice {
@@ -146,7 +146,7 @@ impl<'a, B: Buf> SegmentedSlice<'a, B> {
     }
 }
 
-impl<B: Buf> Segmented for SegmentedSlice<'_, B> {
+impl<B: Buf> SegmentedCopy for SegmentedSlice<'_, B> {
     ghost lent = { λ q. q };
 
     fn front_chunk(&self) -> &[u8] {
@@ -173,7 +173,7 @@ impl<B: Buf> Buf for SegmentedSlice<'_, B> {
 
     fn remaining(&self) -> usize
         ensures value { result ≡ length (concat self.now.segments) }
-        ensures reading { IsReading self.now }
+        ensures reading { IsLentReading self.now }
 
         // True of every value, whatever was called before.
         ensures passed { IsPassedOnce self.now }

@@ -25,11 +25,11 @@ pub(crate) struct Tally {
 
 impl Model for Tally {
     ghost use Rattle.bytes_utils_buf.specs.Tally.{Tallied};
-    ghost use Rattle.bytes_utils_buf.specs.Log.{tallied};
+    ghost use Rattle.bytes_utils_buf.specs.Log.{counted_in_log};
 
     ghost Value = { Tallied };
 
-    ghost view = { λ t. tallied t.log.value };
+    ghost view = { λ t. counted_in_log t.log.value };
 }
 
 impl Tally {

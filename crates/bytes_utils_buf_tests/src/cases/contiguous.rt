@@ -7,7 +7,7 @@ use std::alloc::Global;
 use std::process::Abort;
 
 /// Whether all of the bytes are returned, and all but the first.
-fn gives_long<B: ContiguousBuf>(alloc: Global, buf: &B) -> bool {
+fn contiguous_gives_long<B: ContiguousBuf>(alloc: Global, buf: &B) -> bool {
     buf.remaining() == 100_000
         && matches!(&buf.prefix(alloc, 100_000), Ok(all) if all.len() == 100_000)
         && matches!(&buf.part(alloc, 1..100_000), Ok(part) if part.len() == 99_999)
@@ -15,6 +15,6 @@ fn gives_long<B: ContiguousBuf>(alloc: Global, buf: &B) -> bool {
 
 // No copy of many bytes is refused while there is memory.
 #[test]
-fn long_first_and_part_of_slices(rt: HostRuntime) {
-    assert_that(&rt, gives_long(rt.alloc(), &long()));
+fn contiguous_prefix_and_part_of_long_slices(rt: HostRuntime) {
+    assert_that(&rt, contiguous_gives_long(rt.alloc(), &long()));
 }

@@ -32,7 +32,7 @@ pub(crate) fn assert_row(rt: &impl Abort, row: &str, holds: Option<bool>) {
 }
 
 /// Buffers of these texts, in room for all. The text `-` is no buffer.
-pub(crate) fn bytes_of(alloc: Global, texts: &'static str) -> Result<Vec<Bytes>, AllocError> {
+pub(crate) fn bytes_of_texts(alloc: Global, texts: &'static str) -> Result<Vec<Bytes>, AllocError> {
     let mut bufs = Vec::with_capacity(alloc, texts.len().saturating_add(1))?;
     for text in texts.split('|') {
         if text != "-" {
@@ -42,7 +42,7 @@ pub(crate) fn bytes_of(alloc: Global, texts: &'static str) -> Result<Vec<Bytes>,
     Ok(bufs)
 }
 
-pub(crate) fn slices_of(
+pub(crate) fn slices_of_texts(
     alloc: Global,
     texts: &'static str,
 ) -> Result<Vec<&'static [u8]>, AllocError> {
@@ -75,7 +75,7 @@ pub(crate) fn held(
     rt: &(impl Abort + Alloc<A = Global>),
     texts: &'static str,
 ) -> SegmentedBuf<Bytes> {
-    let bufs = bytes_of(rt.alloc(), texts).expect(rt, "memory");
+    let bufs = bytes_of_texts(rt.alloc(), texts).expect(rt, "memory");
     SegmentedBuf::from_vec(rt.alloc(), bufs)
         .ok()
         .expect(rt, "memory")
@@ -86,7 +86,7 @@ pub(crate) fn held_slices(
     alloc: Global,
     texts: &'static str,
 ) -> Option<SegmentedBuf<&'static [u8]>> {
-    SegmentedBuf::from_vec(alloc, slices_of(alloc, texts).ok()?).ok()
+    SegmentedBuf::from_vec(alloc, slices_of_texts(alloc, texts).ok()?).ok()
 }
 
 /// Holds a buffer of any type alone.

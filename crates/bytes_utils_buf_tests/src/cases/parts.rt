@@ -8,13 +8,13 @@ use bytes_utils_buf::parts::copy_out_of;
 use std::process::Abort;
 
 #[test]
-fn copies_of_bytes_are_shared(rt: HostRuntime) {
+fn buf_parts_of_bytes_are_shared(rt: HostRuntime) {
     assert_reads(&rt, &mut block(&rt), "share Hello");
 }
 
 // No copy of many bytes is refused while there is memory.
 #[test]
-fn long_copies_of_slices(rt: HostRuntime) {
+fn buf_parts_of_long_slices(rt: HostRuntime) {
     assert_reads(&rt, &mut long(), "count 100000");
     let mut slice = long();
     let len = slice.len();

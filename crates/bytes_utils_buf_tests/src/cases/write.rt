@@ -10,7 +10,7 @@ use std::process::Abort;
 
 /// What writing buffers by a writer of few bytes a call gives.
 #[derive(Clone, Copy)]
-struct Row<'t> {
+struct WriteRow<'t> {
     /// The lengths of the buffers in turn.
     lengths: &'t str,
     /// The length of all of them.
@@ -26,7 +26,7 @@ struct Row<'t> {
     error: Option<ErrorKind>,
 }
 
-fn kind_of(name: &str) -> Option<ErrorKind> {
+fn kind_of_write_error(name: &str) -> Option<ErrorKind> {
     match name {
         "BrokenPipe" => Some(ErrorKind::BrokenPipe),
         "Interrupted" => Some(ErrorKind::Interrupted),
@@ -39,22 +39,22 @@ fn kind_of(name: &str) -> Option<ErrorKind> {
 }
 
 /// Reads a row: its fields in their order, with the word `of` after the lengths.
-fn row_of(text: &str) -> Option<Row<'_>> {
+fn write_row_of(text: &str) -> Option<WriteRow<'_>> {
     let (lengths, rest) = text.split_once(" of ")?;
     let mut words = rest.split(' ');
-    Some(Row {
+    Some(WriteRow {
         lengths,
         len: words.next()?.parse().ok()?,
         most: words.next()?.parse().ok()?,
         fails_at: words.next()?.parse().ok()?,
         written: words.next()?.parse().ok()?,
         calls: words.next()?.parse().ok()?,
-        error: words.next().and_then(kind_of),
+        error: words.next().and_then(kind_of_write_error),
     })
 }
 
 /// `len` bytes, of which no two in a row are the same.
-fn whole(alloc: Global, len: usize) -> Result<Vec<u8>, AllocError> {
+fn whole_to_write(alloc: Global, len: usize) -> Result<Vec<u8>, AllocError> {
     let mut bytes = Vec::new(alloc);
     for i in 0..len {
         bytes.push((i % 251) as u8)?;
@@ -63,7 +63,11 @@ fn whole(alloc: Global, len: usize) -> Result<Vec<u8>, AllocError> {
 }
 
 /// Cuts the bytes into buffers of these lengths, in turn.
-fn cut<'s>(alloc: Global, bytes: &'s [u8], lengths: &str) -> Result<Vec<&'s [u8]>, AllocError> {
+fn cut_to_write<'s>(
+    alloc: Global,
+    bytes: &'s [u8],
+    lengths: &str,
+) -> Result<Vec<&'s [u8]>, AllocError> {
     let mut pieces = Vec::new(alloc);
     let mut rest = bytes;
     for _ in 0..bytes.len() {
@@ -82,11 +86,11 @@ fn cut<'s>(alloc: Global, bytes: &'s [u8], lengths: &str) -> Result<Vec<&'s [u8]
 
 /// Writes the buffers. Returns whether the row says how many of the bytes are written, by how many
 /// calls, and the error, and the others are left.
-fn stops_there(
+fn write_stops_there(
     writer: &mut SlowWriter,
     all: &mut SegmentedSlice<'_, &[u8]>,
     whole: &[u8],
-    row: &Row<'_>,
+    row: &WriteRow<'_>,
 ) -> bool {
     let error = match write_all_of(writer, all) {
         Ok(()) => None,
@@ -99,14 +103,14 @@ fn stops_there(
 }
 
 /// Whether the buffers are written as the row says. After an error a second try writes what was left.
-fn is_written(alloc: Global, lent: &mut [&[u8]], whole: &[u8], row: &Row<'_>) -> bool {
+fn is_written_as_row(alloc: Global, lent: &mut [&[u8]], whole: &[u8], row: &WriteRow<'_>) -> bool {
     if SegmentedSlice::total(lent) != Some(whole.len()) {
         return false;
     }
     let kind = row.error.unwrap_or(ErrorKind::Other);
     let mut writer = SlowWriter::new(Vec::new(alloc), row.most, row.fails_at, kind);
     let mut all = SegmentedSlice::new(lent);
-    let is_right = stops_there(&mut writer, &mut all, whole, row);
+    let is_right = write_stops_there(&mut writer, &mut all, whole, row);
     if row.error.is_none() || row.most == 0 {
         return is_right;
     }
@@ -114,11 +118,11 @@ fn is_written(alloc: Global, lent: &mut [&[u8]], whole: &[u8], row: &Row<'_>) ->
     is_right & is_all && writer.held.as_slice() == whole
 }
 
-fn is_right(alloc: Global, row: &str) -> Option<bool> {
-    let row = row_of(row)?;
-    let whole = whole(alloc, row.len).ok()?;
-    let mut lent = cut(alloc, &whole, row.lengths).ok()?;
-    Some(is_written(alloc, &mut lent, &whole, &row))
+fn is_write_row_right(alloc: Global, row: &str) -> Option<bool> {
+    let row = write_row_of(row)?;
+    let whole = whole_to_write(alloc, row.len).ok()?;
+    let mut lent = cut_to_write(alloc, &whole, row.lengths).ok()?;
+    Some(is_written_as_row(alloc, &mut lent, &whole, &row))
 }
 
 // A writer that takes three bytes a call takes part of the block three times, and stops in the
@@ -183,10 +187,10 @@ const KINDS: &str = "\
 3 5 of 8 3 2 3 2 WriteZero";
 
 #[test]
-fn buffers_are_written(rt: HostRuntime) {
+fn write_all_of_buffers(rt: HostRuntime) {
     for rows in [LENT, CALLS, SHORT, KINDS] {
         for row in rows.split('|') {
-            assert_row(&rt, row, is_right(rt.alloc(), row));
+            assert_row(&rt, row, is_write_row_right(rt.alloc(), row));
         }
     }
 }

@@ -1,7 +1,7 @@
 //! Bytes at a cursor that are only read: borrowed from the buffer where they are in one segment.
 ghost use Rattle.std.specs.Prelude.{◌≡◌, ◌+◌, ◌<◌, ◌≤◌, length, take, IsOk, IfOk, IfErr, IfSome, IfNone, OnErr};
 ghost use Rattle.std.specs.Cow.{cow_slice_items};
-ghost use Rattle.bytes_utils_codec.specs.Cursor.{NeverEndsWithin, ReadsPart, TakesFirst, passed_on, unread};
+ghost use Rattle.bytes_utils_codec.specs.Cursor.{NoFrameWithin, ReadsPart, CursorTakesFirst, passed_on, unread};
 ghost use Rattle.bytes_utils_codec.specs.Frames.{HasFrame, HasFrameWithin, TakesFrame};
 ghost use Rattle.bytes_utils.specs.Occurrence.{Occurs, OccursFirstAt};
 
@@ -15,7 +15,7 @@ impl<'a, B: ContiguousBuf + Drop> Cursor<'a, B> {
     /// As `take`, for bytes that are only read, as those of a length. They are borrowed from the
     /// buffer if one segment has them all, and else copied into one `Vec`.
     pub fn read(&mut self, alloc: Global, len: usize) -> Result<Option<CowSlice<'a, u8>>, Reason>
-        ensures gives { ReadsPart (λ part old new. TakesFirst len old (cow_slice_items part) new)
+        ensures gives { ReadsPart (λ part old new. CursorTakesFirst len old (cow_slice_items part) new)
             (λ bytes. length bytes < len) self.old self.new result }
         ensures reason { IfErr result (λ reason. reason ≡ Reason.OutOfMemory) }
         ensures none { len ≡ 0 → IsOk result }
@@ -60,7 +60,7 @@ impl<'a, B: ContiguousBuf + Drop> Cursor<'a, B> {
         ensures few { IfOk result (λ next. IfNone next
             (length (unread self.old) < most + length needle.now)) }
         ensures too_long { IfErr result (λ reason. reason ≡ Reason.TooLong
-            → NeverEndsWithin most needle.now (unread self.old)) }
+            → NoFrameWithin most needle.now (unread self.old)) }
         ensures due { IfErr result (λ reason. reason ≡ Reason.OutOfMemory
             → HasFrameWithin most needle.now (unread self.old)) }
     {

@@ -2,7 +2,7 @@
 ghost use Rattle.std.specs.Prelude.{◌≡◌, ◌↔◌, ◌+◌, ◌<◌, ◌≤◌, length, take, drop, IfErr, IfOk, IfNone, IfSome, IsTrue, MatchBool, not, OnErr, OnOk, false};
 ghost use Rattle.std.specs.List.{concat};
 ghost use Rattle.bytes_utils_codec.specs.Decoding.{Decodes, decoding, passed};
-ghost use Rattle.bytes_utils_codec.specs.Delimited.{AwaitsFrame, AwaitsSeparator, DelimitedFramesLaw, DelimitedHeldLaw, DelimitedWholeLaw, FindsNext, IsOverLimit, Passes, SkipsMore, SkipsOn, Stops, TakesFrameFrom, all_searched, delimiting, fails_delimited, gives_delimited, keeps_delimited, left_of, ready, skipping_from};
+ghost use Rattle.bytes_utils_codec.specs.Delimited.{AwaitsFrame, AwaitsSeparator, DelimitedFramesLaw, DelimitedHeldLaw, DelimitedWholeLaw, FindsNext, IsOverLimit, Passes, SkipsMore, SkipsOn, Stops, TakesFrameFrom, all_searched, delimiting, fails_delimited, gives_delimited, keeps_delimited, delimited_left, ready, skipping_from};
 ghost use Rattle.bytes_utils_codec.specs.DelimitedLaws.{delimited_same, delimited_single, delimited_stable, delimited_waits};
 
 use super::{Decoder, FrameTooLong};
@@ -141,8 +141,8 @@ impl Delimited {
         }
     }
 
-    /// Drops the frame that is skipped, or those of its bytes that have come. Returns whether no
-    /// frame is skipped any more.
+    /// Drops the frame that is skipped, if there is one, or those of its bytes that have come. Returns
+    /// whether the held bytes begin with the next frame now.
     fn pass_skipped(&mut self, held: &mut PackedBuf) -> bool
         ensures skipped { MatchBool result
             (Passes (decoding self.old held.old) (decoding self.new held.new))
@@ -166,7 +166,7 @@ impl Delimited {
         false
     }
 
-    /// The length of the next frame, or that it is longer than the limit.
+    /// Returns the length of the next frame, or reports that it is longer than the limit.
     fn next_len(&mut self, held: &PackedBuf) -> Option<Result<usize, FrameTooLong>>
         ensures frame { IfSome result (λ next. IfOk next (λ len. TakesFrameFrom self.old.separator
             self.old.searched (concat held.now.held.segments)
@@ -222,12 +222,12 @@ impl Delimited {
         self.ready();
     }
 
-    /// Drops the bytes of a frame that is skipped whose end does not come. Begins at the front of a
-    /// frame.
+    /// Drops all bytes if they are those of a skipped frame, whose end does not come. Begins at the
+    /// front of a frame.
     pub(super) fn pass_end(&mut self, held: &mut PackedBuf)
         ensures { decoding self.new held.new ≡ record (decoding self.old held.old) {
           decoder = ready self.old;
-          held = left_of self.old.skipping (concat held.old.held.segments);
+          held = delimited_left self.old.skipping (concat held.old.held.segments);
         } }
     {
         if self.skipping {
@@ -237,7 +237,7 @@ impl Delimited {
         self.ready();
     }
 
-    /// Whether all places within the limit at which a separator may begin are in `len` bytes.
+    /// Whether `len` bytes are enough for a frame of the greatest length and its separator.
     fn is_overlong(&self, len: usize) -> bool
         ensures { IsTrue result ↔ (self.now.max_length + length self.now.separator ≤ len) }
     {

@@ -1,5 +1,5 @@
 //! A decoder with the bytes that it has not taken yet.
-ghost use Rattle.std.specs.Prelude.{◌≡◌, ◌+◌, ◌^◌, ◌≤◌, ◌↔◌, [], length, take, IfErr, IfOk, IsOk, IsTrue, OnErr, OnOk};
+ghost use Rattle.std.specs.Prelude.{◌≡◌, ◌+◌, ◌^◌, ◌<◌, ◌≤◌, ◌↔◌, [], length, take, IfErr, IfOk, IsOk, IsTrue, OnErr, OnOk};
 ghost use Rattle.std.specs.Io.KnownBytes.{IsAtEnd, Keeps};
 ghost use Rattle.std.specs.List.{concat};
 ghost use Rattle.bytes_utils_codec.specs.Pushing.{IsPush};
@@ -72,10 +72,10 @@ impl<D: Decoder> Framed<D> {
         }
     }
 
-    /// Appends `piece`. If it is not longer than the threshold, it is copied to the end of those
-    /// before it; if it is, it is held as it is. Fails with `TooLong` if the number of held bytes would pass
-    /// `usize::MAX`, and with `OutOfMemory` if memory is refused; then nothing has changed and
-    /// `piece` comes back.
+    /// Appends `piece`. A piece that is not longer than the threshold is copied to the end of those
+    /// before it; a longer one is held as it is. Fails with `TooLong` if the number of held bytes
+    /// would pass `usize::MAX`, and with `OutOfMemory` if memory is refused; then nothing has changed
+    /// and `piece` comes back.
     pub fn push(&mut self, piece: Bytes) -> Result<(), Refused<Bytes>>
         ensures pushed { IsPush self.old.held piece result
             (self.new ≡ fed self.old piece) (self.new ≡ self.old) }
@@ -110,6 +110,21 @@ impl<D: Decoder> Framed<D> {
         ensures unread { OnErr result (Keeps (R.remaining input.old) (R.remaining input.new)) }
     {
         self.held.read_from(self.alloc, input)
+    }
+
+    /// As `read_from`, but with room for at least `room` bytes, in place of 512. Requires that
+    /// `room` is not 0 (test: compare).
+    pub fn read_with_room<R: Read>(&mut self, input: &mut R, room: usize) -> io::Result<usize>
+        requires { 0 < room }
+        ensures read { OnOk result
+            (IsFedBy (R.remaining input.old) (R.remaining input.new) self.old self.new) }
+        ensures count { IfOk result
+            (λ count. length self.new.held ≡ length self.old.held + count) }
+        ensures end { IfOk result (λ count. count ≡ 0 → IsAtEnd (R.remaining input.new)) }
+        ensures err { OnErr result (self.new ≡ self.old) }
+        ensures unread { OnErr result (Keeps (R.remaining input.old) (R.remaining input.new)) }
+    {
+        self.held.read_with_room(self.alloc, input, room)
     }
 
     /// Returns the next item, or `None` if more bytes have to come. Fails as the decoder does; then
@@ -186,7 +201,7 @@ impl<D: Decoder> Framed<D> {
         self.held.remaining()
     }
 
-    /// Returns the held bytes as they are held. There are at most two segments, and one more for
+    /// Returns the held bytes, in their segments. There are at most two segments, and one more for
     /// each 256 bytes, or half of another threshold (clause `few` of `PackedBuf::segments`).
     pub fn pieces(&self) -> &PackedBuf
         ensures bytes { concat result.now.held.segments ≡ self.now.held }

@@ -1,11 +1,10 @@
 //! Frames that come after their lengths.
-ghost use Rattle.std.specs.Prelude.{◌≡◌, ◌+◌, ◌*◌, ◌-◌, ◌^◌, ◌<◌, ◌≤◌, ◌↔◌, length, take, drop, false, true, Some, IsTrue, IfOk, IfErr, IfSome, IfNone};
+ghost use Rattle.std.specs.Prelude.{◌≡◌, ◌+◌, ◌*◌, ◌-◌, ◌^◌, ◌<◌, ◌≤◌, ◌↔◌, length, reverse, take, drop, false, true, Some, IsTrue, IfOk, IfErr, IfSome, IfNone};
 ghost use Rattle.std.specs.List.{concat};
 ghost use Rattle.std.specs.Int.Digits.{number_from_digits};
 ghost use Rattle.bytes_utils_codec.specs.Decoding.{Decodes, DecodesAtEnd, decoding};
-ghost use Rattle.bytes_utils_codec.specs.Prefixed.{IsOverLimit, IsPart, IsWithinLimit, TakesPrefixed, adjusted, after_skipped, awaits_front, awaits_prefixed, fails_front, fails_prefixed, gives_front, gives_prefixed, head_len, keeps_prefixed, prefixing, ready, skipping, stated_len};
+ghost use Rattle.bytes_utils_codec.specs.Prefixed.{IsLookedAt, IsOverLimit, IsPart, IsUnread, IsWithinLimit, TakesPrefixed, adjusted, after_skipped, awaits_front, awaits_prefixed, fails_front, fails_prefixed, gives_front, gives_prefixed, head_len, keeps_front, keeps_prefixed, needing, number_of, prefixing, ready, skipping, stated_len};
 ghost use Rattle.bytes_utils_codec.specs.PrefixedLaws.{prefixed_same, prefixed_single, prefixed_stable, prefixed_waits};
-ghost use Rattle.bytes_utils_codec.specs.Taking.{keeps_same};
 
 use super::{Decoder, FrameTooLong};
 use bytes::{Buf, Bytes};
@@ -34,6 +33,11 @@ type Frame = Result<Bytes, FrameTooLong>;
 /// the head and the limit have together. If the adjustment makes a length less than zero, that is
 /// reported in the same way, and only the head is skipped.
 ///
+/// The head of a frame is read when it has come. If the frame isn't whole then, further calls only
+/// compare the number of held bytes, until all of the frame is there. So a decoder that waits, and
+/// is put over other bytes (`Framed::from_parts`), waits for as many of these, unless `restart` is
+/// called first.
+///
 /// A frame that lies with its head in one segment shares it: a piece of more than 512 bytes, or a
 /// block of copied ones. Any other is copied into one block. `OutOfMemory` comes only for a frame
 /// within the limit that has come. At the end of the stream, bytes that are no whole frame are
@@ -51,6 +55,8 @@ pub struct LengthPrefixed {
     dropped: Option<usize>,
     // More than a `u64`: a length of eight bytes, and the adjustment.
     skipped: u128,
+    // More than a `u64`: the head, and a frame of the greatest limit.
+    needed: u128,
 }
 
 impl Model for LengthPrefixed {
@@ -67,6 +73,7 @@ impl Model for LengthPrefixed {
       adjustment = d.adjustment;
       dropped = d.dropped;
       skipped = d.skipped;
+      needed = d.needed;
     } };
 
     ghost invariant = { λ d. (0 < d.width) × (d.width ≤ 8) };
@@ -86,6 +93,7 @@ impl LengthPrefixed {
             adjustment: 0,
             dropped: None,
             skipped: 0,
+            needed: 0,
         }
     }
 
@@ -133,44 +141,16 @@ impl LengthPrefixed {
         self
     }
 
-    /// Takes the next frame, or reports that it is longer than the limit.
-    fn take_frame(&mut self, alloc: Global, held: &mut PackedBuf) -> Result<Option<Frame>, Reason>
-        ensures step { Decodes gives_prefixed awaits_prefixed fails_prefixed keeps_prefixed
-            (decoding self.old held.old) result (decoding self.new held.new) }
-    {
-        self.drop_skipped(held);
-        self.take_front(alloc, held)
-    }
-
     /// Drops the bytes that are skipped, as many of them as are held.
     fn drop_skipped(&mut self, held: &mut PackedBuf)
         ensures { decoding self.new held.new ≡ after_skipped (decoding self.old held.old) }
     {
+        if self.skipped == 0 {
+            return;
+        }
         let here = self.skipped.min(held.remaining() as u128);
         held.advance(here as usize);
         self.skipped -= here;
-    }
-
-    /// Takes the next frame, or reports that it is longer than the limit, where no byte of a frame
-    /// that is skipped is held.
-    fn take_front(&mut self, alloc: Global, held: &mut PackedBuf) -> Result<Option<Frame>, Reason>
-        ensures step { Decodes gives_front awaits_front fails_front keeps_same
-            (decoding self.old held.old) result (decoding self.new held.new) }
-    {
-        if self.skipped > 0 {
-            return Ok(None);
-        }
-        let Some(head) = self.head_within(held.remaining()) else {
-            return Ok(None);
-        };
-        match self.body_len(held, head) {
-            Ok(len) => self.take_within(alloc, held, head, len),
-            Err(len) => {
-                held.advance(head);
-                self.skipped = len;
-                Ok(Some(Err(FrameTooLong)))
-            }
-        }
     }
 
     /// The number of bytes of the head, if it is within the first `len` bytes.
@@ -205,13 +185,26 @@ impl LengthPrefixed {
         requires within { head ≤ length (concat held.now.held.segments) }
         ensures { result ≡ stated_len self.now (concat held.now.held.segments) }
     {
+        let front = held.chunk();
+        if head <= front.len() {
+            return self.number_of(&front[self.offset..head]);
+        }
         let mut bytes = [0; 8];
         let field = &mut bytes[..self.width];
-        copy_range(held, self.offset, head, field);
+        copy_length(held, self.offset, head, field);
+        self.number_of(field)
+    }
+
+    /// The number that the bytes of a length write.
+    fn number_of(&self, bytes: &[u8]) -> u64
+        requires { length bytes.now ≤ 8 }
+        ensures { result ≡ number_of self.now.is_little_endian bytes.now }
+    {
         if self.is_little_endian {
-            field.reverse();
+            little_endian_number(bytes)
+        } else {
+            big_endian_number(bytes)
         }
-        number(field)
     }
 
     /// The number of bytes after the head, if it isn't less than zero.
@@ -226,33 +219,10 @@ impl LengthPrefixed {
             Some(stated + change)
         }
     }
-
-    /// Takes the next frame, with `len` bytes after its head, if all of it has come.
-    fn take_within(
-        &self,
-        alloc: Global,
-        held: &mut PackedBuf,
-        head: usize,
-        len: usize,
-    ) -> Result<Option<Frame>, Reason>
-        requires head { head ≡ head_len self.now }
-        requires within { IsWithinLimit self.now (concat held.old.held.segments) len }
-        requires front { self.now.skipped ≡ 0 }
-        ensures step { Decodes gives_front awaits_front fails_front keeps_same
-            (decoding self.now held.old) result (decoding self.now held.new) }
-    {
-        if held.remaining() - head < len {
-            return Ok(None);
-        }
-        let end = head + len;
-        let mut frame = held.take_bytes(alloc, end)?;
-        frame.advance(self.dropped.unwrap_or(head).min(end));
-        Ok(Some(Ok(frame)))
-    }
 }
 
 /// Copies the held bytes from `start` to `end` into `dst`.
-fn copy_range(held: &PackedBuf, start: usize, end: usize, dst: &mut [u8])
+fn copy_length(held: &PackedBuf, start: usize, end: usize, dst: &mut [u8])
     requires len { start + length dst.old ≡ end }
     requires within { end ≤ length (concat held.now.held.segments) }
     ensures { dst.new ≡ take (length dst.old) (drop start (concat held.now.held.segments)) }
@@ -269,13 +239,25 @@ fn copy_range(held: &PackedBuf, start: usize, end: usize, dst: &mut [u8])
 }
 
 /// The number that the bytes write, the most significant one first.
-fn number(bytes: &[u8]) -> u64
+fn big_endian_number(bytes: &[u8]) -> u64
     requires { length bytes.now ≤ 8 }
     ensures { result ≡ number_from_digits 256 bytes.now }
 {
     let mut number = 0;
     for byte in bytes {
         number = number * 256 + u64::from(*byte);
+    }
+    number
+}
+
+/// The number that the bytes write, the least significant one first.
+fn little_endian_number(bytes: &[u8]) -> u64
+    requires { length bytes.now ≤ 8 }
+    ensures { result ≡ number_from_digits 256 (reverse bytes.now) }
+{
+    let mut number = 0;
+    for at in (0..bytes.len()).rev() {
+        number = number * 256 + u64::from(bytes[at]);
     }
     number
 }
@@ -295,13 +277,38 @@ impl Decoder for LengthPrefixed {
 
     ghost restarted = { ready };
 
+    #[tactic(auto, using(crate::specs::PrefixedLaws::decodes_prefixed))]
     fn decode(&mut self, alloc: Global, held: &mut PackedBuf) -> Result<Option<Frame>, Reason> {
-        self.take_frame(alloc, held)
+        self.drop_skipped(held);
+        if self.skipped > 0 || (held.remaining() as u128) < self.needed {
+            return Ok(None);
+        }
+        let Some(head) = self.head_within(held.remaining()) else {
+            return Ok(None);
+        };
+        let len = match self.body_len(held, head) {
+            Ok(len) => len,
+            Err(len) => {
+                held.advance(head);
+                self.skipped = len;
+                self.needed = 0;
+                return Ok(Some(Err(FrameTooLong)));
+            }
+        };
+        self.needed = head as u128 + len as u128;
+        if held.remaining() - head < len {
+            return Ok(None);
+        }
+        let end = head + len;
+        let mut frame = held.take_bytes(alloc, end)?;
+        self.needed = 0;
+        frame.advance(self.dropped.unwrap_or(head).min(end));
+        Ok(Some(Ok(frame)))
     }
 
     fn decode_eof(&mut self, alloc: Global, held: &mut PackedBuf) -> Result<Option<Frame>, Reason> {
-        let Some(frame) = self.take_frame(alloc, held)? else {
-            self.skipped = 0;
+        let Some(frame) = self.decode(alloc, held)? else {
+            self.restart();
             return Ok(None);
         };
         Ok(Some(frame))
@@ -309,6 +316,7 @@ impl Decoder for LengthPrefixed {
 
     fn restart(&mut self) {
         self.skipped = 0;
+        self.needed = 0;
     }
 
     ghost stable = { prefixed_stable };

@@ -5,9 +5,9 @@ ghost use Rattle.std.specs.Str.Lossy.{utf8_lossy};
 ghost use Rattle.bytes_utils.specs.Lines.{IsWithoutReturn};
 ghost use Rattle.bytes_utils_codec.specs.Decoding.{Decodes, decoding, passed};
 ghost use Rattle.bytes_utils_codec.specs.Delimited.{fails_delimited};
-ghost use Rattle.bytes_utils_codec.specs.LineItems.{AwaitsLine, IsLastOf, IsLineOf, IsTextItem, LineItemsLaw, TakesLast, TakesLineItem, WholeLinesLaw, fails_line, frames_of, gives_line, keeps_line, line_reading, ready_line};
-ghost use Rattle.bytes_utils_codec.specs.StreamLines.{FirstLinesLaw, SameLinesLaw, TextLinesLaw};
-ghost use Rattle.bytes_utils_codec.specs.LineItemsLaws.{line_same, line_single, line_stable, line_waits};
+ghost use Rattle.bytes_utils_codec.specs.LineReading.{AwaitsLine, IsLastOf, IsLineOf, IsTextItem, LineReadingLaw, TakesLast, TakesLineItem, WholeLineReadingLaw, fails_line, frames_of, gives_line, keeps_line, line_reading, ready_line};
+ghost use Rattle.bytes_utils_codec.specs.StreamLines.{FirstStreamLinesLaw, SameStreamLinesLaw, TextStreamLinesLaw};
+ghost use Rattle.bytes_utils_codec.specs.LineReadingLaws.{line_same, line_single, line_stable, line_waits};
 
 use super::{Decoder, Delimited, FrameTooLong};
 use bytes::{Buf, Bytes};
@@ -51,7 +51,7 @@ impl From<Utf8Error<Bytes>> for LineFault {
 /// Writes `the line is too long`, or the text of the UTF-8 error.
 impl fmt::Display for LineFault {
     ghost use Rattle.std.specs.Prelude.{Some};
-    ghost use Rattle.bytes_utils_codec.specs.LineItems.{line_fault_text};
+    ghost use Rattle.bytes_utils_codec.specs.LineReading.{line_fault_text};
 
     ghost output = { λ fault. Some (line_fault_text fault) };
 
@@ -81,9 +81,9 @@ pub(crate) type Line = Result<Str, LineFault>;
 /// lines.last_item(alloc)?          // `Ok(body)`
 /// ```
 ///
-/// A line over the limit is an item that says so, once, and its bytes are dropped as they come; so
-/// is a line that is not UTF-8, with its bytes. The next item is the line after it. At the end of
-/// the stream the bytes that are left are the last line, whole: without a line feed after it a
+/// A line over the limit is an item that says so, once; its bytes are dropped as they come. A line
+/// that is not UTF-8 is an item that has its bytes. The next item is the line after it. At the end
+/// of the stream the bytes that are left are the last line, whole: without a line feed after it a
 /// carriage return is part of it. Those of a line over the limit are dropped, and no line comes.
 ///
 /// While it waits, bytes are not searched again, and no memory is asked for. A line that lies in
@@ -99,7 +99,7 @@ pub struct Lines {
 impl Model for Lines {
     ghost use Rattle.std.specs.Prelude.{◌≡◌, [], ◌∷◌};
     ghost use Rattle.bytes_utils.specs.Lines.{line_feed};
-    ghost use Rattle.bytes_utils_codec.specs.LineItems.{LineReading};
+    ghost use Rattle.bytes_utils_codec.specs.LineReading.{LineReading};
 
     ghost Value = { LineReading };
 
@@ -129,8 +129,8 @@ impl Lines {
         })
     }
 
-    /// Makes it lossy: bytes that are no character become U+FFFD, as `String::from_utf8_lossy`
-    /// makes of a line. Then no line is `NotUtf8`.
+    /// Makes it lossy: bytes that are no character become U+FFFD, as with
+    /// `String::from_utf8_lossy`. Then no line is `NotUtf8`.
     pub fn lossy(self) -> Lines
         ensures { result ≡ record self { lossy = true } }
     {
@@ -152,7 +152,7 @@ impl Lines {
         }
     }
 
-    /// Takes the next line, as its bytes.
+    /// Takes the next line; bytes that are no text are a fault.
     fn take_strict(&mut self, alloc: Global, held: &mut PackedBuf) -> Result<Option<Line>, Reason>
         requires { self.old.lossy ≡ false }
         ensures { TakesLineItem (decoding self.old held.old) result
@@ -191,14 +191,14 @@ impl Lines {
         ensures some { OnErr result (0 < len) }
         ensures reason { IfErr result (λ reason. reason ≡ Reason.OutOfMemory) }
     {
-        if is_text_in_one(held, len) {
+        if is_text_line_in_one(held, len) {
             let mut line = self.frames.take(alloc, held, len)?;
             drop_return(&mut line);
             return Ok(Str::from_inner_unchecked(line));
         }
         let mut line = held.as_segmented().peek_bytes(alloc, len)?;
         drop_return(&mut line);
-        let text = lossy_text(alloc, line)?;
+        let text = lossy_line(alloc, line)?;
         held.advance(len);
         self.frames.pass_separator(held);
         Ok(text)
@@ -213,7 +213,7 @@ impl Lines {
             self.frames.pass_end(held);
             return Ok(None);
         }
-        let line = take_rest(alloc, held, self.lossy)?;
+        let line = take_last_line(alloc, held, self.lossy)?;
         self.frames.ready();
         Ok(line)
     }
@@ -271,7 +271,7 @@ fn line_of(frame: Result<Bytes, FrameTooLong>) -> Line
 {
     let mut line = frame?;
     drop_return(&mut line);
-    text_of(line)
+    text_of_line(line)
 }
 
 /// Removes one carriage return from the end, if there is one.
@@ -284,7 +284,7 @@ pub(crate) fn drop_return(line: &mut Bytes)
 }
 
 /// Takes all bytes as the last line, if there are any.
-pub(super) fn take_rest(
+pub(super) fn take_last_line(
     alloc: Global,
     held: &mut PackedBuf,
     lossy: bool,
@@ -323,24 +323,24 @@ pub(super) fn take_line(
     ensures threshold { held.new.threshold ≡ held.old.threshold }
     ensures reason { IfErr result (λ reason. reason ≡ Reason.OutOfMemory) }
 {
-    if !lossy || is_text_in_one(held, len) {
-        return Ok(text_of(held.take_bytes(alloc, len)?));
+    if !lossy || is_text_line_in_one(held, len) {
+        return Ok(text_of_line(held.take_bytes(alloc, len)?));
     }
     let bytes = held.as_segmented().peek_bytes(alloc, len)?;
-    let text = lossy_text(alloc, bytes)?;
+    let text = lossy_line(alloc, bytes)?;
     held.advance(len);
     Ok(Ok(text))
 }
 
 /// The text of these bytes.
-pub(crate) fn text_of(bytes: Bytes) -> Line
+pub(crate) fn text_of_line(bytes: Bytes) -> Line
     ensures { IsTextItem false result bytes }
 {
     Ok(Str::from_inner(bytes)?)
 }
 
 /// Whether the first `len` bytes are in one segment, and a text.
-fn is_text_in_one(held: &PackedBuf, len: usize) -> bool
+fn is_text_line_in_one(held: &PackedBuf, len: usize) -> bool
     ensures { IsTrue result → IsUtf8 (take len (concat held.now.held.segments)) }
 {
     let front = held.chunk();
@@ -349,19 +349,19 @@ fn is_text_in_one(held: &PackedBuf, len: usize) -> bool
 
 /// The text of these bytes, with U+FFFD for those that are no character. Fails with `OutOfMemory`
 /// if memory is refused, never for no bytes.
-fn lossy_text(alloc: Global, bytes: Bytes) -> Result<Str, Reason>
+fn lossy_line(alloc: Global, bytes: Bytes) -> Result<Str, Reason>
     ensures ok { IfOk result (λ text. text ≡ utf8_lossy bytes) }
     ensures none { bytes ≡ [] → IsOk result }
     ensures reason { IfErr result (λ reason. reason ≡ Reason.OutOfMemory) }
 {
     match Str::from_inner(bytes) {
         Ok(text) => Ok(text),
-        Err(fault) => replaced_text(alloc, fault.into_inner().as_slice()),
+        Err(fault) => lossy_line_copy(alloc, fault.into_inner().as_slice()),
     }
 }
 
 /// A copy of these bytes as a text, with U+FFFD for those that are no character.
-fn replaced_text(alloc: Global, bytes: &[u8]) -> Result<Str, Reason>
+fn lossy_line_copy(alloc: Global, bytes: &[u8]) -> Result<Str, Reason>
     ensures ok { IfOk result (λ text. text ≡ utf8_lossy bytes.now) }
     ensures reason { IfErr result (λ reason. reason ≡ Reason.OutOfMemory) }
 {
@@ -374,9 +374,9 @@ fn replaced_text(alloc: Global, bytes: &[u8]) -> Result<Str, Reason>
 /// are those of every run, whatever the pieces are. The lines of the bytes of a text are the lines
 /// of the text, and there is one list of them.
 pub fn line_laws()
-    ensures items { LineItemsLaw }
-    ensures whole { WholeLinesLaw }
-    ensures lines { FirstLinesLaw }
-    ensures text { TextLinesLaw }
-    ensures same { SameLinesLaw }
+    ensures items { LineReadingLaw }
+    ensures whole { WholeLineReadingLaw }
+    ensures lines { FirstStreamLinesLaw }
+    ensures text { TextStreamLinesLaw }
+    ensures same { SameStreamLinesLaw }
 {}

@@ -3,7 +3,7 @@ ghost use Rattle.std.specs.Prelude.{◌≡◌, ◌⊎◌, None, Some, IfOk, IfEr
 ghost use Rattle.std.specs.Bool.{OnFalse};
 ghost use Rattle.std.specs.Io.KnownBytes.{IsAtEnd};
 ghost use Rattle.bytes_utils_codec.specs.Decoding.{Decoding, IsFedBy, Item, LacksItem, Last};
-ghost use Rattle.bytes_utils_codec.specs.ReadItem.{IsItemDue, IsOfDecoder, IsReadDue, ReadItemsLaw, ReadSameLaw, ReadWholeLaw, ReadsMore, ReadsNext, TakesHeld, TakesLast};
+ghost use Rattle.bytes_utils_codec.specs.ReadItem.{IsItemDue, IsOfDecoder, IsReadDue, ReadItemsLaw, ReadSameLaw, ReadWholeLaw, ReadsMore, ReadsNext, ReadItemTakesHeld, TakesLast};
 
 mod error;
 
@@ -72,7 +72,7 @@ impl<D: Decoder> Framed<D> {
 
     /// Returns the next item that the held bytes have.
     fn held_item(&mut self, alloc: Global) -> Result<Option<D::Item>, ReadItemError<D::Error>>
-        ensures { TakesHeld D.gives D.fails self.old result self.new }
+        ensures { ReadItemTakesHeld D.gives D.fails self.old result self.new }
     {
         match self.next_item(alloc) {
             Ok(next) => Ok(next),

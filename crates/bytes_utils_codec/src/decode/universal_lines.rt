@@ -2,11 +2,11 @@
 ghost use Rattle.std.specs.Prelude.{◌≡◌, ◌<◌, true, IfErr, IfOk, IfNone, IfSome, MatchBool, OnErr, OnOk, length, take, drop, slice_index};
 ghost use Rattle.std.specs.List.{concat};
 ghost use Rattle.bytes_utils_codec.specs.Decoding.{Decodes, decoding};
-ghost use Rattle.bytes_utils_codec.specs.UniversalItems.{AwaitsUniversal, FindsUniversal, HasLine, IsComing, PassesLong, SkipsOn, StopsUniversal, TakesUniversal, UniversalItemsLaw, WholeUniversalLaw, after_end, after_feed, dropped, fails_universal, gives_universal, keeps_universal, ready_universal, skipping_line, universal_reading};
-ghost use Rattle.bytes_utils_codec.specs.UniversalItemsLaws.{universal_same, universal_single, universal_stable, universal_waits};
-ghost use Rattle.bytes_utils_codec.specs.UniversalLines.{AllUniversalLaw, SameUniversalLaw, TextUniversalLaw};
+ghost use Rattle.bytes_utils_codec.specs.UniversalReading.{AwaitsUniversal, UniversalReadingFinds, HasLine, IsComing, PassesLong, SkipsOn, StopsUniversal, TakesUniversal, UniversalReadingLaw, WholeUniversalReadingLaw, after_end, after_feed, dropped, fails_universal, gives_universal, keeps_universal, ready_universal, skipping_line, universal_reading};
+ghost use Rattle.bytes_utils_codec.specs.UniversalReadingLaws.{universal_same, universal_single, universal_stable, universal_waits};
+ghost use Rattle.bytes_utils_codec.specs.UniversalLines.{AllUniversalLinesLaw, SameUniversalLinesLaw, TextUniversalLinesLaw};
 
-use super::lines::{Line, LineFault, take_line, take_rest};
+use super::lines::{Line, LineFault, take_last_line, take_line};
 use super::{Decoder, FrameTooLong};
 use crate::find_end::find_end;
 use bytes::Buf;
@@ -45,10 +45,10 @@ enum Place {
 /// may still follow, so that no line of a live stream waits for the next one. For lines that only a
 /// line feed ends take [`Lines`](super::Lines).
 ///
-/// A line over the limit is an item that says so, once, and its bytes are dropped as they come; so
-/// is a line that is not UTF-8, with its bytes. The next item is the line after it. At the end of
-/// the stream the bytes that are left are the last line, if there are any. Those of a line over the
-/// limit are dropped, and no line comes.
+/// A line over the limit is an item that says so, once; its bytes are dropped as they come. A line
+/// that is not UTF-8 is an item that has its bytes. The next item is the line after it. At the end
+/// of the stream the bytes that are left are the last line, if there are any. Those of a line over
+/// the limit are dropped, and no line comes.
 ///
 /// While it waits, no byte is searched twice, and no memory is asked for. A line that lies in one
 /// segment shares it: a piece of more than 512 bytes, or a block of copied ones. Any other is copied
@@ -63,7 +63,7 @@ pub struct UniversalLines {
 }
 
 impl Model for UniversalLines {
-    ghost use Rattle.bytes_utils_codec.specs.UniversalItems.{UniversalReading};
+    ghost use Rattle.bytes_utils_codec.specs.UniversalReading.{UniversalReading};
 
     ghost Value = { UniversalReading };
 
@@ -95,8 +95,8 @@ impl UniversalLines {
         }
     }
 
-    /// Makes it lossy: bytes that are no character become U+FFFD, as `String::from_utf8_lossy` makes
-    /// of a line. Then no line is `NotUtf8`.
+    /// Makes it lossy: bytes that are no character become U+FFFD, as with
+    /// `String::from_utf8_lossy`. Then no line is `NotUtf8`.
     pub fn lossy(self) -> UniversalLines
         ensures { result ≡ record self { lossy = true } }
     {
@@ -134,7 +134,7 @@ impl UniversalLines {
     /// Finds the next line, and returns its length, or reports that it is longer than the limit. No
     /// byte of the line is taken.
     fn next_len(&mut self, held: &mut PackedBuf) -> Option<Result<usize, FrameTooLong>>
-        ensures { FindsUniversal (decoding self.old held.old) result
+        ensures { UniversalReadingFinds (decoding self.old held.old) result
             (decoding self.new held.new) }
     {
         self.pass_feed(held);
@@ -161,8 +161,8 @@ impl UniversalLines {
         self.place = Place::Line;
     }
 
-    /// Drops the line that is skipped, or those of its bytes that have come. Returns whether no line
-    /// is skipped any more.
+    /// Drops the line that is skipped, if there is one, or those of its bytes that have come. Returns
+    /// whether the held bytes begin with the next line now.
     fn pass_long(&mut self, held: &mut PackedBuf) -> bool
         ensures { MatchBool result
             (PassesLong (decoding self.old held.old) (decoding self.new held.new))
@@ -188,7 +188,7 @@ impl UniversalLines {
         }
     }
 
-    /// The length of the next line, or that it is longer than the limit.
+    /// Returns the length of the next line, or reports that it is longer than the limit.
     fn find_len(&mut self, held: &PackedBuf) -> Option<Result<usize, FrameTooLong>>
         ensures { IsComing (decoding self.old held.now) result (decoding self.new held.now) }
     {
@@ -270,7 +270,7 @@ impl Decoder for UniversalLines {
         if let Some(line) = self.take_line(alloc, held)? {
             return Ok(Some(line));
         }
-        let line = take_rest(alloc, held, self.lossy)?;
+        let line = take_last_line(alloc, held, self.lossy)?;
         self.ready();
         Ok(line)
     }
@@ -293,9 +293,9 @@ impl Decoder for UniversalLines {
 /// those of every run, whatever the pieces are, also if a carriage return is in one and its line
 /// feed in the next. Over the bytes of a text each line is a text.
 pub fn universal_line_laws()
-    ensures items { UniversalItemsLaw }
-    ensures whole { WholeUniversalLaw }
-    ensures lines { AllUniversalLaw }
-    ensures text { TextUniversalLaw }
-    ensures same { SameUniversalLaw }
+    ensures items { UniversalReadingLaw }
+    ensures whole { WholeUniversalReadingLaw }
+    ensures lines { AllUniversalLinesLaw }
+    ensures text { TextUniversalLinesLaw }
+    ensures same { SameUniversalLinesLaw }
 {}

@@ -19,8 +19,11 @@
 mod integers;
 mod memory;
 
-use crate::cases::fixtures::rows::{Called, Refusal, is_right, named};
-use crate::cases::fixtures::signs::{are_bytes, are_parts, is_like, is_number, is_place, meant};
+use crate::cases::fixtures::rows::{CalledByRow, Refusal, is_row_right, named_row_call};
+use crate::cases::fixtures::signs::{
+    are_bytes_of_signs, are_parts_of_signs, is_block_of_signs, is_number_of_signs,
+    is_place_of_signs, meant_by_signs,
+};
 use crate::cases::fixtures::{assert_row, in_blocks, in_segments};
 use bytes::Bytes;
 use bytes_utils::{Reason, SegmentedBuf};
@@ -34,7 +37,7 @@ use std::process::Abort;
 
 /// A cursor on which calls are made.
 #[derive(Drop)]
-struct Run<'a, B: ContiguousBuf + Drop> {
+struct CursorRun<'a, B: ContiguousBuf + Drop> {
     alloc: Global,
     cursor: Cursor<'a, B>,
 }
@@ -43,42 +46,45 @@ struct Run<'a, B: ContiguousBuf + Drop> {
 type Returned<T> = (&'static str, Result<Option<T>, Reason>);
 
 /// Whether the bytes that a call took are as wanted.
-fn is_taken((name, taken): Returned<Bytes>, want: &str) -> Result<bool, Refusal> {
+fn is_taken_by_cursor((name, taken): Returned<Bytes>, want: &str) -> Result<bool, Refusal> {
     match taken {
-        Ok(Some(bytes)) => Ok(is_like(&bytes, want)),
+        Ok(Some(bytes)) => Ok(is_block_of_signs(&bytes, want)),
         Ok(None) => Ok(want == "none"),
         Err(Reason::TooLong) => Ok(want == "long"),
-        Err(reason) => named("Cursor::", name, Err(reason)),
+        Err(reason) => named_row_call("Cursor::", name, Err(reason)),
     }
 }
 
 /// Whether the bytes that a call read are as wanted.
-fn is_read((name, read): Returned<CowSlice<'_, u8>>, want: &str) -> Result<bool, Refusal> {
+fn is_read_by_cursor(
+    (name, read): Returned<CowSlice<'_, u8>>,
+    want: &str,
+) -> Result<bool, Refusal> {
     match read {
         Ok(Some(bytes)) => {
             let is_borrowed = matches!(bytes, CowSlice::Borrowed(_));
             Ok(match (want.strip_prefix("&"), want.strip_prefix("*")) {
-                (Some(want), _) => is_borrowed && are_bytes(bytes.as_slice(), want),
-                (_, Some(want)) => !is_borrowed && are_bytes(bytes.as_slice(), want),
-                _ => are_bytes(bytes.as_slice(), want),
+                (Some(want), _) => is_borrowed && are_bytes_of_signs(bytes.as_slice(), want),
+                (_, Some(want)) => !is_borrowed && are_bytes_of_signs(bytes.as_slice(), want),
+                _ => are_bytes_of_signs(bytes.as_slice(), want),
             })
         }
         Ok(None) => Ok(want == "none"),
         Err(Reason::TooLong) => Ok(want == "long"),
-        Err(reason) => named("Cursor::", name, Err(reason)),
+        Err(reason) => named_row_call("Cursor::", name, Err(reason)),
     }
 }
 
-impl<B: ContiguousBuf + Drop> Run<'_, B> {
+impl<B: ContiguousBuf + Drop> CursorRun<'_, B> {
     /// Takes or reads a number of bytes, or passes them.
     fn count(&mut self, name: &str, len: usize, want: &str) -> Result<bool, Refusal> {
         match name {
-            "take" => is_taken(("take", self.cursor.take(self.alloc, len)), want),
-            "read" => is_read(("read", self.cursor.read(self.alloc, len)), want),
+            "take" => is_taken_by_cursor(("take", self.cursor.take(self.alloc, len)), want),
+            "read" => is_read_by_cursor(("read", self.cursor.read(self.alloc, len)), want),
             "take_segments" => {
                 let taken = self.cursor.take_segments(self.alloc, len);
-                match named("Cursor::", "take_segments", taken)? {
-                    Some(parts) => Ok(are_parts(parts, want)),
+                match named_row_call("Cursor::", "take_segments", taken)? {
+                    Some(parts) => Ok(are_parts_of_signs(parts, want)),
                     None => Ok(want == "none"),
                 }
             }
@@ -99,17 +105,26 @@ impl<B: ContiguousBuf + Drop> Run<'_, B> {
             return Ok(false);
         }
         match name {
-            "find" => Ok(is_place(named("Cursor::", "find", cursor.find(alloc, needle))?, want)),
-            "take_until" => is_taken(("take_until", cursor.take_until(alloc, needle)), want),
-            "take_to" => is_taken(("take_to", cursor.take_to(alloc, needle)), want),
-            "read_until" => is_read(("read_until", cursor.read_until(alloc, needle)), want),
+            "find" => Ok(is_place_of_signs(
+                named_row_call("Cursor::", "find", cursor.find(alloc, needle))?,
+                want,
+            )),
+            "take_until" => is_taken_by_cursor(
+                ("take_until", cursor.take_until(alloc, needle)),
+                want,
+            ),
+            "take_to" => is_taken_by_cursor(("take_to", cursor.take_to(alloc, needle)), want),
+            "read_until" => is_read_by_cursor(
+                ("read_until", cursor.read_until(alloc, needle)),
+                want,
+            ),
             "take_until_within" => {
                 let taken = cursor.take_until_within(alloc, needle, most);
-                is_taken(("take_until_within", taken), within)
+                is_taken_by_cursor(("take_until_within", taken), within)
             }
             "read_until_within" => {
                 let read = cursor.read_until_within(alloc, needle, most);
-                is_read(("read_until_within", read), within)
+                is_read_by_cursor(("read_until_within", read), within)
             }
             _ => Ok(false),
         }
@@ -117,8 +132,8 @@ impl<B: ContiguousBuf + Drop> Run<'_, B> {
 
     /// Takes the next line.
     fn line(&mut self, want: &str) -> Result<bool, Refusal> {
-        match named("Cursor::", "line", self.cursor.line(self.alloc))? {
-            Some(Ok(text)) => Ok(are_bytes(text.as_bytes(), want)),
+        match named_row_call("Cursor::", "line", self.cursor.line(self.alloc))? {
+            Some(Ok(text)) => Ok(are_bytes_of_signs(text.as_bytes(), want)),
             Some(Err(_)) => Ok(false),
             None => Ok(want == "none"),
         }
@@ -127,22 +142,22 @@ impl<B: ContiguousBuf + Drop> Run<'_, B> {
     /// Makes a call that takes no memory, and has one argument or none. Returns `None` if it is another one.
     fn look(&mut self, name: &str, want: &str) -> Option<bool> {
         match name {
-            "at" => Some(is_number(want, self.cursor.at())),
-            "remaining" => Some(is_number(want, self.cursor.remaining())),
+            "at" => Some(is_number_of_signs(want, self.cursor.at())),
+            "remaining" => Some(is_number_of_signs(want, self.cursor.remaining())),
             "peek" => Some(match self.cursor.peek() {
-                Some(byte) => are_bytes(&[byte], want),
+                Some(byte) => are_bytes_of_signs(&[byte], want),
                 None => want == "none",
             }),
             "starts_with" => Some(match want.strip_suffix(" not") {
-                Some(bytes) => !self.cursor.starts_with(meant(bytes).as_slice()),
-                None => self.cursor.starts_with(meant(want).as_slice()),
+                Some(bytes) => !self.cursor.starts_with(meant_by_signs(bytes).as_slice()),
+                None => self.cursor.starts_with(meant_by_signs(want).as_slice()),
             }),
-            _ => integers::is_next(&mut self.cursor, name, want),
+            _ => integers::is_next_integer(&mut self.cursor, name, want),
         }
     }
 }
 
-impl<B: ContiguousBuf + Drop> Called for Run<'_, B> {
+impl<B: ContiguousBuf + Drop> CalledByRow for CursorRun<'_, B> {
     fn make(&mut self, call: &str) -> Result<bool, Refusal> {
         let (name, rest) = call.split_once(' ').unwrap_or((call, ""));
         let (argument, want) = rest.split_once(' ').unwrap_or((rest, ""));
@@ -152,10 +167,10 @@ impl<B: ContiguousBuf + Drop> Called for Run<'_, B> {
         match name {
             "line" => self.line(rest),
             "rest" => {
-                let unread = named("Cursor::", "rest", self.cursor.rest(self.alloc))?;
-                Ok(are_parts(unread, rest))
+                let unread = named_row_call("Cursor::", "rest", self.cursor.rest(self.alloc))?;
+                Ok(are_parts_of_signs(unread, rest))
             }
-            "tag" => Ok(match self.cursor.tag(meant(argument).as_slice()) {
+            "tag" => Ok(match self.cursor.tag(meant_by_signs(argument).as_slice()) {
                 Ok(Some(())) => want == "passes",
                 Ok(None) => want == "none",
                 Err(_) => want == "differs",
@@ -163,7 +178,7 @@ impl<B: ContiguousBuf + Drop> Called for Run<'_, B> {
             "take" | "read" | "take_segments" | "advance" => {
                 self.count(name, argument.parse().unwrap_or(usize::MAX), want)
             }
-            _ => self.search(name, meant(argument).as_slice(), want),
+            _ => self.search(name, meant_by_signs(argument).as_slice(), want),
         }
     }
 
@@ -173,16 +188,16 @@ impl<B: ContiguousBuf + Drop> Called for Run<'_, B> {
 }
 
 /// Whether a row is right of a new cursor.
-fn is_right_of<B: ContiguousBuf + Drop, R: Abort + Print + AllocGlobal>(
+fn is_cursor_row_right<B: ContiguousBuf + Drop, R: Abort + Print + AllocGlobal>(
     rt: &R,
     buf: &SegmentedBuf<B>,
     row: &str,
 ) -> bool {
-    let mut run = Run {
+    let mut run = CursorRun {
         alloc: rt.alloc(),
         cursor: Cursor::new(buf),
     };
-    is_right(rt, &mut run, row)
+    is_row_right(rt, &mut run, row)
 }
 
 /// A message of four parts: a word, the number of bytes of the body, the body, and a line.
@@ -211,7 +226,7 @@ const FRONTS: [(usize, usize, &str); 5] = [
 ];
 
 /// Whether a row is right of these pieces, as they are, and in a buffer whose small pieces are copied together.
-fn is_right_of_pieces<R: Abort + Print + AllocGlobal>(
+fn is_cursor_row_right_of_pieces<R: Abort + Print + AllocGlobal>(
     rt: &R,
     (front, back): (&'static [u8], &'static [u8]),
     row: &str,
@@ -220,17 +235,21 @@ fn is_right_of_pieces<R: Abort + Print + AllocGlobal>(
     let mut packed = PackedBuf::new(rt.alloc(), 4);
     packed.push_slice(rt.alloc(), front).ok()?;
     packed.push_slice(rt.alloc(), back).ok()?;
-    Some(is_right_of(rt, &shared, row) && is_right_of(rt, packed.as_segmented(), row))
+    Some(
+        is_cursor_row_right(rt, &shared, row)
+            && is_cursor_row_right(rt, packed.as_segmented(), row),
+    )
 }
 
 /// Each beginning of the message, cut at each place.
 #[test]
-fn a_message_cut_at_each_place(rt: HostRuntime) {
+fn cursor_on_a_message_cut_at_each_place(rt: HostRuntime) {
     for (least, most, row) in FRONTS {
         for len in least..=most {
             let came = MESSAGE.get(..len).unwrap_or(b"");
             for cut in 0..=came.len() {
-                let holds = is_right_of_pieces(&rt, came.split_at(cut), row) == Some(true);
+                let holds = is_cursor_row_right_of_pieces(&rt, came.split_at(cut), row)
+                    == Some(true);
                 assert_row(&rt, row, holds);
             }
         }
@@ -259,13 +278,13 @@ take_segments 18 none, take_segments 17 &#17 in 2
 const WORDS: &str = "take_until _ &set, take_until _ &~!, take 2 &12";
 
 #[test]
-fn parts_of_blocks(rt: HostRuntime) {
+fn cursor_takes_parts_of_blocks(rt: HostRuntime) {
     let header = in_blocks(rt.alloc(), HEADER).expect(&rt, "no memory");
     for row in ROWS.lines() {
-        let holds = is_right_of(&rt, &header, row);
+        let holds = is_cursor_row_right(&rt, &header, row);
         assert_row(&rt, row, holds);
     }
     let line = in_blocks(rt.alloc(), &[b"set \xff\xfe 12"]).expect(&rt, "no memory");
-    let holds = is_right_of(&rt, &line, WORDS);
+    let holds = is_cursor_row_right(&rt, &line, WORDS);
     assert_row(&rt, WORDS, holds);
 }

@@ -2,10 +2,10 @@
 mod cuts;
 mod delimited;
 mod framed;
+mod length_prefixed;
 mod lines;
 mod made;
 mod memory;
-mod prefixed;
 mod read;
 mod rows;
 mod universal_lines;

@@ -14,8 +14,11 @@
 //! | `needle ab` | it is for this needle |
 mod memory;
 
-use crate::cases::fixtures::rows::{Called, Refusal, is_right, named};
-use crate::cases::fixtures::signs::{are_bytes, are_in, is_like, is_number, is_place, meant};
+use crate::cases::fixtures::rows::{CalledByRow, Refusal, is_row_right, named_row_call};
+use crate::cases::fixtures::signs::{
+    are_bytes_of_signs, are_segments_of_signs, is_block_of_signs, is_number_of_signs,
+    is_place_of_signs, meant_by_signs,
+};
 use crate::cases::fixtures::{assert_row, assert_that, in_segments};
 use bytes::{Buf, Bytes};
 use bytes_utils::{Reason, SegmentedBuf};
@@ -27,14 +30,14 @@ use std::process::Abort;
 
 /// The bytes in which calls look for a needle.
 #[derive(Drop)]
-struct Run<'a> {
+struct FindRun<'a> {
     alloc: Global,
     needle: &'a [u8],
     buf: SegmentedBuf<Bytes>,
     search: Option<Search>,
 }
 
-impl Run<'_> {
+impl FindRun<'_> {
     /// Pushes a copy of these bytes.
     fn push(&mut self, bytes: &[u8]) -> Result<bool, Reason> {
         self.buf
@@ -48,9 +51,9 @@ impl Run<'_> {
             return false;
         };
         match name {
-            "search" => is_place(search.find(&self.buf), want),
-            "searched" => is_number(want, search.searched()),
-            "needle" => are_bytes(search.needle(), want),
+            "search" => is_place_of_signs(search.find(&self.buf), want),
+            "searched" => is_number_of_signs(want, search.searched()),
+            "needle" => are_bytes_of_signs(search.needle(), want),
             "restart" => {
                 search.restart();
                 true
@@ -68,10 +71,12 @@ impl Run<'_> {
         let start = start.parse().unwrap_or(0);
         if name == "find_short" {
             let is_short = self.needle.len() <= 16;
-            return Ok(is_short && is_place(find_short(&self.buf, start, self.needle), want));
+            return Ok(
+                is_short && is_place_of_signs(find_short(&self.buf, start, self.needle), want),
+            );
         }
         let place = find_from(&self.buf, self.alloc, start, self.needle);
-        Ok(is_place(named("find_from", "", place)?, want))
+        Ok(is_place_of_signs(named_row_call("find_from", "", place)?, want))
     }
 
     /// Takes what is before the needle.
@@ -80,8 +85,8 @@ impl Run<'_> {
             return Ok(false);
         }
         let taken = take_until(&mut self.buf, self.alloc, self.needle);
-        match named("take_until", "", taken)? {
-            Some(front) => Ok(is_like(&front, want)),
+        match named_row_call("take_until", "", taken)? {
+            Some(front) => Ok(is_block_of_signs(&front, want)),
             None => Ok(want == "none"),
         }
     }
@@ -91,25 +96,25 @@ impl Run<'_> {
         if self.needle.is_empty() {
             return Ok(false);
         }
-        let search = named("Search::", "new", Search::new(self.alloc, self.needle))?;
+        let search = named_row_call("Search::", "new", Search::new(self.alloc, self.needle))?;
         self.search = Some(search);
         Ok(true)
     }
 }
 
-impl Called for Run<'_> {
+impl CalledByRow for FindRun<'_> {
     fn make(&mut self, call: &str) -> Result<bool, Refusal> {
         if let Some(bytes) = call.strip_prefix("+") {
-            return named("a copy", "", self.push(meant(bytes).as_slice()));
+            return named_row_call("a copy", "", self.push(meant_by_signs(bytes).as_slice()));
         }
         if let Some(want) = call.strip_prefix("=") {
-            return Ok(are_in(&self.buf, want));
+            return Ok(are_segments_of_signs(&self.buf, want));
         }
         let (name, rest) = call.split_once(' ').unwrap_or((call, ""));
         match name {
             "find" => {
                 let place = find(&self.buf, self.alloc, self.needle);
-                Ok(is_place(named("find", "", place)?, rest))
+                Ok(is_place_of_signs(named_row_call("find", "", place)?, rest))
             }
             "find_from" | "find_short" => self.find_from(name, rest),
             "take_until" => self.take_until(rest),
@@ -124,23 +129,23 @@ impl Called for Run<'_> {
 }
 
 /// Whether calls for a needle are right of these bytes.
-fn is_right_of<R: Abort + Print + AllocGlobal>(
+fn is_find_row_right<R: Abort + Print + AllocGlobal>(
     rt: &R,
     buf: SegmentedBuf<Bytes>,
     needle: &[u8],
     calls: &str,
 ) -> bool {
-    let mut run = Run {
+    let mut run = FindRun {
         alloc: rt.alloc(),
         needle,
         buf,
         search: None,
     };
-    is_right(rt, &mut run, calls)
+    is_row_right(rt, &mut run, calls)
 }
 
 /// Asserts each of the rows, of these bytes, unless memory for their segments is refused.
-pub(super) fn assert_rows<R: Abort + Print + AllocGlobal>(
+pub(super) fn assert_find_rows<R: Abort + Print + AllocGlobal>(
     rt: &R,
     pieces: &[&'static [u8]],
     rows: &str,
@@ -148,7 +153,7 @@ pub(super) fn assert_rows<R: Abort + Print + AllocGlobal>(
     for row in rows.lines() {
         let (needle, calls) = row.split_once(": ").unwrap_or(("", row));
         if let Some(buf) = in_segments(rt.alloc(), pieces) {
-            let holds = is_right_of(rt, buf, meant(needle).as_slice(), calls);
+            let holds = is_find_row_right(rt, buf, meant_by_signs(needle).as_slice(), calls);
             assert_row(rt, row, holds);
         }
     }
@@ -156,13 +161,13 @@ pub(super) fn assert_rows<R: Abort + Print + AllocGlobal>(
 
 /// What is before each needle, and what is left. A front in one segment is shared, and one in two is copied.
 #[test]
-fn a_front_in_one_segment_is_shared(rt: HostRuntime) {
+fn find_shares_a_front_in_one_segment(rt: HostRuntime) {
     let row = "-: +ab-cd, +e-f, take_until &ab, take_until *cde, take_until none, =f";
-    assert_rows(&rt, &[], row);
+    assert_find_rows(&rt, &[], row);
 }
 
 /// 40,000 bytes and a needle of 65,536 bytes, in pieces of 1,000 bytes and a last one of 536.
-fn body(alloc: Global, needle: &[u8]) -> Result<SegmentedBuf<Bytes>, Reason> {
+fn body_to_find_in(alloc: Global, needle: &[u8]) -> Result<SegmentedBuf<Bytes>, Reason> {
     let mut body = SegmentedBuf::new(alloc);
     for _ in 0..40 {
         body.try_push(Bytes::from_static(&[b'x'; 1_000]))?;
@@ -175,11 +180,11 @@ fn body(alloc: Global, needle: &[u8]) -> Result<SegmentedBuf<Bytes>, Reason> {
 
 /// The needle is found, and not again after its first byte.
 #[test]
-fn a_long_needle(rt: HostRuntime) {
+fn find_of_a_long_needle(rt: HostRuntime) {
     let mut needle = [b'x'; 65_536];
     needle[0] = b'y';
-    let body = body(rt.alloc(), &needle).expect(&rt, "no memory");
-    let holds = is_right_of(&rt, body, &needle, "find 40000, find_from 40001 none");
+    let body = body_to_find_in(rt.alloc(), &needle).expect(&rt, "no memory");
+    let holds = is_find_row_right(&rt, body, &needle, "find 40000, find_from 40001 none");
     assert_that(&rt, holds);
 }
 
@@ -201,11 +206,11 @@ const FRONTS: [(&[u8], &str); 4] = [
 ];
 
 #[test]
-fn fronts_wherever_the_text_is_cut(rt: HostRuntime) {
+fn find_fronts_wherever_the_text_is_cut(rt: HostRuntime) {
     for (text, row) in FRONTS {
         for place in 0..text.len() {
             let (front, back) = text.split_at(place);
-            assert_rows(&rt, &[front, back], row);
+            assert_find_rows(&rt, &[front, back], row);
         }
     }
 }

@@ -1,19 +1,16 @@
-//! The examples of the README, as they are there.
+//! The example of the README, as it is there.
 mod tests;
 
-use bytes::{Buf, Bytes};
-use bytes_utils::{Reason, SegmentedBuf, Str};
-use bytes_utils_codec::decode::{
-    FrameTooLong, Framed, LengthPrefixed, LineFault, Lines, ReadItemError,
-};
+use bytes::Bytes;
+use bytes_utils::{Reason, Str};
+use bytes_utils_codec::decode::{Framed, LineFault, Lines};
 use std::alloc::Global;
-use std::io::{self, Read, Write};
 
 /// A line, or why there is no text of it: it is too long, or not UTF-8.
 type Line = Result<Str, LineFault>;
 
-/// Appends a piece of a stream, and returns the next line, or `None` until it has ended. If a piece
-/// ends more lines, `lines.next_item` alone returns them.
+/// Adds a piece, and returns the next line, or `None` while its end hasn't come. `lines.next_item`
+/// alone returns further ones. After an error of `push` the piece is lost.
 fn next_line(
     alloc: Global,
     lines: &mut Framed<Lines>,
@@ -21,37 +18,4 @@ fn next_line(
 ) -> Result<Option<Line>, Reason> {
     lines.push(piece)?;
     lines.next_item(alloc)
-}
-
-/// Reads the next message, which comes after its length, or returns `None` at the end of the input.
-fn message<R: Read>(
-    alloc: Global,
-    input: &mut R,
-    messages: &mut Framed<LengthPrefixed>,
-) -> Result<Option<Result<Bytes, FrameTooLong>>, ReadItemError<Reason>> {
-    messages.read_item(alloc, input) // after an error the call can be made again: no byte is lost
-}
-
-/// Splits a line such as `Host: example.org` into name and value.
-fn header(line: Str) -> Result<Option<(Str, Str)>, Reason> {
-    let (name, value) = line.split_once_bytes(": ")?;
-    Ok(value.map(|value| (name, value))) // owned: they outlive the line
-}
-
-/// Takes a body of `len` bytes out of `came`, or returns `None` until all of it has arrived.
-fn body(
-    alloc: Global,
-    came: &mut SegmentedBuf<Bytes>,
-    len: usize,
-) -> Result<Option<Bytes>, Reason> {
-    if came.remaining() < len {
-        return Ok(None);
-    }
-    Ok(Some(came.copy_to_bytes(alloc, len)?)) // shared if in one piece; an error may lose it
-}
-
-/// Writes all of `came`, small pieces together. After an error, `came` holds what wasn't written.
-fn send<W: Write>(out: &mut W, came: &mut SegmentedBuf<Bytes>) -> io::Result<()> {
-    bytes_utils::write::write_all_of(out, came)?;
-    out.flush()
 }

@@ -3,7 +3,7 @@ ghost use Rattle.std.specs.Prelude.{◌<◌, length};
 
 mod memory;
 
-use super::find::assert_rows;
+use super::find::assert_find_rows;
 use super::fixtures::assert_that;
 use bytes::{Buf, Bytes};
 use bytes_utils::SegmentedBuf;
@@ -27,18 +27,18 @@ aab: new, +aaa, search none, +b, search 1, +aab, search 1
 ";
 
 #[test]
-fn places_after_each_piece(rt: HostRuntime) {
-    assert_rows(&rt, &[], ROWS);
+fn search_places_after_each_piece(rt: HostRuntime) {
+    assert_find_rows(&rt, &[], ROWS);
 }
 
 /// A byte that counts how often it is looked at.
 #[derive(Drop)]
-struct Watched<'c> {
+struct SearchedByte<'c> {
     byte: Bytes,
     looks: &'c Cell<usize>,
 }
 
-impl<'c> Buf for Watched<'c> {
+impl<'c> Buf for SearchedByte<'c> {
     ghost unread = { λ w. w.byte };
 
     fn remaining(&self) -> usize {
@@ -54,7 +54,7 @@ impl<'c> Buf for Watched<'c> {
     }
 }
 
-impl<'c> ContiguousBuf for Watched<'c> {
+impl<'c> ContiguousBuf for SearchedByte<'c> {
     fn as_contiguous(&self) -> &[u8] {
         self.looks.set(self.looks.get().saturating_add(1));
         self.byte.as_slice()
@@ -63,14 +63,14 @@ impl<'c> ContiguousBuf for Watched<'c> {
 
 /// Searches after each of 1,000 bytes, in segments of their own. Returns whether the needle was
 /// never there, or `None` if memory is refused.
-fn is_nowhere<'c>(
+fn search_finds_nothing<'c>(
     search: &mut Search,
-    held: &mut SegmentedBuf<Watched<'c>>,
+    held: &mut SegmentedBuf<SearchedByte<'c>>,
     looks: &'c Cell<usize>,
 ) -> Option<bool> {
     for _ in 0..1_000 {
         let byte = Bytes::from_static(b"-");
-        held.try_push(Watched { byte, looks }).ok()?;
+        held.try_push(SearchedByte { byte, looks }).ok()?;
         if search.find(held).is_some() {
             return Some(false);
         }
@@ -79,18 +79,18 @@ fn is_nowhere<'c>(
 }
 
 /// Returns how often these bytes are looked at, or `None` if the needle is there.
-fn looks(alloc: Global, needle: &[u8]) -> Option<usize>
+fn looks_of_search(alloc: Global, needle: &[u8]) -> Option<usize>
     requires { 0 < length needle.now }
 {
     let looks = Cell::new(0);
     let mut search = Search::new(alloc, needle).ok()?;
-    is_nowhere(&mut search, &mut SegmentedBuf::new(alloc), &looks)?.then_some(looks.get())
+    search_finds_nothing(&mut search, &mut SegmentedBuf::new(alloc), &looks)?.then_some(looks.get())
 }
 
 // A search that began at the front at each call would look 500,000 times.
 #[test]
-fn bytes_that_wait_are_not_looked_at_again(rt: HostRuntime) {
-    let looks_for_one = looks(rt.alloc(), b"+").unwrap_or(usize::MAX);
-    let looks_for_two = looks(rt.alloc(), b"-+").unwrap_or(usize::MAX);
+fn search_looks_at_no_byte_again(rt: HostRuntime) {
+    let looks_for_one = looks_of_search(rt.alloc(), b"+").unwrap_or(usize::MAX);
+    let looks_for_two = looks_of_search(rt.alloc(), b"-+").unwrap_or(usize::MAX);
     assert_that(&rt, looks_for_one <= 8_000 && looks_for_two <= 8_000);
 }

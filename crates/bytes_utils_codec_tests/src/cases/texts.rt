@@ -12,8 +12,10 @@ mod cut;
 mod memory;
 
 use super::fixtures::assert_row;
-use super::fixtures::rows::{Called, Refusal, is_right, named};
-use super::fixtures::signs::{are_parts, is_like, is_number, meant};
+use super::fixtures::rows::{CalledByRow, Refusal, is_row_right, named_row_call};
+use super::fixtures::signs::{
+    are_parts_of_signs, is_block_of_signs, is_number_of_signs, meant_by_signs,
+};
 use bytes::Bytes;
 use bytes_utils::string::{Str, Utf8Error};
 use bytes_utils_codec::texts::Texts;
@@ -24,14 +26,14 @@ use std::process::Abort;
 
 /// A reader on which calls are made, with the block that it shares.
 #[derive(Drop)]
-struct Run<'a> {
+struct TextsRun<'a> {
     alloc: Global,
     texts: Texts,
     block: &'a Bytes,
 }
 
 /// A reader of a kind.
-fn reader_of(alloc: Global, kind: &str) -> Texts {
+fn texts_of_kind(alloc: Global, kind: &str) -> Texts {
     match kind {
         "lossy" => Texts::new(alloc).lossy(),
         _ => Texts::new(alloc),
@@ -39,18 +41,18 @@ fn reader_of(alloc: Global, kind: &str) -> Texts {
 }
 
 /// Whether an item is as wanted, and so are the owners of its block.
-fn is_item(item: Option<Result<Str, Utf8Error<Bytes>>>, want: &str) -> bool {
+fn is_item_of_texts(item: Option<Result<Str, Utf8Error<Bytes>>>, want: &str) -> bool {
     match item {
-        Some(Ok(text)) => is_like(text.inner(), want),
+        Some(Ok(text)) => is_block_of_signs(text.inner(), want),
         Some(Err(fault)) => match want.strip_prefix("fault ") {
-            Some(want) => is_like(&fault.into_inner(), want),
+            Some(want) => is_block_of_signs(&fault.into_inner(), want),
             None => false,
         },
         None => want == "none",
     }
 }
 
-impl Run<'_> {
+impl TextsRun<'_> {
     /// Pushes the bytes of the block from one place to another. If the call is refused, they come back.
     fn push(&mut self, places: &str) -> Result<bool, Refusal> {
         let (from, to) = places.split_once(' ').unwrap_or((places, ""));
@@ -64,30 +66,30 @@ impl Run<'_> {
         match self.texts.push(piece) {
             Ok(()) => Ok(true),
             Err(refused) if refused.back.len() == to - from => {
-                named("Texts::", "push", Err(refused.reason))
+                named_row_call("Texts::", "push", Err(refused.reason))
             }
             Err(_) => Ok(false),
         }
     }
 }
 
-impl Called for Run<'_> {
+impl CalledByRow for TextsRun<'_> {
     fn make(&mut self, call: &str) -> Result<bool, Refusal> {
         let (name, rest) = call.split_once(' ').unwrap_or((call, ""));
         match name {
             "push" => self.push(rest),
             "next" => {
                 let item = self.texts.next_item(self.alloc);
-                Ok(is_item(named("Texts::", "next_item", item)?, rest))
+                Ok(is_item_of_texts(named_row_call("Texts::", "next_item", item)?, rest))
             }
             "last" => {
                 let item = self.texts.last_item(self.alloc);
-                Ok(is_item(named("Texts::", "last_item", item)?, rest))
+                Ok(is_item_of_texts(named_row_call("Texts::", "last_item", item)?, rest))
             }
-            "remaining" => Ok(is_number(rest, self.texts.remaining())),
+            "remaining" => Ok(is_number_of_signs(rest, self.texts.remaining())),
             "finish" => {
                 let texts = mem::replace(&mut self.texts, Texts::new(self.alloc));
-                Ok(are_parts(texts.finish(), rest))
+                Ok(are_parts_of_signs(texts.finish(), rest))
             }
             _ => Ok(false),
         }
@@ -99,18 +101,18 @@ impl Called for Run<'_> {
 }
 
 /// Whether calls are right of a new reader of a kind, with this block.
-fn is_right_of<R: Abort + Print + AllocGlobal>(
+fn is_texts_row_right<R: Abort + Print + AllocGlobal>(
     rt: &R,
     kind: &str,
     block: &Bytes,
     calls: &str,
 ) -> bool {
-    let mut run = Run {
+    let mut run = TextsRun {
         alloc: rt.alloc(),
-        texts: reader_of(rt.alloc(), kind),
+        texts: texts_of_kind(rt.alloc(), kind),
         block,
     };
-    is_right(rt, &mut run, calls)
+    is_row_right(rt, &mut run, calls)
 }
 
 /// Items share the blocks of their pieces. A character that is cut, or a fault, is a copy.
@@ -131,9 +133,9 @@ fn texts_share_their_pieces(rt: HostRuntime) {
     for row in ROWS.lines() {
         let (bytes, calls) = row.split_once(": ").unwrap_or((row, ""));
         let (kind, bytes) = bytes.split_once(' ').unwrap_or((bytes, ""));
-        let block = Bytes::copy_from_slice(rt.alloc(), meant(bytes).as_slice());
+        let block = Bytes::copy_from_slice(rt.alloc(), meant_by_signs(bytes).as_slice());
         let block = block.expect(&rt, "no memory");
-        let holds = is_right_of(&rt, kind, &block, calls) && block.is_unique();
+        let holds = is_texts_row_right(&rt, kind, &block, calls) && block.is_unique();
         assert_row(&rt, row, holds);
     }
 }

@@ -2,7 +2,7 @@
 ghost use Rattle.std.specs.Prelude.{◌≡◌, ◌⊎◌, ◌+◌, ◌≤◌, ℕ, List, Option, [], length, drop, All, IsUtf8, IfOk, IfErr, IfSome, IfNone, MatchOption, option_map};
 ghost use Rattle.std.specs.List.{concat, prefix_len};
 ghost use Rattle.std.specs.Str.Lines.{lines};
-ghost use Rattle.bytes_utils_protocols.specs.Multipart.{HasDisposition, IsDisposition, IsHeadIn, IsPart, IsQuoted, NoDisposition, PartBytes, Quotes, is_padding, part_bytes};
+ghost use Rattle.bytes_utils_protocols.specs.Multipart.{HasDisposition, IsDisposition, IsMultipartHead, IsPart, IsQuotedInMultipart, NoDisposition, PartBytes, QuotesInMultipart, is_multipart_head_padding, part_bytes};
 
 use super::limits::{Limits, PartError};
 use bytes::{Buf, Bytes};
@@ -52,10 +52,10 @@ pub(super) fn read_head(
 
 /// The head in the bytes before an empty line, which begin after a delimiter.
 fn head_in(mut front: Bytes) -> Option<Bytes>
-    ensures some { IfSome result (λ head. IsHeadIn front head) }
-    ensures none { IfNone result ((head : List ℕ) → ¬ IsHeadIn front head) }
+    ensures some { IfSome result (λ head. IsMultipartHead front head) }
+    ensures none { IfNone result ((head : List ℕ) → ¬ IsMultipartHead front head) }
 {
-    let padding = padding_len(front.as_slice());
+    let padding = head_padding_len(front.as_slice());
     front.advance(padding);
     if front.is_empty() {
         return Some(front);
@@ -68,26 +68,29 @@ fn head_in(mut front: Bytes) -> Option<Bytes>
 }
 
 /// The number of spaces and tabs at the beginning.
-fn padding_len(front: &[u8]) -> usize
+fn head_padding_len(front: &[u8]) -> usize
     ensures bound { result ≤ length front.now }
-    ensures count { result ≡ prefix_len is_padding front.now }
+    ensures count { result ≡ prefix_len is_multipart_head_padding front.now }
 {
-    front.iter().take_while(|byte| is_padding(**byte)).count()
+    front
+        .iter()
+        .take_while(|byte| is_multipart_head_padding(**byte))
+        .count()
 }
 
 /// Whether the byte is a space or a tab.
-fn is_padding(byte: u8) -> bool
-    ensures { result ≡ is_padding byte }
+fn is_multipart_head_padding(byte: u8) -> bool
+    ensures { result ≡ is_multipart_head_padding byte }
 {
     matches!(byte, b' ' | b'\t')
 }
 
 /// The value of the first `Content-Disposition` header in a head.
-pub(super) fn disposition_of(head: &str) -> Option<&str>
+pub(super) fn disposition_of_head(head: &str) -> Option<&str>
     ensures { HasDisposition (lines head.now) (option_map (λ value. value.now) result) }
 {
     for line in head.lines() {
-        if let Some(value) = disposition_in(line) {
+        if let Some(value) = disposition_in_head(line) {
             return Some(value);
         }
     }
@@ -95,7 +98,7 @@ pub(super) fn disposition_of(head: &str) -> Option<&str>
 }
 
 /// The value in a line, if that is a `Content-Disposition` header.
-fn disposition_in(line: &str) -> Option<&str>
+fn disposition_in_head(line: &str) -> Option<&str>
     ensures some { IfSome result (λ value. IsDisposition line.now value.now) }
     ensures none { IfNone result (NoDisposition line.now) }
 {
@@ -107,28 +110,28 @@ fn disposition_in(line: &str) -> Option<&str>
 }
 
 /// A copy of what is in quotes after `key`, which has the first of them, in a disposition.
-pub(super) fn parameter(
+pub(super) fn head_parameter(
     alloc: Global,
     disposition: Option<&str>,
     key: &str,
 ) -> Result<Option<Str>, Reason>
     ensures ok { IfOk result
-        (λ value. Quotes key.now (option_map (λ text. text.now) disposition.entry) value) }
+        (λ value. QuotesInMultipart key.now (option_map (λ text. text.now) disposition.entry) value) }
     ensures reason { IfErr result (λ reason. reason ≡ Reason.OutOfMemory) }
 {
     let Some(text) = disposition else {
         return Ok(None);
     };
-    match quoted(text, key) {
+    match quoted_in_head(text, key) {
         Some(value) => Ok(Some(Str::from_str(alloc, value)?)),
         None => Ok(None),
     }
 }
 
 /// What is between the first `key` and the next quote, if both are there.
-fn quoted<'t>(text: &'t str, key: &str) -> Option<&'t str>
-    ensures some { IfSome result (λ value. IsQuoted key.now text.now value.now) }
-    ensures none { IfNone result ((value : List ℕ) → ¬ IsQuoted key.now text.now value) }
+fn quoted_in_head<'t>(text: &'t str, key: &str) -> Option<&'t str>
+    ensures some { IfSome result (λ value. IsQuotedInMultipart key.now text.now value.now) }
+    ensures none { IfNone result ((value : List ℕ) → ¬ IsQuotedInMultipart key.now text.now value) }
 {
     let (_, after) = text.split_once(key)?;
     let (value, _) = after.split_once("\"")?;

@@ -2,8 +2,8 @@
 ghost use Rattle.std.specs.Prelude.{◌≡◌, ℕ, ◌↔◌, ◌<◌, ◌≤◌, List, [], ◌∷◌, ◌++◌, length, true, FitsSigned, IsTrue, IfOk, IfErr, IfSome, IfNone, MatchOption};
 ghost use Rattle.std.specs.Int.{w64};
 ghost use Rattle.std.specs.Bool.{MatchBool};
-ghost use Rattle.bytes_utils_protocols.specs.Redis.{IsLineOf, IsLineWithin, LacksByte};
-ghost use Rattle.bytes_utils_protocols.specs.PendingReply.{AreDigitsOf, IsHeadOf, IsHeadWithin, IsReadAs, ReadsOn, Reports, signed};
+ghost use Rattle.bytes_utils_protocols.specs.Redis.{IsLineOf, IsLineWithin, LacksRedisByte};
+ghost use Rattle.bytes_utils_protocols.specs.RedisLine.{AreLineDigits, IsHeadOf, IsHeadWithin, IsReadAs, ReadsOn, LineReports, signed_line_number};
 ghost use Rattle.bytes_utils_protocols.specs.Digits.{WriteNumber};
 
 use super::item::{Item, items_in};
@@ -43,7 +43,7 @@ pub(super) enum Line {
 
 /// The beginning of a line that was read: its number of bytes, and what they are.
 #[derive(Clone, Copy, Debug)]
-pub(super) struct Begun {
+pub(super) struct BegunLine {
     pub(super) len: usize,
     pub(super) line: Line,
 }
@@ -51,7 +51,7 @@ pub(super) struct Begun {
 /// What a line reports: a whole item; a text or an error, which is the line itself; or the number of
 /// bytes of a bulk item.
 #[derive(Drop)]
-pub(super) enum Head {
+pub(super) enum LineHead {
     Whole(Item),
     Plain,
     Body(usize),
@@ -74,18 +74,18 @@ impl Line {
         ensures { ReadsOn self (byte ∷ []) result }
     {
         match self {
-            Line::Empty => first(byte),
-            Line::Text => in_text(byte),
-            Line::Signed(sign, value) => in_integer(sign, value, byte),
-            Line::Length(counted, value) => in_length(counted, value, byte),
-            Line::Dash(counted) => after_dash(counted, byte),
+            Line::Empty => line_from_first(byte),
+            Line::Text => line_in_text(byte),
+            Line::Signed(sign, value) => line_in_integer(sign, value, byte),
+            Line::Length(counted, value) => line_in_length(counted, value, byte),
+            Line::Dash(counted) => line_after_dash(counted, byte),
             Line::Null(_) => None,
         }
     }
 
     /// Whether one byte more can make it the line of an item, which it isn't yet.
     fn lacks_byte(self) -> bool
-        ensures { (bytes : List ℕ) → IsReadAs self bytes → IsTrue result ↔ LacksByte bytes }
+        ensures { (bytes : List ℕ) → IsReadAs self bytes → IsTrue result ↔ LacksRedisByte bytes }
     {
         matches!(
             self,
@@ -94,27 +94,27 @@ impl Line {
     }
 
     /// What the line reports, if no byte of it is to come, or `None` if it is that of no item.
-    fn head(self) -> Option<Head>
-        ensures { Reports self result }
+    fn head(self) -> Option<LineHead>
+        ensures { LineReports self result }
     {
         match self {
-            Line::Text => Some(Head::Plain),
-            Line::Signed(sign, Some(value)) => Some(Head::Whole(Item::Integer(integer(
+            Line::Text => Some(LineHead::Plain),
+            Line::Signed(sign, Some(value)) => Some(LineHead::Whole(Item::Integer(line_integer(
                 sign, value,
             )?))),
-            Line::Length(Counted::Bytes, Some(len)) => Some(Head::Body(len)),
-            Line::Length(Counted::Items, Some(count)) => Some(Head::Whole(Item::Array(Some(
+            Line::Length(Counted::Bytes, Some(len)) => Some(LineHead::Body(len)),
+            Line::Length(Counted::Items, Some(count)) => Some(LineHead::Whole(Item::Array(Some(
                 count,
             )))),
-            Line::Null(Counted::Bytes) => Some(Head::Whole(Item::Bulk(None))),
-            Line::Null(Counted::Items) => Some(Head::Whole(Item::Array(None))),
+            Line::Null(Counted::Bytes) => Some(LineHead::Whole(Item::Bulk(None))),
+            Line::Null(Counted::Items) => Some(LineHead::Whole(Item::Array(None))),
             _ => None,
         }
     }
 }
 
 /// Reads the first byte.
-fn first(byte: u8) -> Option<Line>
+fn line_from_first(byte: u8) -> Option<Line>
     ensures { ReadsOn Line.Empty (byte ∷ []) result }
 {
     match byte {
@@ -127,7 +127,7 @@ fn first(byte: u8) -> Option<Line>
 }
 
 /// Reads a byte of a text or of an error.
-fn in_text(byte: u8) -> Option<Line>
+fn line_in_text(byte: u8) -> Option<Line>
     ensures { ReadsOn Line.Text (byte ∷ []) result }
 {
     match byte {
@@ -137,28 +137,28 @@ fn in_text(byte: u8) -> Option<Line>
 }
 
 /// Reads a byte of an integer.
-fn in_integer(sign: Sign, value: Option<usize>, byte: u8) -> Option<Line>
+fn line_in_integer(sign: Sign, value: Option<usize>, byte: u8) -> Option<Line>
     ensures { ReadsOn (Line.Signed sign value) (byte ∷ []) result }
 {
     match (sign, value, byte) {
         (Sign::Unsigned, None, b'+') => Some(Line::Signed(Sign::Plus, None)),
         (Sign::Unsigned, None, b'-') => Some(Line::Signed(Sign::Minus, None)),
-        _ => Some(Line::Signed(sign, Some(with_digit(value, byte)?))),
+        _ => Some(Line::Signed(sign, Some(with_line_digit(value, byte)?))),
     }
 }
 
 /// Reads a byte of a length.
-fn in_length(counted: Counted, value: Option<usize>, byte: u8) -> Option<Line>
+fn line_in_length(counted: Counted, value: Option<usize>, byte: u8) -> Option<Line>
     ensures { ReadsOn (Line.Length counted value) (byte ∷ []) result }
 {
     match (value, byte) {
         (None, b'-') => Some(Line::Dash(counted)),
-        _ => Some(Line::Length(counted, Some(with_digit(value, byte)?))),
+        _ => Some(Line::Length(counted, Some(with_line_digit(value, byte)?))),
     }
 }
 
 /// Reads the byte after the `-` of a length.
-fn after_dash(counted: Counted, byte: u8) -> Option<Line>
+fn line_after_dash(counted: Counted, byte: u8) -> Option<Line>
     ensures { ReadsOn (Line.Dash counted) (byte ∷ []) result }
 {
     match byte {
@@ -169,8 +169,8 @@ fn after_dash(counted: Counted, byte: u8) -> Option<Line>
 
 /// The number that the digits write with one more, or `None` if the byte is no digit or the number no
 /// `usize`.
-fn with_digit(value: Option<usize>, byte: u8) -> Option<usize>
-    ensures { (digits : List ℕ) → AreDigitsOf value digits
+fn with_line_digit(value: Option<usize>, byte: u8) -> Option<usize>
+    ensures { (digits : List ℕ) → AreLineDigits value digits
         → MatchOption result ((n : ℕ) (more : List ℕ) → ¬ WriteNumber (digits ++ byte ∷ more) n)
         (λ n. WriteNumber (digits ++ byte ∷ []) n) }
 {
@@ -182,9 +182,9 @@ fn with_digit(value: Option<usize>, byte: u8) -> Option<usize>
 }
 
 /// The integer with this sign, if it is an `i64`.
-fn integer(sign: Sign, value: usize) -> Option<i64>
-    ensures { MatchOption result (¬ FitsSigned w64 (signed sign value))
-        (λ n. (n ≡ signed sign value) × FitsSigned w64 (signed sign value)) }
+fn line_integer(sign: Sign, value: usize) -> Option<i64>
+    ensures { MatchOption result (¬ FitsSigned w64 (signed_line_number sign value))
+        (λ n. (n ≡ signed_line_number sign value) × FitsSigned w64 (signed_line_number sign value)) }
 {
     match sign {
         Sign::Minus => 0i64.checked_sub_unsigned(value as u64),
@@ -192,7 +192,7 @@ fn integer(sign: Sign, value: usize) -> Option<i64>
     }
 }
 
-impl Begun {
+impl BegunLine {
     /// What the line reports, or `None` if a byte of it is to come: the first one, or a digit.
     /// `ended` is whether the line has ended. Fails if no item within the limits has a line that
     /// begins in this way.
@@ -201,14 +201,14 @@ impl Begun {
         ended: bool,
         limits: Limits,
         room: usize,
-    ) -> Result<Option<Head>, ReplyError>
+    ) -> Result<Option<LineHead>, ReplyError>
         requires { self.len ≤ limits.line }
         ensures head { IfOk result (λ next. IfSome next (λ head.
             IsHeadWithin limits.bulk room head
             × ((bytes : List ℕ) → IsReadAs self.line bytes → IsHeadOf head bytes))) }
         ensures lacks { IfOk result (λ next. IfNone next
             ((self.len < limits.line) × (¬ (ended ≡ true))
-            × ((bytes : List ℕ) → IsReadAs self.line bytes → LacksByte bytes))) }
+            × ((bytes : List ℕ) → IsReadAs self.line bytes → LacksRedisByte bytes))) }
         ensures malformed { IfErr result (λ e. e ≡ ReplyError.Malformed
             → (bytes : List ℕ) → IsReadAs self.line bytes
             → MatchBool ended ((item : Item) → ¬ IsLineOf item bytes)
@@ -219,7 +219,7 @@ impl Begun {
         ensures reason { IfErr result (λ e. (reason : _) → ¬ (e ≡ ReplyError.Refused reason)) }
     {
         if let Some(head) = self.line.head() {
-            if !is_within(&head, limits.bulk, room) {
+            if !is_line_within(&head, limits.bulk, room) {
                 return Err(ReplyError::TooLarge);
             }
             return Ok(Some(head));
@@ -235,12 +235,12 @@ impl Begun {
 }
 
 /// Whether what a line reports is within the limits.
-fn is_within(head: &Head, most: usize, room: usize) -> bool
+fn is_line_within(head: &LineHead, most: usize, room: usize) -> bool
     ensures { IsTrue result ↔ IsHeadWithin most room head.now }
 {
     match head {
-        Head::Whole(item) => items_in(item) <= room,
-        Head::Plain => true,
-        Head::Body(len) => *len <= most,
+        LineHead::Whole(item) => items_in(item) <= room,
+        LineHead::Plain => true,
+        LineHead::Body(len) => *len <= most,
     }
 }

@@ -25,13 +25,13 @@ pub(super) struct Passed {
 
 impl Model for Passed {
     ghost use Rattle.std.specs.Prelude.{◌≡◌, ℕ, List, length};
-    ghost use Rattle.bytes_utils_protocols.specs.PassedBytes.{logged};
+    ghost use Rattle.bytes_utils_protocols.specs.RedisPassed.{passed_bytes};
 
     ghost Value = { List ℕ };
 
-    ghost view = { λ p. logged p.log.value };
+    ghost view = { λ p. passed_bytes p.log.value };
 
-    ghost invariant = { λ p. p.len ≡ length (logged p.log.value) };
+    ghost invariant = { λ p. p.len ≡ length (passed_bytes p.log.value) };
 }
 
 impl Passed {

@@ -4,12 +4,13 @@ ghost use Rattle.std.specs.List.{concat};
 ghost use Rattle.std.specs.Bool.{OnFalse, OnTrue};
 ghost use Rattle.bytes_utils_codec.specs.Cursor.{unread};
 ghost use Rattle.bytes_utils_codec.specs.Pushing.{IsPush};
-ghost use Rattle.bytes_utils_protocols.specs.Redis.{BeginsBody, BeginsReply, HasNoBody, IsLineOf, IsTextLine, NoReply, after_line, body, items_in, line_end};
-ghost use Rattle.bytes_utils_protocols.specs.PendingReply.{AwaitsBody, EndsAt, FindsHead, FindsItem, IsNext, IsPending, IsReadTo, NoReturn, NoneEnds, held_by, unread_by};
+ghost use Rattle.bytes_utils_protocols.specs.Redis.{BeginsRedisBody, BeginsReply, HasNoRedisBody, IsLineOf, IsRedisTextLine, NoReply, after_line, body, items_in, redis_line_end};
+ghost use Rattle.bytes_utils_protocols.specs.RedisLine.{EndsAt, IsReadTo, NoLineReturn, NoLineEnds};
+ghost use Rattle.bytes_utils_protocols.specs.RedisPending.{AwaitsPendingBody, FindsPendingHead, FindsPendingItem, IsPendingNext, IsPending, held_by, unread_by};
 
 use super::item::{Item, items_in};
 use super::limits::{Limits, ReplyError};
-use super::line::{Begun, Head, Line};
+use super::line::{BegunLine, Line, LineHead};
 use super::passed::Passed;
 use bytes::{Buf, Bytes};
 use bytes_utils::contiguous::ContiguousBuf;
@@ -30,7 +31,7 @@ const SMALL: usize = 512;
 #[derive(Clone, Copy, Debug)]
 pub(super) enum Next {
     /// A beginning of its line.
-    InLine(Begun),
+    InLine(BegunLine),
     /// The line of a bulk item: where its bytes begin, and how many they are.
     InBody(usize, usize),
 }
@@ -65,7 +66,7 @@ impl Pending {
             passed: Passed::none(),
             items: Vec::new(alloc),
             due: 1,
-            next: at_line(),
+            next: pending_at_line(),
         }
     }
 
@@ -127,7 +128,13 @@ impl Pending {
     {
         while self.due > 0 {
             let room = limits.items - self.items.len() - self.due; // for the items of the next one
-            let Some((item, len)) = next_item(&self.pieces, &mut self.next, alloc, limits, room)?
+            let Some((item, len)) = next_pending_item(
+                &self.pieces,
+                &mut self.next,
+                alloc,
+                limits,
+                room,
+            )?
             else {
                 return Ok(false);
             };
@@ -146,7 +153,7 @@ impl Pending {
         ensures due { OnOk result (self.new.due ≡ (self.old.due - 1) + items_in item) }
         ensures unread { OnOk result (unread_by self.new ≡ drop len (unread_by self.old)) }
         ensures held { held_by self.new ≡ held_by self.old }
-        ensures next { OnOk result ((limits : Limits) → IsNext limits (unread_by self.new) self.new.next) }
+        ensures next { OnOk result ((limits : Limits) → IsPendingNext limits (unread_by self.new) self.new.next) }
         ensures err { OnErr result
             ((limits : Limits) → IsPending limits self.old → IsPending limits self.new) }
         ensures reason { IfErr result (λ reason. reason ≡ Reason.OutOfMemory) }
@@ -156,7 +163,7 @@ impl Pending {
         self.due = self.due - 1 + of_its_own;
         self.passed.add(len, &self.pieces);
         self.pieces.advance(len);
-        self.next = at_line();
+        self.next = pending_at_line();
         Ok(())
     }
 
@@ -169,16 +176,16 @@ impl Pending {
     {
         self.passed = Passed::none();
         self.due = 1;
-        self.next = at_line();
+        self.next = pending_at_line();
         replace(&mut self.items, Vec::new(alloc))
     }
 }
 
 /// No byte of the next item was read.
-fn at_line() -> Next
-    ensures { (limits : Limits) (bytes : List ℕ) → IsNext limits bytes result }
+fn pending_at_line() -> Next
+    ensures { (limits : Limits) (bytes : List ℕ) → IsPendingNext limits bytes result }
 {
-    Next::InLine(Begun {
+    Next::InLine(BegunLine {
         len: 0,
         line: Line::Empty,
     })
@@ -186,55 +193,55 @@ fn at_line() -> Next
 
 /// The next item, of an array its line alone, and its number of bytes. It may have at most `room`
 /// items of its own.
-fn next_item(
+fn next_pending_item(
     pieces: &PackedBuf,
     next: &mut Next,
     alloc: Global,
     limits: Limits,
     room: usize,
 ) -> Result<Option<(Item, usize)>, ReplyError>
-    requires next { IsNext limits (concat pieces.now.held.segments) next.old }
+    requires next { IsPendingNext limits (concat pieces.now.held.segments) next.old }
     requires fits { length (concat pieces.now.held.segments) < 2 ^ 64 }
-    ensures next { IsNext limits (concat pieces.now.held.segments) next.new }
-    ensures found { FindsItem limits room (concat pieces.now.held.segments) result }
+    ensures next { IsPendingNext limits (concat pieces.now.held.segments) next.new }
+    ensures found { FindsPendingItem limits room (concat pieces.now.held.segments) result }
 {
     let mut begun = match *next {
         Next::InLine(begun) => begun,
-        Next::InBody(start, len) => return bulk(pieces, alloc, start, len),
+        Next::InBody(start, len) => return pending_bulk(pieces, alloc, start, len),
     };
-    let head = read_line(pieces, &mut begun, alloc, limits, room)?;
+    let head = read_pending_line(pieces, &mut begun, alloc, limits, room)?;
     *next = Next::InLine(begun);
     let Some(head) = head else {
         return Ok(None);
     };
     let start = begun.len + LINE_END.len();
     match head {
-        Head::Whole(item) => Ok(Some((item, start))),
-        Head::Plain => Ok(Some((text(pieces, alloc, begun.len)?, start))),
-        Head::Body(len) => {
+        LineHead::Whole(item) => Ok(Some((item, start))),
+        LineHead::Plain => Ok(Some((pending_text(pieces, alloc, begun.len)?, start))),
+        LineHead::Body(len) => {
             *next = Next::InBody(start, len);
-            bulk(pieces, alloc, start, len)
+            pending_bulk(pieces, alloc, start, len)
         }
     }
 }
 
 /// What the line reports, if it is whole. Reads the bytes of it that weren't read yet.
-fn read_line(
+fn read_pending_line(
     pieces: &PackedBuf,
-    begun: &mut Begun,
+    begun: &mut BegunLine,
     alloc: Global,
     limits: Limits,
     room: usize,
-) -> Result<Option<Head>, ReplyError>
+) -> Result<Option<LineHead>, ReplyError>
     requires { IsReadTo (concat pieces.now.held.segments) begun.old }
     ensures read { IsReadTo (concat pieces.now.held.segments) begun.new }
-    ensures head { FindsHead limits room (concat pieces.now.held.segments) result begun.new.len }
+    ensures head { FindsPendingHead limits room (concat pieces.now.held.segments) result begun.new.len }
 {
-    let (len, end) = end_of_line(pieces, begun.len);
+    let (len, end) = end_of_pending_line(pieces, begun.len);
     if len > limits.line {
         return Err(ReplyError::TooLarge);
     }
-    *begun = read_to(pieces, *begun, alloc, len)?;
+    *begun = read_pending_to(pieces, *begun, alloc, len)?;
     match end {
         LineEnd::Missing => {
             begun.check(false, limits, room)?;
@@ -249,7 +256,12 @@ fn read_line(
 }
 
 /// Reads the line on, up to its first `len` bytes.
-fn read_to(pieces: &PackedBuf, begun: Begun, alloc: Global, len: usize) -> Result<Begun, ReplyError>
+fn read_pending_to(
+    pieces: &PackedBuf,
+    begun: BegunLine,
+    alloc: Global,
+    len: usize,
+) -> Result<BegunLine, ReplyError>
     requires begun { IsReadTo (concat pieces.now.held.segments) begun }
     requires further { begun.len ≤ len }
     requires within { len ≤ length (concat pieces.now.held.segments) }
@@ -263,17 +275,17 @@ fn read_to(pieces: &PackedBuf, begun: Begun, alloc: Global, len: usize) -> Resul
 {
     let bytes = pieces.as_segmented().read_range(alloc, begun.len..len)?;
     match begun.line.read(&bytes) {
-        Some(line) => Ok(Begun { len, line }),
+        Some(line) => Ok(BegunLine { len, line }),
         None => Err(ReplyError::Malformed),
     }
 }
 
 /// How many bytes of the line have come, of which `read` are no end of a line, and what of its end.
-fn end_of_line(pieces: &PackedBuf, read: usize) -> (usize, LineEnd)
+fn end_of_pending_line(pieces: &PackedBuf, read: usize) -> (usize, LineEnd)
     requires within { read ≤ length (concat pieces.now.held.segments) }
-    requires none { NoReturn (take read (concat pieces.now.held.segments)) }
+    requires none { NoLineReturn (take read (concat pieces.now.held.segments)) }
     ensures within { (read ≤ result.0) × (result.0 ≤ length (concat pieces.now.held.segments)) }
-    ensures none { (more : List ℕ) → NoneEnds result.0 (concat pieces.now.held.segments ++ more) }
+    ensures none { (more : List ℕ) → NoLineEnds result.0 (concat pieces.now.held.segments ++ more) }
     ensures end { EndsAt result.1 result.0 (concat pieces.now.held.segments) }
 {
     if let Some(len) = find_short(pieces.as_segmented(), read, LINE_END) {
@@ -287,8 +299,8 @@ fn end_of_line(pieces: &PackedBuf, read: usize) -> (usize, LineEnd)
 }
 
 /// The text or the error whose line has `len` bytes.
-fn text(pieces: &PackedBuf, alloc: Global, len: usize) -> Result<Item, Reason>
-    requires line { IsTextLine (take len (concat pieces.now.held.segments)) }
+fn pending_text(pieces: &PackedBuf, alloc: Global, len: usize) -> Result<Item, Reason>
+    requires line { IsRedisTextLine (take len (concat pieces.now.held.segments)) }
     requires within { len ≤ length (concat pieces.now.held.segments) }
     ensures item { IfOk result (λ item.
         IsLineOf item (take len (concat pieces.now.held.segments))
@@ -303,7 +315,7 @@ fn text(pieces: &PackedBuf, alloc: Global, len: usize) -> Result<Item, Reason>
 }
 
 /// The bulk item of `len` bytes, which begin at `start`.
-fn bulk(
+fn pending_bulk(
     pieces: &PackedBuf,
     alloc: Global,
     start: usize,
@@ -311,31 +323,31 @@ fn bulk(
 ) -> Result<Option<(Item, usize)>, ReplyError>
     requires { start ≤ length (concat pieces.now.held.segments) }
     ensures found { (limits : Limits) (room : ℕ)
-        → AwaitsBody limits (concat pieces.now.held.segments) start len
-        → FindsItem limits room (concat pieces.now.held.segments) result }
+        → AwaitsPendingBody limits (concat pieces.now.held.segments) start len
+        → FindsPendingItem limits room (concat pieces.now.held.segments) result }
 {
     let mut cursor = Cursor::new(pieces.as_segmented());
     cursor.advance(start);
-    let Some(bytes) = next_body(&mut cursor, alloc, len)? else {
+    let Some(bytes) = next_pending_body(&mut cursor, alloc, len)? else {
         return Ok(None);
     };
     Ok(Some((Item::Bulk(Some(bytes)), cursor.at())))
 }
 
 /// Passes the `len` bytes of a bulk item and the end of a line.
-fn next_body<B: ContiguousBuf + Drop>(
+fn next_pending_body<B: ContiguousBuf + Drop>(
     cursor: &mut Cursor<'_, B>,
     alloc: Global,
     len: usize,
 ) -> Result<Option<Bytes>, ReplyError>
     ensures body { IfOk result (λ next. IfSome next (λ bytes.
-        unread cursor.old ≡ bytes ++ (line_end ++ unread cursor.new))) }
+        unread cursor.old ≡ bytes ++ (redis_line_end ++ unread cursor.new))) }
     ensures len { IfOk result (λ next. IfSome next (λ bytes. length bytes ≡ len)) }
     ensures all { cursor.new.all ≡ cursor.old.all }
-    ensures waits { IfOk result (λ next. IfNone next (HasNoBody len (unread cursor.old))) }
-    ensures begins { IfOk result (λ next. IfNone next (BeginsBody len (unread cursor.old))) }
+    ensures waits { IfOk result (λ next. IfNone next (HasNoRedisBody len (unread cursor.old))) }
+    ensures begins { IfOk result (λ next. IfNone next (BeginsRedisBody len (unread cursor.old))) }
     ensures malformed { IfErr result (λ e. e ≡ ReplyError.Malformed
-        → (more : List ℕ) → HasNoBody len (unread cursor.old ++ more)) }
+        → (more : List ℕ) → HasNoRedisBody len (unread cursor.old ++ more)) }
     ensures too_large { IfErr result (λ e. e ≢ ReplyError.TooLarge) }
     ensures reason { IfErr result (λ e. (reason : _) → e ≡ ReplyError.Refused reason
         → reason ≡ Reason.OutOfMemory) }

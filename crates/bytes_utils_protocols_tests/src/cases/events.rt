@@ -1,6 +1,6 @@
 //! Events in pieces.
 use super::readers::Protocol;
-use super::walks::{Way, assert_row, assert_rows};
+use super::walks::{Way, assert_walk_of_row, assert_walks_of_rows};
 use bytes_utils_protocols::events::Limits;
 
 /// Limits that most streams below stay within.
@@ -70,9 +70,9 @@ data: 12345678\n => always TooLarge
 
 /// An event comes with the end of the empty line after it.
 #[test]
-fn streams(rt: HostRuntime) {
-    assert_rows(&rt, rt.alloc(), EVENTS, "", STANDARD);
-    assert_rows(&rt, rt.alloc(), EVENTS, "", OTHERS);
+fn events_of_streams(rt: HostRuntime) {
+    assert_walks_of_rows(&rt, rt.alloc(), EVENTS, "", STANDARD);
+    assert_walks_of_rows(&rt, rt.alloc(), EVENTS, "", OTHERS);
 }
 
 /// Streams of a line that is passed over, and of an event. The line passes its limit, as a text and
@@ -101,8 +101,8 @@ end: 0 held
 /// A line over its limit is an error once, in its place, as soon as that is certain, and so is one
 /// that is not UTF-8, at its end.
 #[test]
-fn lines_that_are_passed_over(rt: HostRuntime) {
-    assert_rows(&rt, rt.alloc(), EVENTS, "", FAULTS);
+fn events_after_lines_that_are_passed_over(rt: HostRuntime) {
+    assert_walks_of_rows(&rt, rt.alloc(), EVENTS, "", FAULTS);
 }
 
 /// Comments and empty lines, of which nothing is held.
@@ -120,7 +120,7 @@ end: 0 held, 1 to wait
 "#;
 
 #[test]
-fn a_long_stream(rt: HostRuntime) {
+fn events_of_a_long_stream(rt: HostRuntime) {
     let by_comments = Way {
         first: 7,
         second: 7,
@@ -132,6 +132,6 @@ fn a_long_stream(rt: HostRuntime) {
         second: 1,
         ..by_comments
     };
-    assert_row(&rt, rt.alloc(), EVENTS, COMMENTS, by_comments);
-    assert_row(&rt, rt.alloc(), EVENTS, LONG, by_bytes);
+    assert_walk_of_row(&rt, rt.alloc(), EVENTS, COMMENTS, by_comments);
+    assert_walk_of_row(&rt, rt.alloc(), EVENTS, LONG, by_bytes);
 }

@@ -1,6 +1,6 @@
 //! Long streams: no call is refused while there is memory.
 use super::readers::Protocol;
-use super::walks::{Way, assert_row};
+use super::walks::{Way, assert_walk_of_row};
 
 /// Pieces of 100 bytes. The reader is asked when all have come.
 const PIECES: Way = Way {
@@ -18,8 +18,8 @@ const REQUEST: &str = r#"
 "#;
 
 #[test]
-fn streams(rt: HostRuntime) {
+fn long_record_and_long_request(rt: HostRuntime) {
     let most = usize::MAX;
-    assert_row(&rt, rt.alloc(), Protocol::Records(most), RECORD, PIECES);
-    assert_row(&rt, rt.alloc(), Protocol::Requests(most), REQUEST, PIECES);
+    assert_walk_of_row(&rt, rt.alloc(), Protocol::Records(most), RECORD, PIECES);
+    assert_walk_of_row(&rt, rt.alloc(), Protocol::Requests(most), REQUEST, PIECES);
 }

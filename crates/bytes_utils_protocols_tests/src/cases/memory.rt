@@ -1,7 +1,7 @@
 //! Each call whose request for memory is refused. With enough memory none is; a run that refuses one
 //! prints a line for it. The same call is then made again, and all comes as if none had been refused.
 use super::readers::Protocol;
-use super::walks::{Way, assert_row};
+use super::walks::{Way, assert_walk_of_row};
 use bytes_utils_protocols::{events, multipart, redis};
 
 const REDIS: Protocol = Protocol::Redis(redis::Limits {
@@ -48,7 +48,7 @@ World => b"World"
 "#;
 
 #[test]
-fn pieces(rt: HostRuntime) {
+fn protocols_with_pieces_if_memory_is_refused(rt: HostRuntime) {
     let way = Way {
         first: 10,
         second: 10,
@@ -62,7 +62,7 @@ fn pieces(rt: HostRuntime) {
         (Protocol::Records(9), RECORD),
         (Protocol::Requests(20), REQUEST),
     ] {
-        assert_row(&rt, rt.alloc(), protocol, row, way);
+        assert_walk_of_row(&rt, rt.alloc(), protocol, row, way);
     }
     let way = Way {
         first: 512,
@@ -70,11 +70,11 @@ fn pieces(rt: HostRuntime) {
         is_late: true,
         ..way
     };
-    assert_row(&rt, rt.alloc(), PARTS, LARGE_PART, way);
+    assert_walk_of_row(&rt, rt.alloc(), PARTS, LARGE_PART, way);
 }
 
 #[test]
-fn slices(rt: HostRuntime) {
+fn protocols_with_slices_if_memory_is_refused(rt: HostRuntime) {
     let way = Way {
         first: usize::MAX,
         second: usize::MAX,
@@ -82,6 +82,6 @@ fn slices(rt: HostRuntime) {
         is_late: true,
     };
     for (protocol, row) in [(REDIS, REPLY), (EVENTS, EVENT), (PARTS, LARGE_PART)] {
-        assert_row(&rt, rt.alloc(), protocol, row, way);
+        assert_walk_of_row(&rt, rt.alloc(), protocol, row, way);
     }
 }

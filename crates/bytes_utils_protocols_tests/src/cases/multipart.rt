@@ -1,6 +1,6 @@
 //! Parts in pieces.
 use super::readers::Protocol;
-use super::walks::{Way, assert_row, assert_rows};
+use super::walks::{Way, assert_walk_of_row, assert_walks_of_rows};
 use bytes_utils_protocols::multipart::Limits;
 
 /// Limits that the good bodies below stay within.
@@ -67,15 +67,15 @@ end: ended
 
 /// A part comes with the last byte of the delimiter after it.
 #[test]
-fn bodies(rt: HostRuntime) {
-    assert_rows(
+fn multipart_bodies(rt: HostRuntime) {
+    assert_walks_of_rows(
         &rt,
         rt.alloc(),
         Protocol::Multipart(b"simple boundary", LIMITS),
         "",
         MAIL,
     );
-    assert_rows(
+    assert_walks_of_rows(
         &rt,
         rt.alloc(),
         Protocol::Multipart(b"AaB03x", LIMITS),
@@ -134,8 +134,8 @@ end: not ended
 "#;
 
 #[test]
-fn odd_bodies(rt: HostRuntime) {
-    assert_rows(&rt, rt.alloc(), Protocol::Multipart(b"b", LIMITS), "", ODD);
+fn odd_multipart_bodies(rt: HostRuntime) {
+    assert_walks_of_rows(&rt, rt.alloc(), Protocol::Multipart(b"b", LIMITS), "", ODD);
 }
 
 /// Bytes that may wait for a delimiter. The limits allow 190, and five more while a delimiter may
@@ -183,7 +183,7 @@ a\r\n--b\r\n\r\n<600 -> => always TooLarge
 "#;
 
 #[test]
-fn endless_bodies(rt: HostRuntime) {
+fn endless_multipart_bodies(rt: HostRuntime) {
     let protocol = Protocol::Multipart(b"b", LIMITS);
     let whole = Way {
         first: usize::MAX,
@@ -191,8 +191,8 @@ fn endless_bodies(rt: HostRuntime) {
         by_slice: false,
         is_late: false,
     };
-    assert_rows(&rt, rt.alloc(), protocol, "", ENDLESS);
+    assert_walks_of_rows(&rt, rt.alloc(), protocol, "", ENDLESS);
     for row in MORE.split("\n\n") {
-        assert_row(&rt, rt.alloc(), protocol, row, whole);
+        assert_walk_of_row(&rt, rt.alloc(), protocol, row, whole);
     }
 }

@@ -1,6 +1,6 @@
 //! Netstrings in pieces, and from a reader. The first two are the examples of their definition.
 use super::readers::Protocol;
-use super::walks::assert_rows;
+use super::walks::assert_walks_of_rows;
 use bytes_utils_codec::decode::Framed;
 use bytes_utils_protocols::netstrings::Netstrings;
 use std::alloc::Global;
@@ -34,12 +34,17 @@ a,
 "#;
 
 #[test]
-fn rows(rt: HostRuntime) {
-    assert_rows(&rt, rt.alloc(), Protocol::Netstrings(12), "", ROWS);
+fn netstrings_of_streams(rt: HostRuntime) {
+    assert_walks_of_rows(&rt, rt.alloc(), Protocol::Netstrings(12), "", ROWS);
 }
 
 /// Whether the next text is this one. A dash is none: the input has ended.
-fn is_next(alloc: Global, input: &mut &[u8], texts: &mut Framed<Netstrings>, wanted: &str) -> bool {
+fn is_next_netstring(
+    alloc: Global,
+    input: &mut &[u8],
+    texts: &mut Framed<Netstrings>,
+    wanted: &str,
+) -> bool {
     match texts.read_item(alloc, input) {
         Ok(Some(text)) => text.as_slice() == wanted.as_bytes(),
         Ok(None) => wanted == "-",
@@ -48,10 +53,10 @@ fn is_next(alloc: Global, input: &mut &[u8], texts: &mut Framed<Netstrings>, wan
 }
 
 /// Whether all texts are read, and then the end, after which five bytes are left.
-fn are_read(alloc: Global, texts: &mut Framed<Netstrings>) -> bool {
+fn are_netstrings_read(alloc: Global, texts: &mut Framed<Netstrings>) -> bool {
     let mut input = "12:hello world!,0:,5:hello,5:hel".as_bytes();
     for wanted in ["hello world!", "", "hello", "-"] {
-        if !is_next(alloc, &mut input, texts, wanted) {
+        if !is_next_netstring(alloc, &mut input, texts, wanted) {
             return false;
         }
     }
@@ -59,7 +64,7 @@ fn are_read(alloc: Global, texts: &mut Framed<Netstrings>) -> bool {
 }
 
 #[test]
-fn from_a_reader(rt: HostRuntime) {
+fn netstrings_from_a_reader(rt: HostRuntime) {
     let decoder = Netstrings { max_length: 12 };
-    assert!(rt; are_read(rt.alloc(), &mut Framed::new(rt.alloc(), decoder)));
+    assert!(rt; are_netstrings_read(rt.alloc(), &mut Framed::new(rt.alloc(), decoder)));
 }

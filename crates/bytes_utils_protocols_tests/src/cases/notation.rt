@@ -9,7 +9,7 @@
 use std::alloc::Global;
 
 /// Appends a text as often as `count` says.
-fn append_times(bytes: &mut Vec<u8>, count: &str, text: &str) -> Option<()> {
+fn append_notation_times(bytes: &mut Vec<u8>, count: &str, text: &str) -> Option<()> {
     let count: usize = count.parse().ok()?;
     for _ in 0..count {
         bytes.extend_from_slice(text.as_bytes()).ok()?;
@@ -18,25 +18,25 @@ fn append_times(bytes: &mut Vec<u8>, count: &str, text: &str) -> Option<()> {
 }
 
 /// Appends a text that may begin with a part between `<` and `>`, which is repeated.
-fn append_part(bytes: &mut Vec<u8>, part: &str) -> Option<()> {
+fn append_notation_part(bytes: &mut Vec<u8>, part: &str) -> Option<()> {
     let Some((repeated, rest)) = part.split_once('>') else {
         return bytes.extend_from_slice(part.as_bytes()).ok();
     };
     let (count, text) = repeated.split_once(' ')?;
-    append_times(bytes, count, text)?;
+    append_notation_times(bytes, count, text)?;
     bytes.extend_from_slice(rest.as_bytes()).ok()
 }
 
 /// Appends a text, with what it repeats.
-pub(super) fn append_repeated(bytes: &mut Vec<u8>, text: &str) -> Option<()> {
+pub(super) fn append_repeated_notation(bytes: &mut Vec<u8>, text: &str) -> Option<()> {
     for part in text.split('<') {
-        append_part(bytes, part)?;
+        append_notation_part(bytes, part)?;
     }
     Some(())
 }
 
 /// The bytes that a letter after a backslash means.
-fn escaped(letter: u8) -> &'static [u8] {
+fn escaped_notation(letter: u8) -> &'static [u8] {
     match letter {
         b'r' => b"\r",
         b'n' => b"\n",
@@ -49,18 +49,18 @@ fn escaped(letter: u8) -> &'static [u8] {
 }
 
 /// A text, with what it repeats, or `None` if memory is refused.
-pub(super) fn repeated(alloc: Global, written: &str) -> Option<Vec<u8>> {
+pub(super) fn repeated_notation(alloc: Global, written: &str) -> Option<Vec<u8>> {
     let mut text = Vec::new(alloc);
-    append_repeated(&mut text, written)?;
+    append_repeated_notation(&mut text, written)?;
     Some(text)
 }
 
 /// Appends a text, with what its letters after backslashes mean.
-fn append_escaped(bytes: &mut Vec<u8>, text: &[u8]) -> Option<()> {
+fn append_escaped_notation(bytes: &mut Vec<u8>, text: &[u8]) -> Option<()> {
     let mut is_letter = false;
     for byte in text {
         if is_letter {
-            bytes.extend_from_slice(escaped(*byte)).ok()?;
+            bytes.extend_from_slice(escaped_notation(*byte)).ok()?;
         } else if *byte != b'\\' {
             bytes.push(*byte).ok()?;
         }
@@ -70,9 +70,9 @@ fn append_escaped(bytes: &mut Vec<u8>, text: &[u8]) -> Option<()> {
 }
 
 /// The bytes that are written so, or `None` if memory is refused.
-pub(super) fn bytes_of(alloc: Global, written: &str) -> Option<Vec<u8>> {
-    let text = repeated(alloc, written)?;
+pub(super) fn bytes_of_notation(alloc: Global, written: &str) -> Option<Vec<u8>> {
+    let text = repeated_notation(alloc, written)?;
     let mut bytes = Vec::new(alloc);
-    append_escaped(&mut bytes, &text)?;
+    append_escaped_notation(&mut bytes, &text)?;
     Some(bytes)
 }

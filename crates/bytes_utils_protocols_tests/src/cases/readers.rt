@@ -48,13 +48,13 @@ pub(super) enum Reader {
     Events(EventReader),
     Multipart(PartReader),
     Records(Records),
-    Requests(WholeRequests),
+    Requests(RequestsReader),
     Netstrings(Framed<Netstrings>),
 }
 
 /// A reader of requests, which after a head with a length gives the body.
 #[derive(Drop)]
-pub(super) struct WholeRequests {
+pub(super) struct RequestsReader {
     requests: Requests,
     /// The number of bytes of the body that comes next, if one does.
     body: Option<usize>,
@@ -62,7 +62,7 @@ pub(super) struct WholeRequests {
 
 /// What a reader returned when it was asked for the next message.
 #[derive(Drop)]
-pub(super) enum Returned {
+pub(super) enum ReturnedByReader {
     Reply(Result<Option<Vec<Item>>, ReplyError>),
     Event(Result<Option<Event>, EventError>),
     Part(Result<Option<Part>, PartError>),
@@ -81,7 +81,7 @@ impl Reader {
                 Reader::Multipart(PartReader::new(alloc, boundary, limits)?)
             }
             Protocol::Records(most) => Reader::Records(Records::new(alloc, most)?),
-            Protocol::Requests(most) => Reader::Requests(WholeRequests {
+            Protocol::Requests(most) => Reader::Requests(RequestsReader {
                 requests: Requests::new(alloc, most)?,
                 body: None,
             }),
@@ -114,16 +114,31 @@ impl Reader {
     }
 
     /// Asks for the next message. Returns the name of the call, and what it returned.
-    pub(super) fn next(&mut self, alloc: Global) -> (&'static str, Returned) {
+    pub(super) fn next(&mut self, alloc: Global) -> (&'static str, ReturnedByReader) {
         match self {
-            Reader::Redis(replies) => ("next_reply", Returned::Reply(replies.next_reply(alloc))),
-            Reader::Events(events) => ("next_event", Returned::Event(events.next_event(alloc))),
-            Reader::Multipart(parts) => ("next_part", Returned::Part(parts.next_part(alloc))),
+            Reader::Redis(replies) => (
+                "next_reply",
+                ReturnedByReader::Reply(replies.next_reply(alloc)),
+            ),
+            Reader::Events(events) => (
+                "next_event",
+                ReturnedByReader::Event(events.next_event(alloc)),
+            ),
+            Reader::Multipart(parts) => (
+                "next_part",
+                ReturnedByReader::Part(parts.next_part(alloc)),
+            ),
             Reader::Records(records) => {
-                ("next_record", Returned::Record(records.next_record(alloc)))
+                (
+                    "next_record",
+                    ReturnedByReader::Record(records.next_record(alloc)),
+                )
             }
             Reader::Requests(whole) => whole.next(alloc),
-            Reader::Netstrings(texts) => ("next_item", Returned::Text(texts.next_item(alloc))),
+            Reader::Netstrings(texts) => (
+                "next_item",
+                ReturnedByReader::Text(texts.next_item(alloc)),
+            ),
         }
     }
 
@@ -151,15 +166,15 @@ impl Reader {
     }
 }
 
-impl WholeRequests {
+impl RequestsReader {
     /// Asks for the body that comes next, or else for a head.
-    fn next(&mut self, alloc: Global) -> (&'static str, Returned) {
+    fn next(&mut self, alloc: Global) -> (&'static str, ReturnedByReader) {
         if let Some(len) = self.body {
             let returned = self.requests.next_body(alloc, len);
             if matches!(&returned, Ok(Some(_))) {
                 self.body = None;
             }
-            return ("next_body", Returned::Body(returned));
+            return ("next_body", ReturnedByReader::Body(returned));
         }
         let returned = self.requests.next_head(alloc);
         if let Ok(Some(Ok(head))) = &returned {
@@ -168,28 +183,31 @@ impl WholeRequests {
                 _ => None,
             };
         }
-        ("next_head", Returned::Head(returned))
+        ("next_head", ReturnedByReader::Head(returned))
     }
 }
 
-impl Returned {
+impl ReturnedByReader {
     /// The message or the error as a text, or `nothing`. Returns `None` if memory is refused.
     pub(super) fn text(&self, alloc: Global) -> Option<String> {
         match self {
-            Returned::Reply(reply) => text_of(alloc, reply),
-            Returned::Event(event) => text_of(alloc, event),
-            Returned::Part(Ok(Some(part))) => text_of_part(alloc, part),
-            Returned::Part(other) => text_of(alloc, other),
-            Returned::Record(record) => text_of(alloc, record),
-            Returned::Head(head) => text_of(alloc, head),
-            Returned::Body(Ok(Some(body))) => text_of_body(alloc, body),
-            Returned::Body(other) => text_of(alloc, other),
-            Returned::Text(text) => text_of(alloc, text),
+            ReturnedByReader::Reply(reply) => text_from_reader(alloc, reply),
+            ReturnedByReader::Event(event) => text_from_reader(alloc, event),
+            ReturnedByReader::Part(Ok(Some(part))) => part_text_from_reader(alloc, part),
+            ReturnedByReader::Part(other) => text_from_reader(alloc, other),
+            ReturnedByReader::Record(record) => text_from_reader(alloc, record),
+            ReturnedByReader::Head(head) => text_from_reader(alloc, head),
+            ReturnedByReader::Body(Ok(Some(body))) => body_text_from_reader(alloc, body),
+            ReturnedByReader::Body(other) => text_from_reader(alloc, other),
+            ReturnedByReader::Text(text) => text_from_reader(alloc, text),
         }
     }
 }
 
-fn text_of<T: Debug, E: Debug>(alloc: Global, returned: &Result<Option<T>, E>) -> Option<String> {
+fn text_from_reader<T: Debug, E: Debug>(
+    alloc: Global,
+    returned: &Result<Option<T>, E>,
+) -> Option<String> {
     match returned {
         Ok(Some(message)) => format!(in alloc; "{message:?}").ok(),
         Ok(None) => String::from_str(alloc, "nothing").ok(),
@@ -198,8 +216,8 @@ fn text_of<T: Debug, E: Debug>(alloc: Global, returned: &Result<Option<T>, E>) -
 }
 
 /// The head, the two names and the body.
-fn text_of_part(alloc: Global, part: &Part) -> Option<String> {
-    let body = text_of_body(alloc, &part.body)?;
+fn part_text_from_reader(alloc: Global, part: &Part) -> Option<String> {
+    let body = body_text_from_reader(alloc, &part.body)?;
     format!(in alloc;
         "{:?} {:?} {:?} {body}",
         part.head, part.name, part.file_name
@@ -208,7 +226,7 @@ fn text_of_part(alloc: Global, part: &Part) -> Option<String> {
 }
 
 /// The bytes of a body, without its pieces.
-fn text_of_body(alloc: Global, body: &SegmentedBuf<Bytes>) -> Option<String> {
+fn body_text_from_reader(alloc: Global, body: &SegmentedBuf<Bytes>) -> Option<String> {
     let bytes = body.peek_bytes(alloc, body.remaining()).ok()?;
     format!(in alloc; "{bytes:?}").ok()
 }

@@ -1,6 +1,6 @@
 //! Records in pieces.
 use super::readers::Protocol;
-use super::walks::assert_rows;
+use super::walks::assert_walks_of_rows;
 
 /// A record of as many bytes as the limit allows, one that is longer, one that is not UTF-8, an empty
 /// one, and a part of another.
@@ -16,5 +16,5 @@ end: 4 held
 
 #[test]
 fn records_of_a_stream(rt: HostRuntime) {
-    assert_rows(&rt, rt.alloc(), Protocol::Records(7), "", STREAM);
+    assert_walks_of_rows(&rt, rt.alloc(), Protocol::Records(7), "", STREAM);
 }

@@ -1,6 +1,6 @@
 //! Replies in pieces.
 use super::readers::Protocol;
-use super::walks::{Way, assert_row, assert_rows};
+use super::walks::{Way, assert_walk_of_row, assert_walks_of_rows};
 use bytes_utils_protocols::redis::Limits;
 
 /// Limits that the replies below stay within.
@@ -66,20 +66,20 @@ $4\r\na\r\nb\r\n => [Bulk(Some(b"a\r\nb"))]
 
 /// A reply comes with its last byte.
 #[test]
-fn replies(rt: HostRuntime) {
-    assert_rows(&rt, rt.alloc(), REDIS, "", REPLIES);
+fn redis_replies(rt: HostRuntime) {
+    assert_walks_of_rows(&rt, rt.alloc(), REDIS, "", REPLIES);
 }
 
 /// All replies come in one stream: each comes with its own last byte, and with its own items.
 #[test]
-fn replies_of_one_stream(rt: HostRuntime) {
+fn redis_replies_of_one_stream(rt: HostRuntime) {
     let way = Way {
         first: 1,
         second: 1,
         by_slice: true,
         is_late: false,
     };
-    assert_row(&rt, rt.alloc(), REDIS, REPLIES, way);
+    assert_walk_of_row(&rt, rt.alloc(), REDIS, REPLIES, way);
 }
 
 /// What is no reply, whatever comes after it, or none within the limits.
@@ -189,14 +189,14 @@ $301 => always TooLarge
 /// Each bad input is refused as soon as that is certain, and from then on: alone, and after a bulk
 /// item of 300 bytes in the same array.
 #[test]
-fn bad_input(rt: HostRuntime) {
-    assert_rows(&rt, rt.alloc(), REDIS, "", BAD);
-    assert_rows(&rt, rt.alloc(), REDIS, r"*2\r\n$300\r\n<300 a>\r\n", BAD);
+fn bad_redis_input(rt: HostRuntime) {
+    assert_walks_of_rows(&rt, rt.alloc(), REDIS, "", BAD);
+    assert_walks_of_rows(&rt, rt.alloc(), REDIS, r"*2\r\n$300\r\n<300 a>\r\n", BAD);
 }
 
 /// A line of many pieces, shared and copied ones in turn, comes when its end has come.
 #[test]
-fn a_long_line_of_pieces(rt: HostRuntime) {
+fn long_redis_line_of_pieces(rt: HostRuntime) {
     let limits = Limits {
         line: 4_112,
         bulk: 0,
@@ -209,5 +209,5 @@ fn a_long_line_of_pieces(rt: HostRuntime) {
         is_late: false,
     };
     let row = r#"+<4111 a>\r\n => [Simple(b"<4111 a>")]"#;
-    assert_row(&rt, rt.alloc(), Protocol::Redis(limits), row, way);
+    assert_walk_of_row(&rt, rt.alloc(), Protocol::Redis(limits), row, way);
 }

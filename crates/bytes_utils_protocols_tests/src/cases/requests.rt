@@ -1,7 +1,7 @@
 //! Requests in pieces.
-use super::notation::bytes_of;
+use super::notation::bytes_of_notation;
 use super::readers::Protocol;
-use super::walks::assert_rows;
+use super::walks::assert_walks_of_rows;
 use bytes_utils_protocols::requests::body_len;
 use std::alloc::Global;
 
@@ -44,20 +44,23 @@ x\r\nTransfer-Encoding: b\r\nContent-Length: a => Err(UnknownFraming)"#;
 
 /// Whether the length of the body after the head of a row is as written. An empty line and a comment
 /// are no row.
-fn is_right(alloc: Global, row: &str) -> Option<bool> {
+fn is_request_row_right(alloc: Global, row: &str) -> Option<bool> {
     if row.is_empty() || row.starts_with('#') {
         return Some(true);
     }
     let (head, wanted) = row.split_once(" => ")?;
-    let len = body_len(&bytes_of(alloc, head)?);
+    let len = body_len(&bytes_of_notation(alloc, head)?);
     Some(format!(in alloc; "{len:?}").ok()?.as_str() == wanted)
 }
 
 // Worked by hand from RFC 9110, 5.1, 5.6.3 and 8.6, and RFC 9112, 2.2, 5.1, 5.2, 6.1 and 6.3.
 #[test]
-fn lengths_of_bodies(rt: HostRuntime) {
+fn lengths_of_request_bodies(rt: HostRuntime) {
     for row in LENGTHS.lines() {
-        assert!(rt; is_right(rt.alloc(), row) == Some(true), "{row}");
+        assert!(rt;
+            is_request_row_right(rt.alloc(), row) == Some(true),
+            "{row}"
+        );
     }
 }
 
@@ -75,6 +78,6 @@ GET\r\n\r\n => Ok(b"GET")
 "#;
 
 #[test]
-fn heads_and_bodies(rt: HostRuntime) {
-    assert_rows(&rt, rt.alloc(), Protocol::Requests(20), "", REQUESTS);
+fn request_heads_and_bodies(rt: HostRuntime) {
+    assert_walks_of_rows(&rt, rt.alloc(), Protocol::Requests(20), "", REQUESTS);
 }

@@ -12,12 +12,12 @@
 //! | `# TEXT` | a comment |
 //!
 //! `notation` says how bytes are written. In a text only repeats are.
-use super::notation::{append_repeated, bytes_of};
+use super::notation::{append_repeated_notation, bytes_of_notation};
 use std::alloc::Global;
 
 /// What comes with a byte of a stream.
 #[derive(Drop)]
-pub(super) struct Due {
+pub(super) struct RowDue {
     /// The number of bytes up to that byte.
     pub(super) end: usize,
     pub(super) text: Vec<u8>,
@@ -25,12 +25,12 @@ pub(super) struct Due {
     pub(super) stays: bool,
 }
 
-impl Due {
+impl RowDue {
     fn add(&mut self, text: &str) -> Option<()> {
         if !self.text.is_empty() {
             self.text.push(b' ').ok()?;
         }
-        append_repeated(&mut self.text, text)
+        append_repeated_notation(&mut self.text, text)
     }
 }
 
@@ -40,7 +40,7 @@ pub(super) struct Row<'r> {
     pub(super) stream: Vec<u8>,
     /// The number of bytes of the first line.
     pub(super) first: usize,
-    pub(super) dues: Vec<Due>,
+    pub(super) dues: Vec<RowDue>,
     /// What the reader says of itself in the end, or nothing.
     pub(super) end: &'r str,
 }
@@ -83,13 +83,13 @@ impl<'r> Row<'r> {
     }
 
     fn add_bytes(&mut self, alloc: Global, written: &str) -> Option<()> {
-        let bytes = bytes_of(alloc, written)?;
+        let bytes = bytes_of_notation(alloc, written)?;
         self.stream.extend_from_slice(&bytes).ok()
     }
 
     fn add_due(&mut self, alloc: Global, text: &str) -> Option<()> {
         let lasting = text.strip_prefix("always ");
-        let due = Due {
+        let due = RowDue {
             end: self.stream.len(),
             text: Vec::new(alloc),
             stays: lasting.is_some(),

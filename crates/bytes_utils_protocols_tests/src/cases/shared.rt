@@ -1,14 +1,14 @@
 //! Messages share the pieces of more than 512 bytes that they came with, and let them go.
 //!
 //! Each line of a table is a piece, but for `next`, which takes the next message out.
-use super::notation::{bytes_of, repeated};
-use super::readers::{Protocol, Reader, Returned};
+use super::notation::{bytes_of_notation, repeated_notation};
+use super::readers::{Protocol, Reader, ReturnedByReader};
 use bytes::Bytes;
 use bytes_utils_protocols::{events, multipart, redis};
 use std::alloc::Global;
 
 /// Pushes a piece. If it has more than 512 bytes, another owner of it is kept.
-fn push(reader: &mut Reader, piece: Bytes, kept: &mut Vec<Bytes>) -> Option<()> {
+fn push_shared(reader: &mut Reader, piece: Bytes, kept: &mut Vec<Bytes>) -> Option<()> {
     if piece.len() > 512 {
         kept.push(piece.clone().ok()?).ok()?;
     }
@@ -16,25 +16,34 @@ fn push(reader: &mut Reader, piece: Bytes, kept: &mut Vec<Bytes>) -> Option<()> 
 }
 
 /// Does what a line says.
-fn read_line(alloc: Global, reader: &mut Reader, line: &str, kept: &mut Vec<Bytes>) -> Option<()> {
+fn read_shared_line(
+    alloc: Global,
+    reader: &mut Reader,
+    line: &str,
+    kept: &mut Vec<Bytes>,
+) -> Option<()> {
     if line == "next" {
         drop(reader.next(alloc));
         return Some(());
     }
-    push(reader, Bytes::from_vec(bytes_of(alloc, line)?).ok()?, kept)
+    push_shared(
+        reader,
+        Bytes::from_vec(bytes_of_notation(alloc, line)?).ok()?,
+        kept,
+    )
 }
 
 /// Does what the lines say. Returns the long pieces.
-fn push_lines(alloc: Global, reader: &mut Reader, lines: &str) -> Option<Vec<Bytes>> {
+fn push_shared_lines(alloc: Global, reader: &mut Reader, lines: &str) -> Option<Vec<Bytes>> {
     let mut kept = Vec::new(alloc);
     for line in lines.lines() {
-        read_line(alloc, reader, line, &mut kept)?;
+        read_shared_line(alloc, reader, line, &mut kept)?;
     }
     Some(kept)
 }
 
 /// The number of pieces that have no other owner.
-fn unique(pieces: &[Bytes]) -> usize {
+fn number_not_shared(pieces: &[Bytes]) -> usize {
     let mut count = 0_usize;
     for piece in pieces {
         if piece.is_unique() {
@@ -45,16 +54,20 @@ fn unique(pieces: &[Bytes]) -> usize {
 }
 
 /// Whether this was returned.
-fn is_message(alloc: Global, returned: &Returned, wanted: &str) -> bool {
-    match (returned.text(alloc), repeated(alloc, wanted)) {
+fn is_shared_message(alloc: Global, returned: &ReturnedByReader, wanted: &str) -> bool {
+    match (returned.text(alloc), repeated_notation(alloc, wanted)) {
         (Some(text), Some(wanted)) => text.as_bytes() == wanted.as_slice(),
         _ => false,
     }
 }
 
 /// The message that comes after some lines, and the long pieces, of which there are some.
-fn next_after(alloc: Global, reader: &mut Reader, lines: &str) -> Option<(Returned, Vec<Bytes>)> {
-    let pieces = push_lines(alloc, reader, lines)?;
+fn next_with_shared_pieces(
+    alloc: Global,
+    reader: &mut Reader,
+    lines: &str,
+) -> Option<(ReturnedByReader, Vec<Bytes>)> {
+    let pieces = push_shared_lines(alloc, reader, lines)?;
     if pieces.is_empty() {
         return None;
     }
@@ -62,10 +75,14 @@ fn next_after(alloc: Global, reader: &mut Reader, lines: &str) -> Option<(Return
 }
 
 /// The same of a reader that is dropped after it.
-fn taken_after(alloc: Global, protocol: Protocol, lines: &str) -> Option<(Returned, Vec<Bytes>)> {
+fn taken_with_shared_pieces(
+    alloc: Global,
+    protocol: Protocol,
+    lines: &str,
+) -> Option<(ReturnedByReader, Vec<Bytes>)> {
     match Reader::new(alloc, protocol) {
         Ok(mut reader) => {
-            let taken = next_after(alloc, &mut reader, lines);
+            let taken = next_with_shared_pieces(alloc, &mut reader, lines);
             drop(reader);
             taken
         }
@@ -74,36 +91,42 @@ fn taken_after(alloc: Global, protocol: Protocol, lines: &str) -> Option<(Return
 }
 
 /// Whether a message is this one and shares all pieces, and lets them go.
-fn shares_all(alloc: Global, returned: Returned, pieces: &[Bytes], wanted: &str) -> bool {
-    let is_shared = is_message(alloc, &returned, wanted) & (unique(pieces) == 0);
+fn are_all_pieces_shared(
+    alloc: Global,
+    returned: ReturnedByReader,
+    pieces: &[Bytes],
+    wanted: &str,
+) -> bool {
+    let is_shared = is_shared_message(alloc, &returned, wanted) & (number_not_shared(pieces) == 0);
     drop(returned);
-    is_shared & (unique(pieces) == pieces.len())
+    is_shared & (number_not_shared(pieces) == pieces.len())
 }
 
 /// Whether the message that comes after some lines is this one and shares the long pieces, after the
 /// reader is dropped.
-fn is_shared(alloc: Global, protocol: Protocol, lines: &str, wanted: &str) -> bool {
-    match taken_after(alloc, protocol, lines) {
-        Some((returned, pieces)) => shares_all(alloc, returned, &pieces, wanted),
+fn is_message_shared(alloc: Global, protocol: Protocol, lines: &str, wanted: &str) -> bool {
+    match taken_with_shared_pieces(alloc, protocol, lines) {
+        Some((returned, pieces)) => are_all_pieces_shared(alloc, returned, &pieces, wanted),
         None => false,
     }
 }
 
 /// Whether this comes after some lines, and neither it nor the reader shares a long piece.
-fn lets_go(alloc: Global, reader: &mut Reader, lines: &str, wanted: &str) -> bool {
-    match next_after(alloc, reader, lines) {
+fn lets_shared_pieces_go(alloc: Global, reader: &mut Reader, lines: &str, wanted: &str) -> bool {
+    match next_with_shared_pieces(alloc, reader, lines) {
         Some((returned, pieces)) => {
-            is_message(alloc, &returned, wanted) & (unique(&pieces) == pieces.len())
+            is_shared_message(alloc, &returned, wanted)
+                & (number_not_shared(&pieces) == pieces.len())
         }
         None => false,
     }
 }
 
 /// The same of a new reader.
-fn is_let_go(alloc: Global, protocol: Protocol, lines: &str, wanted: &str) -> bool {
+fn are_shared_pieces_let_go(alloc: Global, protocol: Protocol, lines: &str, wanted: &str) -> bool {
     match Reader::new(alloc, protocol) {
         Ok(mut reader) => {
-            let is_let_go = lets_go(alloc, &mut reader, lines, wanted);
+            let is_let_go = lets_shared_pieces_go(alloc, &mut reader, lines, wanted);
             drop(reader);
             is_let_go
         }
@@ -131,7 +154,7 @@ const PARTS: Protocol = Protocol::Multipart(
 );
 
 #[test]
-fn in_one_piece(rt: HostRuntime) {
+fn shared_message_in_one_piece(rt: HostRuntime) {
     for (protocol, piece, wanted) in [
         (Protocol::Records(9), r"aa\r\n\r\n<594 a>", "Ok(\"aa\")"),
         (Protocol::Requests(9), r"aa\r\n\r\n<594 a>", "Ok(b\"aa\")"),
@@ -142,7 +165,7 @@ fn in_one_piece(rt: HostRuntime) {
             "Event { name: None, data: \"<592 a>\", id: None }",
         ),
     ] {
-        let holds = is_shared(rt.alloc(), protocol, piece, wanted);
+        let holds = is_message_shared(rt.alloc(), protocol, piece, wanted);
         assert!(rt; holds, "{piece}");
     }
 }
@@ -159,19 +182,19 @@ const PART: &str = r"--b\r\n\r\n
 \r\n--b--";
 
 #[test]
-fn in_two_pieces(rt: HostRuntime) {
+fn shared_message_in_two_pieces(rt: HostRuntime) {
     for (protocol, pieces, wanted) in [
         (Protocol::Requests(99), REQUEST, "b\"<1000 a>\""),
         (PARTS, PART, "\"\" None None b\"<1200 a>\""),
     ] {
-        let holds = is_shared(rt.alloc(), protocol, pieces, wanted);
+        let holds = is_message_shared(rt.alloc(), protocol, pieces, wanted);
         assert!(rt; holds, "{pieces}");
     }
 }
 
 /// What is before and after all parts, and data of two lines, which is a copy.
 #[test]
-fn let_go(rt: HostRuntime) {
+fn shared_pieces_of_messages_are_let_go(rt: HostRuntime) {
     for (protocol, pieces, wanted) in [
         (PARTS, "<600 a>\n\\r\\n--b", "nothing"),
         (PARTS, "--b--\n<600 a>", "nothing"),
@@ -181,7 +204,7 @@ fn let_go(rt: HostRuntime) {
             r#"Event { name: None, data: "<592 a>\nb", id: None }"#,
         ),
     ] {
-        let holds = is_let_go(rt.alloc(), protocol, pieces, wanted);
+        let holds = are_shared_pieces_let_go(rt.alloc(), protocol, pieces, wanted);
         assert!(rt; holds, "{pieces}");
     }
 }

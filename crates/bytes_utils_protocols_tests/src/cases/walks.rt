@@ -150,7 +150,12 @@ impl Walk {
 
 /// Whether a row is right in this way, and the name of the call that was refused, or nothing. It is
 /// not known whether the row is right if memory is refused for the row itself.
-fn outcome(alloc: Global, protocol: Protocol, row: &Row, way: Way) -> (Option<bool>, &'static str) {
+fn outcome_of_walk(
+    alloc: Global,
+    protocol: Protocol,
+    row: &Row,
+    way: Way,
+) -> (Option<bool>, &'static str) {
     match Walk::new(alloc, protocol) {
         Some(mut walk) => {
             let outcome = (walk.is_right(row, way), walk.refused);
@@ -163,7 +168,7 @@ fn outcome(alloc: Global, protocol: Protocol, row: &Row, way: Way) -> (Option<bo
 
 /// Whether a row is right in two pieces of which the first has `len` bytes, and in slices of `len`
 /// bytes each. If that is 0, there is an empty slice before each byte.
-fn is_right_by(alloc: Global, protocol: Protocol, row: &Row, len: usize) -> bool {
+fn is_walk_right_by(alloc: Global, protocol: Protocol, row: &Row, len: usize) -> bool {
     let two = Way {
         first: len,
         second: usize::MAX,
@@ -180,7 +185,7 @@ fn is_right_by(alloc: Global, protocol: Protocol, row: &Row, len: usize) -> bool
         ..many
     };
     for way in [two, many, late] {
-        if outcome(alloc, protocol, row, way) != (Some(true), "") {
+        if outcome_of_walk(alloc, protocol, row, way) != (Some(true), "") {
             return false;
         }
     }
@@ -188,9 +193,9 @@ fn is_right_by(alloc: Global, protocol: Protocol, row: &Row, len: usize) -> bool
 }
 
 /// Whether that is so of each number of bytes, from those of the first line on.
-fn is_right_always(alloc: Global, protocol: Protocol, row: &Row) -> bool {
+fn is_walk_always_right(alloc: Global, protocol: Protocol, row: &Row) -> bool {
     for len in row.first..row.stream.len().saturating_add(1) {
-        if !is_right_by(alloc, protocol, row, len) {
+        if !is_walk_right_by(alloc, protocol, row, len) {
             return false;
         }
     }
@@ -198,10 +203,10 @@ fn is_right_always(alloc: Global, protocol: Protocol, row: &Row) -> bool {
 }
 
 /// Whether the row of a line and more lines is.
-fn are_right(alloc: Global, protocol: Protocol, first: &str, lines: &str) -> bool {
+fn are_walks_right(alloc: Global, protocol: Protocol, first: &str, lines: &str) -> bool {
     match Row::of(alloc, first, lines) {
         Some(row) => {
-            let is_right = is_right_always(alloc, protocol, &row);
+            let is_right = is_walk_always_right(alloc, protocol, &row);
             drop(row);
             is_right
         }
@@ -211,7 +216,7 @@ fn are_right(alloc: Global, protocol: Protocol, first: &str, lines: &str) -> boo
 
 /// Asserts that each row is right, with a line before its own ones, wherever its stream is cut after
 /// that line. An empty line is between two rows.
-pub(super) fn assert_rows<R: Abort>(
+pub(super) fn assert_walks_of_rows<R: Abort>(
     rt: &R,
     alloc: Global,
     protocol: Protocol,
@@ -219,12 +224,12 @@ pub(super) fn assert_rows<R: Abort>(
     rows: &str,
 ) {
     for row in rows.split("\n\n") {
-        assert!(rt; are_right(alloc, protocol, first, row), "{row}");
+        assert!(rt; are_walks_right(alloc, protocol, first, row), "{row}");
     }
 }
 
 /// The outcome of the row of these lines.
-fn outcome_of(
+fn outcome_of_walked_lines(
     alloc: Global,
     protocol: Protocol,
     lines: &str,
@@ -232,7 +237,7 @@ fn outcome_of(
 ) -> (Option<bool>, &'static str) {
     match Row::of(alloc, "", lines) {
         Some(row) => {
-            let outcome = outcome(alloc, protocol, &row, way);
+            let outcome = outcome_of_walk(alloc, protocol, &row, way);
             drop(row);
             outcome
         }
@@ -242,20 +247,20 @@ fn outcome_of(
 
 /// Asserts that a row is right in this way. If a call is refused, that is reported, and the call is
 /// made again. If memory is refused for the row itself, all is done again.
-pub(super) fn assert_row<R: Abort + Print>(
+pub(super) fn assert_walk_of_row<R: Abort + Print>(
     rt: &R,
     alloc: Global,
     protocol: Protocol,
     lines: &str,
     way: Way,
 ) {
-    let (mut holds, call) = outcome_of(alloc, protocol, lines, way);
+    let (mut holds, call) = outcome_of_walked_lines(alloc, protocol, lines, way);
     if !call.is_empty() {
         let name = protocol.name();
         assert!(rt; println!(rt; "refused {name}::{call}").is_ok());
     }
     if holds.is_none() {
-        (holds, _) = outcome_of(alloc, protocol, lines, way);
+        (holds, _) = outcome_of_walked_lines(alloc, protocol, lines, way);
     }
     assert!(rt; holds == Some(true), "{lines}");
 }

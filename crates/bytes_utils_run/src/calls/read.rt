@@ -1,31 +1,31 @@
 //! One read of any buffer.
 ghost use Rattle.std.specs.Prelude.{◌≡◌};
-ghost use Rattle.bytes_utils_run.specs.Calls.{IsRead, lists_of};
+ghost use Rattle.bytes_utils_run.specs.Calls.{IsRead, lists_for_calls};
 
 use super::call::{ReadCall, Reply};
-use super::show::{chunk, slices};
+use super::show::{show_chunk, show_slices};
 use bytes::Buf;
 use bytes_utils::parts::BufParts;
 use std::alloc::Global;
 
 /// Makes this call and returns its reply.
-pub(super) fn read<B: BufParts>(alloc: Global, buf: &mut B, call: ReadCall) -> Reply
-    ensures reply { IsRead call (lists_of (B.unread buf.old)) result (lists_of (B.unread buf.new)) }
+pub(super) fn make_read<B: BufParts>(alloc: Global, buf: &mut B, call: ReadCall) -> Reply
+    ensures reply { IsRead call (lists_for_calls (B.unread buf.old)) result (lists_for_calls (B.unread buf.new)) }
     ensures kept { B.kept buf.new ≡ B.kept buf.old }
 {
     match call {
         ReadCall::Remaining => Reply::Number(buf.remaining()),
-        ReadCall::Chunk => chunk(alloc, buf),
-        ReadCall::Advance(cnt) => advance(buf, cnt),
-        ReadCall::CopyOut(len) => copy(alloc, buf, len),
-        ReadCall::Chunks(places) => slices(alloc, buf, places),
+        ReadCall::Chunk => show_chunk(alloc, buf),
+        ReadCall::Advance(cnt) => read_advance(buf, cnt),
+        ReadCall::CopyOut(len) => read_copy(alloc, buf, len),
+        ReadCall::Chunks(places) => show_slices(alloc, buf, places),
     }
 }
 
 #[tactic(auto, using(crate::proofs::CallsLemmas::concat_lists_of, crate::proofs::CallsLemmas::skips_lists_of))]
-fn advance<B: Buf>(buf: &mut B, cnt: usize) -> Reply
+fn read_advance<B: Buf>(buf: &mut B, cnt: usize) -> Reply
     ensures reply { IsRead (ReadCall.Advance cnt)
-        (lists_of (B.unread buf.old)) result (lists_of (B.unread buf.new)) }
+        (lists_for_calls (B.unread buf.old)) result (lists_for_calls (B.unread buf.new)) }
     ensures kept { B.kept buf.new ≡ B.kept buf.old }
 {
     if cnt > buf.remaining() {
@@ -36,9 +36,9 @@ fn advance<B: Buf>(buf: &mut B, cnt: usize) -> Reply
 }
 
 #[tactic(auto, using(crate::proofs::CallsLemmas::concat_lists_of, crate::proofs::CallsLemmas::skips_lists_of))]
-fn copy<B: BufParts>(alloc: Global, buf: &mut B, len: usize) -> Reply
+fn read_copy<B: BufParts>(alloc: Global, buf: &mut B, len: usize) -> Reply
     ensures reply { IsRead (ReadCall.CopyOut len)
-        (lists_of (B.unread buf.old)) result (lists_of (B.unread buf.new)) }
+        (lists_for_calls (B.unread buf.old)) result (lists_for_calls (B.unread buf.new)) }
     ensures kept { B.kept buf.new ≡ B.kept buf.old }
 {
     if len > buf.remaining() {

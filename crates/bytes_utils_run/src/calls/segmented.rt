@@ -3,14 +3,14 @@ ghost use Rattle.bytes_utils_buf.specs.Segments.{IsPaid};
 ghost use Rattle.bytes_utils_run.specs.Calls.{CountsRead, IsCall, IsRead};
 
 use super::call::{Call, ReadCall, Reply};
-use super::show::{chunk, slices};
+use super::show::{show_chunk, show_slices};
 use bytes::Buf;
 use bytes_utils::parts::BufParts;
 use bytes_utils::{Reason, SegmentedBuf};
 use std::alloc::Global;
 
 /// Makes this call and returns its reply.
-pub(super) fn make<B: BufParts + Drop>(
+pub(super) fn make_segmented<B: BufParts + Drop>(
     alloc: Global,
     buf: &mut SegmentedBuf<B>,
     call: Call<B>,
@@ -19,13 +19,13 @@ pub(super) fn make<B: BufParts + Drop>(
     ensures paid { IsPaid buf.old buf.new }
 {
     match call {
-        Call::Push(part) => push(buf, part),
+        Call::Push(part) => push_segmented(buf, part),
         Call::Segments => Reply::Number(buf.segments()),
-        Call::Read(call) => read(alloc, buf, call),
+        Call::Read(call) => read_segmented(alloc, buf, call),
     }
 }
 
-fn push<B: Buf + Drop>(buf: &mut SegmentedBuf<B>, part: B) -> Reply
+fn push_segmented<B: Buf + Drop>(buf: &mut SegmentedBuf<B>, part: B) -> Reply
     ensures reply { IsCall B.unread (Call.Push part) buf.old result buf.new }
     ensures paid { IsPaid buf.old buf.new }
 {
@@ -38,21 +38,25 @@ fn push<B: Buf + Drop>(buf: &mut SegmentedBuf<B>, part: B) -> Reply
     }
 }
 
-fn read<B: BufParts + Drop>(alloc: Global, buf: &mut SegmentedBuf<B>, call: ReadCall) -> Reply
+fn read_segmented<B: BufParts + Drop>(
+    alloc: Global,
+    buf: &mut SegmentedBuf<B>,
+    call: ReadCall,
+) -> Reply
     ensures reply { IsRead call buf.old.segments result buf.new.segments }
     ensures counts { CountsRead call buf.old result buf.new }
     ensures paid { IsPaid buf.old buf.new }
 {
     match call {
         ReadCall::Remaining => Reply::Number(buf.remaining()),
-        ReadCall::Chunk => chunk(alloc, buf),
-        ReadCall::Advance(cnt) => advance(buf, cnt),
-        ReadCall::CopyOut(len) => copy(alloc, buf, len),
-        ReadCall::Chunks(places) => slices(alloc, buf, places),
+        ReadCall::Chunk => show_chunk(alloc, buf),
+        ReadCall::Advance(cnt) => advance_segmented(buf, cnt),
+        ReadCall::CopyOut(len) => copy_segmented(alloc, buf, len),
+        ReadCall::Chunks(places) => show_slices(alloc, buf, places),
     }
 }
 
-fn advance<B: Buf + Drop>(buf: &mut SegmentedBuf<B>, cnt: usize) -> Reply
+fn advance_segmented<B: Buf + Drop>(buf: &mut SegmentedBuf<B>, cnt: usize) -> Reply
     ensures reply { IsRead (ReadCall.Advance cnt) buf.old.segments result buf.new.segments }
     ensures counts { CountsRead (ReadCall.Advance cnt) buf.old result buf.new }
     ensures paid { IsPaid buf.old buf.new }
@@ -64,7 +68,7 @@ fn advance<B: Buf + Drop>(buf: &mut SegmentedBuf<B>, cnt: usize) -> Reply
     Reply::Done
 }
 
-fn copy<B: BufParts + Drop>(alloc: Global, buf: &mut SegmentedBuf<B>, len: usize) -> Reply
+fn copy_segmented<B: BufParts + Drop>(alloc: Global, buf: &mut SegmentedBuf<B>, len: usize) -> Reply
     ensures reply { IsRead (ReadCall.CopyOut len) buf.old.segments result buf.new.segments }
     ensures counts { CountsRead (ReadCall.CopyOut len) buf.old result buf.new }
     ensures paid { IsPaid buf.old buf.new }

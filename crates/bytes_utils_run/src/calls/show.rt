@@ -1,6 +1,6 @@
 //! Copies of the bytes that a buffer shows.
 ghost use Rattle.std.specs.Prelude.{◌≡◌, map, IfOk};
-ghost use Rattle.bytes_utils_run.specs.Calls.{AreSlices, IsReply};
+ghost use Rattle.bytes_utils_run.specs.Calls.{AreCallSlices, IsReply};
 ghost use Rattle.bytes_utils_run.specs.declared.calls.call.ReadCall.{ReadCall as Reading};
 
 use super::call::Reply;
@@ -9,7 +9,7 @@ use bytes_utils::parts::BufParts;
 use std::alloc::{AllocError, Global};
 
 /// Copies the first chunk.
-pub(super) fn chunk<B: Buf>(alloc: Global, buf: &B) -> Reply
+pub(super) fn show_chunk<B: Buf>(alloc: Global, buf: &B) -> Reply
     ensures { IsReply Reading.Chunk (B.unread buf.now) result }
 {
     match buf.chunk().to_vec(alloc) {
@@ -19,10 +19,10 @@ pub(super) fn chunk<B: Buf>(alloc: Global, buf: &B) -> Reply
 }
 
 /// Copies the slices that a table of `places` places is filled with.
-pub(super) fn slices<B: BufParts>(alloc: Global, buf: &B, places: usize) -> Reply
+pub(super) fn show_slices<B: BufParts>(alloc: Global, buf: &B, places: usize) -> Reply
     ensures { IsReply (Reading.Chunks places) (B.unread buf.now) result }
 {
-    match copies_of_slices(alloc, buf, places) {
+    match shown_slices(alloc, buf, places) {
         Ok(slices) => Reply::Slices(slices),
         Err(_) => Reply::NoMemory,
     }
@@ -30,21 +30,21 @@ pub(super) fn slices<B: BufParts>(alloc: Global, buf: &B, places: usize) -> Repl
 
 /// Copies these slices. The table has at most as many places as there are bytes, since each slice
 /// has at least one.
-fn copies_of_slices<B: BufParts>(
+fn shown_slices<B: BufParts>(
     alloc: Global,
     buf: &B,
     places: usize,
 ) -> Result<Vec<Vec<u8>>, AllocError>
     ensures { IfOk result
-        (λ slices. AreSlices places (map (λ s. s.items) slices.items) (B.unread buf.now)) }
+        (λ slices. AreCallSlices places (map (λ s. s.items) slices.items) (B.unread buf.now)) }
 {
     let empty: &[u8] = &[];
     let mut table = vec![in alloc; empty; places.min(buf.remaining())]?;
     let filled = buf.chunks_into(&mut table);
-    copies(alloc, &table[..filled])
+    shown_copies(alloc, &table[..filled])
 }
 
-fn copies(alloc: Global, slices: &[&[u8]]) -> Result<Vec<Vec<u8>>, AllocError>
+fn shown_copies(alloc: Global, slices: &[&[u8]]) -> Result<Vec<Vec<u8>>, AllocError>
     ensures { IfOk result (λ all. map (λ s. s.items) all.items ≡ map (λ s. s.now) slices.now) }
 {
     let mut all = Vec::with_capacity(alloc, slices.len())?;

@@ -16,9 +16,9 @@ ghost use Rattle.std.specs.Str.Iter.{rsplit_steps, rsplitn_steps};
 ghost use Rattle.std.specs.Str.Pattern.{FindsChar};
 ghost use Rattle.bytes_utils.specs.Halves.{AreHalvesAtFirst, AreHalvesAtLast};
 ghost use Rattle.bytes_utils.specs.Occurrence.{Occurs};
-ghost use Rattle.bytes_utils_run.specs.Borrowed.{GivesParts, finds_text, rfinds_text, keeps_text};
+ghost use Rattle.bytes_utils_run.specs.Borrowed.{GivesBorrowedParts, finds_borrowed_text, rfinds_borrowed_text, keeps_borrowed_text};
 ghost use Rattle.bytes_utils_run.specs.Borrowed.{keeps_character, AnswersBy, finds_tested};
-ghost use Rattle.bytes_utils_run.specs.Borrowed.{keeps_tested, ArePartsByTest};
+ghost use Rattle.bytes_utils_run.specs.Borrowed.{keeps_tested, AreBorrowedPartsByTest};
 ghost use Rattle.bytes_utils_run.specs.Cutting.{ArePartsBy, ByWords, ByAsciiWords, ByLines};
 ghost use Rattle.bytes_utils_run.specs.Cutting.{FromFront, FromBack, Keeping};
 
@@ -28,14 +28,14 @@ use std::str::{
 
 /// Splits `text` into words at white space (Unicode's property White_Space).
 pub fn split_whitespace(text: &str) -> SplitWhitespace<'_>
-    ensures { GivesParts split_whitespace_steps result (ArePartsBy ByWords (chars text.now)) }
+    ensures { GivesBorrowedParts split_whitespace_steps result (ArePartsBy ByWords (chars text.now)) }
 {
     text.split_whitespace()
 }
 
 /// Splits `text` into words at ASCII white space.
 pub fn split_ascii_whitespace(text: &str) -> SplitAsciiWhitespace<'_>
-    ensures { GivesParts split_ascii_whitespace_steps result
+    ensures { GivesBorrowedParts split_ascii_whitespace_steps result
         (ArePartsBy ByAsciiWords (chars text.now)) }
 {
     text.split_ascii_whitespace()
@@ -43,7 +43,7 @@ pub fn split_ascii_whitespace(text: &str) -> SplitAsciiWhitespace<'_>
 
 /// Splits `text` into lines, without their line ends.
 pub fn lines(text: &str) -> Lines<'_>
-    ensures { GivesParts lines_steps result (ArePartsBy ByLines (chars text.now)) }
+    ensures { GivesBorrowedParts lines_steps result (ArePartsBy ByLines (chars text.now)) }
 {
     text.lines()
 }
@@ -51,7 +51,7 @@ pub fn lines(text: &str) -> Lines<'_>
 /// Splits `text` at each `separator`. Requires that `separator` isn't empty.
 pub fn split<'t, 's>(text: &'t str, separator: &'s str) -> Split<'t, &'s str>
     requires { 0 < length separator.now }
-    ensures { GivesParts (split_steps finds_text keeps_text) result
+    ensures { GivesBorrowedParts (split_steps finds_borrowed_text keeps_borrowed_text) result
         (ArePartsBy (FromFront (chars separator.now) None) (chars text.now)) }
 {
     text.split(separator)
@@ -61,7 +61,7 @@ pub fn split<'t, 's>(text: &'t str, separator: &'s str) -> Split<'t, &'s str>
 /// Requires that `separator` isn't empty.
 pub fn splitn<'t, 's>(text: &'t str, most: usize, separator: &'s str) -> SplitN<'t, &'s str>
     requires { 0 < length separator.now }
-    ensures { GivesParts (splitn_steps finds_text keeps_text) result
+    ensures { GivesBorrowedParts (splitn_steps finds_borrowed_text keeps_borrowed_text) result
         (ArePartsBy (FromFront (chars separator.now) (Some most)) (chars text.now)) }
 {
     text.splitn(most, separator)
@@ -70,7 +70,7 @@ pub fn splitn<'t, 's>(text: &'t str, most: usize, separator: &'s str) -> SplitN<
 /// Splits `text` at each `separator`, from the back. Requires that `separator` isn't empty.
 pub fn rsplit<'t, 's>(text: &'t str, separator: &'s str) -> RSplit<'t, &'s str>
     requires { 0 < length separator.now }
-    ensures { GivesParts (rsplit_steps rfinds_text keeps_text) result
+    ensures { GivesBorrowedParts (rsplit_steps rfinds_borrowed_text keeps_borrowed_text) result
         (ArePartsBy (FromBack (chars separator.now) None) (chars text.now)) }
 {
     text.rsplit(separator)
@@ -80,7 +80,7 @@ pub fn rsplit<'t, 's>(text: &'t str, separator: &'s str) -> RSplit<'t, &'s str>
 /// rest, not split. Requires that `separator` isn't empty.
 pub fn rsplitn<'t, 's>(text: &'t str, most: usize, separator: &'s str) -> RSplitN<'t, &'s str>
     requires { 0 < length separator.now }
-    ensures { GivesParts (rsplitn_steps rfinds_text keeps_text) result
+    ensures { GivesBorrowedParts (rsplitn_steps rfinds_borrowed_text keeps_borrowed_text) result
         (ArePartsBy (FromBack (chars separator.now) (Some most)) (chars text.now)) }
 {
     text.rsplitn(most, separator)
@@ -90,7 +90,7 @@ pub fn rsplitn<'t, 's>(text: &'t str, most: usize, separator: &'s str) -> RSplit
 /// `separator` isn't empty.
 pub fn split_inclusive<'t, 's>(text: &'t str, separator: &'s str) -> SplitInclusive<'t, &'s str>
     requires { 0 < length separator.now }
-    ensures { GivesParts (split_inclusive_steps finds_text keeps_text) result
+    ensures { GivesBorrowedParts (split_inclusive_steps finds_borrowed_text keeps_borrowed_text) result
         (ArePartsBy (Keeping (chars separator.now)) (chars text.now)) }
 {
     text.split_inclusive(separator)
@@ -98,7 +98,7 @@ pub fn split_inclusive<'t, 's>(text: &'t str, separator: &'s str) -> SplitInclus
 
 /// Splits `text` at each `character`. The parts are those by a separator of this one character.
 pub fn split_character(text: &str, character: char) -> Split<'_, char>
-    ensures { GivesParts (split_steps FindsChar keeps_character) result
+    ensures { GivesBorrowedParts (split_steps FindsChar keeps_character) result
         (ArePartsBy (FromFront (character ∷ []) None) (chars text.now)) }
 {
     text.split(character)
@@ -110,11 +110,11 @@ pub fn split_character(text: &str, character: char) -> Split<'_, char>
 pub fn split_tested<F: FnMut(char) -> bool>(text: &str, is_separator: F) -> Split<'_, F>
     ensures pattern { split_pattern result ≡ is_separator }
     ensures tested { (passes : ℕ → Bool) → AnswersBy F.FnMut is_separator passes
-        → GivesParts (split_steps (finds_tested (AnswersBy F.FnMut))
+        → GivesBorrowedParts (split_steps (finds_tested (AnswersBy F.FnMut))
         (keeps_tested (AnswersBy F.FnMut))) result
-        (ArePartsByTest passes (chars text.now)) }
+        (AreBorrowedPartsByTest passes (chars text.now)) }
     ensures one { (separator : ℕ) → AnswersBy F.FnMut is_separator (λ c. c == separator)
-        → GivesParts (split_steps (finds_tested (AnswersBy F.FnMut))
+        → GivesBorrowedParts (split_steps (finds_tested (AnswersBy F.FnMut))
         (keeps_tested (AnswersBy F.FnMut))) result
         (ArePartsBy (FromFront (separator ∷ []) None) (chars text.now)) }
 {

@@ -1,7 +1,8 @@
 //! A buffer that shows one byte at a time.
 ghost use Rattle.std.specs.Prelude.{◌≡◌, ◌≤◌, length, take, drop, All, IfOk, IfErr, OnErr};
 ghost use Rattle.bytes.specs.Unread.{IsChunkOf};
-ghost use Rattle.bytes_utils_buf.specs.Slices.{taken_by, FillsTable};
+ghost use Rattle.bytes_utils_buf.specs.Copies.{taken_by_copy};
+ghost use Rattle.bytes_utils_buf.specs.Slices.{FillsSlices};
 
 use bytes::{Buf, Bytes};
 use bytes_utils::parts::{BufParts, CopyRefused};
@@ -59,7 +60,7 @@ impl BufParts for Drip {
     }
 
     fn chunks_into<'s>(&'s self, dst: &mut [&'s [u8]]) -> usize
-        ensures fills { FillsTable result dst.old dst.new self.now }
+        ensures fills { FillsSlices result dst.old dst.new self.now }
         ensures one { All (λ s. length s.now ≡ 1) (take result dst.new) }
     {
         let bytes = self.bytes.as_slice();

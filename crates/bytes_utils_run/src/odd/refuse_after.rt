@@ -20,9 +20,9 @@ pub struct RefuseAfter {
 }
 
 impl Model for RefuseAfter {
-    ghost use Rattle.bytes_utils_run.specs.Odd.{Granting};
+    ghost use Rattle.bytes_utils_run.specs.Odd.{OddStorage};
 
-    ghost Value = { Granting };
+    ghost Value = { OddStorage };
 
     ghost view = { λ s. record { stored = s.bytes; granted = s.splits } };
 }

@@ -1,8 +1,9 @@
 //! A buffer of any number of zero bytes.
 ghost use Rattle.std.specs.Prelude.{◌≡◌, ◌≤◌, length, map, take, drop, replicate, IfOk, IfErr, OnErr};
 ghost use Rattle.bytes.specs.Unread.{IsChunkOf};
-ghost use Rattle.bytes_utils_buf.specs.Slices.{taken_by, FillsTable};
-ghost use Rattle.bytes_utils_run.specs.Odd.{pieces};
+ghost use Rattle.bytes_utils_buf.specs.Copies.{taken_by_copy};
+ghost use Rattle.bytes_utils_buf.specs.Slices.{FillsSlices};
+ghost use Rattle.bytes_utils_run.specs.Odd.{odd_pieces};
 
 use bytes::{Buf, Bytes};
 use bytes_utils::parts::{BufParts, CopyRefused};
@@ -73,10 +74,10 @@ impl BufParts for Zeros {
         Ok(copy)
     }
 
-    #[tactic(auto, using(crate::proofs::OddLemmas::FillsTable_all_zeros, crate::proofs::OddLemmas::FillsTable_none))]
+    #[tactic(auto, using(crate::proofs::OddLemmas::FillsSlices_all_zeros, crate::proofs::OddLemmas::FillsSlices_none))]
     fn chunks_into<'s>(&'s self, dst: &mut [&'s [u8]]) -> usize
-        ensures fills { FillsTable result dst.old dst.new self.now }
-        ensures eight { map (λ s. s.now) (take result dst.new) ≡ pieces 8 result self.now }
+        ensures fills { FillsSlices result dst.old dst.new self.now }
+        ensures eight { map (λ s. s.now) (take result dst.new) ≡ odd_pieces 8 result self.now }
     {
         let mut shown = 0;
         let mut filled = 0;

@@ -1,13 +1,12 @@
 //! The command line of an input.
 ghost use Rattle.std.specs.Prelude.{◌≡◌, ◌≢◌, ◌≤◌, ℕ, List, MatchOption, None, Some, codes, take, drop, IsCharBoundary};
 ghost use Rattle.std.specs.Str.{chars};
-ghost use Rattle.bytes_utils.specs.Lines.{text_after};
-ghost use Rattle.bytes_utils_run.specs.Answer.{IsReadFrom};
-ghost use Rattle.bytes_utils_run.specs.Command.{IsCommand, IsCounted, IsCountedAfter, command_line};
-ghost use Rattle.bytes_utils_run.specs.Cutting.{Cutting, FromFront, FromBack, Keeping, IsAllowed, cutting};
+ghost use Rattle.bytes_utils.specs.Lines.{text_after_line};
+ghost use Rattle.bytes_utils_run.specs.Command.{IsCommand, IsCommandCount, IsCommandCountAfter, command_line, IsReadFrom};
+ghost use Rattle.bytes_utils_run.specs.Cutting.{Cutting, FromFront, FromBack, Keeping, IsCuttingAllowed, cutting};
 
 use crate::How;
-use crate::program::word::{is_word, number, rest_after};
+use crate::program::word::{is_word, rest_after_word, word_number};
 use bytes_utils::split::line_place;
 
 /// Finds where the first line ends, and where the text after it begins.
@@ -16,7 +15,7 @@ pub(super) fn command_line_places(input: &str) -> (usize, usize)
     ensures next { IsCharBoundary input.now result.1 }
     ensures order { result.0 ≤ result.1 }
     ensures line { chars (take result.0 input.now) ≡ command_line (chars input.now) }
-    ensures text { chars (drop result.1 input.now) ≡ text_after (chars input.now) }
+    ensures text { chars (drop result.1 input.now) ≡ text_after_line (chars input.now) }
 {
     let Some((end, next)) = line_place(input) else {
         return (input.len(), input.len());
@@ -25,20 +24,21 @@ pub(super) fn command_line_places(input: &str) -> (usize, usize)
 }
 
 /// Reads a number and one space, and returns the number and the rest.
-fn counted(text: &str) -> Option<(usize, &str)>
-    ensures { MatchOption result ((most : ℕ) (rest : List ℕ) → ¬ IsCounted (chars text.now) most rest)
-        (λ found. IsCounted (chars text.now) found.0 (chars found.1.now)) }
+fn command_count(text: &str) -> Option<(usize, &str)>
+    ensures { MatchOption result ((most : ℕ) (rest : List ℕ) → ¬ IsCommandCount (chars text.now) most rest)
+        (λ found. IsCommandCount (chars text.now) found.0 (chars found.1.now)) }
 {
     let (digits, rest) = text.split_once(" ")?;
-    Some((number(digits)?, rest))
+    Some((word_number(digits)?, rest))
 }
 
 /// Reads a word, a number and one space, and returns the number and the rest.
-fn counted_after<'l>(line: &'l str, word: &str) -> Option<(usize, &'l str)>
-    ensures { MatchOption result ((most : ℕ) (rest : List ℕ) → ¬ IsCountedAfter (chars word.now) (chars line.now) most rest)
-        (λ found. IsCountedAfter (chars word.now) (chars line.now) found.0 (chars found.1.now)) }
+fn command_count_after<'l>(line: &'l str, word: &str) -> Option<(usize, &'l str)>
+    ensures { MatchOption result ((most : ℕ) (rest : List ℕ)
+        → ¬ IsCommandCountAfter (chars word.now) (chars line.now) most rest)
+        (λ found. IsCommandCountAfter (chars word.now) (chars line.now) found.0 (chars found.1.now)) }
 {
-    counted(rest_after(line, word)?)
+    command_count(rest_after_word(line, word)?)
 }
 
 /// Reads a way to split that is a word alone.
@@ -46,7 +46,7 @@ fn counted_after<'l>(line: &'l str, word: &str) -> Option<(usize, &'l str)>
 fn word_command(line: &str) -> Option<How<'_>>
     ensures { MatchOption result
         ((chars line.now ≢ codes "words") × (chars line.now ≢ codes "ascii") × (chars line.now ≢ codes "lines"))
-        (λ split_mode. IsAllowed split_mode × IsCommand (cutting split_mode) (chars line.now)) }
+        (λ split_mode. IsCuttingAllowed split_mode × IsCommand (cutting split_mode) (chars line.now)) }
 {
     if is_word(line, "words") {
         return Some(How::Words);
@@ -62,20 +62,20 @@ fn word_command(line: &str) -> Option<How<'_>>
 
 /// Reads a way to split that is a word and a separator.
 #[tactic(auto, using(crate::proofs::CommandLemmas::chars_word))]
-fn by_separator(line: &str) -> Option<How<'_>>
+fn separator_command(line: &str) -> Option<How<'_>>
     ensures { MatchOption result
         ((p : List ℕ) → (¬ IsCommand (FromFront p None) (chars line.now))
         × (¬ IsCommand (FromBack p None) (chars line.now))
         × (¬ IsCommand (Keeping p) (chars line.now)))
-        (λ split_mode. IsAllowed split_mode × IsCommand (cutting split_mode) (chars line.now)) }
+        (λ split_mode. IsCuttingAllowed split_mode × IsCommand (cutting split_mode) (chars line.now)) }
 {
-    if let Some(separator) = rest_after(line, "split ") {
+    if let Some(separator) = rest_after_word(line, "split ") {
         return Some(How::Split(separator));
     }
-    if let Some(separator) = rest_after(line, "rsplit ") {
+    if let Some(separator) = rest_after_word(line, "rsplit ") {
         return Some(How::RSplit(separator));
     }
-    let separator = rest_after(line, "inclusive ")?;
+    let separator = rest_after_word(line, "inclusive ")?;
     if separator.is_empty() {
         return None;
     }
@@ -84,16 +84,16 @@ fn by_separator(line: &str) -> Option<How<'_>>
 
 /// Reads a way to split that is a word, a number and a separator.
 #[tactic(auto, using(crate::proofs::CommandLemmas::chars_word))]
-fn by_limit(line: &str) -> Option<How<'_>>
+fn limit_command(line: &str) -> Option<How<'_>>
     ensures { MatchOption result
         ((p : List ℕ) (most : ℕ) → (¬ IsCommand (FromFront p (Some most)) (chars line.now))
         × (¬ IsCommand (FromBack p (Some most)) (chars line.now)))
-        (λ split_mode. IsAllowed split_mode × IsCommand (cutting split_mode) (chars line.now)) }
+        (λ split_mode. IsCuttingAllowed split_mode × IsCommand (cutting split_mode) (chars line.now)) }
 {
-    if let Some((most, separator)) = counted_after(line, "splitn ") {
+    if let Some((most, separator)) = command_count_after(line, "splitn ") {
         return Some(How::SplitN(most, separator));
     }
-    if let Some((most, separator)) = counted_after(line, "rsplitn ") {
+    if let Some((most, separator)) = command_count_after(line, "rsplitn ") {
         return Some(How::RSplitN(most, separator));
     }
     None
@@ -101,17 +101,17 @@ fn by_limit(line: &str) -> Option<How<'_>>
 
 /// Reads a way to split, if the line is one.
 #[tactic(auto, using(crate::proofs::CommandLemmas::split_mode_is))]
-fn split_mode(line: &str) -> Option<How<'_>>
+fn split_command(line: &str) -> Option<How<'_>>
     ensures { MatchOption result ((way : Cutting) → ¬ IsCommand way (chars line.now))
-        (λ split_mode. IsAllowed split_mode × IsCommand (cutting split_mode) (chars line.now)) }
+        (λ split_mode. IsCuttingAllowed split_mode × IsCommand (cutting split_mode) (chars line.now)) }
 {
     if let Some(split_mode) = word_command(line) {
         return Some(split_mode);
     }
-    if let Some(split_mode) = by_separator(line) {
+    if let Some(split_mode) = separator_command(line) {
         return Some(split_mode);
     }
-    by_limit(line)
+    limit_command(line)
 }
 
 /// What a command line asks for.
@@ -133,5 +133,5 @@ pub(super) fn read_command(line: &str) -> Option<Command<'_>>
     if is_word(line, "buf") {
         return Some(Command::Buf);
     }
-    Some(Command::Cut(split_mode(line)?))
+    Some(Command::Cut(split_command(line)?))
 }

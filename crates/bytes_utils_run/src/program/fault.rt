@@ -20,11 +20,11 @@ pub enum Fault {
 
 impl Fault {
     ghost use Rattle.std.specs.Prelude.{◌≡◌};
-    ghost use Rattle.bytes_utils_run.specs.Fault.{status_of};
+    ghost use Rattle.bytes_utils_run.specs.Fault.{fault_status};
 
     /// Returns the exit status of the program: 2 to 5, in the order of the cases above.
     pub fn status(&self) -> u8
-        ensures { result ≡ status_of self.now }
+        ensures { result ≡ fault_status self.now }
     {
         match self {
             Fault::UnknownCommand => 2,

@@ -1,8 +1,10 @@
-//! Reading all of the input.
-ghost use Rattle.std.specs.Prelude.{◌≡◌, ◌⊎◌, ◌*◌, ◌<◌, length, OnErr, IfOk, IfErr};
-ghost use Rattle.bytes_utils_run.specs.Moves.{ConsumesSome, ReadsWhole};
+//! Reading all of the input, as a text.
+ghost use Rattle.std.specs.Prelude.{◌≡◌, ◌⊎◌, ◌*◌, ◌<◌, length, OnOk, OnErr, IfOk, IfErr, IsErrOf, IsUtf8};
+ghost use Rattle.bytes_utils_run.specs.AppendsAndConsumes.{ConsumesSome, ConsumesWhole};
 
 use crate::program::Fault;
+use bytes::Bytes;
+use bytes_utils::Str;
 use std::alloc::Global;
 use std::io::Read;
 
@@ -14,9 +16,9 @@ const MOST_READS: usize = 1_048_576;
 
 /// Reads to the end of the input. A read that fails isn't tried again. A reader that hasn't ended
 /// after `MOST_READS` calls counts as failed.
-pub(super) fn read_all<R: Read>(alloc: Global, reader: &mut R) -> Result<Vec<u8>, Fault>
+pub(super) fn read_input<R: Read>(alloc: Global, reader: &mut R) -> Result<Vec<u8>, Fault>
     ensures whole { IfOk result
-        (λ bytes. ReadsWhole (R.remaining reader.old) (R.remaining reader.new) bytes.items) }
+        (λ bytes. ConsumesWhole (R.remaining reader.old) (R.remaining reader.new) bytes.items) }
     ensures bounded { IfOk result (λ bytes. length bytes.items < BYTES_PER_READ * MOST_READS) }
     ensures err { OnErr result (ConsumesSome (R.remaining reader.old) (R.remaining reader.new)) }
     ensures fault { IfErr result (λ fault. (fault ≡ Fault.Io) ⊎ (fault ≡ Fault.OutOfMemory)) }
@@ -35,4 +37,20 @@ pub(super) fn read_all<R: Read>(alloc: Global, reader: &mut R) -> Result<Vec<u8>
         }
     }
     Err(Fault::Io)
+}
+
+/// Turns the input into text.
+pub(super) fn input_text(input: Vec<u8>) -> Result<Str, Fault>
+    ensures ok { IfOk result (λ text. text ≡ input.items) }
+    ensures utf8 { OnOk result (IsUtf8 input.items) }
+    ensures not_utf8 { IsErrOf result Fault.NotUtf8 → ¬ IsUtf8 input.items }
+    ensures fault { IfErr result (λ fault. (fault ≡ Fault.NotUtf8) ⊎ (fault ≡ Fault.OutOfMemory)) }
+{
+    let Ok(bytes) = Bytes::from_vec(input) else {
+        return Err(Fault::OutOfMemory);
+    };
+    match Str::from_inner(bytes) {
+        Ok(text) => Ok(text),
+        Err(_) => Err(Fault::NotUtf8),
+    }
 }

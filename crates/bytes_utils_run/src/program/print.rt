@@ -1,16 +1,19 @@
-//! Printing parts, replies, and the slices in a reply.
-ghost use Rattle.std.specs.Prelude.{ℕ, List, OnOk, OnErr, IfOk, IsOkUnless, map, length, ◌++◌};
+//! Printing results: parts, replies, and the slices in a reply.
+ghost use Rattle.std.specs.Prelude.{◌≡◌, ◌⊎◌, ℕ, List, None, Some, OnOk, OnErr, IfOk, IfErr, IsErrOf, IsOkUnless, map, length, ◌++◌};
 ghost use Rattle.std.specs.Io.KnownBytes.{Appends};
 ghost use Rattle.std.specs.List.{concat};
 ghost use Rattle.std.specs.Str.{chars};
 ghost use Rattle.bytes_utils.specs.Outcome.{Outcome};
-ghost use Rattle.bytes_utils_run.specs.Coming.{AreToCome};
-ghost use Rattle.bytes_utils_run.specs.Moves.{AppendsBeginning};
+ghost use Rattle.bytes_utils_buf.specs.declared.refused.Reason.{Reason as WhyRefused};
+ghost use Rattle.bytes_utils_run.specs.Answer.{HasParts, PrintsBeginning, PrintsGiven};
+ghost use Rattle.bytes_utils_run.specs.AnySplitter.{AreToCome};
+ghost use Rattle.bytes_utils_run.specs.AppendsAndConsumes.{AppendsBeginning};
 ghost use Rattle.bytes_utils_run.specs.Printed.{printed as printed_bytes, printed_number, printed_part, printed_reply};
 
 use crate::Reply;
 use crate::program::Fault;
-use crate::program::output::{print_bytes, print_number, write_out};
+use crate::program::answer::Answer;
+use crate::program::output::{flush_output, output_bytes, output_number, write_output};
 use crate::splitter::AnySplitter;
 use bytes_utils::Reason;
 use bytes_utils::string::{Storage, StrInner};
@@ -34,7 +37,7 @@ impl<S: Storage> Printable for StrInner<S> {
     ghost printed = { λ part. printed_part (chars part) };
 
     fn print<W: Write>(&self, writer: &mut W) -> Result<(), Fault> {
-        print_bytes(writer, self.as_str().as_bytes())
+        output_bytes(writer, self.as_str().as_bytes())
     }
 }
 
@@ -42,7 +45,7 @@ impl Printable for Vec<u8> {
     ghost printed = { λ bytes. printed_bytes bytes.items };
 
     fn print<W: Write>(&self, writer: &mut W) -> Result<(), Fault> {
-        print_bytes(writer, self)
+        output_bytes(writer, self)
     }
 }
 
@@ -52,13 +55,13 @@ impl Printable for Reply {
     /// Prints nothing for a reply that memory was refused for.
     fn print<W: Write>(&self, writer: &mut W) -> Result<(), Fault> {
         match self {
-            Reply::Done => write_out(writer, b"ok\n"),
-            Reply::PastEnd => write_out(writer, b"past end\n"),
-            Reply::TooLong => write_out(writer, b"too long\n"),
+            Reply::Done => write_output(writer, b"ok\n"),
+            Reply::PastEnd => write_output(writer, b"past end\n"),
+            Reply::TooLong => write_output(writer, b"too long\n"),
             Reply::NoMemory | Reply::CopyStopped(_) => Ok(()),
-            Reply::Number(number) => print_number(writer, *number),
-            Reply::Piece(piece) => print_bytes(writer, piece),
-            Reply::Shown(chunk) => print_bytes(writer, chunk),
+            Reply::Number(number) => output_number(writer, *number),
+            Reply::Piece(piece) => output_bytes(writer, piece),
+            Reply::Shown(chunk) => output_bytes(writer, chunk),
             Reply::Slices(slices) => print_slices(writer, slices),
         }
     }
@@ -72,7 +75,7 @@ fn print_slices<W: Write>(writer: &mut W, slices: &[Vec<u8>]) -> Result<(), Faul
         (printed_number (length slices.now) ++ concat (map (λ slice. printed_bytes slice.items) slices.now))) }
     ensures fault { IsOkUnless result Fault.Io }
 {
-    print_number(writer, slices.len())?;
+    output_number(writer, slices.len())?;
     print_all(writer, slices)
 }
 
@@ -114,4 +117,46 @@ pub fn print_parts<S: Storage, W: Write>(
         }
     }
     Ok(None)
+}
+
+/// Prints the results one by one. Returns the reason if a refusal left some of them out.
+fn print_given<W: Write>(writer: &mut W, answer: Answer<'_>) -> Result<Option<Reason>, Fault>
+    requires { HasParts answer }
+    ensures ok { IfOk result (λ refused. PrintsGiven answer.entry refused
+        (W.contents writer.old) (W.contents writer.new)) }
+    ensures err { OnErr result (PrintsBeginning answer.entry
+        (W.contents writer.old) (W.contents writer.new)) }
+    ensures fault { IsOkUnless result Fault.Io }
+{
+    match answer {
+        Answer::Splitter(mut splitter) => {
+            let refused = print_parts(writer, &mut splitter);
+            drop(splitter); // An implicit drop would be proved here again, case by case.
+            refused
+        }
+        Answer::Replies { given, refused } => {
+            print_all(writer, &given)?;
+            Ok(refused)
+        }
+    }
+}
+
+/// Prints the results and flushes. Fails if a write or the flush fails, or a refusal left some out.
+pub(super) fn print_answer<W: Write>(writer: &mut W, answer: Answer<'_>) -> Result<(), Fault>
+    requires { HasParts answer }
+    ensures ok { OnOk result (PrintsGiven answer.entry None
+        (W.contents writer.old) (W.contents writer.new)) }
+    ensures out_of_memory { IsErrOf result Fault.OutOfMemory
+        → (reason : WhyRefused) × PrintsGiven answer.entry (Some reason)
+        (W.contents writer.old) (W.contents writer.new) }
+    ensures io { IsErrOf result Fault.Io → PrintsBeginning answer.entry
+        (W.contents writer.old) (W.contents writer.new) }
+    ensures fault { IfErr result (λ fault. (fault ≡ Fault.OutOfMemory) ⊎ (fault ≡ Fault.Io)) }
+{
+    let refused = print_given(writer, answer)?;
+    flush_output(writer)?;
+    match refused {
+        None => Ok(()),
+        Some(reason) => Err(reason.into()),
+    }
 }

@@ -9,7 +9,7 @@ const MOST_DIGITS: usize = 20;
 
 /// Reads a decimal number without a sign, if the text is one.
 #[tactic(auto, using(crate::proofs::NumberLemmas::number_short, crate::proofs::NumberLemmas::number_unsigned, crate::proofs::NumberLemmas::parsed_number))]
-pub(super) fn number(text: &str) -> Option<usize>
+pub(super) fn word_number(text: &str) -> Option<usize>
     ensures { MatchOption result ((n : ℕ) → ¬ IsNumber (chars text.now) n)
         (λ n. IsNumber (chars text.now) n) }
 {
@@ -33,7 +33,7 @@ pub(super) fn is_word(line: &str, word: &str) -> bool
 
 /// Returns what follows a word at the beginning of a line.
 #[tactic(auto, using(crate::proofs::CommandLemmas::rest_after_is, crate::proofs::CommandLemmas::rest_after_utf8))]
-pub(super) fn rest_after<'l>(line: &'l str, word: &str) -> Option<&'l str>
+pub(super) fn rest_after_word<'l>(line: &'l str, word: &str) -> Option<&'l str>
     ensures value { MatchOption result ((rest : List ℕ) → chars line.now ≢ chars word.now ++ rest)
         (λ rest. chars line.now ≡ chars word.now ++ chars rest.now) }
     ensures utf8 { IfSome result (λ rest. IsUtf8 rest.now) }

@@ -10,7 +10,7 @@ use std::alloc::Global;
 use std::test::Fail;
 
 /// Returns whether these are the slices in `wanted`, where a comma comes after each.
-fn are_slices(slices: &[Vec<u8>], wanted: &str) -> bool {
+fn are_slices_of_call(slices: &[Vec<u8>], wanted: &str) -> bool {
     let mut rest = wanted;
     for slice in slices {
         let (front, following) = rest.split_once(',').unwrap_or(("", ""));
@@ -23,7 +23,7 @@ fn are_slices(slices: &[Vec<u8>], wanted: &str) -> bool {
 }
 
 /// Returns whether a reply is as written: in words, as a number, or by its bytes.
-fn is_written(reply: &Reply, wanted: &str) -> bool {
+fn is_reply_of_call(reply: &Reply, wanted: &str) -> bool {
     match reply {
         Reply::Done => wanted == "ok",
         Reply::PastEnd => wanted == "past end",
@@ -32,15 +32,15 @@ fn is_written(reply: &Reply, wanted: &str) -> bool {
         Reply::Number(number) => wanted.parse().ok() == Some(*number),
         Reply::Piece(piece) => piece.as_slice() == wanted.as_bytes(),
         Reply::Shown(chunk) => chunk.as_slice() == wanted.as_bytes(),
-        Reply::Slices(slices) => are_slices(slices, wanted),
+        Reply::Slices(slices) => are_slices_of_call(slices, wanted),
     }
 }
 
 /// Returns whether these are the replies, written with a bar between them.
-fn are_replies(replies: &Replies, wanted: &str) -> bool {
+fn are_replies_of_calls(replies: &Replies, wanted: &str) -> bool {
     let mut rest = wanted.split('|');
     for reply in &replies.given {
-        if !is_written(reply, rest.next().unwrap_or("none")) {
+        if !is_reply_of_call(reply, rest.next().unwrap_or("none")) {
             return false;
         }
     }
@@ -48,9 +48,14 @@ fn are_replies(replies: &Replies, wanted: &str) -> bool {
 }
 
 /// Returns whether the buffer gives these replies to the calls.
-fn replies<B: BufParts>(alloc: Global, buf: &mut B, calls: &[ReadCall], wanted: &str) -> bool {
+fn calls_give_replies<B: BufParts>(
+    alloc: Global,
+    buf: &mut B,
+    calls: &[ReadCall],
+    wanted: &str,
+) -> bool {
     match Vec::from_slice(alloc, calls) {
-        Ok(calls) => are_replies(&read_calls(alloc, buf, calls), wanted),
+        Ok(calls) => are_replies_of_calls(&read_calls(alloc, buf, calls), wanted),
         Err(_) => false,
     }
 }
@@ -60,7 +65,7 @@ const ZEROS: &str = "\0\0\0\0\0\0\0\0|\0\0\0\0\0\0\0\0,\0\0\0\0\0\0\0\0,\0\0\0\0
     \0\0\0\0\0\0\0\0,\0\0\0\0\0\0\0\0,|ok|\0\0\0\0";
 
 #[test]
-fn reads_odd_buffers(rt: HostRuntime) -> Result<(), Fail> {
+fn calls_on_zeros_and_drips(rt: HostRuntime) -> Result<(), Fail> {
     let calls = [
         ReadCall::Chunk,
         ReadCall::Chunks(5),
@@ -68,7 +73,7 @@ fn reads_odd_buffers(rt: HostRuntime) -> Result<(), Fail> {
         ReadCall::Advance(16),
         ReadCall::Chunk,
     ];
-    assert!(rt; replies(rt.alloc(), &mut Zeros::new(20), &calls, ZEROS));
+    assert!(rt; calls_give_replies(rt.alloc(), &mut Zeros::new(20), &calls, ZEROS));
     let (first, second) = (Bytes::from_static(b"ab"), Bytes::from_static(b"c"));
     let drips = vec![in rt.alloc(); Drip::new(first), Drip::new(second)]?;
     let mut buf = SegmentedBuf::from_vec(rt.alloc(), drips)?;
@@ -78,14 +83,14 @@ fn reads_odd_buffers(rt: HostRuntime) -> Result<(), Fail> {
         ReadCall::Chunks(5),
         ReadCall::CopyOut(3),
     ];
-    let is_right = replies(rt.alloc(), &mut buf, &calls, "a|a,b,|a,b,c,|abc");
+    let is_right = calls_give_replies(rt.alloc(), &mut buf, &calls, "a|a,b,|a,b,c,|abc");
     drop(buf);
     assert!(rt; is_right);
     Ok(())
 }
 
 /// Makes a buffer out of four, one of them empty.
-fn four(alloc: Global) -> Result<SegmentedBuf<Bytes>, Fail> {
+fn four_for_calls(alloc: Global) -> Result<SegmentedBuf<Bytes>, Fail> {
     let mut buf = SegmentedBuf::new(alloc);
     for text in "Hello| ||World".split('|') {
         buf.try_push(Bytes::from_static(text.as_bytes()))?;
@@ -94,8 +99,8 @@ fn four(alloc: Global) -> Result<SegmentedBuf<Bytes>, Fail> {
 }
 
 #[test]
-fn reads_nested_buffers(rt: HostRuntime) -> Result<(), Fail> {
-    let mut both = vec![in rt.alloc(); four(rt.alloc())?, four(rt.alloc())?]?;
+fn calls_on_nested_buffers(rt: HostRuntime) -> Result<(), Fail> {
+    let mut both = vec![in rt.alloc(); four_for_calls(rt.alloc())?, four_for_calls(rt.alloc())?]?;
     let calls = [
         ReadCall::Remaining,
         ReadCall::CopyOut(12),
@@ -108,7 +113,7 @@ fn reads_nested_buffers(rt: HostRuntime) -> Result<(), Fail> {
     let wanted = "22|Hello WorldH|ello|past end|ok||0";
     assert!(rt; SegmentedSlice::total(&both).is_some());
     assert!(rt;
-        replies(
+        calls_give_replies(
             rt.alloc(),
             &mut SegmentedSlice::new(&mut both),
             &calls,
@@ -120,17 +125,17 @@ fn reads_nested_buffers(rt: HostRuntime) -> Result<(), Fail> {
 
 // A buffer that would make the length pass `usize::MAX` isn't appended.
 #[test]
-fn pushed_past_the_greatest_length(rt: HostRuntime) -> Result<(), Fail> {
+fn calls_push_past_the_greatest_length(rt: HostRuntime) -> Result<(), Fail> {
     let all = vec![in rt.alloc(); Zeros::new(usize::MAX)]?;
     let mut buf = SegmentedBuf::from_vec(rt.alloc(), all)?;
     let calls = vec![in rt.alloc(); Call::Push(Zeros::new(1)), Call::Segments]?;
     let replies = drive(rt.alloc(), &mut buf, calls);
-    assert!(rt; are_replies(&replies, "too long|1") && buf.remaining() == usize::MAX);
+    assert!(rt; are_replies_of_calls(&replies, "too long|1") && buf.remaining() == usize::MAX);
     Ok(())
 }
 
 #[test]
-fn many_calls(rt: HostRuntime) -> Result<(), Fail> {
+fn many_calls_on_a_buffer(rt: HostRuntime) -> Result<(), Fail> {
     let mut pushes = Vec::new(rt.alloc());
     for _ in 0..10_000 {
         pushes.push(Call::Push(Zeros::new(10)))?;

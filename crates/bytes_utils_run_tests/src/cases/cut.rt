@@ -10,14 +10,14 @@ use bytes::{Bytes, BytesMut};
 use bytes_utils::Str;
 use bytes_utils::string::{Storage, StorageMut, StrInner};
 use bytes_utils_run::{How, Parts, cut_all};
-use rows::is_allowed;
+use rows::is_cut_row_allowed;
 use std::alloc::Global;
 use std::iter::repeat_n;
 use std::test::Fail;
 
 /// Returns what is left of `wanted` after these parts, if it begins with them. In `wanted` a bar
 /// comes after each part.
-fn following<'w, S: Storage>(parts: &Parts<S>, wanted: &'w str) -> Option<&'w str> {
+fn wanted_after_cut<'w, S: Storage>(parts: &Parts<S>, wanted: &'w str) -> Option<&'w str> {
     let mut rest = wanted;
     for part in &parts.given {
         rest = rest.strip_prefix(part.as_str())?.strip_prefix("|")?;
@@ -31,7 +31,7 @@ where
     S::Creator: StorageMut,
     requires creator { (c : S.Creator) → S.created c ≡ S.Creator.stored c }
 {
-    if !is_allowed(how) {
+    if !is_cut_row_allowed(how) {
         return false;
     }
     match StrInner::<S>::from_str(alloc, text) {
@@ -44,7 +44,7 @@ where
 }
 
 #[test]
-fn many_parts(rt: HostRuntime) -> Result<(), Fail> {
+fn cut_all_gives_many_parts(rt: HostRuntime) -> Result<(), Fail> {
     let text = Str::from_strs(rt.alloc(), repeat_n("β,\n", 10_000))?;
     for (how, count) in [
         (How::Split(","), 10_001),

@@ -11,12 +11,12 @@ use std::io::{self, ErrorKind, Read, Write};
 /// Counts calls and lets one fail: the one numbered `fails_at`, from 1 on, or none if that is 0. It
 /// fails with `Interrupted`, after which std's own loops try again, and the next call succeeds.
 #[derive(Drop)]
-pub(crate) struct Calls {
+pub(crate) struct FakeCalls {
     pub(crate) made: usize,
     pub(crate) fails_at: usize,
 }
 
-impl Calls {
+impl FakeCalls {
     fn count(&mut self) -> io::Result<()> {
         self.made = self.made.saturating_add(1);
         if self.made == self.fails_at {
@@ -28,26 +28,26 @@ impl Calls {
 
 /// A reader that gives at most `most` bytes a call, and fails one call.
 #[derive(Drop)]
-pub(crate) struct SlowReader<'a> {
+pub(crate) struct FakeSlowReader<'a> {
     pub(crate) rest: &'a [u8],
     most: usize,
-    calls: Calls,
+    calls: FakeCalls,
     ghost gives_some: { 0 < most },
 }
 
-impl<'a> SlowReader<'a> {
+impl<'a> FakeSlowReader<'a> {
     pub(crate) fn new(input: &'a [u8], most: usize, fails_at: usize) -> Self
         requires { 0 < most }
     {
-        SlowReader {
+        FakeSlowReader {
             rest: input,
             most,
-            calls: Calls { made: 0, fails_at },
+            calls: FakeCalls { made: 0, fails_at },
         }
     }
 }
 
-impl Read for SlowReader<'_> {
+impl Read for FakeSlowReader<'_> {
     ghost use Rattle.std.specs.Prelude.{Some};
 
     ghost remaining = { λ reader. Some reader.rest.now };
@@ -62,13 +62,13 @@ impl Read for SlowReader<'_> {
 /// Gives its input in as few calls as possible, and notes the lengths of the shortest and the
 /// longest buffer that it was given to fill.
 #[derive(Drop)]
-pub(crate) struct NotingReader<'a> {
+pub(crate) struct FakeNotingReader<'a> {
     pub(crate) rest: &'a [u8],
     pub(crate) shortest: usize,
     pub(crate) longest: usize,
 }
 
-impl Read for NotingReader<'_> {
+impl Read for FakeNotingReader<'_> {
     ghost use Rattle.std.specs.Prelude.{Some};
 
     ghost remaining = { λ reader. Some reader.rest.now };
@@ -82,11 +82,11 @@ impl Read for NotingReader<'_> {
 
 /// A reader that gives one `a` a call, never ends, and counts its calls.
 #[derive(Drop)]
-pub(crate) struct EndlessReader {
+pub(crate) struct FakeEndlessReader {
     pub(crate) calls: usize,
 }
 
-impl Read for EndlessReader {
+impl Read for FakeEndlessReader {
     ghost use Rattle.std.specs.Prelude.{None};
 
     ghost remaining = { λ _. None };
@@ -103,13 +103,13 @@ impl Read for EndlessReader {
 
 /// Accepts at most `most` bytes a call, and fails at one call. A flush is a call too.
 #[derive(Drop)]
-pub(crate) struct SlowWriter {
+pub(crate) struct FakeSlowWriter {
     pub(crate) held: Vec<u8>,
     pub(crate) most: usize,
-    pub(crate) calls: Calls,
+    pub(crate) calls: FakeCalls,
 }
 
-impl Write for SlowWriter {
+impl Write for FakeSlowWriter {
     ghost use Rattle.std.specs.Prelude.{Some};
 
     ghost contents = { λ writer. Some writer.held.items };
@@ -127,7 +127,11 @@ impl Write for SlowWriter {
 }
 
 /// Makes a text over a storage that grants `splits` splits.
-pub(crate) fn granting(alloc: Global, text: &str, splits: usize) -> Option<StrInner<RefuseAfter>> {
+pub(crate) fn fake_granting(
+    alloc: Global,
+    text: &str,
+    splits: usize,
+) -> Option<StrInner<RefuseAfter>> {
     let bytes = Bytes::copy_from_slice(alloc, text.as_bytes()).ok()?;
     StrInner::from_inner(RefuseAfter::new(bytes, splits)).ok()
 }

@@ -24,7 +24,7 @@ fn laws_of_characters_and_texts() {
 
 // The last part that each function gives, as the documentation of `str` has it.
 #[test]
-fn last_parts(rt: HostRuntime) {
+fn laws_of_last_parts(rt: HostRuntime) {
     assert!(rt; split_whitespace(" a\u{b}b ").last() == Some("b"));
     assert!(rt; split_ascii_whitespace(" a\u{b}b ").last() == Some("a\u{b}b"));
     assert!(rt; lines("a\r\n\nb\n").last() == Some("b"));

@@ -9,7 +9,7 @@ use std::process::Abort;
 use std::test::Fail;
 
 #[test]
-fn asked_counts(rt: HostRuntime) {
+fn odd_buffer_counts_what_is_asked(rt: HostRuntime) {
     let mut buf = Asked::new(Bytes::from_static(b"abc"));
     assert!(rt; buf.looked() == 0 && buf.advances() == 0);
     assert!(rt; buf.remaining() == 3 && buf.chunk() == b"abc".as_slice() && buf.looked() == 2);
@@ -20,7 +20,7 @@ fn asked_counts(rt: HostRuntime) {
 
 // A storage that grants one split grants one side alone, and takes over a long creator.
 #[test]
-fn sides_are_granted_alone(rt: HostRuntime) -> Result<(), Fail> {
+fn odd_refuse_after_grants_one_side_alone(rt: HostRuntime) -> Result<(), Fail> {
     let front = RefuseAfter::new(Bytes::from_static(b"a,b"), 1).into_front(1);
     assert!(rt; front.ok().ok_or("refused")?.as_bytes() == b"a".as_slice());
     let back = RefuseAfter::new(Bytes::from_static(b"a,b"), 1).into_back(1);

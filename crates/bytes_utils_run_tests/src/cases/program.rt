@@ -2,7 +2,9 @@
 //! program are in `runs.txt` of the crate `bytes_utils_demo`.
 mod memory;
 
-use crate::cases::fakes::{Calls, EndlessReader, NotingReader, SlowReader, SlowWriter};
+use crate::cases::fakes::{
+    FakeCalls, FakeEndlessReader, FakeNotingReader, FakeSlowReader, FakeSlowWriter,
+};
 use bytes_utils_run::program::{Fault, script};
 use std::alloc::Global;
 use std::io::Read;
@@ -15,7 +17,7 @@ const PRINTED: &[u8] = b"1:a\n1:b\n0:\n1:c\n";
 
 // A fault is printed as it is: width, fill, precision and style change nothing.
 #[test]
-fn faults_are_reported_without_padding(rt: HostRuntime) -> Result<(), Fail> {
+fn program_faults_have_no_padding(rt: HostRuntime) -> Result<(), Fail> {
     let fault = Fault::NotUtf8;
     let reported = format!(in rt.alloc(); "{fault:*^12.3}|{fault:#}|{fault:?}")?;
     assert!(rt; reported.as_str() == "not UTF-8|not UTF-8|NotUtf8");
@@ -23,7 +25,7 @@ fn faults_are_reported_without_padding(rt: HostRuntime) -> Result<(), Fail> {
 }
 
 /// The fault after which nothing is written.
-fn fault_of<R: Read>(alloc: Global, reader: &mut R) -> Option<Fault> {
+fn program_fault_of<R: Read>(alloc: Global, reader: &mut R) -> Option<Fault> {
     let mut writer = Vec::new(alloc);
     let fault = script(alloc, reader, &mut writer).err();
     if writer.is_empty() { fault } else { None }
@@ -31,36 +33,38 @@ fn fault_of<R: Read>(alloc: Global, reader: &mut R) -> Option<Fault> {
 
 // Each call of `read` may give 4,096 bytes, the last one too.
 #[test]
-fn readers(rt: HostRuntime) {
-    let mut reader = NotingReader {
+fn program_with_failing_and_endless_readers(rt: HostRuntime) {
+    let mut reader = FakeNotingReader {
         rest: &[b'a'; 9_000],
         shortest: usize::MAX,
         longest: 0,
     };
-    assert!(rt; fault_of(rt.alloc(), &mut reader) == Some(Fault::UnknownCommand));
+    assert!(rt; program_fault_of(rt.alloc(), &mut reader) == Some(Fault::UnknownCommand));
     assert!(rt; reader.shortest == 4_096 && reader.longest == 4_096);
-    let mut reader = SlowReader::new(INPUT, 7, 2);
-    assert!(rt; fault_of(rt.alloc(), &mut reader) == Some(Fault::Io));
+    let mut reader = FakeSlowReader::new(INPUT, 7, 2);
+    assert!(rt; program_fault_of(rt.alloc(), &mut reader) == Some(Fault::Io));
     assert!(rt; reader.rest == b"\na,b,,c".as_slice());
-    let mut reader = EndlessReader { calls: 0 };
-    assert!(rt; fault_of(rt.alloc(), &mut reader) == Some(Fault::Io) && reader.calls == 1_048_576);
+    let mut reader = FakeEndlessReader { calls: 0 };
+    assert!(rt;
+        program_fault_of(rt.alloc(), &mut reader) == Some(Fault::Io) && reader.calls == 1_048_576
+    );
 }
 
 // A writer that fails at its fourth byte, one that takes a byte a call, one that takes none, and one
 // that fails after its last byte, to flush: the most bytes a call, the call that fails, the answer,
 // and what is written then.
 #[test]
-fn writer_fails(rt: HostRuntime) {
+fn program_with_failing_writers(rt: HostRuntime) {
     for (most, fails_at, answer, written) in [
         (1, 4, Err(Fault::Io), b"1:a".as_slice()),
         (1, 0, Ok(()), PRINTED),
         (0, 0, Err(Fault::Io), b""),
         (1, 16, Err(Fault::Io), PRINTED),
     ] {
-        let mut writer = SlowWriter {
+        let mut writer = FakeSlowWriter {
             held: Vec::new(rt.alloc()),
             most,
-            calls: Calls { made: 0, fails_at },
+            calls: FakeCalls { made: 0, fails_at },
         };
         let given = script(rt.alloc(), &mut &*INPUT, &mut writer);
         assert!(rt; given == answer && writer.held.as_slice() == written);

@@ -27,7 +27,7 @@ where
 }
 
 /// Whether this is the JSON of a text, and it is read as that text.
-fn is_written<S: Storage>(alloc: Global, text: &str, want: &str) -> bool
+fn is_written_as_json<S: Storage>(alloc: Global, text: &str, want: &str) -> bool
 where
     S::Creator: StorageMut,
     requires creator { (c : S.Creator) → S.created c ≡ S.Creator.stored c }
@@ -42,7 +42,7 @@ where
 }
 
 /// Whether this is read from the JSON.
-fn is_read<S: Storage>(alloc: Global, json: &str, want: Result<&str, JsonRefused>) -> bool
+fn is_read_from_json<S: Storage>(alloc: Global, json: &str, want: Result<&str, JsonRefused>) -> bool
 where
     S::Creator: StorageMut,
     requires creator { (c : S.Creator) → S.created c ≡ S.Creator.stored c }
@@ -73,31 +73,31 @@ const READS: [(&str, Result<&str, JsonRefused>); 15] = [
 ];
 
 /// Asserts what texts in one storage are read from, and written as.
-fn assert_de_ser<S: Storage>(rt: &impl Abort, alloc: Global)
+fn assert_json_of_storage<S: Storage>(rt: &impl Abort, alloc: Global)
 where
     S::Creator: StorageMut,
     requires creator { (c : S.Creator) → S.created c ≡ S.Creator.stored c }
 {
     for (json, want) in READS {
-        assert!(rt; is_read::<S>(alloc, json, want), "{json}");
+        assert!(rt; is_read_from_json::<S>(alloc, json, want), "{json}");
     }
     for (text, json) in [
         ("Hello, world!", "\"Hello, world!\""),
         ("\u{1}\"\\\né", "\"\\u0001\\\"\\\\\\né\""),
     ] {
-        assert!(rt; is_written::<S>(alloc, text, json), "{json}");
+        assert!(rt; is_written_as_json::<S>(alloc, text, json), "{json}");
     }
 }
 
 #[test]
-fn reads_and_writes(rt: HostRuntime) {
-    assert_de_ser::<Bytes>(&rt, rt.alloc());
-    assert_de_ser::<BytesMut>(&rt, rt.alloc());
+fn json_reads_and_writes(rt: HostRuntime) {
+    assert_json_of_storage::<Bytes>(&rt, rt.alloc());
+    assert_json_of_storage::<BytesMut>(&rt, rt.alloc());
 }
 
 /// Callers can rely on the numbers of the errors.
 #[test]
-fn refusals_of_json(rt: HostRuntime) {
+fn json_errors_say_why(rt: HostRuntime) {
     for (refused, number, why) in [
         (JsonRefused::OutOfMemory, 1, "out of memory"),
         (JsonRefused::NotJson, 3, "not JSON"),

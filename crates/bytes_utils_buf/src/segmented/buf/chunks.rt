@@ -1,10 +1,14 @@
-//! The bytes of the segments, one segment after another.
+//! The bytes of the segments, one segment after another or as slices in a table.
 ghost use Rattle.std.specs.Prelude.{◌≡◌};
 ghost use Rattle.std.specs.Iterator.{YieldsFirstRef, item_count};
+ghost use Rattle.std.specs.List.{concat};
 ghost use Rattle.bytes_utils_buf.specs.Chunks.{to_come};
+ghost use Rattle.bytes_utils_buf.specs.Slices.{FillsSlices};
 
 use super::SegmentedBuf;
 use crate::contiguous::ContiguousBuf;
+use crate::parts::BufParts;
+use crate::segmented::fill::fill_from_held;
 
 /// An iterator over the bytes of each segment, front first. [`SegmentedBuf::chunks`] makes it.
 #[derive(Drop)]
@@ -28,6 +32,16 @@ impl<B: ContiguousBuf + Drop> SegmentedBuf<B> {
             buf: self,
             place: 0,
         }
+    }
+}
+
+impl<B: BufParts + Drop> SegmentedBuf<B> {
+    /// Fills the first places of `dst` with slices of the unread bytes, and returns how many places
+    /// it filled. It asks the segments in order. A nested one gives its own slices.
+    pub fn chunks_vectored<'s>(&'s self, dst: &mut [&'s [u8]]) -> usize
+        ensures { FillsSlices result dst.old dst.new (concat self.now.segments) }
+    {
+        fill_from_held(&self.segments, dst)
     }
 }
 

@@ -1,16 +1,14 @@
-//! Copies of the bytes, and tables of slices.
+//! Copies of the bytes.
 ghost use Rattle.std.specs.Prelude.{◌≡◌, ◌+◌, ◌<◌, ◌≤◌, length, map, take, drop, IfOk, IfErr, ◌⊎◌};
 ghost use Rattle.std.specs.List.{concat};
-ghost use Rattle.bytes_utils_buf.specs.Copies.{CountsCopy};
-ghost use Rattle.bytes_utils_buf.specs.Slices.{taken_by, FillsTable};
-ghost use Rattle.bytes_utils_buf.specs.Segments.{CountsPass, front_of, IsPaid, Skips};
+ghost use Rattle.bytes_utils_buf.specs.Copies.{CountsCopy, taken_by_copy};
+ghost use Rattle.bytes_utils_buf.specs.Segments.{CountsPass, front_segment, IsPaid, SkipsSegments};
 
 use super::SegmentedBuf;
 use super::front::{front_holds, take_from_front};
 use crate::parts::{BufParts, CopyRefused};
-use crate::segmented::copy::{Segmented, bytes_taken};
-use crate::segmented::fill::fill_from_held;
-use crate::segmented::walk::skip_held;
+use crate::segmented::copy::{SegmentedCopy, bytes_copied};
+use crate::segmented::skip::skip_held;
 use bytes::Bytes;
 use std::alloc::Global;
 
@@ -23,48 +21,40 @@ impl<B: BufParts + Drop> SegmentedBuf<B> {
     pub fn copy_to_bytes(&mut self, alloc: Global, len: usize) -> Result<Bytes, CopyRefused>
         requires { len ≤ length (concat self.old.segments) }
         ensures value { IfOk result (λ copy. copy ≡ take len (concat self.old.segments)) }
-        ensures taken { taken_by len result ≤ len }
-        ensures skips { Skips (taken_by len result) self.old.segments self.new.segments }
+        ensures taken { taken_by_copy len result ≤ len }
+        ensures skips { SkipsSegments (taken_by_copy len result) self.old.segments self.new.segments }
         ensures bytes { concat self.new.segments
-            ≡ drop (taken_by len result) (concat self.old.segments) }
+            ≡ drop (taken_by_copy len result) (concat self.old.segments) }
 
         // If the first segment alone is asked, a refusal took what that segment's own took. Across
         // segments it took nothing or all.
-        ensures lost { len ≤ length (front_of self.old.segments) → 0 < length self.old.segments
+        ensures lost { len ≤ length (front_segment self.old.segments) → 0 < length self.old.segments
             → IfErr result (λ e. B.loses len e.taken) }
-        ensures refused { length (front_of self.old.segments) < len
+        ensures refused { length (front_segment self.old.segments) < len
             → IfErr result (λ e. (e.taken ≡ 0) ⊎ (e.taken ≡ len)) }
-        ensures counts { CountsCopy len (taken_by len result) self.old self.new }
+        ensures counts { CountsCopy len (taken_by_copy len result) self.old self.new }
         ensures paid { IsPaid self.old self.new }
     {
         self.tally.call();
         if front_holds(&self.segments, len) {
-            self.take_front(alloc, len)
+            self.copy_front(alloc, len)
         } else {
             self.collect(alloc, len)
         }
     }
 
-    /// Fills the first places of `dst` with slices of the unread bytes, and returns how many places
-    /// it filled. It asks the segments in order. A nested one gives its own slices.
-    pub fn chunks_vectored<'s>(&'s self, dst: &mut [&'s [u8]]) -> usize
-        ensures { FillsTable result dst.old dst.new (concat self.now.segments) }
-    {
-        fill_from_held(&self.segments, dst)
-    }
-
-    fn take_front(&mut self, alloc: Global, len: usize) -> Result<Bytes, CopyRefused>
+    fn copy_front(&mut self, alloc: Global, len: usize) -> Result<Bytes, CopyRefused>
         requires some { 0 < length self.old.segments }
-        requires holds { len ≤ length (front_of self.old.segments) }
+        requires holds { len ≤ length (front_segment self.old.segments) }
         ensures value { IfOk result (λ copy. copy ≡ take len (concat self.old.segments)) }
-        ensures taken { taken_by len result ≤ len }
+        ensures taken { taken_by_copy len result ≤ len }
         ensures lost { IfErr result (λ e. B.loses len e.taken) }
-        ensures skips { Skips (taken_by len result) self.old.segments self.new.segments }
+        ensures skips { SkipsSegments (taken_by_copy len result) self.old.segments self.new.segments }
         ensures counts { CountsPass 0 self.old self.new }
     {
         let copy = take_from_front(&mut self.segments, alloc, len);
         skip_held(&mut self.segments, &mut self.tally, 0);
-        self.remaining -= bytes_taken(&copy, len);
+        self.remaining -= bytes_copied(&copy, len);
         copy
     }
 }
@@ -76,12 +66,12 @@ impl<B: BufParts + Drop> BufParts for SegmentedBuf<B> {
     fn copy_out(&mut self, alloc: Global, len: usize) -> Result<Bytes, CopyRefused>
         requires { len ≤ length (concat self.old.segments) }
         ensures value { IfOk result (λ copy. copy ≡ take len (concat self.old.segments)) }
-        ensures taken { taken_by len result ≤ len }
-        ensures skips { Skips (taken_by len result) self.old.segments self.new.segments }
+        ensures taken { taken_by_copy len result ≤ len }
+        ensures skips { SkipsSegments (taken_by_copy len result) self.old.segments self.new.segments }
         ensures rest { concat self.new.segments
-            ≡ drop (taken_by len result) (concat self.old.segments) }
+            ≡ drop (taken_by_copy len result) (concat self.old.segments) }
         ensures lost { IfErr result (λ e. (e.taken ≡ 0) ⊎ (e.taken ≡ len) ⊎ B.loses len e.taken) }
-        ensures counts { CountsCopy len (taken_by len result) self.old self.new }
+        ensures counts { CountsCopy len (taken_by_copy len result) self.old self.new }
     {
         self.copy_to_bytes(alloc, len)
     }

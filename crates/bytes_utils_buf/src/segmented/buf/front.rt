@@ -1,8 +1,8 @@
 //! Calls on the first held segment alone.
 ghost use Rattle.std.specs.Prelude.{◌≡◌, ◌<◌, ◌≤◌, [], length, map, take, IsTrue, ◌↔◌, IfOk, IfErr, OnOk, OnErr};
 ghost use Rattle.std.specs.List.{concat};
-ghost use Rattle.bytes_utils_buf.specs.Slices.{taken_by};
-ghost use Rattle.bytes_utils_buf.specs.Segments.{IsPaid, cut_front, front_of};
+ghost use Rattle.bytes_utils_buf.specs.Copies.{taken_by_copy};
+ghost use Rattle.bytes_utils_buf.specs.Segments.{IsPaid, cut_front_segment, front_segment};
 
 use super::SegmentedBuf;
 use crate::parts::{BufParts, CopyRefused};
@@ -13,7 +13,7 @@ use std::collections::VecDeque;
 
 impl SegmentedBuf<EitherBuf<Bytes, BytesMut>> {
     /// Takes all bytes of the only segment out, and returns them and that segment, which is empty.
-    pub(crate) fn take_only_segment(
+    pub(crate) fn take_front_alone(
         &mut self,
         alloc: Global,
     ) -> Result<(Bytes, EitherBuf<Bytes, BytesMut>), Reason>
@@ -39,7 +39,7 @@ impl SegmentedBuf<EitherBuf<Bytes, BytesMut>> {
 #[inline]
 pub(super) fn front_holds<B: Buf>(segments: &VecDeque<B>, len: usize) -> bool
     ensures { IsTrue result
-        ↔ ((0 < length segments.now.items) × (len ≤ length (front_of (map B.unread segments.now.items)))) }
+        ↔ ((0 < length segments.now.items) × (len ≤ length (front_segment (map B.unread segments.now.items)))) }
 {
     match segments.front() {
         Some(front) => len <= front.remaining(),
@@ -55,12 +55,12 @@ pub(super) fn take_from_front<B: BufParts>(
     len: usize,
 ) -> Result<Bytes, CopyRefused>
     requires some { 0 < length segments.old.items }
-    requires holds { len ≤ length (front_of (map B.unread segments.old.items)) }
-    ensures value { IfOk result (λ copy. copy ≡ take len (front_of (map B.unread segments.old.items))) }
-    ensures taken { taken_by len result ≤ len }
+    requires holds { len ≤ length (front_segment (map B.unread segments.old.items)) }
+    ensures value { IfOk result (λ copy. copy ≡ take len (front_segment (map B.unread segments.old.items))) }
+    ensures taken { taken_by_copy len result ≤ len }
     ensures lost { IfErr result (λ e. B.loses len e.taken) }
     ensures rest { map B.unread segments.new.items
-        ≡ cut_front (taken_by len result) (map B.unread segments.old.items) }
+        ≡ cut_front_segment (taken_by_copy len result) (map B.unread segments.old.items) }
 {
     let Some(front) = segments.front_mut() else {
         unreachable!()

@@ -1,15 +1,13 @@
-//! Buffers that are appended: one, many, and whole collections.
-ghost use Rattle.std.specs.Prelude.{◌≡◌, ◌+◌, ◌-◌, ◌^◌, ◌<◌, ◌≤◌, List, [], ◌∷◌, ◌++◌, length, map, ◌↔◌, Some, IsOk, IsErr, OnOk, OnErr, IfOk, IfErr};
+//! Buffers that are inserted at an end: one, many, and those of another value.
+ghost use Rattle.std.specs.Prelude.{◌≡◌, ◌+◌, ◌-◌, ◌^◌, ◌<◌, ◌≤◌, List, [], ◌∷◌, ◌++◌, length, map, ◌↔◌, Some, IsOk, OnOk, OnErr, IfErr};
 ghost use Rattle.std.specs.Iterator.{IsFinite, Drains, YieldsThen};
 ghost use Rattle.std.specs.List.{concat};
-ghost use Rattle.bytes_utils_buf.specs.Segments.{after_accepting, count_unread, IsPaid, nothing_held, without_empty};
+ghost use Rattle.bytes_utils_buf.specs.Segments.{after_accepting, count_unread_segments, IsPaid, unread_segments};
 
 use super::SegmentedBuf;
-use crate::segmented::sum::sum_of_held;
 use crate::segmented::tally::Tally;
 use crate::{Reason, Refused};
 use bytes::Buf;
-use std::alloc::Global;
 use std::collections::VecDeque;
 
 impl<B: Buf + Drop> SegmentedBuf<B> {
@@ -29,7 +27,7 @@ impl<B: Buf + Drop> SegmentedBuf<B> {
         ensures paid { IsPaid self.old self.new }
     {
         let size = buf.remaining();
-        append(&mut self.segments, &mut self.tally, buf, size)?;
+        insert_at_end(&mut self.segments, &mut self.tally, buf, size)?;
         self.remaining += size;
         self.tally.call();
         Ok(())
@@ -97,19 +95,19 @@ impl<B: Buf + Drop> SegmentedBuf<B> {
     {
         self.tally.call();
         for buf in iter {
-            self.accept(buf)?;
+            self.insert_one(buf)?;
         }
         Ok(())
     }
 
     /// Appends one item. It counts no call.
     #[inline(always)]
-    fn accept(&mut self, buf: B) -> Result<(), Refused<B>>
+    fn insert_one(&mut self, buf: B) -> Result<(), Refused<B>>
         ensures ok { OnOk result (self.new ≡ record {
-          segments = self.old.segments ++ without_empty (B.unread buf ∷ []);
+          segments = self.old.segments ++ unread_segments (B.unread buf ∷ []);
           tally = record self.old.tally {
             given = self.old.tally.given + 1;
-            dropped = self.old.tally.dropped + (1 - count_unread (B.unread buf ∷ []));
+            dropped = self.old.tally.dropped + (1 - count_unread_segments (B.unread buf ∷ []));
           };
         }) }
         ensures err { OnErr result (self.new ≡ self.old) }
@@ -125,88 +123,84 @@ impl<B: Buf + Drop> SegmentedBuf<B> {
                 back: buf,
             });
         };
-        append(&mut self.segments, &mut self.tally, buf, size)?;
+        insert_at_end(&mut self.segments, &mut self.tally, buf, size)?;
         self.remaining = remaining;
         Ok(())
     }
 
-    /// Holds the buffers of a vector, in its memory, and drops empty ones. It allocates nothing,
-    /// and ignores `_alloc`. Fails with `TooLong` if the sum of their unread bytes exceeds
-    /// `usize::MAX`; then `bufs` comes back.
-    pub fn from_vec(_alloc: Global, bufs: Vec<B>) -> Result<SegmentedBuf<B>, Refused<Vec<B>>>
-        ensures too_long { IsErr result ↔ (2 ^ 64 ≤ length (concat (map B.unread bufs.items))) }
-        ensures ok { IfOk result (λ all. all ≡ after_accepting nothing_held (map B.unread bufs.items)) }
-        ensures bytes { IfOk result (λ all. concat all.segments ≡ concat (map B.unread bufs.items)) }
-        ensures back { IfErr result (λ e. e.back.items ≡ bufs.items) }
-        ensures reason { IfErr result (λ e. e.reason ≡ Reason.TooLong) }
+    /// Puts `buf` before the held segments. An empty buffer is dropped, and never fails. Requires
+    /// that `remaining() + buf.remaining()` fits `usize` (test: `fits`). Fails with `OutOfMemory`
+    /// if memory is refused; then nothing has changed and `buf` comes back.
+    pub fn prepend(&mut self, buf: B) -> Result<(), Refused<B>>
+        requires { length (concat self.old.segments) + length (B.unread buf) < 2 ^ 64 }
+        ensures ok { OnOk result (self.new.segments
+            ≡ unread_segments (B.unread buf ∷ []) ++ self.old.segments) }
+        ensures bytes { OnOk result
+            (concat self.new.segments ≡ B.unread buf ++ concat self.old.segments) }
+
+        // It counts like a `push`.
+        ensures tally { OnOk result
+            (self.new.tally ≡ (after_accepting self.old (B.unread buf ∷ [])).tally) }
+        ensures err { OnErr result (self.new ≡ self.old) }
+        ensures back { IfErr result (λ e. e.back ≡ buf) }
+        ensures reason { IfErr result (λ e. e.reason ≡ Reason.OutOfMemory) }
+        ensures empty { B.unread buf ≡ [] → IsOk result }
+        ensures paid { IsPaid self.old self.new }
     {
-        SegmentedBuf::from_deque(VecDeque::from_vec(bufs)).map_err(|refused| Refused {
-            reason: refused.reason,
-            back: refused.back.into_vec(),
-        })
+        let len = buf.remaining();
+        if len == 0 {
+            return self.push(buf);
+        }
+        if self.segments.reserve(1).is_err() {
+            return Err(Refused {
+                reason: Reason::OutOfMemory,
+                back: buf,
+            });
+        }
+        self.segments.push_front_reserved(buf);
+        self.remaining += len;
+        self.tally.give(1, 0);
+        self.tally.call();
+        Ok(())
     }
 
-    /// Holds the buffers of a deque, in its memory, and drops empty ones. Fails with `TooLong` if
-    /// the sum of their unread bytes exceeds `usize::MAX`; then `bufs` comes back.
-    pub fn from_deque(mut bufs: VecDeque<B>) -> Result<SegmentedBuf<B>, Refused<VecDeque<B>>>
-        ensures too_long { IsErr result ↔ (2 ^ 64 ≤ length (concat (map B.unread bufs.items))) }
-        ensures ok { IfOk result (λ all. all ≡ after_accepting nothing_held (map B.unread bufs.items)) }
-        ensures bytes { IfOk result (λ all. concat all.segments ≡ concat (map B.unread bufs.items)) }
-        ensures back { IfErr result (λ e. e.back.items ≡ bufs.items) }
-        ensures reason { IfErr result (λ e. e.reason ≡ Reason.TooLong) }
+    /// Moves the segments of `other` to the end of the held ones. Requires that
+    /// `remaining() + other.remaining()` fits `usize` (test: `fits`). Fails with `OutOfMemory` if
+    /// memory is refused; then nothing has changed and `other` comes back.
+    pub fn append(&mut self, mut other: SegmentedBuf<B>) -> Result<(), Refused<SegmentedBuf<B>>>
+        requires { length (concat self.old.segments) + length (concat other.segments) < 2 ^ 64 }
+        ensures ok { OnOk result (self.new ≡ record {
+          segments = self.old.segments ++ other.segments;
+          tally = record self.old.tally {
+            given = self.old.tally.given + length other.segments;
+            calls = self.old.tally.calls + 1;
+          };
+        }) }
+        ensures bytes { OnOk result
+            (concat self.new.segments ≡ concat self.old.segments ++ concat other.segments) }
+        ensures err { OnErr result (self.new ≡ self.old) }
+        ensures back { IfErr result (λ e. e.back ≡ other) }
+        ensures reason { IfErr result (λ e. e.reason ≡ Reason.OutOfMemory) }
+        ensures empty { other.segments ≡ [] → IsOk result }
+        ensures paid { IsPaid self.old self.new }
     {
-        let Some(remaining) = sum_of_held(&bufs) else {
+        let count = other.segments.len();
+        let Ok(()) = self.segments.append(&mut other.segments) else {
             return Err(Refused {
-                reason: Reason::TooLong,
-                back: bufs,
+                reason: Reason::OutOfMemory,
+                back: other,
             });
         };
-        let mut tally = Tally::new();
-        let given = bufs.len();
-        bufs.retain(|buf| buf.remaining() > 0);
-        tally.give(given, given - bufs.len());
-        tally.call();
-        Ok(SegmentedBuf {
-            segments: bufs,
-            remaining,
-            tally,
-        })
-    }
-
-    /// Holds the items of `iter`, and drops empty ones. Requires that `iter` ends, and that its
-    /// `next` may be called. Fails at the first item with which the sum exceeds `usize::MAX`
-    /// (`TooLong`) or for which memory is refused (`OutOfMemory`). That item comes back, those
-    /// before it are dropped, and those after it too, or they stay in `iter` if it was passed as
-    /// `&mut iter`.
-    pub fn from_iter<I: Iterator<Item = B> + Drop>(
-        alloc: Global,
-        iter: I,
-    ) -> Result<SegmentedBuf<B>, Refused<B>>
-        requires can { I.can_next iter }
-        requires ends { IsFinite (I.remaining iter) }
-        ensures ok { IfOk result (λ all. (items : List B) × Drains I.next_gives iter items
-            × (all ≡ after_accepting nothing_held (map B.unread items))) }
-        ensures bytes { IfOk result (λ all. (items : List B) × Drains I.next_gives iter items
-            × (concat all.segments ≡ concat (map B.unread items))) }
-
-        // The item that comes back is the first with which the sum exceeds `usize::MAX`, or one for
-        // which memory was refused before that.
-        ensures err { IfErr result (λ e. (items : List B) × (rest : I)
-            × YieldsThen I.next_gives iter items (Some e.back) rest
-            × (length (concat (map B.unread items)) < 2 ^ 64)
-            × ((e.reason ≡ Reason.TooLong)
-            ↔ (2 ^ 64 ≤ length (concat (map B.unread items)) + length (B.unread e.back)))) }
-        ensures empty { IfErr result (λ e. 0 < length (B.unread e.back)) }
-    {
-        let mut all = SegmentedBuf::new(alloc);
-        all.extend(iter)?;
-        Ok(all)
+        self.remaining += other.remaining;
+        self.tally.give(count, 0);
+        self.tally.call();
+        Ok(())
     }
 }
 
 /// Appends `buf`, of `size` bytes, or drops it if empty. Either way it counts as given.
 #[inline(always)]
-fn append<B: Buf + Drop>(
+fn insert_at_end<B: Buf + Drop>(
     segments: &mut VecDeque<B>,
     tally: &mut Tally,
     buf: B,
@@ -214,10 +208,10 @@ fn append<B: Buf + Drop>(
 ) -> Result<(), Refused<B>>
     requires { size ≡ length (B.unread buf) }
     ensures ok { OnOk result (map B.unread segments.new.items
-        ≡ map B.unread segments.old.items ++ without_empty (B.unread buf ∷ [])) }
+        ≡ map B.unread segments.old.items ++ unread_segments (B.unread buf ∷ [])) }
     ensures tally { OnOk result (tally.new ≡ record tally.old {
       given = tally.old.given + 1;
-      dropped = tally.old.dropped + (1 - count_unread (B.unread buf ∷ []));
+      dropped = tally.old.dropped + (1 - count_unread_segments (B.unread buf ∷ []));
     }) }
     ensures err { OnErr result (segments.new.items ≡ segments.old.items) }
     ensures same { OnErr result (tally.new ≡ tally.old) }

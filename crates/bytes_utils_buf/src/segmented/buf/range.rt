@@ -2,12 +2,14 @@
 ghost use Rattle.std.specs.Prelude.{◌≡◌, ◌+◌, ◌-◌, ◌≤◌, List, ℕ, length, slice_range, IsTrue, ◌↔◌, IsOk, IfOk, IfErr};
 ghost use Rattle.std.specs.List.{concat, slice_get};
 ghost use Rattle.std.specs.Cow.{cow_slice_items};
-ghost use Rattle.bytes_utils_buf.specs.Segments.{front_of, newly_held, Skips, take_bytes};
+ghost use Rattle.bytes_utils_buf.specs.Segments.{front_segment, newly_held, SkipsSegments, take_from_segments};
 
 use super::SegmentedBuf;
 use crate::Reason;
 use crate::contiguous::ContiguousBuf;
-use crate::segmented::pieces::{copy_pieces, part_at, rest_at, share_pieces, starts_with};
+use crate::segmented::pieces::{
+    copy_pieces, part_of_piece, pieces_start_with, rest_of_piece, share_pieces,
+};
 use crate::segmented::place::find_place;
 use bytes::Bytes;
 use std::alloc::Global;
@@ -23,7 +25,7 @@ impl<B: ContiguousBuf + Drop> SegmentedBuf<B> {
             return None;
         }
         let from = find_place(&self.segments, self.remaining, place);
-        Some(rest_at(&self.segments, from)[0])
+        Some(rest_of_piece(&self.segments, from)[0])
     }
 
     /// Returns whether the unread bytes from index `place` on start with `bytes`: those of `Hello`
@@ -37,7 +39,7 @@ impl<B: ContiguousBuf + Drop> SegmentedBuf<B> {
             return false;
         }
         let from = find_place(&self.segments, self.remaining, place);
-        starts_with(&self.segments, from, bytes)
+        pieces_start_with(&self.segments, from, bytes)
     }
 
     /// Returns the bytes of a range as segments of their own, shared if a segment shares its own.
@@ -50,8 +52,8 @@ impl<B: ContiguousBuf + Drop> SegmentedBuf<B> {
 
         // They are the first bytes after a skip to the start of the range.
         ensures ok { IfOk result (λ part. (rest : List (List ℕ))
-            × Skips range.start self.now.segments rest
-            × (part ≡ newly_held (take_bytes (range.end - range.start) rest))) }
+            × SkipsSegments range.start self.now.segments rest
+            × (part ≡ newly_held (take_from_segments (range.end - range.start) rest))) }
         ensures bytes { IfOk result (λ part. concat part.segments
             ≡ slice_range (concat self.now.segments) range.start range.end) }
         ensures reason { IfErr result (λ reason. reason ≡ Reason.OutOfMemory) }
@@ -80,8 +82,8 @@ impl<B: ContiguousBuf + Drop> SegmentedBuf<B> {
             return Ok(Bytes::new());
         }
         let from = find_place(&self.segments, self.remaining, range.start);
-        if len <= rest_at(&self.segments, from).len() {
-            return part_at(&self.segments, from, alloc, len);
+        if len <= rest_of_piece(&self.segments, from).len() {
+            return part_of_piece(&self.segments, from, alloc, len);
         }
         let mut copy = Vec::with_capacity(alloc, len)?;
         copy_pieces(&self.segments, from, &mut copy, len);
@@ -97,14 +99,14 @@ impl<B: ContiguousBuf + Drop> SegmentedBuf<B> {
             ≡ slice_range (concat self.now.segments) range.start range.end) }
         ensures reason { IfErr result (λ reason. reason ≡ Reason.OutOfMemory) }
         ensures none { range.start ≡ range.end → IsOk result }
-        ensures first { range.end ≤ length (front_of self.now.segments) → IsOk result }
+        ensures first { range.end ≤ length (front_segment self.now.segments) → IsOk result }
     {
         let len = range.end - range.start;
         if len == 0 {
             return Ok(CowSlice::Borrowed(&[]));
         }
         let from = find_place(&self.segments, self.remaining, range.start);
-        let rest = rest_at(&self.segments, from);
+        let rest = rest_of_piece(&self.segments, from);
         if len <= rest.len() {
             return Ok(CowSlice::Borrowed(&rest[..len]));
         }

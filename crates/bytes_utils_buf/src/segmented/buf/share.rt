@@ -1,7 +1,7 @@
 //! Blocks that become shared bytes.
 ghost use Rattle.std.specs.Prelude.{◌≡◌, map, IfOk, IfErr};
 ghost use Rattle.std.specs.List.{concat};
-ghost use Rattle.bytes_utils_buf.specs.Packing.{piece_bytes};
+ghost use Rattle.bytes_utils_buf.specs.Packing.{packed_bytes};
 ghost use Rattle.bytes_utils_buf.specs.Segments.{newly_held};
 
 use super::SegmentedBuf;
@@ -36,25 +36,25 @@ impl SegmentedBuf<EitherBuf<Bytes, BytesMut>> {
         ensures same { self.new ≡ self.old }
         ensures reason { IfErr result (λ reason. reason ≡ Reason.OutOfMemory) }
     {
-        freeze_all(&mut self.segments)?;
+        share_all(&mut self.segments)?;
         self.prefix(alloc, self.remaining)
     }
 }
 
 /// Makes each block a `Bytes`, without a copy.
-fn freeze_all(pieces: &mut VecDeque<EitherBuf<Bytes, BytesMut>>) -> Result<(), Reason>
-    ensures same { map piece_bytes pieces.new.items ≡ map piece_bytes pieces.old.items }
+fn share_all(pieces: &mut VecDeque<EitherBuf<Bytes, BytesMut>>) -> Result<(), Reason>
+    ensures same { map packed_bytes pieces.new.items ≡ map packed_bytes pieces.old.items }
     ensures reason { IfErr result (λ reason. reason ≡ Reason.OutOfMemory) }
 {
     for place in 0..pieces.len() {
-        freeze(&mut pieces[place])?;
+        share_piece(&mut pieces[place])?;
     }
     Ok(())
 }
 
 /// Makes a block a `Bytes`, without a copy.
-fn freeze(piece: &mut EitherBuf<Bytes, BytesMut>) -> Result<(), Reason>
-    ensures same { piece_bytes piece.new ≡ piece_bytes piece.old }
+fn share_piece(piece: &mut EitherBuf<Bytes, BytesMut>) -> Result<(), Reason>
+    ensures same { packed_bytes piece.new ≡ packed_bytes piece.old }
     ensures reason { IfErr result (λ reason. reason ≡ Reason.OutOfMemory) }
 {
     match replace(piece, EitherBuf::Left(Bytes::new())) {

@@ -1,44 +1,26 @@
-//! The first bytes, shared if they can be.
+//! Bytes that are split off, shared if they can be.
 ghost use Rattle.std.specs.Prelude.{◌≡◌, ◌+◌, ◌≤◌, length, take, drop, IsOk, IfOk, IfErr, OnOk, OnErr};
 ghost use Rattle.std.specs.List.{concat};
-ghost use Rattle.bytes_utils_buf.specs.Segments.{CountsPass, IsPaid, Skips, newly_held, take_bytes};
+ghost use Rattle.bytes_utils_buf.specs.Segments.{CountsPass, IsPaid, SkipsSegments, newly_held, take_from_segments};
 
 use super::SegmentedBuf;
-use super::front::front_holds;
 use crate::Reason;
 use crate::contiguous::ContiguousBuf;
-use crate::segmented::pieces::{copy_pieces, share_pieces};
-use crate::segmented::place::FRONT;
 use bytes::Bytes;
 use std::alloc::Global;
 use std::mem::replace;
 
 impl<B: ContiguousBuf + Drop> SegmentedBuf<B> {
-    /// Returns the first `len` bytes as segments of their own, shared if a segment shares its own.
-    /// They stay here too. Requires that `len` is at most `remaining()` (test: `remaining`). Fails
-    /// with `OutOfMemory` if memory is refused. With `len` 0 it never fails.
-    pub fn prefix(&self, alloc: Global, len: usize) -> Result<SegmentedBuf<Bytes>, Reason>
-        requires { len ≤ length (concat self.now.segments) }
-        ensures ok { IfOk result (λ first. first ≡ newly_held (take_bytes len self.now.segments)) }
-        ensures bytes { IfOk result
-            (λ first. concat first.segments ≡ take len (concat self.now.segments)) }
-        ensures reason { IfErr result (λ reason. reason ≡ Reason.OutOfMemory) }
-        ensures none { len ≡ 0 → IsOk result }
-    {
-        let pieces = share_pieces(&self.segments, FRONT, alloc, len)?;
-        Ok(SegmentedBuf::newly_held(pieces, len))
-    }
-
     /// Takes the first `len` bytes out, as segments of their own, shared if a segment shares its
     /// own. Requires that `len` is at most `remaining()` (test: `remaining`). Fails with
     /// `OutOfMemory` if memory is refused; then nothing has changed. With `len` 0 it never fails.
     pub fn split_to(&mut self, alloc: Global, len: usize) -> Result<SegmentedBuf<Bytes>, Reason>
         requires { len ≤ length (concat self.old.segments) }
-        ensures ok { IfOk result (λ first. first ≡ newly_held (take_bytes len self.old.segments)) }
+        ensures ok { IfOk result (λ first. first ≡ newly_held (take_from_segments len self.old.segments)) }
         ensures front { IfOk result
             (λ first. concat first.segments ≡ take len (concat self.old.segments)) }
         ensures bytes { OnOk result (concat self.new.segments ≡ drop len (concat self.old.segments)) }
-        ensures skips { OnOk result (Skips len self.old.segments self.new.segments) }
+        ensures skips { OnOk result (SkipsSegments len self.old.segments self.new.segments) }
         ensures err { OnErr result (self.new ≡ self.old) }
         ensures reason { IfErr result (λ reason. reason ≡ Reason.OutOfMemory) }
         ensures none { len ≡ 0 → IsOk result }
@@ -51,25 +33,6 @@ impl<B: ContiguousBuf + Drop> SegmentedBuf<B> {
         self.advance(len);
         Ok(first)
     }
-
-    /// Returns the first `len` bytes in one `Bytes`. They stay here too. If the first segment has
-    /// them all, its own `prefix` returns them: a `Bytes` shares them. Otherwise they are copied
-    /// into one block. Requires that `len` is at most `remaining()` (test: `remaining`). Fails with
-    /// `OutOfMemory` if memory is refused. With `len` 0 it never fails.
-    #[inline]
-    pub fn peek_bytes(&self, alloc: Global, len: usize) -> Result<Bytes, Reason>
-        requires { len ≤ length (concat self.now.segments) }
-        ensures value { IfOk result (λ copy. copy ≡ take len (concat self.now.segments)) }
-        ensures reason { IfErr result (λ reason. reason ≡ Reason.OutOfMemory) }
-        ensures none { len ≡ 0 → IsOk result }
-    {
-        if front_holds(&self.segments, len) {
-            return self.segments[0].prefix(alloc, len);
-        }
-        let mut copy = Vec::with_capacity(alloc, len)?;
-        copy_pieces(&self.segments, FRONT, &mut copy, len);
-        Ok(Bytes::from_vec(copy)?)
-    }
 }
 
 impl SegmentedBuf<Bytes> {
@@ -80,9 +43,9 @@ impl SegmentedBuf<Bytes> {
         requires { at ≤ length (concat self.old.segments) }
 
         // The kept part has a tally of its own.
-        ensures kept { OnOk result (self.new ≡ newly_held (take_bytes at self.old.segments)) }
+        ensures kept { OnOk result (self.new ≡ newly_held (take_from_segments at self.old.segments)) }
         ensures front { OnOk result (concat self.new.segments ≡ take at (concat self.old.segments)) }
-        ensures skips { IfOk result (λ rest. Skips at self.old.segments rest.segments) }
+        ensures skips { IfOk result (λ rest. SkipsSegments at self.old.segments rest.segments) }
         ensures bytes { IfOk result
             (λ rest. concat rest.segments ≡ drop at (concat self.old.segments)) }
         ensures err { OnErr result (self.new ≡ self.old) }

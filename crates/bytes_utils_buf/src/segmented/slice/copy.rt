@@ -1,17 +1,17 @@
 //! Copies of the bytes of borrowed buffers, and tables of their slices.
 ghost use Rattle.std.specs.Prelude.{◌≡◌, ◌+◌, ◌<◌, ◌≤◌, [], length, map, take, drop, replicate, IsTrue, ◌↔◌, IfOk, IfErr, ◌⊎◌};
 ghost use Rattle.std.specs.List.{concat};
-ghost use Rattle.bytes_utils_buf.specs.Copies.{CountsCopy};
+ghost use Rattle.bytes_utils_buf.specs.Copies.{CountsCopy, taken_by_copy};
 ghost use Rattle.bytes_utils_buf.specs.Lent.{held_of, SkipsLent};
-ghost use Rattle.bytes_utils_buf.specs.Slices.{taken_by, FillsTable};
-ghost use Rattle.bytes_utils_buf.specs.Segments.{CountsPass, front_of, IsPaid, Skips};
+ghost use Rattle.bytes_utils_buf.specs.Slices.{FillsSlices};
+ghost use Rattle.bytes_utils_buf.specs.Segments.{CountsPass, front_segment, IsPaid, SkipsSegments};
 
 use super::SegmentedSlice;
 use crate::parts::{BufParts, CopyRefused};
-use crate::segmented::copy::{Segmented, bytes_taken};
+use crate::segmented::copy::{SegmentedCopy, bytes_copied};
 use crate::segmented::fill::fill_from;
+use crate::segmented::skip::skip_empty_lent;
 use crate::segmented::tally::Tally;
-use crate::segmented::walk::count_empty;
 use bytes::{Buf, Bytes};
 use std::alloc::Global;
 
@@ -23,24 +23,24 @@ impl<B: BufParts> SegmentedSlice<'_, B> {
     pub fn copy_to_bytes(&mut self, alloc: Global, len: usize) -> Result<Bytes, CopyRefused>
         requires { len ≤ length (concat self.old.segments) }
         ensures value { IfOk result (λ copy. copy ≡ take len (concat self.old.segments)) }
-        ensures taken { taken_by len result ≤ len }
-        ensures skips { SkipsLent (taken_by len result) self.old self.new }
+        ensures taken { taken_by_copy len result ≤ len }
+        ensures skips { SkipsLent (taken_by_copy len result) self.old self.new }
         ensures bytes { concat self.new.segments
-            ≡ drop (taken_by len result) (concat self.old.segments) }
+            ≡ drop (taken_by_copy len result) (concat self.old.segments) }
 
         // If the first buffer alone is asked, a refusal took what that buffer's own took. Across
         // buffers it took nothing or all.
-        ensures lost { len ≤ length (front_of self.old.segments) → 0 < length self.old.segments
+        ensures lost { len ≤ length (front_segment self.old.segments) → 0 < length self.old.segments
             → IfErr result (λ e. B.loses len e.taken) }
-        ensures refused { length (front_of self.old.segments) < len
+        ensures refused { length (front_segment self.old.segments) < len
             → IfErr result (λ e. (e.taken ≡ 0) ⊎ (e.taken ≡ len)) }
-        ensures counts { CountsCopy len (taken_by len result)
+        ensures counts { CountsCopy len (taken_by_copy len result)
             (held_of self.old) (held_of self.new) }
         ensures paid { IsPaid (held_of self.old) (held_of self.new) }
     {
         self.tally.call();
-        if self.front_holds(len) {
-            self.take_front(alloc, len)
+        if self.can_copy_front(len) {
+            self.copy_front(alloc, len)
         } else {
             self.collect(alloc, len)
         }
@@ -49,59 +49,64 @@ impl<B: BufParts> SegmentedSlice<'_, B> {
     /// Fills the first places of `dst` with slices of the unread bytes, and returns how many places
     /// it filled. It asks the buffers in order. A nested one gives its own slices.
     pub fn chunks_vectored<'s>(&'s self, dst: &mut [&'s [u8]]) -> usize
-        ensures { FillsTable result dst.old dst.new (concat self.now.segments) }
+        ensures { FillsSlices result dst.old dst.new (concat self.now.segments) }
     {
         let bufs = &*self.bufs;
         fill_from(&bufs[self.place..], dst)
     }
 
-    fn front_holds(&self, len: usize) -> bool
+    fn can_copy_front(&self, len: usize) -> bool
         ensures { IsTrue result
-            ↔ ((0 < length self.now.segments) × (len ≤ length (front_of self.now.segments))) }
+            ↔ ((0 < length self.now.segments) × (len ≤ length (front_segment self.now.segments))) }
     {
         let bufs = &*self.bufs;
         self.place < bufs.len() && len <= bufs[self.place].remaining()
     }
 
-    fn take_front(&mut self, alloc: Global, len: usize) -> Result<Bytes, CopyRefused>
+    fn copy_front(&mut self, alloc: Global, len: usize) -> Result<Bytes, CopyRefused>
         requires some { 0 < length self.old.segments }
-        requires holds { len ≤ length (front_of self.old.segments) }
+        requires holds { len ≤ length (front_segment self.old.segments) }
         ensures value { IfOk result (λ copy. copy ≡ take len (concat self.old.segments)) }
-        ensures taken { taken_by len result ≤ len }
+        ensures taken { taken_by_copy len result ≤ len }
         ensures lost { IfErr result (λ e. B.loses len e.taken) }
-        ensures skips { SkipsLent (taken_by len result) self.old self.new }
+        ensures skips { SkipsLent (taken_by_copy len result) self.old self.new }
         ensures counts { CountsPass 0 (held_of self.old) (held_of self.new) }
     {
         let place = self.place;
         let bufs = &mut *self.bufs;
-        let (passed, copy) = take_from_first(&mut bufs[place..], &mut self.tally, alloc, len);
+        let (passed, copy) = copy_from_first_of_slice(
+            &mut bufs[place..],
+            &mut self.tally,
+            alloc,
+            len,
+        );
         self.place += passed;
-        self.remaining -= bytes_taken(&copy, len);
+        self.remaining -= bytes_copied(&copy, len);
         copy
     }
 }
 
 /// Takes `len` bytes out of the first of these buffers alone, by its `copy_out`, and then counts the
 /// empty ones at the front.
-fn take_from_first<B: BufParts>(
+fn copy_from_first_of_slice<B: BufParts>(
     bufs: &mut [B],
     tally: &mut Tally,
     alloc: Global,
     len: usize,
 ) -> (usize, Result<Bytes, CopyRefused>)
     requires some { 0 < length bufs.old }
-    requires holds { len ≤ length (front_of (map B.unread bufs.old)) }
+    requires holds { len ≤ length (front_segment (map B.unread bufs.old)) }
     ensures value { IfOk result.1 (λ copy. copy ≡ take len (concat (map B.unread bufs.old))) }
-    ensures taken { taken_by len result.1 ≤ len }
+    ensures taken { taken_by_copy len result.1 ≤ len }
     ensures lost { IfErr result.1 (λ e. B.loses len e.taken) }
     ensures passed { result.0 ≤ length bufs.old }
     ensures read_out { take result.0 (map B.unread bufs.new) ≡ replicate result.0 [] }
-    ensures skips { Skips (taken_by len result.1) (map B.unread bufs.old)
+    ensures skips { SkipsSegments (taken_by_copy len result.1) (map B.unread bufs.old)
         (drop result.0 (map B.unread bufs.new)) }
     ensures turns { tally.new ≡ record tally.old { turns = tally.old.turns + result.0 } }
 {
     let copy = bufs[0].copy_out(alloc, len);
-    let empty = count_empty(bufs, tally);
+    let empty = skip_empty_lent(bufs, tally);
     (empty, copy)
 }
 
@@ -113,12 +118,12 @@ impl<B: BufParts> BufParts for SegmentedSlice<'_, B> {
     fn copy_out(&mut self, alloc: Global, len: usize) -> Result<Bytes, CopyRefused>
         requires { len ≤ length (concat self.old.segments) }
         ensures value { IfOk result (λ copy. copy ≡ take len (concat self.old.segments)) }
-        ensures taken { taken_by len result ≤ len }
-        ensures skips { SkipsLent (taken_by len result) self.old self.new }
+        ensures taken { taken_by_copy len result ≤ len }
+        ensures skips { SkipsLent (taken_by_copy len result) self.old self.new }
         ensures rest { concat self.new.segments
-            ≡ drop (taken_by len result) (concat self.old.segments) }
+            ≡ drop (taken_by_copy len result) (concat self.old.segments) }
         ensures lost { IfErr result (λ e. (e.taken ≡ 0) ⊎ (e.taken ≡ len) ⊎ B.loses len e.taken) }
-        ensures counts { CountsCopy len (taken_by len result)
+        ensures counts { CountsCopy len (taken_by_copy len result)
             (held_of self.old) (held_of self.new) }
     {
         self.copy_to_bytes(alloc, len)

@@ -1,6 +1,6 @@
 //! Long bodies: no call is refused while there is memory.
-use super::packed::rows::assert_rows as assert_packed;
-use super::rows::assert_rows;
+use super::packed::rows::assert_packed_rows as assert_packed;
+use super::rows::assert_segmented_rows;
 use crate::cases::fixtures::lend;
 use crate::cases::fixtures::reading::assert_reads;
 use bytes::Bytes;
@@ -8,7 +8,7 @@ use std::alloc::Global;
 use std::process::Abort;
 
 /// A thousand pieces of a hundred bytes each.
-fn pieces(rt: &(impl Abort + Alloc<A = Global>)) -> Vec<Bytes> {
+fn pieces_of_long_body(rt: &(impl Abort + Alloc<A = Global>)) -> Vec<Bytes> {
     let mut pieces = Vec::with_capacity(rt.alloc(), 1_000).expect(rt, "memory");
     for _ in 0..1_000 {
         assert!(rt; pieces.push(Bytes::from_static(&[b'x'; 100])).is_ok());
@@ -17,9 +17,13 @@ fn pieces(rt: &(impl Abort + Alloc<A = Global>)) -> Vec<Bytes> {
 }
 
 #[test]
-fn long_body_is_copied(rt: HostRuntime) {
-    assert_rows(&rt, "push*1000 x*100 #1000, copy_out x*100000 -");
-    assert_reads(&rt, &mut lend(&rt, &mut pieces(&rt)), "count 100000");
+fn long_segments_are_copied(rt: HostRuntime) {
+    assert_segmented_rows(&rt, "push*1000 x*100 #1000, copy_out x*100000 -");
+    assert_reads(
+        &rt,
+        &mut lend(&rt, &mut pieces_of_long_body(&rt)),
+        "count 100000",
+    );
 }
 
 // The last of the first segments is cut, and both ends of a range are.
@@ -39,14 +43,14 @@ push*1000 x*100 #1000, drain_into_queue x*100000 -, append_queue x*100000 #1000"
 const MANY: &str = "prepend*1000 y #1000, push*1000 x #2000, prepend*1000 y #3000";
 
 #[test]
-fn long_bodies(rt: HostRuntime) {
-    assert_rows(&rt, SHARED);
-    assert_rows(&rt, CUT);
-    assert_rows(&rt, MOVED);
-    assert_rows(&rt, MANY);
+fn long_segmented_bodies(rt: HostRuntime) {
+    assert_segmented_rows(&rt, SHARED);
+    assert_segmented_rows(&rt, CUT);
+    assert_segmented_rows(&rt, MOVED);
+    assert_segmented_rows(&rt, MANY);
 }
 
 #[test]
-fn long_body_becomes_shared(rt: HostRuntime) {
+fn long_segmented_body_becomes_shared(rt: HostRuntime) {
     assert_packed(&rt, "99: push/100 x*100000 1000 = shared 1000 of 100000");
 }

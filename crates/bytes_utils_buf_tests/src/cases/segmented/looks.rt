@@ -1,5 +1,5 @@
 //! How often buffers are advanced and looked at.
-use crate::cases::fixtures::odd::Asked;
+use crate::cases::fixtures::odd::OddCounter;
 use crate::cases::fixtures::{assert_that, hold, lend, put, put_first, take_out};
 use bytes::Buf;
 use bytes_utils_buf::contiguous::ContiguousBuf;
@@ -9,17 +9,17 @@ use std::alloc::Global;
 use std::process::Abort;
 
 /// A thousand buffers of one byte each.
-fn thousand(rt: &(impl Abort + Alloc<A = Global>)) -> Vec<Asked> {
+fn thousand_to_look_at(rt: &(impl Abort + Alloc<A = Global>)) -> Vec<OddCounter> {
     let mut bufs = Vec::with_capacity(rt.alloc(), 1000).expect(rt, "memory");
     for _ in 0..1000 {
-        assert!(rt; bufs.push(Asked::of("x")).is_ok());
+        assert!(rt; bufs.push(OddCounter::of("x")).is_ok());
     }
     bufs
 }
 
 /// Whether each buffer was advanced or copied from at least `least` times and at most `most` times,
 /// and looked at at most `looks` times.
-fn are_asked(bufs: &[Asked], (least, most): (usize, usize), looks: usize) -> bool {
+fn have_few_looks(bufs: &[OddCounter], (least, most): (usize, usize), looks: usize) -> bool {
     for buf in bufs {
         if buf.advanced < least || buf.advanced > most || buf.looks.get() > looks {
             return false;
@@ -30,7 +30,7 @@ fn are_asked(bufs: &[Asked], (least, most): (usize, usize), looks: usize) -> boo
 
 /// Skips `cnt` bytes of borrowed buffers, `times` times, by the call of the type or by that of the
 /// trait. Returns whether there are as many.
-fn walks_lent<B: Buf>(
+fn walks_borrowed_for_looks<B: Buf>(
     all: &mut SegmentedSlice<'_, B>,
     is_own: bool,
     times: usize,
@@ -50,15 +50,20 @@ fn walks_lent<B: Buf>(
 }
 
 /// Fails the test unless each of a thousand buffers is advanced once by that.
-fn assert_walks(rt: &(impl Abort + Alloc<A = Global>), is_own: bool, times: usize, cnt: usize) {
-    let mut bufs = thousand(rt);
+fn assert_few_looks_of_walk(
+    rt: &(impl Abort + Alloc<A = Global>),
+    is_own: bool,
+    times: usize,
+    cnt: usize,
+) {
+    let mut bufs = thousand_to_look_at(rt);
     let mut all = lend(rt, &mut bufs);
-    assert_that(rt, walks_lent(&mut all, is_own, times, cnt));
-    assert_that(rt, are_asked(all.into_lent(), (1, 1), 32));
+    assert_that(rt, walks_borrowed_for_looks(&mut all, is_own, times, cnt));
+    assert_that(rt, have_few_looks(all.into_lent(), (1, 1), 32));
 }
 
 /// Skips all held buffers but the last, and returns whether there are as many.
-fn walks_held<B: Buf + Drop>(buf: &mut SegmentedBuf<B>, is_own: bool) -> bool {
+fn walks_held_for_looks<B: Buf + Drop>(buf: &mut SegmentedBuf<B>, is_own: bool) -> bool {
     for _ in 0..999 {
         if buf.remaining() == 0 {
             return false;
@@ -73,25 +78,25 @@ fn walks_held<B: Buf + Drop>(buf: &mut SegmentedBuf<B>, is_own: bool) -> bool {
 }
 
 /// Fails the test unless one buffer is left of a thousand, which was hardly looked at.
-fn assert_leaves_one(rt: &(impl Abort + Alloc<A = Global>), is_own: bool) {
-    let buf = SegmentedBuf::from_vec(rt.alloc(), thousand(rt));
+fn assert_few_looks_at_last(rt: &(impl Abort + Alloc<A = Global>), is_own: bool) {
+    let buf = SegmentedBuf::from_vec(rt.alloc(), thousand_to_look_at(rt));
     let mut buf = buf.ok().expect(rt, "memory");
-    assert_that(rt, walks_held(&mut buf, is_own));
+    assert_that(rt, walks_held_for_looks(&mut buf, is_own));
     let left = buf.into_inner().into_vec();
-    assert_that(rt, left.len() == 1 && are_asked(&left, (0, 2), 32));
+    assert_that(rt, left.len() == 1 && have_few_looks(&left, (0, 2), 32));
 }
 
 #[test]
-fn walks_once(rt: HostRuntime) {
-    assert_walks(&rt, true, 1000, 1);
-    assert_walks(&rt, false, 1000, 1);
-    assert_walks(&rt, true, 1, 1000);
-    assert_leaves_one(&rt, true);
-    assert_leaves_one(&rt, false);
+fn advances_and_looks_of_one_walk(rt: HostRuntime) {
+    assert_few_looks_of_walk(&rt, true, 1000, 1);
+    assert_few_looks_of_walk(&rt, false, 1000, 1);
+    assert_few_looks_of_walk(&rt, true, 1, 1000);
+    assert_few_looks_at_last(&rt, true);
+    assert_few_looks_at_last(&rt, false);
 }
 
 /// Shows a chunk, and a table of two slices.
-fn shows_two<B: BufParts>(buf: &B) -> bool {
+fn looks_at_two<B: BufParts>(buf: &B) -> bool {
     let mut table: [&[u8]; 2] = [b"-"; 2];
     for _ in 0..10 {
         if buf.chunk().is_empty() || buf.remaining() < 2 || buf.chunks_into(&mut table) != 2 {
@@ -102,8 +107,8 @@ fn shows_two<B: BufParts>(buf: &B) -> bool {
 }
 
 /// Does the same, and then copies as many bytes out as each of these numbers in turn says.
-fn copies<B: BufParts>(alloc: Global, buf: &mut B, lens: &[u8]) -> bool {
-    if !shows_two(buf) {
+fn looks_and_copies<B: BufParts>(alloc: Global, buf: &mut B, lens: &[u8]) -> bool {
+    if !looks_at_two(buf) {
         return false;
     }
     for &len in lens {
@@ -119,7 +124,7 @@ const TEN: &[u8] = b"\x01\x01\x02\x01\x03\x01\x01";
 
 /// Puts a buffer after the others and one before them, appends one, takes the first out, and shows the
 /// next one.
-fn moves_ends<B: ContiguousBuf + Drop>(
+fn moves_ends_for_looks<B: ContiguousBuf + Drop>(
     buf: &mut SegmentedBuf<B>,
     (first, last): (B, B),
     others: SegmentedBuf<B>,
@@ -133,7 +138,7 @@ fn moves_ends<B: ContiguousBuf + Drop>(
 }
 
 /// Peeks at ten bytes, and shares them.
-fn sees_ten<B: ContiguousBuf + Drop>(alloc: Global, buf: &SegmentedBuf<B>) -> bool {
+fn looks_at_ten<B: ContiguousBuf + Drop>(alloc: Global, buf: &SegmentedBuf<B>) -> bool {
     buf.peek(&mut [0; 10]) == 10
         && buf.starts_with(b"xxxxxxxxxx")
         && buf.segments() >= 10
@@ -145,50 +150,65 @@ fn sees_ten<B: ContiguousBuf + Drop>(alloc: Global, buf: &SegmentedBuf<B>) -> bo
 // Neither buffers that are accepted, many at once or one after another, nor a read looks at the other
 // segments.
 #[test]
-fn held_are_not_looked_at(rt: HostRuntime) {
+fn no_looks_at_held_segments(rt: HostRuntime) {
     let mut buf = SegmentedBuf::new(rt.alloc());
-    assert_that(&rt, buf.extend(thousand(&rt).into_iter()).is_ok());
+    assert_that(
+        &rt,
+        buf.extend(thousand_to_look_at(&rt).into_iter()).is_ok(),
+    );
     for _ in 0..20 {
-        let both = (Asked::of("x"), Asked::of("x"));
-        assert_that(&rt, moves_ends(&mut buf, both, hold(&rt, Asked::of("x"))));
+        let both = (OddCounter::of("x"), OddCounter::of("x"));
+        assert_that(
+            &rt,
+            moves_ends_for_looks(&mut buf, both, hold(&rt, OddCounter::of("x"))),
+        );
     }
-    assert_that(&rt, sees_ten(rt.alloc(), &buf));
-    assert_that(&rt, copies(rt.alloc(), &mut buf, TEN));
+    assert_that(&rt, looks_at_ten(rt.alloc(), &buf));
+    assert_that(&rt, looks_and_copies(rt.alloc(), &mut buf, TEN));
     let bufs = buf.into_inner().into_vec();
     assert_that(
         &rt,
-        matches!(bufs.get(1..), Some(rest) if are_asked(rest, (0, 0), 3)),
+        matches!(bufs.get(1..), Some(rest) if have_few_looks(rest, (0, 0), 3)),
     );
 }
 
 /// Copies out of borrowed buffers. Returns whether none after the first few was advanced or copied
 /// from, and each was looked at when it was accepted, and hardly again.
-fn copies_lent(
+fn looks_and_copies_borrowed(
     rt: &(impl Abort + Alloc<A = Global>),
-    bufs: &mut [Asked],
+    bufs: &mut [OddCounter],
     lens: &[u8],
     few: usize,
 ) -> bool {
     let mut all = lend(rt, bufs);
-    copies(rt.alloc(), &mut all, lens)
-        && matches!(all.into_lent().get(few..), Some(rest) if are_asked(rest, (0, 0), 3))
+    looks_and_copies(rt.alloc(), &mut all, lens)
+        && matches!(all.into_lent().get(few..), Some(rest) if have_few_looks(rest, (0, 0), 3))
 }
 
 // A copy takes a whole chunk by one call, with no call for zero bytes before it.
 #[test]
-fn lent_are_not_looked_at(rt: HostRuntime) {
-    assert_that(&rt, copies_lent(&rt, &mut thousand(&rt), TEN, 11));
-    let mut bufs = [Asked::of("abc"), Asked::of("defghi")];
-    assert_that(&rt, copies_lent(&rt, &mut bufs, b"\x01\x07", 2));
+fn no_looks_at_borrowed_segments(rt: HostRuntime) {
+    assert_that(
+        &rt,
+        looks_and_copies_borrowed(&rt, &mut thousand_to_look_at(&rt), TEN, 11),
+    );
+    let mut bufs = [OddCounter::of("abc"), OddCounter::of("defghi")];
+    assert_that(
+        &rt,
+        looks_and_copies_borrowed(&rt, &mut bufs, b"\x01\x07", 2),
+    );
     assert_that(&rt, bufs[0].advanced == 2 && bufs[1].advanced == 1);
 }
 
 // Copies across the end of the first of two buffers, and twice out of the second alone.
 #[test]
-fn held_are_advanced_once_a_call(rt: HostRuntime) {
-    let mut buf = hold(&rt, Asked::of("abc"));
-    assert_that(&rt, put(&mut buf, Asked::of("defghi")));
-    assert_that(&rt, copies(rt.alloc(), &mut buf, b"\x05\x01\x01"));
+fn advances_and_looks_of_held_segments(rt: HostRuntime) {
+    let mut buf = hold(&rt, OddCounter::of("abc"));
+    assert_that(&rt, put(&mut buf, OddCounter::of("defghi")));
+    assert_that(&rt, looks_and_copies(rt.alloc(), &mut buf, b"\x05\x01\x01"));
     let left = buf.into_inner().into_vec();
-    assert_that(&rt, left.len() == 1 && are_asked(&left, (3, 3), usize::MAX));
+    assert_that(
+        &rt,
+        left.len() == 1 && have_few_looks(&left, (3, 3), usize::MAX),
+    );
 }

@@ -7,7 +7,7 @@ use std::alloc::Global;
 use std::process::Abort;
 
 /// Holds a buffer and another.
-fn pair<B: Buf + Drop>(
+fn nested_pair<B: Buf + Drop>(
     rt: &(impl Abort + Alloc<A = Global>),
     first: B,
     second: B,
@@ -20,10 +20,10 @@ fn pair<B: Buf + Drop>(
 // The upper buffer of the middle level is of two, of which the second is empty, and the lower one of
 // a third. The outer buffer holds `a`, `b` and `cd`, the last in a segment of its own.
 #[test]
-fn three_levels(rt: HostRuntime) {
-    let upper = pair(&rt, held(&rt, "a||b"), SegmentedBuf::new(rt.alloc()));
-    let lower = pair(&rt, held(&rt, "cd"), SegmentedBuf::new(rt.alloc()));
-    let mut outer = pair(&rt, upper, lower);
+fn nested_segments_of_three_levels(rt: HostRuntime) {
+    let upper = nested_pair(&rt, held(&rt, "a||b"), SegmentedBuf::new(rt.alloc()));
+    let lower = nested_pair(&rt, held(&rt, "cd"), SegmentedBuf::new(rt.alloc()));
+    let mut outer = nested_pair(&rt, upper, lower);
     assert_that(&rt, outer.segments() == 2);
     assert_reads(
         &rt,
@@ -37,7 +37,7 @@ fn three_levels(rt: HostRuntime) {
 
 // Tables that nested buffers fill with slices.
 #[test]
-fn chunk_vectored_nested(rt: HostRuntime) {
+fn nested_segments_fill_tables(rt: HostRuntime) {
     let mut both = [held(&rt, FOUR), held(&rt, FOUR)];
     let row = "slices Hello| |World|Hello| |World, pass He, slice llo";
     assert_reads(&rt, &mut lend(&rt, &mut both), row);

@@ -5,11 +5,11 @@ use crate::cases::fixtures::reading::assert_reads;
 use crate::cases::fixtures::{FOUR, assert_row, assert_that};
 use bytes::{Buf, Bytes};
 use bytes_utils_buf::segmented::PackedBuf;
-use rows::{Packed, assert_rows, holds};
+use rows::{PackedRow, assert_packed_rows, packed_row_holds};
 use std::alloc::Global;
 use std::process::Abort;
 
-/// The segments of `hello`.
+/// The segments of `packed_hello`.
 pub(super) const HELLO: &str = "Hello| |World";
 
 const ROWS: &str = "\
@@ -28,17 +28,17 @@ const ROWS: &str = "\
 18446744073709551615: push abcd 1, push e 1, take abc 1, push f 1, split def 0, push g 1";
 
 #[test]
-fn pieces(rt: HostRuntime) {
-    assert_rows(&rt, ROWS);
+fn packed_pieces(rt: HostRuntime) {
+    assert_packed_rows(&rt, ROWS);
 }
 
 const TEXT: &[u8] = b"abcdefg";
 
 /// Pushes three pieces of the text, with a read of `len` bytes before the last one, and reads the
 /// rest by `len` bytes. Returns whether each read was right.
-fn is_cut(
+fn is_packed_at_cut(
     rt: &(impl Print + Alloc<A = Global>),
-    packed: &mut Packed,
+    packed: &mut PackedRow,
     (first, second): (usize, usize),
     len: usize,
 ) -> bool {
@@ -57,13 +57,13 @@ fn is_cut(
 const CUTS: &str = "0 1,0 3,1 1,1 2,2 1,2 4,3 2,4 5,6 1,7 3,512 2,18446744073709551615 1";
 
 /// Whether all reads are right, wherever the text is cut.
-fn is_cut_everywhere(rt: &(impl Print + Alloc<A = Global>), row: &str) -> Option<bool> {
+fn is_packed_at_every_cut(rt: &(impl Print + Alloc<A = Global>), row: &str) -> Option<bool> {
     let (threshold, len) = row.split_once(' ')?;
     let (threshold, len) = (threshold.parse().ok()?, len.parse().ok()?);
     for second in 0..=TEXT.len() {
         for first in 0..=second {
-            let mut packed = Packed::new(rt.alloc(), threshold, Vec::new(rt.alloc()));
-            if !is_cut(rt, &mut packed, (first, second), len) {
+            let mut packed = PackedRow::new(rt.alloc(), threshold, Vec::new(rt.alloc()));
+            if !is_packed_at_cut(rt, &mut packed, (first, second), len) {
                 return Some(false);
             }
         }
@@ -73,14 +73,14 @@ fn is_cut_everywhere(rt: &(impl Print + Alloc<A = Global>), row: &str) -> Option
 
 // The cuts at the ends are those into two pieces.
 #[test]
-fn every_cut(rt: HostRuntime) {
+fn packed_text_at_every_cut(rt: HostRuntime) {
     for row in CUTS.split(',') {
-        assert_row(&rt, row, is_cut_everywhere(&rt, row));
+        assert_row(&rt, row, is_packed_at_every_cut(&rt, row));
     }
 }
 
 /// As many bytes as all pieces of fewer than 1,101 bytes have together, and some more.
-fn stream(rt: &(impl Abort + Alloc<A = Global>)) -> Bytes {
+fn stream_to_pack(rt: &(impl Abort + Alloc<A = Global>)) -> Bytes {
     let mut bytes = Vec::with_capacity(rt.alloc(), 627_500).expect(rt, "memory");
     for _ in 0..2_500 {
         for byte in 0..251 {
@@ -92,7 +92,7 @@ fn stream(rt: &(impl Abort + Alloc<A = Global>)) -> Bytes {
 
 /// Pushes a piece, and takes the next bytes out, at most `len`. Returns how many, if they are the
 /// first of `rest`.
-fn takes_next(
+fn takes_next_packed(
     alloc: Global,
     buf: &mut PackedBuf,
     piece: Bytes,
@@ -109,7 +109,7 @@ fn takes_next(
 
 /// Pushes pieces of 0 to 1,100 bytes of the stream, and takes `len` bytes out after each. Returns how
 /// many segments are held then, if these bytes were right, and all that are left.
-fn segments_of(alloc: Global, stream: &Bytes, len: usize) -> Option<usize> {
+fn segments_packed(alloc: Global, stream: &Bytes, len: usize) -> Option<usize> {
     let mut buf = PackedBuf::new(alloc, 512);
     let (mut pushed, mut read) = (0_usize, 0_usize);
     for piece in 0..1_101 {
@@ -118,11 +118,12 @@ fn segments_of(alloc: Global, stream: &Bytes, len: usize) -> Option<usize> {
             return None;
         }
         let rest = stream.as_slice().get(read..)?;
-        let taken = takes_next(alloc, &mut buf, stream.slice(pushed..end).ok()?, len, rest)?;
+        let taken = takes_next_packed(alloc, &mut buf, stream.slice(pushed..end).ok()?, len, rest)?;
         pushed = end;
         read = read.saturating_add(taken);
     }
-    let is_right = holds(&buf, stream.as_slice().get(read..pushed)?) && pushed == 605_550;
+    let is_right = packed_row_holds(&buf, stream.as_slice().get(read..pushed)?)
+        && pushed == 605_550;
     is_right.then_some(buf.segments())
 }
 
@@ -130,13 +131,13 @@ fn segments_of(alloc: Global, stream: &Bytes, len: usize) -> Option<usize> {
 // before a piece of at most 512 bytes has no room. So there are 33 to 37 blocks, and 588 pieces of
 // more than 512 bytes: 621 to 625 segments.
 #[test]
-fn pieces_of_all_lengths(rt: HostRuntime) {
-    let stream = stream(&rt);
+fn packed_pieces_of_all_lengths(rt: HostRuntime) {
+    let stream = stream_to_pack(&rt);
     assert_that(
         &rt,
-        matches!(segments_of(rt.alloc(), &stream, 0), Some(621..=625)),
+        matches!(segments_packed(rt.alloc(), &stream, 0), Some(621..=625)),
     );
-    assert_that(&rt, segments_of(rt.alloc(), &stream, 7).is_some());
+    assert_that(&rt, segments_packed(rt.alloc(), &stream, 7).is_some());
 }
 
 // What is pushed at once, one by one, and read in turn. A block of 4,096 bytes or more doesn't grow.
@@ -159,17 +160,19 @@ const LATER_BLOCKS: &str = "\
 const READ_BLOCKS: &str = "\
 512: reads x*10000 3 = blocks 4096 of 4096, 4096 of 4096, 1808 of 4096
 512: read/1 x*5000 2 = blocks 3585 of 4096, 1415 of 4096
-512: read/1000 x*5000 2 = blocks 4000 of 4096, 1000 of 4096";
+512: read/1000 x*5000 2 = blocks 4000 of 4096, 1000 of 4096
+512: wide x*9000 1, wide x*10500 1 = blocks 19500 of 20000
+512: read x*9 1, wide y*10 1, wide x*9000 1 = blocks 9019 of 20018";
 
 // A short rest of a block moves to the next one.
 const MOVED: &str = "512: push/1 x*4096 1, take x*3900 1, copy y*500 1";
 
 #[test]
-fn blocks(rt: HostRuntime) {
-    assert_rows(&rt, BLOCKS);
-    assert_rows(&rt, LATER_BLOCKS);
-    assert_rows(&rt, READ_BLOCKS);
-    assert_rows(&rt, MOVED);
+fn packed_blocks(rt: HostRuntime) {
+    assert_packed_rows(&rt, BLOCKS);
+    assert_packed_rows(&rt, LATER_BLOCKS);
+    assert_packed_rows(&rt, READ_BLOCKS);
+    assert_packed_rows(&rt, MOVED);
 }
 
 // Pieces of more than the threshold are shared. Bytes taken out of one segment share it, and those of
@@ -193,13 +196,13 @@ const MESSAGES: &str = "\
 512: copy one 1, take one 0 shared, copy two 1, take two 0 shared, copy x*20000 1, take x*20000 0 alone";
 
 #[test]
-fn blocks_are_shared(rt: HostRuntime) {
-    assert_rows(&rt, SHARED);
-    assert_rows(&rt, MESSAGES);
+fn packed_blocks_are_shared(rt: HostRuntime) {
+    assert_packed_rows(&rt, SHARED);
+    assert_packed_rows(&rt, MESSAGES);
 }
 
 /// `Hello` and `World` as they came, and a block of one byte between them.
-pub(super) fn hello(alloc: Global) -> Option<PackedBuf> {
+pub(super) fn packed_hello(alloc: Global) -> Option<PackedBuf> {
     let mut buf = PackedBuf::new(alloc, 4);
     for text in FOUR.split('|') {
         buf.push(alloc, Bytes::from_static(text.as_bytes())).ok()?;
@@ -208,8 +211,8 @@ pub(super) fn hello(alloc: Global) -> Option<PackedBuf> {
 }
 
 #[test]
-fn reads_as_any_buffer(rt: HostRuntime) {
-    let mut buf = hello(rt.alloc()).expect(&rt, "memory");
+fn packed_buf_reads_as_any_buffer(rt: HostRuntime) {
+    let mut buf = packed_hello(rt.alloc()).expect(&rt, "memory");
     assert_that(&rt, buf.last_segment() == b"World".as_slice());
     assert_reads(
         &rt,

@@ -1,22 +1,25 @@
 //! What becomes of buffers that are passed, read to the end, or empty.
-use super::rows::assert_rows;
-use crate::cases::fixtures::odd::Asked;
+use super::rows::assert_segmented_rows;
+use crate::cases::fixtures::odd::OddCounter;
 use crate::cases::fixtures::{assert_that, hold, lend, shared, skip, take_out};
 use std::alloc::Global;
 use std::process::Abort;
 
 /// Buffers that can be distinguished: each starts with a thousand looks more than the one before.
-fn numbered(rt: &(impl Abort + Alloc<A = Global>), texts: &'static str) -> Vec<Asked> {
+fn numbered_to_be_passed(
+    rt: &(impl Abort + Alloc<A = Global>),
+    texts: &'static str,
+) -> Vec<OddCounter> {
     let mut bufs = Vec::new(rt.alloc());
     for (place, text) in texts.split('|').enumerate() {
-        let asked = Asked::of(text);
+        let asked = OddCounter::of(text);
         asked.looks.set(place.saturating_mul(1000));
         assert!(rt; bufs.push(asked).is_ok());
     }
     bufs
 }
 
-fn are_in_order(bufs: &[Asked]) -> bool {
+fn are_passed_in_order(bufs: &[OddCounter]) -> bool {
     for (place, buf) in bufs.iter().enumerate() {
         if buf.looks.get() / 1000 != place {
             return false;
@@ -27,25 +30,25 @@ fn are_in_order(bufs: &[Asked]) -> bool {
 
 /// Fails the test unless borrowed buffers come back in their order after some bytes are skipped, and
 /// others copied.
-fn assert_come_back(
+fn assert_passed_come_back(
     rt: &(impl Abort + Alloc<A = Global>),
     texts: &'static str,
     cnt: usize,
     len: usize,
 ) {
-    let mut bufs = numbered(rt, texts);
+    let mut bufs = numbered_to_be_passed(rt, texts);
     let mut all = lend(rt, &mut bufs);
     assert_that(rt, skip(&mut all, cnt));
     assert_that(rt, take_out(rt.alloc(), &mut all, len).is_some());
-    assert_that(rt, are_in_order(all.into_lent()));
+    assert_that(rt, are_passed_in_order(all.into_lent()));
 }
 
 #[test]
-fn lent_come_back_in_their_order(rt: HostRuntime) {
-    assert_come_back(&rt, "a|b|c|d", 3, 0);
-    assert_come_back(&rt, "a|b|c|d", 1, 3);
-    assert_come_back(&rt, "||c|d", 0, 1);
-    assert_come_back(&rt, "a||c|d", 0, 1);
+fn passed_segments_come_back_in_their_order(rt: HostRuntime) {
+    assert_passed_come_back(&rt, "a|b|c|d", 3, 0);
+    assert_passed_come_back(&rt, "a|b|c|d", 1, 3);
+    assert_passed_come_back(&rt, "||c|d", 0, 1);
+    assert_passed_come_back(&rt, "a||c|d", 0, 1);
 }
 
 // A segment is dropped with its last byte, and not before. Empty ones are dropped by either call that
@@ -70,15 +73,15 @@ split_to He llo|_World, split_off rld llo|_Wo, copy_to_bytes l lo|_Wo, pop lo _W
 keep _Wo _Wo held, from_vec - - free";
 
 #[test]
-fn blocks_are_let_go(rt: HostRuntime) {
-    assert_rows(&rt, DROPPED);
-    assert_rows(&rt, MOVED);
-    assert_rows(&rt, PARTS);
+fn passed_blocks_are_let_go(rt: HostRuntime) {
+    assert_segmented_rows(&rt, DROPPED);
+    assert_segmented_rows(&rt, MOVED);
+    assert_segmented_rows(&rt, PARTS);
 }
 
 // A copy would be a block of its own.
 #[test]
-fn whole_lent_front_is_moved(rt: HostRuntime) {
+fn passed_whole_front_is_moved(rt: HostRuntime) {
     let (front, other) = shared(&rt);
     let mut bufs = [front];
     let taken = take_out(rt.alloc(), &mut lend(&rt, &mut bufs), other.len());
@@ -93,7 +96,7 @@ fn whole_lent_front_is_moved(rt: HostRuntime) {
 // A segment is dropped unread: the buffers that it borrowed still have all of their bytes.
 #[test]
 fn passed_segments_are_not_advanced(rt: HostRuntime) {
-    let mut bufs = [Asked::of("ab"), Asked::of("cd")];
+    let mut bufs = [OddCounter::of("ab"), OddCounter::of("cd")];
     let mut held = hold(&rt, lend(&rt, &mut bufs));
     assert_that(&rt, skip(&mut held, 4));
     drop(held);

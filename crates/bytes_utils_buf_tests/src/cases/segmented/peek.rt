@@ -1,12 +1,12 @@
 //! Places of buffers of any type.
-use super::packed::hello;
+use super::packed::packed_hello;
 use crate::cases::fixtures::{FOUR, assert_that, held, held_slices};
 use bytes_utils_buf::contiguous::ContiguousBuf;
 use bytes_utils_buf::segmented::SegmentedBuf;
 use std::process::Abort;
 
 /// Whether places of `FOUR` are found: in each half, at the borders of its segments, and past its end.
-fn finds_places<B: ContiguousBuf + Drop>(buf: &SegmentedBuf<B>) -> bool {
+fn peek_finds_places<B: ContiguousBuf + Drop>(buf: &SegmentedBuf<B>) -> bool {
     buf.segment_of(3) == Some((0, 3))
         && buf.segment_of(8) == Some((2, 2))
         && buf.segment_of(5) == Some((1, 0))
@@ -15,10 +15,10 @@ fn finds_places<B: ContiguousBuf + Drop>(buf: &SegmentedBuf<B>) -> bool {
 }
 
 #[test]
-fn places_are_found(rt: HostRuntime) {
-    assert_that(&rt, finds_places(&held(&rt, FOUR)));
+fn places_of_segments_by_peek(rt: HostRuntime) {
+    assert_that(&rt, peek_finds_places(&held(&rt, FOUR)));
     let slices = held_slices(rt.alloc(), FOUR).expect(&rt, "memory");
-    assert_that(&rt, finds_places(&slices));
-    let packed = hello(rt.alloc()).expect(&rt, "memory");
-    assert_that(&rt, finds_places(packed.as_segmented()));
+    assert_that(&rt, peek_finds_places(&slices));
+    let packed = packed_hello(rt.alloc()).expect(&rt, "memory");
+    assert_that(&rt, peek_finds_places(packed.as_segmented()));
 }

@@ -1,5 +1,5 @@
 //! Places and ranges of a body, and its first bytes.
-use super::rows::assert_rows;
+use super::rows::assert_segmented_rows;
 use std::process::Abort;
 
 // A range is borrowed if it is in one segment.
@@ -14,7 +14,7 @@ give Hello Hello, give _World Hello|_World, slice 3/lo|_Wo . all shared, copy_ra
 copy_range 1/ello_W . alone";
 
 #[test]
-fn ranges(rt: HostRuntime) {
-    assert_rows(&rt, SEEN);
-    assert_rows(&rt, SHARED);
+fn ranges_of_segments(rt: HostRuntime) {
+    assert_segmented_rows(&rt, SEEN);
+    assert_segmented_rows(&rt, SHARED);
 }

@@ -47,9 +47,9 @@
 //! | `20 pieces` | twenty segments came |
 //! | `few places` | one came, in a deque with room for fewer than a hundred |
 //! | `borrowed`, `owned` | the range is borrowed, or a copy |
-use super::packed::rows::meant;
+use super::packed::rows::packed_row_means;
 use crate::cases::fixtures::{
-    assert_row, bytes_of, fills, is_next, put, put_first, skip, take_out,
+    assert_row, bytes_of_texts, fills, is_next, put, put_first, skip, take_out,
 };
 use bytes::{Buf, Bytes, BytesQueue};
 use bytes_utils_buf::Reason;
@@ -60,21 +60,21 @@ use std::collections::VecDeque;
 use std::process::Abort;
 
 /// The number of bytes that a word means.
-fn len_of(word: &'static str) -> usize {
+fn segmented_row_len(word: &'static str) -> usize {
     let mut len = 0_usize;
     for text in word.split('|') {
-        len = len.saturating_add(meant(text).unwrap_or(b"").len());
+        len = len.saturating_add(packed_row_means(text).unwrap_or(b"").len());
     }
     len
 }
 
 /// Prints which call was refused, and returns whether it was for memory.
-fn refuses(rt: &impl Print, name: &str, reason: Reason) -> bool {
+fn segmented_row_refuses(rt: &impl Print, name: &str, reason: Reason) -> bool {
     println!(rt; "refused SegmentedBuf::{name}").is_ok() && reason == Reason::OutOfMemory
 }
 
 /// A block of the bytes of a word, and a share of it.
-fn block_of(alloc: Global, word: &str) -> Option<(Bytes, Bytes)> {
+fn segmented_row_block(alloc: Global, word: &str) -> Option<(Bytes, Bytes)> {
     let mut bytes = Vec::new(alloc);
     for text in word.split('|') {
         bytes.extend_from_slice(text.as_bytes()).ok()?;
@@ -85,7 +85,7 @@ fn block_of(alloc: Global, word: &str) -> Option<(Bytes, Bytes)> {
 }
 
 /// Whether the chunks of a buffer are these texts, or, if not `are_all`, only the first of them.
-fn has_chunks(buf: &SegmentedBuf<Bytes>, texts: &str, are_all: bool) -> bool {
+fn segmented_row_has_chunks(buf: &SegmentedBuf<Bytes>, texts: &str, are_all: bool) -> bool {
     if texts == "-" {
         return buf.segments() == 0 && buf.remaining() == 0 && buf.chunk().is_empty();
     }
@@ -99,15 +99,15 @@ fn has_chunks(buf: &SegmentedBuf<Bytes>, texts: &str, are_all: bool) -> bool {
 }
 
 /// Whether these texts are held, or as many segments.
-fn is_held(buf: &SegmentedBuf<Bytes>, held: &str) -> bool {
+fn segmented_row_is_held(buf: &SegmentedBuf<Bytes>, held: &str) -> bool {
     match held.strip_prefix('#') {
         Some(count) => count.parse() == Ok(buf.segments()),
-        None => has_chunks(buf, held, true),
+        None => segmented_row_has_chunks(buf, held, true),
     }
 }
 
 /// Whether the segments are these texts as they are taken out. A number of segments isn't compared.
-fn yields(buf: SegmentedBuf<Bytes>, held: &str) -> bool {
+fn segmented_row_yields(buf: SegmentedBuf<Bytes>, held: &str) -> bool {
     if held.starts_with('#') || held == "-" {
         return held != "-" || buf.into_inner().is_empty();
     }
@@ -122,7 +122,7 @@ fn yields(buf: SegmentedBuf<Bytes>, held: &str) -> bool {
 
 /// A buffer, what came of the last call, and what is left outside.
 #[derive(Drop)]
-struct Held {
+struct SegmentedRow {
     buf: SegmentedBuf<Bytes>,
     /// What is held.
     held: &'static str,
@@ -139,7 +139,7 @@ struct Held {
 /// Whether a call did what it should, or, as an error, whether it was refused as it should be.
 type Made = Result<bool, bool>;
 
-impl Held {
+impl SegmentedRow {
     /// Puts a piece in, which comes back if it is refused.
     fn put(&mut self, rt: &impl Print, name: &str, bytes: &'static [u8]) -> Made {
         if !self.buf.fits(bytes.len()) {
@@ -155,14 +155,14 @@ impl Held {
             Ok(()) => Ok(true),
             Err(refused) => {
                 let is_back = refused.back.as_slice() == bytes;
-                Err(refuses(rt, name, refused.reason) & is_back)
+                Err(segmented_row_refuses(rt, name, refused.reason) & is_back)
             }
         }
     }
 
     /// Puts pieces of one block in.
     fn give(&mut self, alloc: Global, word: &str) -> bool {
-        let Some((mut block, share)) = block_of(alloc, word) else {
+        let Some((mut block, share)) = segmented_row_block(alloc, word) else {
             return false;
         };
         self.share = share;
@@ -180,7 +180,7 @@ impl Held {
 
     /// Puts a piece in that was read to its end, and still has a share of its block.
     fn spend(&mut self, alloc: Global, is_first: bool, word: &str) -> bool {
-        let Some((mut piece, share)) = block_of(alloc, word) else {
+        let Some((mut piece, share)) = segmented_row_block(alloc, word) else {
             return false;
         };
         self.share = share;
@@ -206,7 +206,7 @@ impl Held {
             "from_deque" => SegmentedBuf::from_deque(VecDeque::from_vec(bufs)).ok(),
             _ => match SegmentedBuf::from_iter(rt.alloc(), bufs.into_iter()) {
                 Ok(buf) => Some(buf),
-                Err(refused) => return Err(refuses(rt, name, refused.reason)),
+                Err(refused) => return Err(segmented_row_refuses(rt, name, refused.reason)),
             },
         };
         match made {
@@ -223,8 +223,8 @@ impl Held {
         match self.buf.extend(bufs.by_ref()) {
             Ok(()) => true,
             Err(refused) => {
-                refuses(rt, "extend", refused.reason)
-                    & has_chunks(&self.buf, word, false)
+                segmented_row_refuses(rt, "extend", refused.reason)
+                    & segmented_row_has_chunks(&self.buf, word, false)
                     & put(&mut self.buf, refused.back)
                     & self.buf.extend(bufs).is_ok()
             }
@@ -240,7 +240,7 @@ impl Held {
             Ok(()) => Ok(true),
             Err(refused) => {
                 let is_back = fills(&refused.back, 10, word);
-                Err(refuses(rt, "append", refused.reason) & is_back)
+                Err(segmented_row_refuses(rt, "append", refused.reason) & is_back)
             }
         }
     }
@@ -252,7 +252,7 @@ impl Held {
         name: &str,
         word: &'static str,
     ) -> Made {
-        let Ok(bufs) = bytes_of(rt.alloc(), word) else {
+        let Ok(bufs) = bytes_of_texts(rt.alloc(), word) else {
             return Err(true);
         };
         match name {
@@ -301,7 +301,7 @@ impl Held {
     fn moves(&mut self, rt: &impl Print, name: &str, bytes: &[u8]) -> bool {
         let is_drained = name == "drain_into_queue";
         if let Err(reason) = self.move_all(is_drained) {
-            return refuses(rt, name, reason)
+            return segmented_row_refuses(rt, name, reason)
                 && self.are_moved(is_drained, bytes, false)
                 && self.move_all(is_drained).is_ok();
         }
@@ -318,9 +318,9 @@ impl Held {
     ) -> Made {
         match answer {
             Ok(piece) => self.piece = piece,
-            Err(reason) => return Err(refuses(rt, name, reason)),
+            Err(reason) => return Err(segmented_row_refuses(rt, name, reason)),
         }
-        Ok(meant(word) == Some(self.piece.as_slice()))
+        Ok(packed_row_means(word) == Some(self.piece.as_slice()))
     }
 
     /// Keeps the segments that came of a call, and compares them.
@@ -334,14 +334,14 @@ impl Held {
         match answer {
             Ok(pieces) => {
                 let is_right = if word.contains('*') {
-                    pieces.eq_bytes(meant(word).unwrap_or(b"-"))
+                    pieces.eq_bytes(packed_row_means(word).unwrap_or(b"-"))
                 } else {
-                    has_chunks(&pieces, word, true)
+                    segmented_row_has_chunks(&pieces, word, true)
                 };
                 self.pieces = pieces.into_inner();
                 Ok(is_right)
             }
-            Err(reason) => Err(refuses(rt, name, reason)),
+            Err(reason) => Err(segmented_row_refuses(rt, name, reason)),
         }
     }
 
@@ -352,7 +352,7 @@ impl Held {
         name: &str,
         word: &'static str,
     ) -> Made {
-        let (alloc, len, all) = (rt.alloc(), len_of(word), self.buf.remaining());
+        let (alloc, len, all) = (rt.alloc(), segmented_row_len(word), self.buf.remaining());
         if len > all {
             return Ok(false);
         }
@@ -367,7 +367,7 @@ impl Held {
                     _ => self.buf.copy_to_bytes(alloc, len).ok(),
                 };
                 self.piece = piece.unwrap_or(Bytes::new());
-                return Ok(meant(word) == Some(self.piece.as_slice()));
+                return Ok(packed_row_means(word) == Some(self.piece.as_slice()));
             }
         };
         self.pieces_come(rt, name, answer, word)
@@ -380,7 +380,7 @@ impl Held {
         name: &str,
         (start, word): (usize, &'static str),
     ) -> Made {
-        let (alloc, end) = (rt.alloc(), start.saturating_add(len_of(word)));
+        let (alloc, end) = (rt.alloc(), start.saturating_add(segmented_row_len(word)));
         if start > end || end > self.buf.remaining() {
             return Ok(false);
         }
@@ -418,7 +418,7 @@ impl Held {
                 self.is_borrowed = is_borrowed;
                 Ok(is_right)
             }
-            Err(reason) => Err(refuses(rt, "read_range", reason)),
+            Err(reason) => Err(segmented_row_refuses(rt, "read_range", reason)),
         }
     }
 
@@ -445,7 +445,7 @@ impl Held {
         name: &str,
         (start, word): (usize, &'static str),
     ) -> Made {
-        let bytes = meant(word).unwrap_or(b"");
+        let bytes = packed_row_means(word).unwrap_or(b"");
         match name {
             "from_vec" | "from_deque" | "from_iter" | "extend" | "append" => {
                 self.gathers(rt, name, word)
@@ -489,7 +489,7 @@ impl Held {
             Ok(is_right) => is_right,
             Err(is_lawful) => {
                 is_lawful
-                    && is_held(&self.buf, self.held)
+                    && segmented_row_is_held(&self.buf, self.held)
                     && self.make(rt, name, (start, word)) == Ok(true)
             }
         }
@@ -538,7 +538,9 @@ impl Held {
             "." => self.held,
             held => held,
         };
-        is_made && is_held(&self.buf, self.held) && self.is_so(words.next().unwrap_or(""))
+        is_made
+            && segmented_row_is_held(&self.buf, self.held)
+            && self.is_so(words.next().unwrap_or(""))
     }
 
     fn are_right(&mut self, rt: &(impl Print + Alloc<A = Global>), calls: &'static str) -> bool {
@@ -552,8 +554,8 @@ impl Held {
 }
 
 /// Whether a row is right.
-fn is_row(rt: &(impl Print + Alloc<A = Global>), row: &'static str) -> bool {
-    let mut held = Held {
+fn is_segmented_row(rt: &(impl Print + Alloc<A = Global>), row: &'static str) -> bool {
+    let mut held = SegmentedRow {
         buf: SegmentedBuf::new(rt.alloc()),
         held: "-",
         queue: BytesQueue::new(rt.alloc()),
@@ -563,13 +565,16 @@ fn is_row(rt: &(impl Print + Alloc<A = Global>), row: &'static str) -> bool {
         is_borrowed: false,
     };
     let is_right = held.are_right(rt, row);
-    let Held { buf, held, .. } = held;
-    yields(buf, held) & is_right
+    let SegmentedRow { buf, held, .. } = held;
+    segmented_row_yields(buf, held) & is_right
 }
 
 /// Fails the test unless each row is right.
-pub(crate) fn assert_rows(rt: &(impl Abort + Print + Alloc<A = Global>), rows: &'static str) {
+pub(crate) fn assert_segmented_rows(
+    rt: &(impl Abort + Print + Alloc<A = Global>),
+    rows: &'static str,
+) {
     for row in rows.lines() {
-        assert_row(rt, row, Some(is_row(rt, row)));
+        assert_row(rt, row, Some(is_segmented_row(rt, row)));
     }
 }

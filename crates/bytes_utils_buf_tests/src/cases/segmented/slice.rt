@@ -1,7 +1,7 @@
 //! Reading a `SegmentedSlice`.
-use crate::cases::fixtures::odd::Zeros;
-use crate::cases::fixtures::reading::{assert_empty, assert_reads};
-use crate::cases::fixtures::{FIVE, assert_that, bytes_of, is_next, lend};
+use crate::cases::fixtures::odd::OddZeros;
+use crate::cases::fixtures::reading::{assert_reads, assert_reads_nothing};
+use crate::cases::fixtures::{FIVE, assert_that, bytes_of_texts, is_next, lend};
 use bytes::{Buf, Bytes};
 use bytes_utils_buf::contiguous::ContiguousBuf;
 use bytes_utils_buf::segmented::SegmentedSlice;
@@ -10,7 +10,7 @@ use std::io::Read;
 use std::process::Abort;
 
 /// Whether the buffers hold these texts.
-fn hold_texts<B: ContiguousBuf>(bufs: &[B], texts: &str) -> bool {
+fn slice_holds_texts<B: ContiguousBuf>(bufs: &[B], texts: &str) -> bool {
     let mut wanted = texts.split('|');
     for buf in bufs {
         if !is_next(&mut wanted, buf.as_contiguous()) {
@@ -21,28 +21,28 @@ fn hold_texts<B: ContiguousBuf>(bufs: &[B], texts: &str) -> bool {
 }
 
 /// Fails the test unless reads of `FIVE` are right, and the buffers hold these texts after the borrow.
-fn assert_leaves(rt: &(impl Abort + Alloc<A = Global>), row: &str, texts: &str) {
-    let mut bufs = bytes_of(rt.alloc(), FIVE).expect(rt, "memory");
+fn assert_slice_leaves(rt: &(impl Abort + Alloc<A = Global>), row: &str, texts: &str) {
+    let mut bufs = bytes_of_texts(rt.alloc(), FIVE).expect(rt, "memory");
     assert_reads(rt, &mut lend(rt, &mut bufs), row);
-    assert_that(rt, hold_texts(&bufs, texts));
+    assert_that(rt, slice_holds_texts(&bufs, texts));
 }
 
 #[test]
-fn slice_advance(rt: HostRuntime) {
-    assert_leaves(&rt, "pass , left 11 Hello", FIVE);
-    assert_leaves(&rt, "pass Hel, left 8 lo", "lo|| ||World");
-    assert_leaves(&rt, "pass Hello , left 5 World", "||||World");
+fn segmented_slice_advance(rt: HostRuntime) {
+    assert_slice_leaves(&rt, "pass , left 11 Hello", FIVE);
+    assert_slice_leaves(&rt, "pass Hel, left 8 lo", "lo|| ||World");
+    assert_slice_leaves(&rt, "pass Hello , left 5 World", "||||World");
 }
 
 #[test]
-fn empty_slices(rt: HostRuntime) {
+fn empty_segmented_slice(rt: HostRuntime) {
     let mut none: [&[u8]; 0] = [];
-    assert_empty(&rt, &mut lend(&rt, &mut none));
+    assert_reads_nothing(&rt, &mut lend(&rt, &mut none));
 }
 
 // All of the bytes are read by std's reader.
 #[test]
-fn sliced_hello(rt: HostRuntime) {
+fn segmented_slice_of_hello(rt: HostRuntime) {
     let mut bufs: [&[u8]; 5] = [b"Hello", b"", b" ", b"", b"World"];
     let mut all = lend(&rt, &mut bufs);
     assert_reads(&rt, &mut all, "left 11 Hello");
@@ -52,8 +52,8 @@ fn sliced_hello(rt: HostRuntime) {
 }
 
 #[test]
-fn totals(rt: HostRuntime) {
-    let mut bufs = [Zeros { left: usize::MAX }, Zeros { left: 0 }];
+fn segmented_slice_totals(rt: HostRuntime) {
+    let mut bufs = [OddZeros { left: usize::MAX }, OddZeros { left: 0 }];
     assert_that(&rt, SegmentedSlice::total(&bufs) == Some(usize::MAX));
     bufs[1].left = 1;
     assert_that(&rt, SegmentedSlice::total(&bufs).is_none());

@@ -7,7 +7,7 @@ use std::alloc::Global;
 use std::process::Abort;
 
 /// Two segments of five and six bytes, each with a block of its own.
-fn two_blocks(rt: &(impl Abort + Alloc<A = Global>)) -> SegmentedBuf<Bytes> {
+fn two_blocks_to_split(rt: &(impl Abort + Alloc<A = Global>)) -> SegmentedBuf<Bytes> {
     let mut buf = SegmentedBuf::new(rt.alloc());
     for text in "Hello| World".split('|') {
         let block = Bytes::copy_from_slice(rt.alloc(), text.as_bytes()).expect(rt, "memory");
@@ -17,7 +17,7 @@ fn two_blocks(rt: &(impl Abort + Alloc<A = Global>)) -> SegmentedBuf<Bytes> {
 }
 
 /// Whether pieces are returned, each with another owner of its block.
-fn are_shared(pieces: Result<SegmentedBuf<Bytes>, Reason>) -> bool {
+fn are_shared_by_split(pieces: Result<SegmentedBuf<Bytes>, Reason>) -> bool {
     let Ok(pieces) = pieces else {
         return false;
     };
@@ -31,14 +31,14 @@ fn are_shared(pieces: Result<SegmentedBuf<Bytes>, Reason>) -> bool {
 
 /// Whether the first bytes are shared, or copied if they are in both segments, and so are their
 /// pieces.
-fn shares_first(alloc: Global, buf: &SegmentedBuf<Bytes>, len: usize) -> bool {
+fn split_shares_first(alloc: Global, buf: &SegmentedBuf<Bytes>, len: usize) -> bool {
     len <= buf.remaining()
         && matches!(&buf.peek_bytes(alloc, len), Ok(it) if it.is_unique() == (len > 5))
-        && are_shared(buf.prefix(alloc, len))
+        && are_shared_by_split(buf.prefix(alloc, len))
 }
 
 /// Whether the pieces before a place and those after it are shared, by either call that cuts there.
-fn shares_cut(alloc: Global, buf: &SegmentedBuf<Bytes>, at: usize, is_front: bool) -> bool {
+fn split_shares_cut(alloc: Global, buf: &SegmentedBuf<Bytes>, at: usize, is_front: bool) -> bool {
     let Ok(mut one) = buf.try_clone() else {
         return false;
     };
@@ -50,15 +50,15 @@ fn shares_cut(alloc: Global, buf: &SegmentedBuf<Bytes>, at: usize, is_front: boo
     } else {
         one.split_off(alloc, at)
     };
-    are_shared(other) & are_shared(Ok(one))
+    are_shared_by_split(other) & are_shared_by_split(Ok(one))
 }
 
 #[test]
-fn first_bytes_are_shared(rt: HostRuntime) {
-    let (alloc, buf) = (rt.alloc(), two_blocks(&rt));
+fn split_segments_are_shared(rt: HostRuntime) {
+    let (alloc, buf) = (rt.alloc(), two_blocks_to_split(&rt));
     for len in 1..=11 {
-        assert_that(&rt, shares_first(alloc, &buf, len));
-        assert_that(&rt, shares_cut(alloc, &buf, len, true));
-        assert_that(&rt, shares_cut(alloc, &buf, len, false));
+        assert_that(&rt, split_shares_first(alloc, &buf, len));
+        assert_that(&rt, split_shares_cut(alloc, &buf, len, true));
+        assert_that(&rt, split_shares_cut(alloc, &buf, len, false));
     }
 }

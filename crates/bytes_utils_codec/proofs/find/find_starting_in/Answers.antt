@@ -16,7 +16,7 @@ returns-in_err-at g c =
     let p = c.args.finder.now in
     let segment = c.args.segment.now in
     let border = border_at p c.needle.result.now segment (concat (drop c.args.next c.args.buf.now.segments)) c.args.from c.max-tail.result c.requires.some (omega arith) c.needle.ensures (omega arith)
-    (range_rest segment c.max-tail.result) (omega (arith, ap length c.needle.ensures, length-take {A = ℕ})) c.fill_window-count.ensures.bytes in
+    (range_rest segment c.max-tail.result) (omega (arith, ap length c.needle.ensures, length-take {A = ℕ})) c.fill_find_window-count.ensures.bytes in
     let missed = rw (range_rest segment c.args.from) at c.in_default.ensures in
     rw c.from_residual.ensures (missed_begun p segment _ c.args.from c.requires.some (omega arith) border missed c.in_err-at.ensures)
 
@@ -25,7 +25,7 @@ returns g c =
     let p = c.args.finder.now in
     let segment = c.args.segment.now in
     let border = border_at p c.needle.result.now segment (concat (drop c.args.next c.args.buf.now.segments)) c.args.from c.max-tail.result c.requires.some (omega arith) c.needle.ensures (omega arith)
-    (range_rest segment c.max-tail.result) (omega (arith, ap length c.needle.ensures, length-take {A = ℕ})) c.fill_window-count.ensures.bytes in
+    (range_rest segment c.max-tail.result) (omega (arith, ap length c.needle.ensures, length-take {A = ℕ})) c.fill_find_window-count.ensures.bytes in
     let missed = rw (range_rest segment c.args.from) at c.in_default.ensures in
     begun_across p segment _ c.args.from c.requires.some (omega arith) border c.in_ok-at.at (c.max-tail.result + c.in_ok-at.at) refl missed c.in_ok-at.ensures
 

@@ -1,4 +1,4 @@
-use Rattle.bytes_utils_codec.proofs.StreamTextsLemmas.{lossy_runs, text_fault, text_front, text_items, whole_lossy}
+use Rattle.bytes_utils_codec.proofs.TextReadingLemmas.{lossy_runs, text_fault, text_front, text_items, whole_lossy}
 use Rattle.bytes_utils_codec.proofs.texts.text_laws.Goals as goal
 
 pub returns : goal.returns

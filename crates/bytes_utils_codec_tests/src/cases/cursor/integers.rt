@@ -1,5 +1,5 @@
 //! Integers and arrays at a cursor, wherever their bytes are cut.
-use super::is_right_of;
+use super::is_cursor_row_right;
 use crate::cases::fixtures::assert_row;
 use bytes_utils::SegmentedBuf;
 use bytes_utils_buf::contiguous::ContiguousBuf;
@@ -7,7 +7,7 @@ use bytes_utils_codec::cursor::Cursor;
 use std::alloc::Global;
 
 /// Takes the next integer or array. Returns `None` if the name is another one.
-pub(super) fn is_next<B: ContiguousBuf + Drop>(
+pub(super) fn is_next_integer<B: ContiguousBuf + Drop>(
     cursor: &mut Cursor<'_, B>,
     name: &str,
     want: &str,
@@ -52,7 +52,7 @@ const SEVEN: &str =
     take_u32_le none, take_u16 0506, take_u16 none, take_u16_le none, take_u8 07, take_u8 none, at 7";
 
 /// The bytes in segments of `size` bytes, or `None` if memory is refused.
-fn segments(alloc: Global, bytes: &[u8], size: usize) -> Option<SegmentedBuf<&[u8]>> {
+fn segments_of_integers(alloc: Global, bytes: &[u8], size: usize) -> Option<SegmentedBuf<&[u8]>> {
     let mut held = SegmentedBuf::new(alloc);
     for segment in bytes.chunks(size.max(1)) {
         held.try_push(segment).ok()?;
@@ -64,8 +64,8 @@ fn segments(alloc: Global, bytes: &[u8], size: usize) -> Option<SegmentedBuf<&[u
 fn integers_cut_at_each_size(rt: HostRuntime) {
     for (bytes, row) in [(BYTES, ALL), (&BYTES[..7], SEVEN)] {
         for size in 1..=bytes.len() {
-            let held = segments(rt.alloc(), bytes, size).expect(&rt, "no memory");
-            let holds = is_right_of(&rt, &held, row);
+            let held = segments_of_integers(rt.alloc(), bytes, size).expect(&rt, "no memory");
+            let holds = is_cursor_row_right(&rt, &held, row);
             assert_row(&rt, row, holds);
         }
     }

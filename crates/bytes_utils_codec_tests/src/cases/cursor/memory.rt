@@ -1,6 +1,6 @@
 //! What each call returns if a request for memory is refused, and that the cursor stays then.
-use super::{Run, is_right_of};
-use crate::cases::fixtures::rows::Called;
+use super::{CursorRun, is_cursor_row_right};
+use crate::cases::fixtures::rows::CalledByRow;
 use crate::cases::fixtures::{assert_row, in_segments};
 use bytes_utils_codec::cursor::Cursor;
 
@@ -21,10 +21,10 @@ line 01234567890123456789
 ";
 
 #[test]
-fn calls(rt: HostRuntime) {
+fn cursor_calls_if_memory_is_refused(rt: HostRuntime) {
     if let Some(buf) = in_segments(rt.alloc(), PIECES) {
         for row in ROWS.lines() {
-            let holds = is_right_of(&rt, &buf, row);
+            let holds = is_cursor_row_right(&rt, &buf, row);
             assert_row(&rt, row, holds);
         }
     }
@@ -35,9 +35,9 @@ const LIMITED: &str = "take_until_within 12345678901234567 0 long, \
     take_until_within 678901234567890.abc 100 none, take_until_within 12345678901234567 1 0, at 18";
 
 #[test]
-fn a_limit_without_memory(rt: HostRuntime) {
+fn cursor_within_a_limit_if_memory_is_refused(rt: HostRuntime) {
     if let Some(buf) = in_segments(rt.alloc(), PIECES) {
-        let mut run = Run {
+        let mut run = CursorRun {
             alloc: rt.alloc(),
             cursor: Cursor::new(&buf),
         };

@@ -1,6 +1,6 @@
 //! Frames that a separator ends, out of pieces: worked cases, limits, and what is shared.
 use super::cuts::assert_cuts;
-use super::rows::{assert_let_go, assert_rows};
+use super::rows::{assert_decode_row_lets_go, assert_decode_rows};
 use crate::cases::fixtures::{assert_that, debugs, says};
 use bytes_utils_codec::decode::{Delimited, FrameTooLong, decoder_laws};
 
@@ -20,7 +20,7 @@ const STREAMS: &str = "\
 ";
 
 #[test]
-fn streams_that_are_cut_anywhere(rt: HostRuntime) {
+fn delimited_streams_cut_anywhere(rt: HostRuntime) {
     decoder_laws::<Delimited>();
     assert_cuts::<Delimited, _>(&rt, STREAMS);
 }
@@ -37,12 +37,12 @@ any -: own a, own b-c, own -d, /1, &ab, &c
 ";
 
 #[test]
-fn calls_after_each_piece(rt: HostRuntime) {
-    assert_rows::<Delimited, _>(&rt, b"", CALLS);
+fn delimited_frames_after_each_piece(rt: HostRuntime) {
+    assert_decode_rows::<Delimited, _>(&rt, b"", CALLS);
 }
 
 #[test]
-fn an_error_says_why(rt: HostRuntime) {
+fn delimited_error_says_why(rt: HostRuntime) {
     let holds = says(rt.alloc(), &FrameTooLong, "the frame is too long")
         && debugs(rt.alloc(), &FrameTooLong, "FrameTooLong");
     assert_that(&rt, holds);
@@ -53,10 +53,10 @@ fn an_error_says_why(rt: HostRuntime) {
 const MANY: &str = "any <.: 10000 times: &, -, +b, -; 400000 times: +a, -; +<., *#5540000, =";
 
 #[test]
-fn a_frame_of_many_pieces(rt: HostRuntime) {
-    assert_rows::<Delimited, _>(&rt, &[b'a'; 513], MANY);
+fn delimited_frame_of_many_pieces(rt: HostRuntime) {
+    assert_decode_rows::<Delimited, _>(&rt, &[b'a'; 513], MANY);
     let separator = "any -#20000: +, -; 19 times: copy, -; copy, empty";
-    assert_rows::<Delimited, _>(&rt, &[b'-'; 1_000], separator);
+    assert_decode_rows::<Delimited, _>(&rt, &[b'-'; 1_000], separator);
 }
 
 /// A frame of 2,000,000 bytes in 2,000 pieces, and one of a byte more, of which the first is that
@@ -67,20 +67,24 @@ const LONG: &str = "\
 ";
 
 #[test]
-fn a_long_frame_within_a_limit(rt: HostRuntime) {
-    assert_rows::<Delimited, _>(&rt, &[b'a'; 1_000], LONG);
+fn long_delimited_frame_within_a_limit(rt: HostRuntime) {
+    assert_decode_rows::<Delimited, _>(&rt, &[b'a'; 1_000], LONG);
 }
 
 /// A piece of more than 512 bytes is held as it came, and its frames share it. One of 512 bytes is
 /// copied. A frame in two pieces is one block.
 #[test]
-fn frame_in_one_piece_is_shared(rt: HostRuntime) {
+fn delimited_frame_in_one_piece_is_shared(rt: HostRuntime) {
     let mut piece = [b'b'; 100_002];
     piece[..2].copy_from_slice(b"a-");
-    assert_let_go::<Delimited, _>(&rt, &piece[..512], "any -: &, piece alone, &a, =#510");
+    assert_decode_row_lets_go::<Delimited, _>(
+        &rt,
+        &piece[..512],
+        "any -: &, piece alone, &a, =#510",
+    );
     let shared = "any -: &, piece shared, &a, =#511, advance 511, piece alone";
-    assert_let_go::<Delimited, _>(&rt, &piece[..513], shared);
+    assert_decode_row_lets_go::<Delimited, _>(&rt, &piece[..513], shared);
     let shared = "any -: &, piece shared, &a, =#100000, advance 100000, piece alone";
-    assert_let_go::<Delimited, _>(&rt, &piece, shared);
-    assert_let_go::<Delimited, _>(&rt, &piece[..513], "any -: &, &a, &, *#512, =#511");
+    assert_decode_row_lets_go::<Delimited, _>(&rt, &piece, shared);
+    assert_decode_row_lets_go::<Delimited, _>(&rt, &piece[..513], "any -: &, &a, &, *#512, =#511");
 }

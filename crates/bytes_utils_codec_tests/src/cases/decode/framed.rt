@@ -1,6 +1,6 @@
 //! What a reader holds, lets go and shares, and the bytes that are taken off it as they are.
-use super::made::reader_of;
-use super::rows::{after, assert_let_go, assert_rows};
+use super::made::made_reader;
+use super::rows::{after_decode_row, assert_decode_row_lets_go, assert_decode_rows};
 use crate::cases::fixtures::assert_that;
 use bytes::{Buf, Bytes};
 use bytes_utils_codec::decode::{Delimited, Framed, LengthPrefixed};
@@ -9,7 +9,7 @@ use std::io::Print;
 use std::process::Abort;
 
 /// Whether what a finished reader held is a share of the piece until it is dropped.
-fn finished_lets_go(alloc: Global, piece: &Bytes) -> Option<bool> {
+fn finished_framed_lets_go(alloc: Global, piece: &Bytes) -> Option<bool> {
     let mut reader = Framed::new(alloc, LengthPrefixed::new(9));
     reader.push(piece.clone().ok()?).ok()?;
     let (_, held) = reader.finish();
@@ -27,27 +27,27 @@ const SHARED: &str = "\
 ";
 
 #[test]
-fn pieces_are_let_go(rt: HostRuntime) {
+fn framed_pieces_are_let_go(rt: HostRuntime) {
     let mut bytes = [b'a'; 600];
     bytes[2] = b'b';
     for row in SHARED.lines() {
-        assert_let_go::<Delimited, _>(&rt, &bytes, row);
+        assert_decode_row_lets_go::<Delimited, _>(&rt, &bytes, row);
     }
     let piece = Bytes::copy_from_slice(rt.alloc(), &bytes).expect(&rt, "no memory");
-    let is_let_go = finished_lets_go(rt.alloc(), &piece) == Some(true);
+    let is_let_go = finished_framed_lets_go(rt.alloc(), &piece) == Some(true);
     assert_that(&rt, is_let_go);
 }
 
 /// Pieces of at most three bytes are copied together, and a longer one is held as it came.
 #[test]
-fn the_threshold_of_a_reader(rt: HostRuntime) {
+fn framed_with_a_threshold(rt: HostRuntime) {
     let reader = Framed::with_threshold(rt.alloc(), LengthPrefixed::new(9), 3);
     let calls = "own ab, /1, own abc, /1, own abcd, /2, own ab, /3, =ababcabcdab";
-    assert_that(&rt, after(&rt, reader, calls).is_some());
+    assert_that(&rt, after_decode_row(&rt, reader, calls).is_some());
 }
 
 #[test]
-fn the_decoder_of_a_reader(rt: HostRuntime) {
+fn framed_has_its_decoder(rt: HostRuntime) {
     let decoder = Delimited::with_limit(rt.alloc(), b"--", 4).expect(&rt, "no memory");
     let reader = Framed::new(rt.alloc(), decoder);
     let decoder = reader.decoder();
@@ -99,25 +99,25 @@ const AFTER_TAKEN: &str = "\
 ";
 
 #[test]
-fn bytes_that_are_taken(rt: HostRuntime) {
-    assert_rows::<Delimited, _>(&rt, b"", BODIES);
-    assert_rows::<Delimited, _>(&rt, b"", SPLIT_BODIES);
-    assert_rows::<Delimited, _>(&rt, b"", AFTER_TAKEN);
-    assert_rows::<Delimited, _>(&rt, &[b'a'; 100_000], "4 --: copy, =#100000");
+fn framed_bytes_that_are_taken(rt: HostRuntime) {
+    assert_decode_rows::<Delimited, _>(&rt, b"", BODIES);
+    assert_decode_rows::<Delimited, _>(&rt, b"", SPLIT_BODIES);
+    assert_decode_rows::<Delimited, _>(&rt, b"", AFTER_TAKEN);
+    assert_decode_rows::<Delimited, _>(&rt, &[b'a'; 100_000], "4 --: copy, =#100000");
 }
 
 /// Makes calls on a reader, on one with another decoder over what is held then, and on the first one again. Returns
 /// whether they are right.
-fn goes_on<R: Abort + Print + AllocGlobal>(rt: &R) -> Option<bool> {
-    let (reader, _) = reader_of::<Delimited, R>(rt, "4 --")?;
-    let (delimited, held) = after(rt, reader, "+head--\0\0\0\x04a--bta, head")?.finish();
+fn framed_goes_on<R: Abort + Print + AllocGlobal>(rt: &R) -> Option<bool> {
+    let (reader, _) = made_reader::<Delimited, R>(rt, "4 --")?;
+    let (delimited, held) = after_decode_row(rt, reader, "+head--\0\0\0\x04a--bta, head")?.finish();
     let bodies = Framed::from_parts(rt.alloc(), LengthPrefixed::new(9), held);
-    let (_, held) = after(rt, bodies, "a--b")?.finish();
+    let (_, held) = after_decode_row(rt, bodies, "a--b")?.finish();
     let reader = Framed::from_parts(rt.alloc(), delimited, held);
-    Some(after(rt, reader, "+il--, tail")?.remaining() == 0)
+    Some(after_decode_row(rt, reader, "+il--, tail")?.remaining() == 0)
 }
 
 #[test]
-fn another_decoder_goes_on(rt: HostRuntime) {
-    assert_that(&rt, goes_on(&rt) == Some(true));
+fn framed_goes_on_with_another_decoder(rt: HostRuntime) {
+    assert_that(&rt, framed_goes_on(&rt) == Some(true));
 }

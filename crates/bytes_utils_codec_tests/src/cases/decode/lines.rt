@@ -1,7 +1,7 @@
 //! Lines as texts, out of pieces: worked cases, limits, and what is shared.
-use super::cuts::{assert_cuts, gives};
+use super::cuts::{assert_cuts, cuts_give};
 use super::made::Made;
-use super::rows::{assert_let_go, assert_rows};
+use super::rows::{assert_decode_row_lets_go, assert_decode_rows};
 use crate::cases::fixtures::{assert_that, says};
 use bytes_utils::{Reason, Str};
 use bytes_utils_codec::decode::{Framed, LineFault, Lines};
@@ -35,7 +35,7 @@ const LIMITED: &str = "\
 ";
 
 #[test]
-fn streams_that_are_cut_anywhere(rt: HostRuntime) {
+fn lines_of_streams_cut_anywhere(rt: HostRuntime) {
     assert_cuts::<Lines, _>(&rt, STREAMS);
     assert_cuts::<Lines, _>(&rt, LIMITED);
 }
@@ -59,16 +59,16 @@ const REPLACED_FEW: &str = "\u{FFFD}\u{FFFD}|long|\u{FFFD}|long|$\r|";
 fn lossy_lines(rt: HostRuntime) {
     assert_that(
         &rt,
-        gives::<Lines, _>(&rt, "any lossy", LOSSY, REPLACED.as_bytes()),
+        cuts_give::<Lines, _>(&rt, "any lossy", LOSSY, REPLACED.as_bytes()),
     );
     assert_that(
         &rt,
-        gives::<Lines, _>(&rt, "2 lossy", FEW, REPLACED_FEW.as_bytes()),
+        cuts_give::<Lines, _>(&rt, "2 lossy", FEW, REPLACED_FEW.as_bytes()),
     );
 }
 
 /// Whether the item is a fault that says this, with these bytes, or none of a line that is too long.
-fn is_fault(
+fn is_line_fault(
     alloc: Global,
     item: Result<Option<Result<Str, LineFault>>, Reason>,
     (bytes, text): (&[u8], &str),
@@ -83,24 +83,24 @@ fn is_fault(
 }
 
 /// Whether each fault says why, and those that are not UTF-8 have the bytes of their line.
-fn say_why(alloc: Global, reader: &mut Framed<Lines>) -> bool {
+fn lines_say_why(alloc: Global, reader: &mut Framed<Lines>) -> bool {
     let unfinished = b"\xE2\x82".as_slice();
     let why_unfinished = "incomplete utf-8 byte sequence from index 0";
     let why_invalid = "invalid utf-8 sequence of 1 bytes from index 1";
     reader.push_slice(b"\xE2\x82\nabcd\r\na\xFF").is_ok()
-        && is_fault(alloc, reader.next_item(alloc), (unfinished, why_unfinished))
-        && is_fault(
+        && is_line_fault(alloc, reader.next_item(alloc), (unfinished, why_unfinished))
+        && is_line_fault(
             alloc,
             reader.next_item(alloc),
             (b"", "the line is too long"),
         )
-        && is_fault(alloc, reader.last_item(alloc), (b"a\xFF", why_invalid))
+        && is_line_fault(alloc, reader.last_item(alloc), (b"a\xFF", why_invalid))
 }
 
 #[test]
-fn faults_say_why(rt: HostRuntime) {
+fn line_faults_say_why(rt: HostRuntime) {
     let decoder = Lines::with_limit(rt.alloc(), 3).expect(&rt, "no memory");
-    let holds = say_why(rt.alloc(), &mut Framed::new(rt.alloc(), decoder));
+    let holds = lines_say_why(rt.alloc(), &mut Framed::new(rt.alloc(), decoder));
     assert_that(&rt, holds);
 }
 
@@ -123,16 +123,16 @@ const ENDLESS: &str = "1000 text: 100 times: +aaaaaaaaaa, -, /1; \
     +aaaaaaaaaa, long, -; 9899 times: +aaaaaaaaaa, -, =";
 
 #[test]
-fn calls_after_each_piece(rt: HostRuntime) {
-    assert_rows::<Lines, _>(&rt, b"", CALLS);
-    assert_rows::<Lines, _>(&rt, b"", ENDLESS);
+fn lines_after_each_piece(rt: HostRuntime) {
+    assert_decode_rows::<Lines, _>(&rt, b"", CALLS);
+    assert_decode_rows::<Lines, _>(&rt, b"", ENDLESS);
 }
 
 /// Texts, of which the last line of most has no line feed.
 const TEXTS: &str = "|a|a\n|a\r|a\r\n\r|\n\r\n|a\nb\r\r\nc\r|é\n\r\r|\n\n\n é";
 
 /// Whether the lines of the text are those of `str::lines`, and then nothing is left.
-fn are_lines(alloc: Global, reader: &mut Framed<Lines>, text: &str) -> Option<bool> {
+fn are_lines_of_text(alloc: Global, reader: &mut Framed<Lines>, text: &str) -> Option<bool> {
     reader.push_slice(text.as_bytes()).ok()?;
     for line in text.lines() {
         let next = match reader.next_item(alloc).ok()? {
@@ -152,7 +152,7 @@ fn all_lines_of_texts(rt: HostRuntime) {
     let decoder = Lines::new(rt.alloc()).expect(&rt, "no memory");
     let mut reader = Framed::new(rt.alloc(), decoder);
     for text in TEXTS.split('|') {
-        let holds = are_lines(rt.alloc(), &mut reader, text) == Some(true);
+        let holds = are_lines_of_text(rt.alloc(), &mut reader, text) == Some(true);
         assert_that(&rt, holds);
     }
 }
@@ -164,11 +164,11 @@ fn all_lines_of_texts(rt: HostRuntime) {
 fn a_line_in_one_segment_is_shared(rt: HostRuntime) {
     let mut piece = [b'd'; 600];
     piece[..6].copy_from_slice(b"b\r\nab\n");
-    assert_let_go::<Lines, _>(&rt, &piece, "any text: +ab.a, &ab, &, *ab, &ab");
-    assert_let_go::<Lines, _>(&rt, &piece, "any lossy: +ab.a, &ab, &, *ab, &ab");
+    assert_decode_row_lets_go::<Lines, _>(&rt, &piece, "any text: +ab.a, &ab, &, *ab, &ab");
+    assert_decode_row_lets_go::<Lines, _>(&rt, &piece, "any lossy: +ab.a, &ab, &, *ab, &ab");
     piece[..6].copy_from_slice(b"ab\r\ndd");
-    assert_let_go::<Lines, _>(&rt, &piece, "599 text: &, &, &#2, *#598, $&#596");
-    assert_let_go::<Lines, _>(&rt, &piece, "any text: &, &, &#2, *#598, $&#596");
+    assert_decode_row_lets_go::<Lines, _>(&rt, &piece, "599 text: &, &, &#2, *#598, $&#596");
+    assert_decode_row_lets_go::<Lines, _>(&rt, &piece, "any text: &, &, &#2, *#598, $&#596");
 }
 
 /// A line of 200,000 bytes in 201 pieces, and a last one of the same length in 200. A limit may be the length of the
@@ -181,6 +181,6 @@ const LONG: &str = "\
 #[test]
 fn a_long_line_within_a_limit(rt: HostRuntime) {
     for row in LONG.lines() {
-        assert_let_go::<Lines, _>(&rt, &[b'a'; 1_000], row);
+        assert_decode_row_lets_go::<Lines, _>(&rt, &[b'a'; 1_000], row);
     }
 }

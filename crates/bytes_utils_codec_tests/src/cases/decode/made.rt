@@ -1,6 +1,6 @@
 //! Readers of which rows name the limit and the kind: `4 text`, or `any text` for one without a limit.
-use crate::cases::fixtures::rows::{Refusal, named, report};
-use crate::cases::fixtures::signs::meant;
+use crate::cases::fixtures::rows::{Refusal, named_row_call, report_row_call};
+use crate::cases::fixtures::signs::meant_by_signs;
 use bytes::Bytes;
 use bytes_utils::{Reason, Str};
 use bytes_utils_codec::decode::{
@@ -35,7 +35,7 @@ const NO_KIND: Refusal = Refusal {
 const HYPHENS: &[u8] = &[b'-'; 20_000];
 
 /// Makes a decoder of frames that this separator ends.
-fn delimited(
+fn made_delimited(
     alloc: Global,
     separator: &[u8],
     limit: Option<usize>,
@@ -44,10 +44,10 @@ fn delimited(
         return Err(NO_KIND);
     }
     let made = match limit {
-        None => named("Delimited::", "new", Delimited::new(alloc, separator))?,
+        None => named_row_call("Delimited::", "new", Delimited::new(alloc, separator))?,
         Some(limit) => {
             let made = Delimited::with_limit(alloc, separator, limit);
-            named("Delimited::", "with_limit", made)?
+            named_row_call("Delimited::", "with_limit", made)?
         }
     };
     Ok((made, "Delimited"))
@@ -63,9 +63,9 @@ impl Made for Delimited {
         match kind.strip_prefix("-#") {
             Some(count) => {
                 let separator = HYPHENS.get(..count.parse().unwrap_or(0));
-                delimited(alloc, separator.unwrap_or(b""), limit)
+                made_delimited(alloc, separator.unwrap_or(b""), limit)
             }
-            None => delimited(alloc, meant(kind).as_slice(), limit),
+            None => made_delimited(alloc, meant_by_signs(kind).as_slice(), limit),
         }
     }
 
@@ -85,8 +85,12 @@ impl Made for Lines {
         limit: Option<usize>,
     ) -> Result<(Lines, &'static str), Refusal> {
         let lines = match limit {
-            None => named("Lines::", "new", Lines::new(alloc))?,
-            Some(limit) => named("Lines::", "with_limit", Lines::with_limit(alloc, limit))?,
+            None => named_row_call("Lines::", "new", Lines::new(alloc))?,
+            Some(limit) => named_row_call(
+                "Lines::",
+                "with_limit",
+                Lines::with_limit(alloc, limit),
+            )?,
         };
         Ok(if kind == "lossy" {
             (lines.lossy(), "lossy Lines")
@@ -136,7 +140,7 @@ impl Made for UniversalLines {
 }
 
 /// The decoder with what one more word of its kind says, or `None` if there is no such word.
-fn with(decoder: LengthPrefixed, word: &str) -> Option<LengthPrefixed> {
+fn made_with(decoder: LengthPrefixed, word: &str) -> Option<LengthPrefixed> {
     let (what, number) = word.rsplit_once(' ').unwrap_or((word, ""));
     match (what, number.parse::<usize>(), number.parse::<isize>()) {
         ("at", Ok(offset), _) => Some(decoder.length_at(offset)),
@@ -158,7 +162,7 @@ impl Made for LengthPrefixed {
     ) -> Result<(LengthPrefixed, &'static str), Refusal> {
         let mut decoder = LengthPrefixed::new(limit.unwrap_or(usize::MAX));
         for word in kind.split(", ") {
-            decoder = match with(decoder, word) {
+            decoder = match made_with(decoder, word) {
                 Some(decoder) => decoder,
                 None => return Err(NO_KIND),
             };
@@ -173,7 +177,7 @@ impl Made for LengthPrefixed {
 
 /// Makes a reader, of its limit and its kind, and returns it with the name of its decoder. If memory is refused, which
 /// is reported, it is made again. Returns `None` if there is no such kind.
-pub(super) fn reader_of<D: Made, R: Abort + Print + AllocGlobal>(
+pub(super) fn made_reader<D: Made, R: Abort + Print + AllocGlobal>(
     rt: &R,
     kind: &str,
 ) -> Option<(Framed<D>, &'static str)> {
@@ -185,7 +189,7 @@ pub(super) fn reader_of<D: Made, R: Abort + Print + AllocGlobal>(
     let (decoder, name) = match D::of_kind(rt.alloc(), kind, limit) {
         Ok(made) => made,
         Err(refusal) => {
-            report(rt, refusal);
+            report_row_call(rt, refusal);
             D::of_kind(rt.alloc(), kind, limit).ok()?
         }
     };

@@ -1,6 +1,6 @@
 //! What each call returns if a request for memory is refused, and what comes after that. A run with
 //! one refused request ends well, whichever request it is, and prints which call was refused.
-use super::rows::{assert_read, assert_rows};
+use super::rows::{assert_decode_row_reads, assert_decode_rows};
 use crate::cases::fixtures::readers::SlowReader;
 use bytes_utils_codec::decode::{Delimited, LengthPrefixed, Lines, UniversalLines};
 
@@ -9,15 +9,15 @@ const FRAMES: &str =
     "any 0123456789abcdef-: &, +a0123456, +789abcdef-0123456789abcdef-, a#601, $empty";
 
 #[test]
-fn delimited(rt: HostRuntime) {
-    assert_rows::<Delimited, _>(&rt, &[b'a'; 600], FRAMES);
+fn delimited_decoder_if_memory_is_refused(rt: HostRuntime) {
+    assert_decode_rows::<Delimited, _>(&rt, &[b'a'; 600], FRAMES);
 }
 
 // Its pieces are in two segments. Only these and the decoder take memory.
 #[test]
-fn no_memory_needed_while_it_waits(rt: HostRuntime) {
+fn decoder_that_waits_needs_no_memory(rt: HostRuntime) {
     let row = "700 0123456789abcdef-: &, -, +1234, -, +5678, -";
-    assert_rows::<Delimited, _>(&rt, &[b'0'; 600], row);
+    assert_decode_rows::<Delimited, _>(&rt, &[b'0'; 600], row);
 }
 
 /// A line whose carriage return is in the second piece, and a last one; a last line of two pieces that are
@@ -29,8 +29,8 @@ any lossy: +a~<.~b, a\u{fffd}, $\u{fffd}b
 ";
 
 #[test]
-fn lines(rt: HostRuntime) {
-    assert_rows::<Lines, _>(&rt, &[b'a'; 600], LINES);
+fn lines_decoder_if_memory_is_refused(rt: HostRuntime) {
+    assert_decode_rows::<Lines, _>(&rt, &[b'a'; 600], LINES);
 }
 
 /// A line that is in two segments, and a last one; a line and a last one, each with a U+FFFD.
@@ -40,8 +40,8 @@ any lossy: +a~.~b, a\u{fffd}, $\u{fffd}b
 ";
 
 #[test]
-fn universal_lines(rt: HostRuntime) {
-    assert_rows::<UniversalLines, _>(&rt, &[b'a'; 600], UNIVERSAL_LINES);
+fn universal_lines_decoder_if_memory_is_refused(rt: HostRuntime) {
+    assert_decode_rows::<UniversalLines, _>(&rt, &[b'a'; 600], UNIVERSAL_LINES);
 }
 
 /// Items; and the first bytes of two pieces that are held apart, in one block and in segments.
@@ -53,13 +53,21 @@ const PREFIXED: &str = "\
 ";
 
 #[test]
-fn prefixed(rt: HostRuntime) {
-    assert_rows::<LengthPrefixed, _>(&rt, &[b'a'; 600], PREFIXED);
+fn length_prefixed_decoder_if_memory_is_refused(rt: HostRuntime) {
+    assert_decode_rows::<LengthPrefixed, _>(&rt, &[b'a'; 600], PREFIXED);
 }
 
 #[test]
-fn frames_of_pieces(rt: HostRuntime) {
+fn decoder_reads_if_memory_is_refused(rt: HostRuntime) {
     let input = SlowReader::new(b"\0\0\0\x02ab\0\0\0\x04cdef", 5);
-    assert_read::<LengthPrefixed, _>(&rt, input, "9 width 4: read_item ab, read_item cdef");
-    assert_read::<LengthPrefixed, _>(&rt, input, "9 width 4: read_from 5, =#5, read_from 5, =#10");
+    assert_decode_row_reads::<LengthPrefixed, _>(
+        &rt,
+        input,
+        "9 width 4: read_item ab, read_item cdef",
+    );
+    assert_decode_row_reads::<LengthPrefixed, _>(
+        &rt,
+        input,
+        "9 width 4: read_from 5, =#5, read_from 5, =#10",
+    );
 }

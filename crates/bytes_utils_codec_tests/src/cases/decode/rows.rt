@@ -18,13 +18,17 @@
 //! | `read_item fails`, `read_item gives up` | fails with the error of that input, or after too many reads |
 //! | `read_from 2`, `read_from fails` | makes one read, of two bytes, or fails so |
 //! | `input ab` | these bytes are left of the input |
+//! | `room 4096 2` | makes one read, of two bytes, with room for 4,096 bytes or more |
 //! | `reads 2` | it was read from twice |
 //! | `rooms 512 4096` | of the buffers for a read, the shortest and the longest have such lengths |
-use super::made::{Made, reader_of};
+use super::made::{Made, made_reader};
 use crate::cases::fixtures::assert_row;
 use crate::cases::fixtures::readers::SlowReader;
-use crate::cases::fixtures::rows::{Called, Refusal, is_right, named};
-use crate::cases::fixtures::signs::{are_bytes, are_in, are_parts, is_like, is_number, meant};
+use crate::cases::fixtures::rows::{CalledByRow, Refusal, is_row_right, named_row_call};
+use crate::cases::fixtures::signs::{
+    are_bytes_of_signs, are_parts_of_signs, are_segments_of_signs, is_block_of_signs,
+    is_number_of_signs, meant_by_signs,
+};
 use bytes::Bytes;
 use bytes_utils::Reason;
 use bytes_utils_codec::decode::{Framed, ReadItemError};
@@ -34,7 +38,7 @@ use std::process::Abort;
 
 /// A reader on which calls are made, with what they push and read.
 #[derive(Drop)]
-struct Run<'a, D: Made> {
+struct DecodeRun<'a, D: Made> {
     alloc: Global,
     reader: Framed<D>,
     name: &'static str,
@@ -43,19 +47,19 @@ struct Run<'a, D: Made> {
 }
 
 /// Whether an item is as wanted.
-fn is_item<D: Made>(item: Option<D::Item>, want: &str) -> bool {
+fn is_item_of_decode_row<D: Made>(item: Option<D::Item>, want: &str) -> bool {
     match item {
         Some(item) if want == "empty" => D::into_bytes(item).is_empty(),
-        Some(item) => is_like(&D::into_bytes(item), want),
+        Some(item) => is_block_of_signs(&D::into_bytes(item), want),
         None => want == "-",
     }
 }
 
-impl<D: Made> Run<'_, D> {
+impl<D: Made> DecodeRun<'_, D> {
     /// Pushes these bytes as a piece of their own, or else a share of the piece.
     fn push(&mut self, bytes: Option<&str>) -> Result<bool, Reason> {
         let piece = match bytes {
-            Some(bytes) => Bytes::copy_from_slice(self.alloc, meant(bytes).as_slice())?,
+            Some(bytes) => Bytes::copy_from_slice(self.alloc, meant_by_signs(bytes).as_slice())?,
             None => self.piece.clone()?,
         };
         self.reader.push(piece)?;
@@ -64,7 +68,7 @@ impl<D: Made> Run<'_, D> {
 
     /// Pushes a copy of these bytes.
     fn push_copy(&mut self, bytes: &[u8]) -> Result<bool, Refusal> {
-        named("Framed::", "push_slice", self.reader.push_slice(bytes))?;
+        named_row_call("Framed::", "push_slice", self.reader.push_slice(bytes))?;
         Ok(true)
     }
 
@@ -78,11 +82,11 @@ impl<D: Made> Run<'_, D> {
         match name {
             "take_bytes" => {
                 let front = self.reader.take_bytes(self.alloc, len);
-                Ok(is_like(&named("Framed::", "take_bytes", front)?, want))
+                Ok(is_block_of_signs(&named_row_call("Framed::", "take_bytes", front)?, want))
             }
             "split_to" => {
                 let front = self.reader.split_to(self.alloc, len);
-                Ok(are_parts(named("Framed::", "split_to", front)?, want))
+                Ok(are_parts_of_signs(named_row_call("Framed::", "split_to", front)?, want))
             }
             "advance" => {
                 self.reader.advance(len);
@@ -95,9 +99,13 @@ impl<D: Made> Run<'_, D> {
     /// Reads an item. A refused call is named by where it was refused.
     fn read_item(&mut self, want: &str) -> Result<bool, Refusal> {
         match self.reader.read_item(self.alloc, &mut self.input) {
-            Ok(item) => Ok(is_item::<D>(item, want)),
+            Ok(item) => Ok(is_item_of_decode_row::<D>(item, want)),
             Err(ReadItemError::TooManyReads) => Ok(want == "gives up"),
-            Err(ReadItemError::Decoder(reason)) => named("read_item", " at an item", Err(reason)),
+            Err(ReadItemError::Decoder(reason)) => named_row_call(
+                "read_item",
+                " at an item",
+                Err(reason),
+            ),
             Err(ReadItemError::Io(error)) => self.failed("read_item", &error, want),
         }
     }
@@ -105,15 +113,26 @@ impl<D: Made> Run<'_, D> {
     /// Makes one read.
     fn read_from(&mut self, want: &str) -> Result<bool, Refusal> {
         match self.reader.read_from(&mut self.input) {
-            Ok(count) => Ok(is_number(want, count)),
+            Ok(count) => Ok(is_number_of_signs(want, count)),
             Err(error) => self.failed("Framed::read_from", &error, want),
+        }
+    }
+
+    /// Makes one read with at least such room.
+    fn read_with_room(&mut self, room: &str, want: &str) -> Result<bool, Refusal> {
+        let Ok(room @ 1..) = room.parse() else {
+            return Ok(false);
+        };
+        match self.reader.read_with_room(&mut self.input, room) {
+            Ok(count) => Ok(is_number_of_signs(want, count)),
+            Err(error) => self.failed("Framed::read_with_room", &error, want),
         }
     }
 
     /// Whether a failed read is as wanted. Fails if it was refused memory.
     fn failed(&self, name: &'static str, error: &io::Error, want: &str) -> Result<bool, Refusal> {
         match error.kind() {
-            ErrorKind::OutOfMemory => named(name, "", Err(Reason::OutOfMemory)),
+            ErrorKind::OutOfMemory => named_row_call(name, "", Err(Reason::OutOfMemory)),
             kind => Ok(want == "fails" && kind == self.input.kind),
         }
     }
@@ -122,50 +141,54 @@ impl<D: Made> Run<'_, D> {
     fn make_named(&mut self, name: &str, rest: &str) -> Result<bool, Refusal> {
         let (shortest, longest) = self.input.rooms;
         match (name, rest.split_once(' ')) {
-            ("own", _) => named("Framed::", "push", self.push(Some(rest))),
+            ("own", _) => named_row_call("Framed::", "push", self.push(Some(rest))),
             ("piece", _) => Ok(self.piece.is_unique() == (rest == "alone")),
             ("starts_with", Some((bytes, "not"))) => {
-                Ok(!self.reader.starts_with(meant(bytes).as_slice()))
+                Ok(!self.reader.starts_with(meant_by_signs(bytes).as_slice()))
             }
-            ("starts_with", _) => Ok(self.reader.starts_with(meant(rest).as_slice())),
+            ("starts_with", _) => Ok(self.reader.starts_with(meant_by_signs(rest).as_slice())),
             ("read_item", _) => self.read_item(rest),
             ("read_from", _) => self.read_from(rest),
-            ("input", _) => Ok(are_bytes(self.input.rest, rest)),
-            ("reads", _) => Ok(is_number(rest, self.input.calls)),
+            ("room", Some((room, want))) => self.read_with_room(room, want),
+            ("input", _) => Ok(are_bytes_of_signs(self.input.rest, rest)),
+            ("reads", _) => Ok(is_number_of_signs(rest, self.input.calls)),
             ("rooms", Some((first, last))) => {
-                Ok(is_number(first, shortest) && is_number(last, longest))
+                Ok(is_number_of_signs(first, shortest) && is_number_of_signs(last, longest))
             }
             _ => self.take(name, rest),
         }
     }
 }
 
-impl<D: Made> Called for Run<'_, D> {
+impl<D: Made> CalledByRow for DecodeRun<'_, D> {
     fn make(&mut self, call: &str) -> Result<bool, Refusal> {
         if let Some((name, rest)) = call.split_once(' ') {
             return self.make_named(name, rest);
         }
         if let Some(bytes) = call.strip_prefix("+") {
-            return self.push_copy(meant(bytes).as_slice());
+            return self.push_copy(meant_by_signs(bytes).as_slice());
         }
         if let Some(want) = call.strip_prefix("$") {
             let item = self.reader.last_item(self.alloc);
-            return Ok(is_item::<D>(named(self.name, " at last_item", item)?, want));
+            return Ok(is_item_of_decode_row::<D>(
+                named_row_call(self.name, " at last_item", item)?,
+                want,
+            ));
         }
         if let Some(want) = call.strip_prefix("=") {
-            return Ok(are_in(self.reader.pieces().as_segmented(), want));
+            return Ok(are_segments_of_signs(self.reader.pieces().as_segmented(), want));
         }
         if let Some(count) = call.strip_prefix("/") {
-            return Ok(is_number(count, self.reader.pieces().segments()));
+            return Ok(is_number_of_signs(count, self.reader.pieces().segments()));
         }
         if call == "&" {
-            return named("Framed::", "push", self.push(None));
+            return named_row_call("Framed::", "push", self.push(None));
         }
         if call == "copy" {
             return self.push_copy(self.piece.as_slice());
         }
         let item = self.reader.next_item(self.alloc);
-        Ok(is_item::<D>(named(self.name, " at next_item", item)?, call))
+        Ok(is_item_of_decode_row::<D>(named_row_call(self.name, " at next_item", item)?, call))
     }
 
     fn bytes(&self) -> usize {
@@ -176,7 +199,7 @@ impl<D: Made> Called for Run<'_, D> {
 }
 
 /// Makes the calls of a row on a new reader. Returns whether it is right.
-fn is_right_of_new<D: Made, R: Abort + Print + AllocGlobal>(
+fn is_decode_row_right<D: Made, R: Abort + Print + AllocGlobal>(
     rt: &R,
     piece: &Bytes,
     input: SlowReader<'_>,
@@ -185,67 +208,67 @@ fn is_right_of_new<D: Made, R: Abort + Print + AllocGlobal>(
     let Some((kind, calls)) = row.split_once(": ") else {
         return false;
     };
-    let Some((reader, name)) = reader_of::<D, R>(rt, kind) else {
+    let Some((reader, name)) = made_reader::<D, R>(rt, kind) else {
         return false;
     };
-    let mut run = Run {
+    let mut run = DecodeRun {
         alloc: rt.alloc(),
         reader,
         name,
         piece,
         input,
     };
-    is_right(rt, &mut run, calls)
+    is_row_right(rt, &mut run, calls)
 }
 
 /// Makes calls on a reader. Returns it if they are right.
-pub(super) fn after<D: Made, R: Abort + Print + AllocGlobal>(
+pub(super) fn after_decode_row<D: Made, R: Abort + Print + AllocGlobal>(
     rt: &R,
     reader: Framed<D>,
     calls: &str,
 ) -> Option<Framed<D>> {
-    let mut run = Run {
+    let mut run = DecodeRun {
         alloc: rt.alloc(),
         reader,
         name: "a reader",
         piece: &Bytes::new(),
         input: SlowReader::new(b"", 1),
     };
-    let is_right = is_right(rt, &mut run, calls);
-    let Run { reader, .. } = run;
+    let is_right = is_row_right(rt, &mut run, calls);
+    let DecodeRun { reader, .. } = run;
     is_right.then_some(reader)
 }
 
 /// Asserts each of the rows, with this piece.
-pub(super) fn assert_rows<D: Made, R: Abort + Print + AllocGlobal>(
+pub(super) fn assert_decode_rows<D: Made, R: Abort + Print + AllocGlobal>(
     rt: &R,
     piece: &'static [u8],
     rows: &str,
 ) {
     let piece = Bytes::from_static(piece);
     for row in rows.lines() {
-        let holds = is_right_of_new::<D, R>(rt, &piece, SlowReader::new(b"", 1), row);
+        let holds = is_decode_row_right::<D, R>(rt, &piece, SlowReader::new(b"", 1), row);
         assert_row(rt, row, holds);
     }
 }
 
 /// Asserts a row, and that it lets go of its piece in the end.
-pub(super) fn assert_let_go<D: Made, R: Abort + Print + AllocGlobal>(
+pub(super) fn assert_decode_row_lets_go<D: Made, R: Abort + Print + AllocGlobal>(
     rt: &R,
     piece: &[u8],
     row: &str,
 ) {
     let piece = Bytes::copy_from_slice(rt.alloc(), piece).expect(rt, "no memory");
-    let holds = is_right_of_new::<D, R>(rt, &piece, SlowReader::new(b"", 1), row);
+    let holds = is_decode_row_right::<D, R>(rt, &piece, SlowReader::new(b"", 1), row);
     assert_row(rt, row, holds && piece.is_unique());
 }
 
 /// Asserts a row, with this input.
-pub(super) fn assert_read<D: Made, R: Abort + Print + AllocGlobal>(
+pub(super) fn assert_decode_row_reads<D: Made, R: Abort + Print + AllocGlobal>(
     rt: &R,
     input: SlowReader<'_>,
     row: &str,
 ) {
-    let holds = is_right_of_new::<D, R>(rt, &Bytes::new(), input, row);
+    let holds = is_decode_row_right::<D, R>(rt, &Bytes::new(), input, row);
     assert_row(rt, row, holds);
 }

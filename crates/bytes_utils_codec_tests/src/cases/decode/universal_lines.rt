@@ -1,6 +1,6 @@
 //! Lines that end with a line feed, a carriage return, or both, out of pieces.
 use super::cuts::assert_cuts;
-use super::rows::{assert_let_go, assert_rows};
+use super::rows::{assert_decode_row_lets_go, assert_decode_rows};
 use bytes_utils_codec::decode::UniversalLines;
 
 /// A carriage return is in one piece, and its line feed in the next one, if it is cut there.
@@ -37,7 +37,7 @@ const LIMITED: &str = "\
 ";
 
 #[test]
-fn every_two_cuts(rt: HostRuntime) {
+fn universal_lines_cut_at_every_two_places(rt: HostRuntime) {
     assert_cuts::<UniversalLines, _>(&rt, ROWS);
     assert_cuts::<UniversalLines, _>(&rt, LIMITED);
 }
@@ -52,17 +52,21 @@ any lossy: +a{}<b^, a\u{fffd}, $b\u{fffd}
 ";
 
 #[test]
-fn calls_after_each_piece(rt: HostRuntime) {
-    assert_rows::<UniversalLines, _>(&rt, b"", CALLS);
+fn universal_lines_after_each_piece(rt: HostRuntime) {
+    assert_decode_rows::<UniversalLines, _>(&rt, b"", CALLS);
 }
 
 /// A line in one piece shares that piece's block with what is left of it. The piece begins with the
 /// rest of an end.
 #[test]
-fn a_line_in_one_piece_is_shared(rt: HostRuntime) {
+fn universal_line_in_one_piece_is_shared(rt: HostRuntime) {
     let mut piece = [b'd'; 600];
     piece[..4].copy_from_slice(b"\nb\r\n");
-    assert_let_go::<UniversalLines, _>(&rt, &piece, "any text: +<, empty, &, &b, $&#596");
+    assert_decode_row_lets_go::<UniversalLines, _>(
+        &rt,
+        &piece,
+        "any text: +<, empty, &, &b, $&#596",
+    );
 }
 
 /// A line of 200,000 bytes in many pieces, many lines in a row, and a last one of the same length.
@@ -73,6 +77,6 @@ const LONG: &str = "any text: \
     aaaaaaaaaaaaaaaaaaaaaaaaaaaaaaaaaaaaaaaaaaaaaaaaaa, -; $*#200000";
 
 #[test]
-fn long_lines_and_many(rt: HostRuntime) {
-    assert_let_go::<UniversalLines, _>(&rt, &[b'\r'; 3_000], LONG);
+fn long_universal_lines_and_many(rt: HostRuntime) {
+    assert_decode_row_lets_go::<UniversalLines, _>(&rt, &[b'\r'; 3_000], LONG);
 }

@@ -1,6 +1,6 @@
 //! Places of needles. Only the search for a needle of more than 16 bytes makes a request for memory,
 //! and what is before a needle only if it is copied.
-use super::{assert_rows, is_right_of};
+use super::{assert_find_rows, is_find_row_right};
 use crate::cases::fixtures::{assert_that, in_segments};
 
 /// The bytes in which needles are found, in two segments.
@@ -13,20 +13,20 @@ const ROWS: &str = "\
 ";
 
 #[test]
-fn calls(rt: HostRuntime) {
-    assert_rows(&rt, PIECES, ROWS);
+fn find_calls_if_memory_is_refused(rt: HostRuntime) {
+    assert_find_rows(&rt, PIECES, ROWS);
 }
 
 // It asks for a block of twice the needle's length, and for no more; `refusals.txt` has that number.
 #[test]
-fn a_needle_of_many_bytes(rt: HostRuntime) {
+fn find_needs_memory_for_a_long_needle(rt: HostRuntime) {
     if let Some(buf) = in_segments(rt.alloc(), &[&[b'x'; 10_000]]) {
-        let holds = is_right_of(&rt, buf, &[b'x'; 10_000], "find 0");
+        let holds = is_find_row_right(&rt, buf, &[b'x'; 10_000], "find 0");
         assert_that(&rt, holds);
     }
 }
 
 #[test]
-fn no_memory_needed_by_short_needles(rt: HostRuntime) {
-    assert_rows(&rt, PIECES, "1234567890123456: find_short 3 3");
+fn find_needs_no_memory_for_short_needles(rt: HostRuntime) {
+    assert_find_rows(&rt, PIECES, "1234567890123456: find_short 3 3");
 }

@@ -1,8 +1,8 @@
 //! Only a new search makes requests for memory.
-use crate::cases::find::assert_rows;
+use crate::cases::find::assert_find_rows;
 
 #[test]
-fn no_memory_needed_to_find(rt: HostRuntime) {
+fn search_needs_no_memory_to_find(rt: HostRuntime) {
     let row = "0123456789abcdef-: new, search 2";
-    assert_rows(&rt, &[b"xx0123456789", b"abcdef-"], row);
+    assert_find_rows(&rt, &[b"xx0123456789", b"abcdef-"], row);
 }

@@ -1,6 +1,6 @@
 //! Items out of pieces that are cut anywhere, and what std says of the same bytes. An error is read as U+FFFD, so both
 //! kinds of reader have to give what `String::from_utf8_lossy` makes of all bytes.
-use super::reader_of;
+use super::texts_of_kind;
 use crate::cases::fixtures::assert_that;
 use bytes::Bytes;
 use bytes_utils::string::{Str, Utf8Error};
@@ -10,7 +10,7 @@ use std::process::Abort;
 use std::str;
 
 /// Appends the text of an item, or U+FFFD. Returns `None` if memory is refused.
-fn put_item(item: Result<Str, Utf8Error<Bytes>>, out: &mut String) -> Option<()> {
+fn put_cut_text(item: Result<Str, Utf8Error<Bytes>>, out: &mut String) -> Option<()> {
     match item {
         Ok(text) => out.push_str(text.as_str()).ok(),
         Err(_) => out.push_str("\u{FFFD}").ok(),
@@ -18,10 +18,10 @@ fn put_item(item: Result<Str, Utf8Error<Bytes>>, out: &mut String) -> Option<()>
 }
 
 /// Appends the texts of all items that come. Returns `None` if memory is refused, or there are too many.
-fn take_items(alloc: Global, texts: &mut Texts, out: &mut String) -> Option<()> {
+fn take_cut_texts(alloc: Global, texts: &mut Texts, out: &mut String) -> Option<()> {
     for _ in 0..64 {
         match texts.next_item(alloc).ok()? {
-            Some(item) => put_item(item, out)?,
+            Some(item) => put_cut_text(item, out)?,
             None => return Some(()),
         }
     }
@@ -30,7 +30,7 @@ fn take_items(alloc: Global, texts: &mut Texts, out: &mut String) -> Option<()> 
 
 /// Whether std says of all bytes that came that they are these texts, and the first bytes of a character, or none, which
 /// are held.
-fn are_as_std(alloc: Global, came: &[u8], held: usize, out: &str) -> bool {
+fn are_cut_texts_as_std(alloc: Global, came: &[u8], held: usize, out: &str) -> bool {
     if came.len() < held {
         return false;
     }
@@ -47,7 +47,7 @@ fn are_as_std(alloc: Global, came: &[u8], held: usize, out: &str) -> bool {
 
 /// Pushes a piece of the block, and appends the texts of all items. Returns whether std says the same of all bytes that
 /// came.
-fn is_right_after(
+fn is_right_after_cut_text(
     alloc: Global,
     texts: &mut Texts,
     (block, from, to): (&Bytes, usize, usize),
@@ -57,15 +57,15 @@ fn is_right_after(
         return None;
     }
     texts.push(block.slice(from..to).ok()?).ok()?;
-    take_items(alloc, texts, out)?;
+    take_cut_texts(alloc, texts, out)?;
     let came = &block.as_slice()[..to];
-    Some(are_as_std(alloc, came, texts.remaining(), out.as_str()))
+    Some(are_cut_texts_as_std(alloc, came, texts.remaining(), out.as_str()))
 }
 
 /// Whether the stream ends with these texts, the last of which is U+FFFD if it came with the end, and nothing is left.
-fn ends(alloc: Global, texts: &mut Texts, out: &mut String, want: &str) -> bool {
+fn cut_texts_end(alloc: Global, texts: &mut Texts, out: &mut String, want: &str) -> bool {
     let is_last = match texts.last_item(alloc) {
-        Ok(Some(item)) => put_item(item, out).is_some() && out.as_str().ends_with("\u{FFFD}"),
+        Ok(Some(item)) => put_cut_text(item, out).is_some() && out.as_str().ends_with("\u{FFFD}"),
         Ok(None) => true,
         Err(_) => false,
     };
@@ -76,28 +76,35 @@ fn ends(alloc: Global, texts: &mut Texts, out: &mut String, want: &str) -> bool 
 }
 
 /// Whether std says the same after each of three pieces of the block, and these are its texts.
-fn is_right(alloc: Global, kind: &str, block: &Bytes, cuts: (usize, usize), want: &str) -> bool {
-    let mut texts = reader_of(alloc, kind);
+fn is_cut_text_right(
+    alloc: Global,
+    kind: &str,
+    block: &Bytes,
+    cuts: (usize, usize),
+    want: &str,
+) -> bool {
+    let mut texts = texts_of_kind(alloc, kind);
     let mut out = String::new(alloc);
     let (mut is_right, mut from) = (true, 0);
     for to in [cuts.0, cuts.1, block.len()] {
-        let after = is_right_after(alloc, &mut texts, (block, from, to), &mut out);
+        let after = is_right_after_cut_text(alloc, &mut texts, (block, from, to), &mut out);
         is_right &= after == Some(true);
         from = to;
     }
-    is_right && ends(alloc, &mut texts, &mut out, want)
+    is_right && cut_texts_end(alloc, &mut texts, &mut out, want)
 }
 
 /// Whether that is so of both kinds of reader.
-fn are_right(alloc: Global, block: &Bytes, cuts: (usize, usize), want: &str) -> bool {
-    is_right(alloc, "strict", block, cuts, want) && is_right(alloc, "lossy", block, cuts, want)
+fn are_cut_texts_right(alloc: Global, block: &Bytes, cuts: (usize, usize), want: &str) -> bool {
+    is_cut_text_right(alloc, "strict", block, cuts, want)
+        && is_cut_text_right(alloc, "lossy", block, cuts, want)
 }
 
 /// The same of the block, cut at each two places.
-fn are_right_if_cut(alloc: Global, block: &Bytes, want: &str) -> bool {
+fn are_texts_right_if_cut(alloc: Global, block: &Bytes, want: &str) -> bool {
     for first in 0..=block.len() {
         for second in first..=block.len() {
-            if !are_right(alloc, block, (first, second), want) {
+            if !are_cut_texts_right(alloc, block, (first, second), want) {
                 return false;
             }
         }
@@ -106,9 +113,9 @@ fn are_right_if_cut(alloc: Global, block: &Bytes, want: &str) -> bool {
 }
 
 /// Asserts the texts of these bytes, cut at each two places.
-fn assert_cut<R: Abort + AllocGlobal>(rt: &R, bytes: &[u8], want: &str) {
+fn assert_cut_texts<R: Abort + AllocGlobal>(rt: &R, bytes: &[u8], want: &str) {
     let block = Bytes::copy_from_slice(rt.alloc(), bytes).expect(rt, "no memory");
-    let holds = are_right_if_cut(rt.alloc(), &block, want);
+    let holds = are_texts_right_if_cut(rt.alloc(), &block, want);
     assert_that(rt, holds);
 }
 
@@ -130,26 +137,26 @@ const LOSSY: [(&[u8], &str); 8] = [
 ];
 
 #[test]
-fn every_two_cuts(rt: HostRuntime) {
-    assert_cut(&rt, TEXT.as_bytes(), TEXT);
+fn texts_cut_at_every_two_places(rt: HostRuntime) {
+    assert_cut_texts(&rt, TEXT.as_bytes(), TEXT);
     for (bytes, want) in LOSSY {
-        assert_cut(&rt, bytes, want);
+        assert_cut_texts(&rt, bytes, want);
     }
 }
 
 /// Whether the texts of these bytes, cut after the first and the second of them, are std's.
-fn are_as_std_in_order(alloc: Global, bytes: &[u8]) -> Option<bool> {
+fn are_cut_texts_as_std_in_order(alloc: Global, bytes: &[u8]) -> Option<bool> {
     let block = Bytes::copy_from_slice(alloc, bytes).ok()?;
     let want = String::from_utf8_lossy(alloc, bytes).ok()?;
-    Some(are_right(alloc, &block, (1, 2), want.as_str()))
+    Some(are_cut_texts_right(alloc, &block, (1, 2), want.as_str()))
 }
 
 /// Each first byte and each second one, with bytes after them that may end any character.
 #[test]
-fn every_two_bytes(rt: HostRuntime) {
+fn texts_cut_between_any_two_bytes(rt: HostRuntime) {
     for lead in 0..=255 {
         for second in 0..=255 {
-            let is_right = are_as_std_in_order(rt.alloc(), &[lead, second, 0x80, 0xBF]);
+            let is_right = are_cut_texts_as_std_in_order(rt.alloc(), &[lead, second, 0x80, 0xBF]);
             assert_that(&rt, is_right == Some(true));
         }
     }

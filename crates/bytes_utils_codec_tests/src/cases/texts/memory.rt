@@ -1,5 +1,5 @@
 //! Texts out of pieces.
-use super::is_right_of;
+use super::is_texts_row_right;
 use crate::cases::fixtures::assert_row;
 use bytes::Bytes;
 
@@ -10,17 +10,17 @@ push 0 1, push 1 2, last β, remaining 0
 ";
 
 #[test]
-fn calls(rt: HostRuntime) {
+fn texts_calls_if_memory_is_refused(rt: HostRuntime) {
     let block = Bytes::from_static(b"\xCE\xB2");
     for row in ROWS.lines() {
-        let holds = is_right_of(&rt, "strict", &block, row);
+        let holds = is_texts_row_right(&rt, "strict", &block, row);
         assert_row(&rt, row, holds);
     }
 }
 
 #[test]
-fn no_memory_needed_by_replacements(rt: HostRuntime) {
+fn texts_with_replacements_need_no_memory(rt: HostRuntime) {
     let row = "push 0 2, next \u{fffd}, next none, last \u{fffd}";
-    let holds = is_right_of(&rt, "lossy", &Bytes::from_static(b"\xFF\xE2"), row);
+    let holds = is_texts_row_right(&rt, "lossy", &Bytes::from_static(b"\xFF\xE2"), row);
     assert_row(&rt, row, holds);
 }

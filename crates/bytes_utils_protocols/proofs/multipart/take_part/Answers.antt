@@ -31,13 +31,13 @@ returns-in_err-head-clause-not_utf8 c =
 pub returns-clause-name : goal.returns-clause-name
 returns-clause-name c = (
   _,
-  rw c.as_str.ensures.value at c.disposition_of-disposition.ensures,
+  rw c.as_str.ensures.value at c.disposition_of_head-disposition.ensures,
   c.in_ok-name.ensures.ok,
 )
 
 pub returns-clause-file_name : goal.returns-clause-file_name
 returns-clause-file_name c = (
   _,
-  rw c.as_str.ensures.value at c.disposition_of-disposition.ensures,
+  rw c.as_str.ensures.value at c.disposition_of_head-disposition.ensures,
   c.in_ok-file_name.ensures.ok,
 )

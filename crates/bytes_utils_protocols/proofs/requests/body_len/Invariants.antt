@@ -1,6 +1,6 @@
 use Rattle.std.proofs.Common.{List, ℕ}
 use Rattle.std.proofs.lemmas.Iterator.{YieldsList}
-use Rattle.bytes_utils_protocols.specs.Requests.{header_lines}
+use Rattle.bytes_utils_protocols.specs.Requests.{request_header_lines}
 use Rattle.bytes_utils_protocols.proofs.HeadLines.{SoFar}
 use Rattle.bytes_utils_protocols.proofs.requests.body_len.Given as goal
 
@@ -11,5 +11,5 @@ invariant-loop-line l = record {
   is_finite : (goal.iterator-loop-line).is_finite l.line-iterator;
   left : List (List ℕ);
   coming : YieldsList (goal.iterator-loop-line).next_gives (λ line. line.now) l.line-iterator left;
-  so_far : SoFar (header_lines l.fn.head) left l.known;
+  so_far : SoFar (request_header_lines l.fn.head) left l.known;
 }

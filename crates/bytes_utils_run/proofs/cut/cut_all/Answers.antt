@@ -10,12 +10,12 @@ use Rattle.bytes_utils_run.proofs.cut.cut_all.Goals as goal
 
 pub returns-clause-outcome : goal.returns-clause-outcome
 returns-clause-outcome g c =
-    subst (Outcome (ArePartsBy (cutting c.args.how) (chars c.args.text)) (map chars c.gather.new.given.items)) (sym c.err-refused.ensures.value)
-    (Outcome-right _ _ c.new-splitter.ensures.right _ _ c.gather.ensures.outcome)
+    subst (Outcome (ArePartsBy (cutting c.args.how) (chars c.args.text)) (map chars c.gather_cut.new.given.items)) (sym c.err-refused.ensures.value)
+    (Outcome-right _ _ c.new-splitter.ensures.right _ _ c.gather_cut.ensures.outcome)
 
 pub returns-clause-few : goal.returns-clause-few
 returns-clause-few g c =
-    omega (arith, length-outcome _ _ _ _ (returns-clause-outcome g c), length-map c.gather.new.given.items chars)
+    omega (arith, length-outcome _ _ _ _ (returns-clause-outcome g c), length-map c.gather_cut.new.given.items chars)
 
 pub returns-clause-joined : goal.returns-clause-joined
 returns-clause-joined g c = outcome_joins _ _ _ _ (returns-clause-outcome g c)

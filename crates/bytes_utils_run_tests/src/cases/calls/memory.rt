@@ -9,7 +9,7 @@ use std::process::Abort;
 /// Asserts that no byte is lost but those of the replies, of which there were `held`, and two in each
 /// buffer that was pushed. Reports the call if memory was refused for the list of replies, or for
 /// one of them.
-fn assert_stands<R: Abort + Print>(
+fn assert_calls_stand_if_memory_is_refused<R: Abort + Print>(
     rt: &R,
     call: &str,
     replies: &Replies,
@@ -30,19 +30,19 @@ fn assert_stands<R: Abort + Print>(
 }
 
 #[test]
-fn reads_of_lent_buffers(rt: HostRuntime) {
+fn read_calls_if_memory_is_refused(rt: HostRuntime) {
     let mut bufs: [&[u8]; 2] = [b"ab", b"cd"];
     assert!(rt; SegmentedSlice::total(&bufs).is_some());
     let mut all = SegmentedSlice::new(&mut bufs);
     let calls = vec![in rt.alloc(); ReadCall::Chunk, ReadCall::Chunks(2), ReadCall::CopyOut(4)];
     if let Ok(calls) = calls {
         let replies = read_calls(rt.alloc(), &mut all, calls);
-        assert_stands(&rt, "read_calls", &replies, 4, all.remaining());
+        assert_calls_stand_if_memory_is_refused(&rt, "read_calls", &replies, 4, all.remaining());
     }
 }
 
 #[test]
-fn pushes_and_reads(rt: HostRuntime) {
+fn push_calls_if_memory_is_refused(rt: HostRuntime) {
     let mut buf = SegmentedBuf::new(rt.alloc());
     let calls = vec![in rt.alloc();
         Call::Push(Bytes::from_static(b"ab")),
@@ -53,6 +53,6 @@ fn pushes_and_reads(rt: HostRuntime) {
     ];
     if let Ok(calls) = calls {
         let replies = drive(rt.alloc(), &mut buf, calls);
-        assert_stands(&rt, "drive", &replies, 0, buf.remaining());
+        assert_calls_stand_if_memory_is_refused(&rt, "drive", &replies, 0, buf.remaining());
     }
 }

@@ -8,7 +8,7 @@ use std::test::Fail;
 
 // A refused copy has taken nothing, and the next one takes all.
 #[test]
-fn copy_out_of_zeros(rt: HostRuntime) -> Result<(), Fail> {
+fn odd_zeros_if_memory_is_refused(rt: HostRuntime) -> Result<(), Fail> {
     for count in [9, 100_000] {
         let mut zeros = Zeros::new(100_011);
         let mut copy = zeros.copy_out(rt.alloc(), count).ok();
@@ -25,7 +25,7 @@ fn copy_out_of_zeros(rt: HostRuntime) -> Result<(), Fail> {
 
 // The creator that a refusal returns makes a storage in the next call.
 #[test]
-fn from_creator_of_refuse_after(rt: HostRuntime) -> Result<(), Fail> {
+fn odd_storage_if_memory_is_refused(rt: HostRuntime) -> Result<(), Fail> {
     let Ok(creator) = BytesMut::copy_from_slice(rt.alloc(), b"hello") else {
         return Ok(());
     };

@@ -1,6 +1,6 @@
 //! The result and the output of the program if a request for memory is refused. With enough memory
 //! none is refused. A run in which one is refused prints a line for it.
-use crate::cases::fakes::{SlowReader, granting};
+use crate::cases::fakes::{FakeSlowReader, fake_granting};
 use bytes_utils::Reason;
 use bytes_utils::string::StrInner;
 use bytes_utils_run::How;
@@ -26,8 +26,8 @@ const REPLIES: &[u8] = b"ok\nok\nok\nok\n8:Hello Wo\n1\n3:rld\npast end\n";
 
 /// Runs the program on calls that arrive in small pieces. Returns the result, and the number of
 /// bytes that it wrote, if they are the first replies, each of them whole.
-fn run(alloc: Global) -> (Result<(), Fault>, Option<usize>) {
-    let mut reader = SlowReader::new(CALLS, 7, 0);
+fn run_program_if_memory_allows(alloc: Global) -> (Result<(), Fault>, Option<usize>) {
+    let mut reader = FakeSlowReader::new(CALLS, 7, 0);
     let mut place = [0; 80];
     let mut writer = place.as_mut_slice();
     let answer = script(alloc, &mut reader, &mut writer);
@@ -41,22 +41,22 @@ fn run(alloc: Global) -> (Result<(), Fault>, Option<usize>) {
 // If a request is refused, only the first replies may be written, and the fault is `OutOfMemory`.
 // The next run writes all of them.
 #[test]
-fn replies(rt: HostRuntime) -> Result<(), Fail> {
-    let (mut answer, mut written) = run(rt.alloc());
+fn program_replies_if_memory_is_refused(rt: HostRuntime) -> Result<(), Fail> {
+    let (mut answer, mut written) = run_program_if_memory_allows(rt.alloc());
     if answer.is_err() {
         assert!(rt; answer == Err(Fault::OutOfMemory) && written.is_some());
         println!(rt; "refused script")?;
         if written != Some(0) {
             println!(rt; "refused script after a reply")?;
         }
-        (answer, written) = run(rt.alloc());
+        (answer, written) = run_program_if_memory_allows(rt.alloc());
     }
     assert!(rt; answer.is_ok() && written == Some(REPLIES.len()));
     Ok(())
 }
 
 /// Returns whether the first part alone of the text `a,b,c` is printed, before a refusal.
-fn prints_first(text: StrInner<RefuseAfter>) -> bool {
+fn program_prints_first_if_memory_is_refused(text: StrInner<RefuseAfter>) -> bool {
     let mut place = [0; 4];
     let mut writer = place.as_mut_slice();
     let mut splitter = AnySplitter::new(text, How::Split(","));
@@ -68,8 +68,8 @@ fn prints_first(text: StrInner<RefuseAfter>) -> bool {
 
 // The first part takes both splits.
 #[test]
-fn parts_before_a_refusal(rt: HostRuntime) {
-    if let Some(text) = granting(rt.alloc(), "a,b,c", 2) {
-        assert!(rt; prints_first(text));
+fn program_prints_parts_before_memory_is_refused(rt: HostRuntime) {
+    if let Some(text) = fake_granting(rt.alloc(), "a,b,c", 2) {
+        assert!(rt; program_prints_first_if_memory_is_refused(text));
     }
 }

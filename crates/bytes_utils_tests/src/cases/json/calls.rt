@@ -1,5 +1,5 @@
 //! The calls that write a text as JSON or read it, also those of `serde`.
-use crate::cases::fixtures::refusals::{Answer, given};
+use crate::cases::fixtures::refusals::{Answer, given_text_or_refusal};
 use crate::cases::fixtures::{assert_row, repeated};
 use bytes_utils::json::JsonRefused;
 use bytes_utils::{Reason, Str, StrMut};
@@ -18,7 +18,7 @@ StrMut::deserialize
 StrMut::deserialize_owned";
 
 /// The answer of a call of `serde_json` that makes this text.
-fn given_by_serde<T: AsStr + Drop>(made: Result<T, Error>, want: &str) -> Answer {
+fn answer_of_json_call_by_serde<T: AsStr + Drop>(made: Result<T, Error>, want: &str) -> Answer {
     Some(match made {
         Ok(text) => Ok(text.as_str() == want),
         Err(error) if error.is_memory() => Err(Reason::OutOfMemory),
@@ -27,9 +27,9 @@ fn given_by_serde<T: AsStr + Drop>(made: Result<T, Error>, want: &str) -> Answer
 }
 
 /// The answer of the call of this name, which writes the text as the JSON, or reads it.
-pub(super) fn answer(alloc: Global, call: &str, text: &str, json: &str) -> Answer {
+pub(super) fn answer_of_json_call(alloc: Global, call: &str, text: &str, json: &str) -> Answer {
     match call {
-        "to_json" => given(Str::from_str(alloc, text).ok()?.to_json(alloc), json),
+        "to_json" => given_text_or_refusal(Str::from_str(alloc, text).ok()?.to_json(alloc), json),
         "from_json" => Some(match Str::from_json(alloc, json) {
             Ok(made) => Ok(made.eq_str(text)),
             Err(JsonRefused::OutOfMemory) => Err(Reason::OutOfMemory),
@@ -37,24 +37,27 @@ pub(super) fn answer(alloc: Global, call: &str, text: &str, json: &str) -> Answe
         }),
         "Str::serialize" => {
             let text = Str::from_str(alloc, text).ok()?;
-            given_by_serde(to_string(alloc, &text), json)
+            answer_of_json_call_by_serde(to_string(alloc, &text), json)
         }
-        "Str::deserialize" => given_by_serde::<Str>(from_str(alloc, json), text),
-        "StrMut::deserialize" => given_by_serde::<StrMut>(from_str(alloc, json), text),
+        "Str::deserialize" => answer_of_json_call_by_serde::<Str>(from_str(alloc, json), text),
+        "StrMut::deserialize" => answer_of_json_call_by_serde::<StrMut>(
+            from_str(alloc, json),
+            text,
+        ),
         "Str::deserialize_owned" => {
             let value = Value::from_str(alloc, json).ok()?;
-            given_by_serde::<Str>(from_value(alloc, value), text)
+            answer_of_json_call_by_serde::<Str>(from_value(alloc, value), text)
         }
         "StrMut::deserialize_owned" => {
             let value = Value::from_str(alloc, json).ok()?;
-            given_by_serde::<StrMut>(from_value(alloc, value), text)
+            answer_of_json_call_by_serde::<StrMut>(from_value(alloc, value), text)
         }
         _ => None,
     }
 }
 
 #[test]
-fn a_long_text(rt: HostRuntime) {
+fn json_calls_of_a_long_text(rt: HostRuntime) {
     let text = repeated(rt.alloc(), "\n", 100_000).expect(&rt, "no memory");
     let escaped = repeated(rt.alloc(), "\\n", 100_000).expect(&rt, "no memory");
     let json = format!(in rt.alloc(); "\"{escaped}\"").expect(&rt, "no memory");
@@ -62,7 +65,7 @@ fn a_long_text(rt: HostRuntime) {
         assert_row(
             &rt,
             call,
-            answer(rt.alloc(), call, text.as_str(), json.as_str()) == Some(Ok(true)),
+            answer_of_json_call(rt.alloc(), call, text.as_str(), json.as_str()) == Some(Ok(true)),
         );
     }
 }

@@ -23,7 +23,7 @@ const TEXTS_OF_THREE: u32 = 585;
 const TEXTS_OF_FOUR: u32 = 4_681;
 
 /// Returns the text with this number among all texts of the letters, shorter ones first.
-fn counted(alloc: Global, number: u32) -> Result<String, AllocError> {
+fn text_borrowed_by_number(alloc: Global, number: u32) -> Result<String, AllocError> {
     let mut text = String::new(alloc);
     let mut left = usize::try_from(number).unwrap_or(0);
     for _ in 0..4 {
@@ -38,7 +38,7 @@ fn counted(alloc: Global, number: u32) -> Result<String, AllocError> {
 }
 
 /// Whether the parts of a text, by a separator, are those that `str` borrows.
-pub(super) fn is_as_str(alloc: Global, way: Way, text: &str, separator: &str) -> bool {
+pub(super) fn is_as_borrowed(alloc: Global, way: Way, text: &str, separator: &str) -> bool {
     match Str::from_str(alloc, text) {
         Ok(whole) => way.beside(whole, separator, text) == Ok(true),
         Err(_) => false,
@@ -46,23 +46,23 @@ pub(super) fn is_as_str(alloc: Global, way: Way, text: &str, separator: &str) ->
 }
 
 /// Asserts this by each of the separators.
-fn assert_each(rt: &impl Abort, alloc: Global, way: Way, text: &str, separators: &str) {
+fn assert_each_as_borrowed(rt: &impl Abort, alloc: Global, way: Way, text: &str, separators: &str) {
     for separator in separators.split('|') {
         assert!(rt;
-            is_as_str(alloc, way, text, separator),
+            is_as_borrowed(alloc, way, text, separator),
             "{way:?}, {text:?}, {separator:?}"
         );
     }
 }
 
 /// Asserts this of each text of the worked cases, and of this number of counted ones.
-fn assert_of_all(rt: &impl Abort, alloc: Global, way: Way, count: u32, separators: &str) {
+fn assert_all_as_borrowed(rt: &impl Abort, alloc: Global, way: Way, count: u32, separators: &str) {
     for text in TEXTS.split('|') {
-        assert_each(rt, alloc, way, text, separators);
+        assert_each_as_borrowed(rt, alloc, way, text, separators);
     }
     for number in 0..count {
-        let text = counted(alloc, number).expect(rt, "no memory");
-        assert_each(rt, alloc, way, text.as_str(), separators);
+        let text = text_borrowed_by_number(alloc, number).expect(rt, "no memory");
+        assert_each_as_borrowed(rt, alloc, way, text.as_str(), separators);
     }
 }
 
@@ -98,8 +98,8 @@ const ROWS: [(Way, u32, &str); 25] = [
 
 // The search is among bytes, and different characters share some bytes.
 #[test]
-fn parts(rt: HostRuntime) {
+fn split_parts_are_the_borrowed_ones(rt: HostRuntime) {
     for (way, count, separators) in ROWS {
-        assert_of_all(&rt, rt.alloc(), way, count, separators);
+        assert_all_as_borrowed(&rt, rt.alloc(), way, count, separators);
     }
 }

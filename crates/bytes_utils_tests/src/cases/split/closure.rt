@@ -1,6 +1,6 @@
 //! A text split by closures, from either end.
 ghost use Rattle.std.specs.Prelude.{◌≤◌, IfSome};
-ghost use Rattle.bytes_utils.specs.Walk.{IsLawfulCut};
+ghost use Rattle.bytes_utils.specs.ClosureWalk.{IsLawfulClosureCut};
 ghost use Rattle.bytes_utils.specs.declared.split.direction.Direction.TheVariants.{Forward};
 
 use crate::cases::fixtures::{are_taken, assert_row};
@@ -9,7 +9,7 @@ use bytes_utils::{Reason, Str, StrMut};
 use std::alloc::Global;
 
 /// Whether these are the characters, last to first, by `are_taken`.
-fn are_characters<S: Storage>(text: StrInner<S>, wanted: &str) -> Result<bool, Reason> {
+fn closure_gives_characters<S: Storage>(text: StrInner<S>, wanted: &str) -> Result<bool, Reason> {
     let mut chunks = BytesIter::new(text, Direction::Backward, |s: &str| {
         let last = s.len().checked_sub(1)?;
         let start = s.floor_char_boundary(last);
@@ -19,10 +19,10 @@ fn are_characters<S: Storage>(text: StrInner<S>, wanted: &str) -> Result<bool, R
 }
 
 /// Whether these are the chunks of one, two and three characters and so on, by `are_taken`.
-fn are_growing<S: Storage>(text: StrInner<S>, wanted: &str) -> Result<bool, Reason> {
+fn closure_gives_growing<S: Storage>(text: StrInner<S>, wanted: &str) -> Result<bool, Reason> {
     let mut passed = 0_usize;
     let grows = move |s: &str|
-        ensures { IfSome result (λ cut. IsLawfulCut Forward s.now cut.0 cut.1) }
+        ensures { IfSome result (λ cut. IsLawfulClosureCut Forward s.now cut.0 cut.1) }
     {
         let (start, last) = s.char_indices().nth(passed)?;
         passed = passed.saturating_add(1);
@@ -34,28 +34,28 @@ fn are_growing<S: Storage>(text: StrInner<S>, wanted: &str) -> Result<bool, Reas
 }
 
 /// Whether the text of either storage has these characters, last to first, and these growing chunks.
-fn is_cut(
+fn is_cut_by_closures(
     alloc: Global,
     text: &'static str,
     characters: &str,
     growing: &str,
 ) -> Result<bool, Reason> {
     Ok(
-        are_characters(Str::from_static(text), characters)?
-            && are_characters(StrMut::from_str(alloc, text)?, characters)?
-            && are_growing(Str::from_static(text), growing)?
-            && are_growing(StrMut::from_str(alloc, text)?, growing)?,
+        closure_gives_characters(Str::from_static(text), characters)?
+            && closure_gives_characters(StrMut::from_str(alloc, text)?, characters)?
+            && closure_gives_growing(Str::from_static(text), growing)?
+            && closure_gives_growing(StrMut::from_str(alloc, text)?, growing)?,
     )
 }
 
 #[test]
-fn characters_and_growing_chunks(rt: HostRuntime) {
+fn closures_give_characters_and_growing_chunks(rt: HostRuntime) {
     for (text, characters, growing) in [
         ("aβ", "β|a|", "a|β"),
         ("abcdef", "f|e|d|c|b|a|", "a|bc|def|"),
         ("αβγδεζ", "ζ|ε|δ|γ|β|α|", "α|βγ|δεζ|"),
     ] {
-        let is_right = is_cut(rt.alloc(), text, characters, growing);
+        let is_right = is_cut_by_closures(rt.alloc(), text, characters, growing);
         assert_row(&rt, text, is_right == Ok(true));
     }
 }

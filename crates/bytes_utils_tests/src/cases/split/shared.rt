@@ -8,7 +8,7 @@ use std::alloc::Global;
 const TEXT: &str = " a,β,\n,c\r\n";
 
 /// Whether this holds of a text that is split to its end.
-fn lets_go(alloc: Global, way: Way, separator: &str) -> Result<bool, Reason> {
+fn lets_shared_text_go(alloc: Global, way: Way, separator: &str) -> Result<bool, Reason> {
     let kept = Str::from_str(alloc, TEXT)?;
     let are_parts = way.beside(kept.try_clone()?, separator, TEXT)?;
     Ok(are_parts && kept.inner().is_unique())
@@ -18,21 +18,21 @@ fn lets_go(alloc: Global, way: Way, separator: &str) -> Result<bool, Reason> {
 const WIDE: &str = " \u{3000}αβ, β😈\r\n";
 
 /// The text without its prefix and its suffix.
-fn stripped(text: Str) -> Result<Str, Reason> {
+fn stripped_shared_text(text: Str) -> Result<Str, Reason> {
     let following = text.strip_prefix_bytes("αβ")?.unwrap_or_default();
     Ok(following.strip_suffix_bytes("β😈")?.unwrap_or_default())
 }
 
 /// Whether a copy shares the bytes of the text, and what is left without white space, and then
 /// without its prefix and its suffix.
-fn shares(text: &Str) -> Result<bool, Reason> {
+fn text_is_shared(text: &Str) -> Result<bool, Reason> {
     let is_trimmed = is_shared(text.try_clone()?.trim_bytes(), "αβ, β😈");
-    let is_stripped = is_shared(stripped(text.try_clone()?.trim_bytes()?), ", ");
+    let is_stripped = is_shared(stripped_shared_text(text.try_clone()?.trim_bytes()?), ", ");
     Ok(is_trimmed && is_stripped && is_shared(text.clone(), WIDE))
 }
 
 #[test]
-fn parts_let_their_text_go(rt: HostRuntime) {
+fn shared_text_is_let_go_by_its_parts(rt: HostRuntime) {
     for (way, separator) in [
         (Way::Split, ","),
         (Way::RSplit, ","),
@@ -49,10 +49,10 @@ fn parts_let_their_text_go(rt: HostRuntime) {
         (Way::Fields, ""),
     ] {
         assert!(rt;
-            lets_go(rt.alloc(), way, separator) == Ok(true),
+            lets_shared_text_go(rt.alloc(), way, separator) == Ok(true),
             "{way:?}, {separator:?}"
         );
     }
     let text = Str::from_str(rt.alloc(), WIDE).expect(&rt, "no memory");
-    assert_that(&rt, shares(&text) == Ok(true));
+    assert_that(&rt, text_is_shared(&text) == Ok(true));
 }

@@ -7,7 +7,7 @@ use bytes_utils::string::{BytesIter, Direction};
 use std::process::Abort;
 
 /// Whether the bounds allow `left` more items.
-fn allows<P: Iterator>(parts: &P, left: usize) -> bool {
+fn size_hint_allows<P: Iterator>(parts: &P, left: usize) -> bool {
     match parts.size_hint() {
         (least, Some(most)) => least <= left && left <= most,
         (least, None) => least <= left,
@@ -22,14 +22,14 @@ where
     requires { P.can_next parts }
 {
     for given in 0..count {
-        assert!(rt; allows(&parts, count - given) && parts.next().is_some());
+        assert!(rt; size_hint_allows(&parts, count - given) && parts.next().is_some());
     }
-    assert!(rt; allows(&parts, 0) && parts.next().is_none());
+    assert!(rt; size_hint_allows(&parts, 0) && parts.next().is_none());
 }
 
 // Without a limit and with one, by a separator, also the empty one, and by a closure.
 #[test]
-fn bounds(rt: HostRuntime) {
+fn size_hint_bounds(rt: HostRuntime) {
     assert_hints(&rt, Str::from_static("a,b,c").split_bytes(","), 3);
     assert_hints(&rt, Str::from_static("a,b,c").rsplit_bytes(","), 3);
     assert_hints(&rt, Str::from_static("a,β,c").split_bytes(",").indices(), 3);

@@ -3,7 +3,7 @@ use crate::cases::fixtures::{assert_row, assert_that, is_shared};
 use bytes_utils::Str;
 
 /// Whether the text has this part, which shares its bytes.
-fn has_part(text: &Str, part: &str, want: &str) -> bool {
+fn slice_ref_has_part(text: &Str, part: &str, want: &str) -> bool {
     match text.slice_ref(part) {
         Ok(part) => is_shared(part.ok_or(()), want),
         Err(_) => false,
@@ -12,7 +12,7 @@ fn has_part(text: &Str, part: &str, want: &str) -> bool {
 
 // Parts that methods of `str` give, and texts of another place, of which one doesn't occur.
 #[test]
-fn parts(rt: HostRuntime) {
+fn slice_ref_of_parts(rt: HostRuntime) {
     let text = Str::from_str(rt.alloc(), " naïve = 'β' ").expect(&rt, "no memory");
     let quoted = text.split('\'').nth(1).unwrap_or("none");
     for (part, want) in [
@@ -22,7 +22,7 @@ fn parts(rt: HostRuntime) {
         ("v", "v"),
         (" naïve = 'β' ", " naïve = 'β' "),
     ] {
-        assert_row(&rt, want, has_part(&text, part, want));
+        assert_row(&rt, want, slice_ref_has_part(&text, part, want));
     }
     assert_that(&rt, matches!(text.slice_ref("vï"), Ok(None)));
 }

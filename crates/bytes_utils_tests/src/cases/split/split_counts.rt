@@ -1,20 +1,20 @@
 //! How often a storage is split: once for each cut of a run, and never again after a refusal.
 use super::ways::Way;
-use crate::cases::fixtures::storage::{Splits, text_of};
+use crate::cases::fixtures::storage::{Splits, text_in_refusing_storage};
 use std::alloc::Global;
 use std::cell::Cell;
 use std::process::Abort;
 
 /// Whether a run over the text asks for the right number of splits: `cuts` if all are granted, and
 /// none after a refused one.
-fn asks(
+fn split_counts_are_right(
     alloc: Global,
     (way, text, separator, cuts): (Way, &str, &str, usize),
     granted: usize,
 ) -> bool {
     let asked = Cell::new(0);
     let splits = Splits { asked, granted };
-    let Some(counted) = text_of(alloc, text, 0, &splits) else {
+    let Some(counted) = text_in_refusing_storage(alloc, text, 0, &splits) else {
         return false;
     };
     let answer = way.beside(counted, separator, text);
@@ -24,15 +24,19 @@ fn asks(
 }
 
 /// Asserts this where few splits are granted, and where all are.
-fn assert_splits(rt: &impl Abort, alloc: Global, row: (Way, &str, &str, usize)) {
+fn assert_split_counts(rt: &impl Abort, alloc: Global, row: (Way, &str, &str, usize)) {
     for granted in 0..4 {
-        assert!(rt; asks(alloc, row, granted), "{:?}, {granted}", row.0);
+        assert!(rt;
+            split_counts_are_right(alloc, row, granted),
+            "{:?}, {granted}",
+            row.0
+        );
     }
 }
 
 /// A part that reaches to the end of the text needs no split.
 #[test]
-fn once_for_each_cut(rt: HostRuntime) {
+fn split_counts_one_for_each_cut(rt: HostRuntime) {
     for row in [
         (Way::Split, "a,b,c", ",", 2),
         (Way::RSplit, "a,b,c", ",", 2),
@@ -46,6 +50,6 @@ fn once_for_each_cut(rt: HostRuntime) {
         (Way::SplitAsciiWhitespace, " a b", "", 1),
         (Way::Lines, "a\nb\n", "", 2),
     ] {
-        assert_splits(&rt, rt.alloc(), row);
+        assert_split_counts(&rt, rt.alloc(), row);
     }
 }

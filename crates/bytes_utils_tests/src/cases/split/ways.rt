@@ -67,20 +67,20 @@ impl Way {
         (separator, same): (&str, &str),
     ) -> Result<bool, Reason> {
         match self {
-            Way::Indices => are_indices(
+            Way::Indices => way_gives_indices(
                 &mut text.split_bytes(separator).indices(),
                 separator,
                 same,
             ),
-            Way::SplitOnce => is_split_once(text, separator, same),
-            Way::RSplitOnce => is_rsplit_once(text, separator, same),
+            Way::SplitOnce => way_splits_once(text, separator, same),
+            Way::RSplitOnce => way_rsplits_once(text, separator, same),
             Way::StripPrefix => {
                 let want = same.strip_prefix(separator);
-                is_left(text.strip_prefix_bytes(separator), want)
+                way_leaves(text.strip_prefix_bytes(separator), want)
             }
             Way::StripSuffix => {
                 let want = same.strip_suffix(separator);
-                is_left(text.strip_suffix_bytes(separator), want)
+                way_leaves(text.strip_suffix_bytes(separator), want)
             }
             _ => self.beside_unseparated(text, same),
         }
@@ -89,24 +89,27 @@ impl Way {
     /// As `beside`, of a way that is by no separator.
     fn beside_unseparated<S: Storage>(self, text: StrInner<S>, same: &str) -> Result<bool, Reason> {
         match self {
-            Way::SplitAt(at) => is_split_at(text, at, same),
+            Way::SplitAt(at) => way_splits_at(text, at, same),
             Way::Lines => are_all(text.lines_bytes(), same.lines()),
             Way::SplitWhitespace => are_all(text.split_whitespace_bytes(), same.split_whitespace()),
             Way::SplitAsciiWhitespace => are_all(
                 text.split_ascii_whitespace_bytes(),
                 same.split_ascii_whitespace(),
             ),
-            Way::Fields => are_fields(text, same),
-            Way::Trim => is_left(text.trim_bytes().map(Some), Some(same.trim())),
-            Way::TrimStart => is_left(text.trim_start_bytes().map(Some), Some(same.trim_start())),
-            Way::TrimEnd => is_left(text.trim_end_bytes().map(Some), Some(same.trim_end())),
+            Way::Fields => way_gives_fields(text, same),
+            Way::Trim => way_leaves(text.trim_bytes().map(Some), Some(same.trim())),
+            Way::TrimStart => way_leaves(
+                text.trim_start_bytes().map(Some),
+                Some(same.trim_start()),
+            ),
+            Way::TrimEnd => way_leaves(text.trim_end_bytes().map(Some), Some(same.trim_end())),
             _ => Ok(false),
         }
     }
 }
 
 /// Compares the chunks between commas.
-fn are_fields<S: Storage>(text: StrInner<S>, same: &str) -> Result<bool, Reason> {
+fn way_gives_fields<S: Storage>(text: StrInner<S>, same: &str) -> Result<bool, Reason> {
     let mut chunks = BytesIter::new(text, Direction::Forward, |s: &str| {
         s.find(',').map(|at| (at, at + 1))
     });
@@ -114,7 +117,7 @@ fn are_fields<S: Storage>(text: StrInner<S>, same: &str) -> Result<bool, Reason>
 }
 
 /// Compares the parts and their places: each is after the part before it and a separator.
-fn are_indices<S: Storage>(
+fn way_gives_indices<S: Storage>(
     parts: &mut SplitIndicesBytes<'_, S>,
     separator: &str,
     same: &str,
@@ -140,7 +143,7 @@ fn are_indices<S: Storage>(
 }
 
 /// Compares the texts before and after the first separator.
-fn is_split_once<S: Storage>(
+fn way_splits_once<S: Storage>(
     text: StrInner<S>,
     separator: &str,
     same: &str,
@@ -153,7 +156,7 @@ fn is_split_once<S: Storage>(
 }
 
 /// Compares the texts before and after the last separator.
-fn is_rsplit_once<S: Storage>(
+fn way_rsplits_once<S: Storage>(
     text: StrInner<S>,
     separator: &str,
     same: &str,
@@ -166,7 +169,7 @@ fn is_rsplit_once<S: Storage>(
 }
 
 /// Compares the texts before and from the place. It has to be a character boundary.
-fn is_split_at<S: Storage>(text: StrInner<S>, at: usize, same: &str) -> Result<bool, Reason> {
+fn way_splits_at<S: Storage>(text: StrInner<S>, at: usize, same: &str) -> Result<bool, Reason> {
     if !text.as_str().is_char_boundary(at) {
         return Ok(false);
     }
@@ -175,7 +178,7 @@ fn is_split_at<S: Storage>(text: StrInner<S>, at: usize, same: &str) -> Result<b
 }
 
 /// Compares what is left of a text.
-fn is_left<S: Storage>(
+fn way_leaves<S: Storage>(
     left: Result<Option<StrInner<S>>, Reason>,
     wanted: Option<&str>,
 ) -> Result<bool, Reason> {

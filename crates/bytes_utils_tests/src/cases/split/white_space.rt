@@ -1,5 +1,5 @@
 //! Each white space, between words and at the ends of a text.
-use super::borrowed::is_as_str;
+use super::borrowed::is_as_borrowed;
 use super::ways::Way;
 use bytes_utils::{Reason, Str};
 use std::alloc::Global;
@@ -12,18 +12,18 @@ const SPACES: &str =
 
 /// Whether the character makes a word exactly if it is not white space, and the text between two of
 /// it is trimmed as its `str`.
-fn is_right_at(alloc: Global, c: char) -> Result<bool, Reason> {
+fn is_white_space_right_at(alloc: Global, c: char) -> Result<bool, Reason> {
     let mut words = Str::from_chars(alloc, once(c))?.split_whitespace_bytes();
     let is_space = words.next().is_none();
     drop(words);
     let text = format!(in alloc; "{c}a b{c}")?;
-    Ok(is_space == SPACES.contains(c) && is_as_str(alloc, Way::Trim, text.as_str(), ""))
+    Ok(is_space == SPACES.contains(c) && is_as_borrowed(alloc, Way::Trim, text.as_str(), ""))
 }
 
 /// Asserts this of each character up to U+3001.
 #[test]
-fn at_each_character(rt: HostRuntime) {
+fn white_space_at_each_character(rt: HostRuntime) {
     for c in '\0'..='\u{3001}' {
-        assert!(rt; is_right_at(rt.alloc(), c) == Ok(true), "{c:?}");
+        assert!(rt; is_white_space_right_at(rt.alloc(), c) == Ok(true), "{c:?}");
     }
 }

@@ -3,7 +3,7 @@ use bytes_utils::Str;
 use std::cmp::Ordering;
 use std::hash::{DefaultHasher, Hash, Hasher};
 
-fn hash_of<T: Hash>(value: &T) -> u64 {
+fn hash_to_compare<T: Hash>(value: &T) -> u64 {
     let mut hasher = DefaultHasher::new();
     value.hash(&mut hasher);
     hasher.finish()
@@ -19,9 +19,9 @@ fn is_greater<T: Ord>(one: &T, other: &T) -> bool {
 }
 
 #[test]
-fn compare(rt: HostRuntime) {
+fn compare_texts(rt: HostRuntime) {
     let (one, other) = (Str::from_static("Ä"), Str::from_static("z"));
     assert!(rt; one.cmp_str("z") == Ordering::Greater && !one.eq_str("z"));
     assert!(rt; Str::empty().cmp_str("") == Ordering::Equal);
-    assert!(rt; is_greater(&one, &other) && hash_of(&one) == hash_of(&"Ä"));
+    assert!(rt; is_greater(&one, &other) && hash_to_compare(&one) == hash_to_compare(&"Ä"));
 }

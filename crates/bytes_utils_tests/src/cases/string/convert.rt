@@ -21,31 +21,34 @@ where
 
 /// Whether a `ByteStr` of the text keeps the block of the text and its only owner, and so does the
 /// text of that.
-fn keeps_its_block(text: Str, want: &str) -> bool {
+fn convert_keeps_block(text: Str, want: &str) -> bool {
     let bytes = Str::from(ByteStr::from(text)).into_inner();
     bytes.as_slice() == want.as_bytes() && bytes.is_unique()
 }
 
 /// Whether generic code sees this text, and its bytes.
-fn is_seen<T: AsStr + AsSlice<u8>>(text: &T, want: &str) -> bool {
+fn is_seen_if_converted<T: AsStr + AsSlice<u8>>(text: &T, want: &str) -> bool {
     text.as_str() == want && text.as_slice() == want.as_bytes()
 }
 
 #[test]
-fn converts_both_ways(rt: HostRuntime) {
+fn texts_convert_both_ways(rt: HostRuntime) {
     let want = "aβ".as_bytes();
     let bytes = BytesMut::copy_from_slice(rt.alloc(), want).expect(&rt, "no memory");
     assert_that(&rt, converts(bytes, want));
     assert_that(&rt, converts(Bytes::from_static(want), want));
     let text = Str::from_str(rt.alloc(), "aβ").expect(&rt, "no memory");
-    assert_that(&rt, keeps_its_block(text, "aβ"));
+    assert_that(&rt, convert_keeps_block(text, "aβ"));
 }
 
 #[test]
-fn reads_as_its_storage(rt: HostRuntime) {
+fn converted_text_reads_as_its_storage(rt: HostRuntime) {
     let text = Str::from_inner(Bytes::from_static("aβ".as_bytes())).expect(&rt, "UTF-8");
     let bytes = text.inner().as_slice();
-    assert_that(&rt, is_seen(&text, "aβ") && bytes == "aβ".as_bytes());
+    assert_that(
+        &rt,
+        is_seen_if_converted(&text, "aβ") && bytes == "aβ".as_bytes(),
+    );
     let text = Str::from_inner_unchecked(text.into_inner());
     let str: &str = &text;
     assert_that(&rt, str == "aβ" && text.as_str() == "aβ" && text.len() == 3);

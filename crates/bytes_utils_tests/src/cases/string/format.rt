@@ -7,14 +7,14 @@ use std::alloc::Global;
 use std::fmt;
 
 /// A name and a number, with text between them.
-fn counted(alloc: Global, name: &str, count: u32) -> Result<Str, fmt::Error>
+fn format_count(alloc: Global, name: &str, count: u32) -> Result<Str, fmt::Error>
     ensures { IfOk result (λ text. text ≡ name.now ++ (codes ": " ++ decimal count)) }
 {
     format_bytes!(alloc; "{}: {}", name, count)
 }
 
-/// As `counted`, and how often the macro evaluated its allocator.
-fn counted_mut(alloc: Global, name: &str, count: u32) -> (u32, Result<StrMut, fmt::Error>)
+/// As `format_count`, and how often the macro evaluated its allocator.
+fn format_count_mut(alloc: Global, name: &str, count: u32) -> (u32, Result<StrMut, fmt::Error>)
     ensures once { result.0 ≡ 1 }
     ensures text { IfOk result.1 (λ text. text ≡ name.now ++ (codes ": " ++ decimal count)) }
 {
@@ -24,21 +24,24 @@ fn counted_mut(alloc: Global, name: &str, count: u32) -> (u32, Result<StrMut, fm
 }
 
 /// An argument whose `fmt` fails.
-struct Faulty;
+struct FaultyFormat;
 
-impl fmt::Display for Faulty {
+impl fmt::Display for FaultyFormat {
     fn fmt<W: fmt::Write>(&self, _f: &mut fmt::Formatter<W>) -> fmt::Result {
         Err(fmt::Error)
     }
 }
 
 #[test]
-fn formats(rt: HostRuntime) {
+fn formats_by_both_macros(rt: HostRuntime) {
     let alloc = rt.alloc();
     let text = format_bytes!(alloc; "Hello {}", "world");
     assert_that(&rt, is_text(text.ok(), "Hello world"));
-    assert_that(&rt, is_text(counted(alloc, "aβ", 12).ok(), "aβ: 12"));
-    assert_that(&rt, format_bytes!(alloc; "before {}", Faulty).is_err());
-    let (evaluated, text) = counted_mut(alloc, "aβ", 12);
+    assert_that(&rt, is_text(format_count(alloc, "aβ", 12).ok(), "aβ: 12"));
+    assert_that(
+        &rt,
+        format_bytes!(alloc; "before {}", FaultyFormat).is_err(),
+    );
+    let (evaluated, text) = format_count_mut(alloc, "aβ", 12);
     assert_that(&rt, evaluated == 1 && is_text(text.ok(), "aβ: 12"));
 }

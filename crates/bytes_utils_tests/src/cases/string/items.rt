@@ -1,5 +1,5 @@
 //! Items of an iterator, of which the storage refuses one.
-use crate::cases::fixtures::storage::{Splits, text_of};
+use crate::cases::fixtures::storage::{Splits, text_in_refusing_storage};
 use crate::cases::fixtures::{assert_row, is_text, strings};
 use bytes_utils::string::{StorageMut, StrInner};
 use bytes_utils::{Reason, Refused};
@@ -7,29 +7,29 @@ use std::alloc::Global;
 use std::cell::Cell;
 
 /// What came back from a call that was refused for the storage's reason.
-fn back<B: Drop>(answer: Result<(), Refused<B>>) -> Option<B> {
+fn item_back<B: Drop>(answer: Result<(), Refused<B>>) -> Option<B> {
     let refused = answer.err()?;
     (refused.reason == Reason::TooLong).then_some(refused.back)
 }
 
 /// Whether the call is refused the third item. That comes back, a borrowed iterator continues after
 /// it, and the text has the first two. An empty item needs no room, and is passed over.
-fn gives_back<S: StorageMut>(alloc: Global, mut text: StrInner<S>, call: &str) -> bool {
+fn gives_item_back<S: StorageMut>(alloc: Global, mut text: StrInner<S>, call: &str) -> bool {
     match call {
         "extend_chars" => {
             let mut items = "aβcd".chars();
-            let is_back = back(text.extend_chars(&mut items)) == Some('c');
+            let is_back = item_back(text.extend_chars(&mut items)) == Some('c');
             is_back && items.next() == Some('d') && text.eq_str("aβ")
         }
         "extend_strs" => {
             let mut items = "one,,two,three".split(',');
-            let is_back = back(text.extend_strs(&mut items)) == Some("two");
+            let is_back = item_back(text.extend_strs(&mut items)) == Some("two");
             is_back && items.next() == Some("three") && text.eq_str("one")
         }
         _ => match strings(alloc, "a,b,c,d") {
             Ok(strings) => {
                 let mut items = strings.into_iter();
-                let is_back = is_text(back(text.extend_strings(&mut items)), "c,");
+                let is_back = is_text(item_back(text.extend_strings(&mut items)), "c,");
                 is_back && is_text(items.next(), "d") && text.eq_str("a,b,")
             }
             Err(_) => false,
@@ -38,12 +38,12 @@ fn gives_back<S: StorageMut>(alloc: Global, mut text: StrInner<S>, call: &str) -
 }
 
 #[test]
-fn a_refused_item_comes_back(rt: HostRuntime) {
+fn string_items_come_back_if_refused(rt: HostRuntime) {
     let asked = Cell::new(0);
     let splits = Splits { asked, granted: 0 };
     for call in ["extend_chars", "extend_strs", "extend_strings"] {
-        let is_back = match text_of(rt.alloc(), "", 2, &splits) {
-            Some(text) => gives_back(rt.alloc(), text, call),
+        let is_back = match text_in_refusing_storage(rt.alloc(), "", 2, &splits) {
+            Some(text) => gives_item_back(rt.alloc(), text, call),
             None => false,
         };
         assert_row(&rt, call, is_back);

@@ -1,5 +1,5 @@
 //! Long texts, and texts of many items: no call is refused while there is memory.
-use super::calls::{CALLS, makes};
+use super::calls::{CALLS, string_call_makes};
 use super::slice::are_slices;
 use super::steps::step;
 use crate::cases::fixtures::{assert_row, assert_that, repeated};
@@ -9,13 +9,13 @@ use bytes_utils::{Str, StrMut};
 const ITEM: &str = "012345678,";
 
 #[test]
-fn texts(rt: HostRuntime) {
+fn long_strings_by_each_call(rt: HostRuntime) {
     let text = repeated(rt.alloc(), ITEM, 10_000).expect(&rt, "no memory");
     for call in CALLS.lines() {
         assert_row(
             &rt,
             call,
-            makes(rt.alloc(), call, text.as_str()) == Some(Ok(true)),
+            string_call_makes(rt.alloc(), call, text.as_str()) == Some(Ok(true)),
         );
     }
     let text = Str::from_str(rt.alloc(), text.as_str()).expect(&rt, "no memory");
@@ -23,7 +23,7 @@ fn texts(rt: HostRuntime) {
 }
 
 #[test]
-fn appended_items(rt: HostRuntime) {
+fn long_string_of_appended_items(rt: HostRuntime) {
     let more = repeated(rt.alloc(), ITEM, 10_000).expect(&rt, "no memory");
     let mut text = StrMut::new(rt.alloc()).expect(&rt, "no memory");
     for call in [

@@ -1,12 +1,12 @@
 //! Calls of a text that grows, one after another.
-use crate::cases::fixtures::refusals::{Answer, given};
+use crate::cases::fixtures::refusals::{Answer, given_text_or_refusal};
 use crate::cases::fixtures::{assert_row, strings};
 use bytes_utils::{Reason, StrMut};
 use std::alloc::Global;
 use std::fmt::Write;
 
 /// The answer of a call that changes a text.
-fn done<E: Into<Reason>>(changed: Result<(), E>) -> Answer {
+fn step_done<E: Into<Reason>>(changed: Result<(), E>) -> Answer {
     Some(match changed {
         Ok(()) => Ok(true),
         Err(reason) => Err(reason.into()),
@@ -14,7 +14,7 @@ fn done<E: Into<Reason>>(changed: Result<(), E>) -> Answer {
 }
 
 /// Appends the characters one by one.
-fn push_each(text: &mut StrMut, more: &str) -> Result<(), Reason> {
+fn step_pushes_each(text: &mut StrMut, more: &str) -> Result<(), Reason> {
     for c in more.chars() {
         text.push(c)?;
     }
@@ -22,22 +22,22 @@ fn push_each(text: &mut StrMut, more: &str) -> Result<(), Reason> {
 }
 
 /// Makes a call that appends `more`, or the items of `more`, each with the comma that ends it.
-fn append(alloc: Global, text: &mut StrMut, call: &str, more: &str) -> Answer {
+fn step_appends(alloc: Global, text: &mut StrMut, call: &str, more: &str) -> Answer {
     match call {
-        "StrInner::push_str" => done(text.push_str(more)),
-        "StrInner::push" => done(push_each(text, more)),
-        "StrInner::write_str" => done(text.write_str(more).ok().ok_or(Reason::OutOfMemory)),
-        "StrInner::extend_chars" => done(text.extend_chars(more.chars())),
-        "StrInner::extend_strs" => done(text.extend_strs(more.split_inclusive(','))),
+        "StrInner::push_str" => step_done(text.push_str(more)),
+        "StrInner::push" => step_done(step_pushes_each(text, more)),
+        "StrInner::write_str" => step_done(text.write_str(more).ok().ok_or(Reason::OutOfMemory)),
+        "StrInner::extend_chars" => step_done(text.extend_chars(more.chars())),
+        "StrInner::extend_strs" => step_done(text.extend_strs(more.split_inclusive(','))),
         "StrInner::extend_strings" => {
             let strings = strings(alloc, more).ok()?;
-            done(text.extend_strings(strings.into_iter()))
+            step_done(text.extend_strings(strings.into_iter()))
         }
-        "StrMut::extend of char" => done(text.extend(more.chars())),
-        "StrMut::extend of &str" => done(text.extend(more.split_inclusive(','))),
+        "StrMut::extend of char" => step_done(text.extend(more.chars())),
+        "StrMut::extend of &str" => step_done(text.extend(more.split_inclusive(','))),
         "StrMut::extend of String" => {
             let strings = strings(alloc, more).ok()?;
-            done(text.extend(strings))
+            step_done(text.extend(strings))
         }
         _ => None,
     }
@@ -47,13 +47,16 @@ fn append(alloc: Global, text: &mut StrMut, call: &str, more: &str) -> Answer {
 /// to be `more`.
 pub(super) fn step(alloc: Global, text: &mut StrMut, call: &str, more: &str) -> Answer {
     match call {
-        "StrMut::make_ascii_uppercase" => done(text.make_ascii_uppercase()),
-        "StrMut::make_ascii_lowercase" => done(text.make_ascii_lowercase()),
-        "StrMut::try_clone" => given(text.try_clone(), more),
-        "StrMut::clone" => given(text.clone(), more),
-        "StrMut::split_built" => given(text.split_built(), more),
-        "StrMut::split_built, StrInner::freeze" => given(text.split_built().ok()?.freeze(), more),
-        _ => append(alloc, text, call, more),
+        "StrMut::make_ascii_uppercase" => step_done(text.make_ascii_uppercase()),
+        "StrMut::make_ascii_lowercase" => step_done(text.make_ascii_lowercase()),
+        "StrMut::try_clone" => given_text_or_refusal(text.try_clone(), more),
+        "StrMut::clone" => given_text_or_refusal(text.clone(), more),
+        "StrMut::split_built" => given_text_or_refusal(text.split_built(), more),
+        "StrMut::split_built, StrInner::freeze" => given_text_or_refusal(
+            text.split_built().ok()?.freeze(),
+            more,
+        ),
+        _ => step_appends(alloc, text, call, more),
     }
 }
 
@@ -74,16 +77,20 @@ StrInner::extend_chars|Hi😈|aβzHi😈|
 StrInner::extend_strs||aβzHi😈|";
 
 /// Whether a row is right of the text.
-fn is_right(alloc: Global, text: &mut StrMut, row: &str) -> Option<bool> {
+fn is_step_right(alloc: Global, text: &mut StrMut, row: &str) -> Option<bool> {
     let mut fields = row.split('|');
     let (call, more, want) = (fields.next()?, fields.next()?, fields.next()?);
     Some(step(alloc, text, call, more) == Some(Ok(true)) && text.eq_str(want))
 }
 
 #[test]
-fn steps(rt: HostRuntime) {
+fn steps_of_a_growing_text(rt: HostRuntime) {
     let mut text = StrMut::new(rt.alloc()).expect(&rt, "no memory");
     for row in STEPS.lines() {
-        assert_row(&rt, row, is_right(rt.alloc(), &mut text, row) == Some(true));
+        assert_row(
+            &rt,
+            row,
+            is_step_right(rt.alloc(), &mut text, row) == Some(true),
+        );
     }
 }

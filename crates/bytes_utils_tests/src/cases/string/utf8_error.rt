@@ -8,7 +8,7 @@ use std::fmt::Debug;
 
 /// Whether the bytes come back, and the error reports that the last of them is at fault, and its
 /// debug text has both of its fields.
-fn gives_back<S: Storage + Debug>(
+fn utf8_error_gives_back<S: Storage + Debug>(
     alloc: Global,
     error: Utf8Error<S>,
     bytes: &[u8],
@@ -29,26 +29,32 @@ fn gives_back<S: Storage + Debug>(
 }
 
 /// The same of the text that was to be made of the bytes.
-fn come_back<S: Storage + Debug>(
+fn utf8_error_of_text<S: Storage + Debug>(
     alloc: Global,
     made: Result<StrInner<S>, Utf8Error<S>>,
     bytes: &[u8],
 ) -> bool {
     match made {
         Ok(_) => false,
-        Err(error) => gives_back(alloc, error, bytes) == Ok(true),
+        Err(error) => utf8_error_gives_back(alloc, error, bytes) == Ok(true),
     }
 }
 
 // The last of three, and of 100,001 bytes, is not UTF-8.
 #[test]
-fn bytes_that_are_not_utf8_come_back(rt: HostRuntime) {
+fn utf8_error_gives_bytes_back(rt: HostRuntime) {
     for count in [2, 100_000] {
         let mut want = vec![in rt.alloc(); b'a'; count].expect(&rt, "no memory");
         want.push(255).expect(&rt, "no memory");
         let growing = BytesMut::copy_from_slice(rt.alloc(), &want).expect(&rt, "no memory");
-        assert_that(&rt, come_back(rt.alloc(), StrMut::try_from(growing), &want));
+        assert_that(
+            &rt,
+            utf8_error_of_text(rt.alloc(), StrMut::try_from(growing), &want),
+        );
         let shared = Bytes::copy_from_slice(rt.alloc(), &want).expect(&rt, "no memory");
-        assert_that(&rt, come_back(rt.alloc(), Str::from_inner(shared), &want));
+        assert_that(
+            &rt,
+            utf8_error_of_text(rt.alloc(), Str::from_inner(shared), &want),
+        );
     }
 }

@@ -2,7 +2,7 @@ use Rattle.std.proofs.Common.{◌≡◌, ◌∙◌, ap, subst, arith, rules, tak
 use Rattle.std.proofs.lemmas.Str.Pattern.{strip_suffix_char}
 use Rattle.std.specs.Str.{chars}
 use Rattle.bytes_utils.specs.Lines.{IsWithoutReturn}
-use Rattle.bytes_utils.proofs.LinesLemmas.{IsWithoutReturn-stripped, feed-boundary, next-boundary, line-boundary, line-at, lines-last, text-at, text_after-none}
+use Rattle.bytes_utils.proofs.LinesLemmas.{IsWithoutReturn-stripped, feed-boundary, next-boundary, line-boundary, line-at, lines-last, text-at, text_after_line-none}
 use Rattle.bytes_utils.proofs.split.lines.line_place.Goals as goal
 
 pub returns-in_err-at : goal.returns-in_err-at
@@ -13,7 +13,7 @@ returns-in_err-at c = record {
   next = search rules;
   feed = rw c.from_residual.ensures c.in_err-at.ensures;
   line = rw c.from_residual.ensures (lines-last _ c.utf8.text c.in_err-at.ensures);
-  after = rw c.from_residual.ensures (text_after-none _ c.in_err-at.ensures);
+  after = rw c.from_residual.ensures (text_after_line-none _ c.in_err-at.ensures);
 }
 
 pub range-line-requires-clause-end_boundary : goal.range-line-requires-clause-end_boundary

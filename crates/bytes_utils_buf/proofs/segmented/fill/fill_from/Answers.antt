@@ -3,7 +3,7 @@ use Rattle.std.proofs.lemmas.List.{length-map, take_more}
 use Rattle.std.specs.List.{concat}
 use Rattle.bytes.proofs.Chunks.{concat_push}
 use Rattle.bytes_utils_buf.proofs.Lists.{read_at, concat_split}
-use Rattle.bytes_utils_buf.proofs.SlicesLemmas.{FillsTable-same, FillsTable-full, FillsTable-more, length-put_mid}
+use Rattle.bytes_utils_buf.proofs.SlicesLemmas.{FillsSlices-same, FillsSlices-full, FillsSlices-more, length-put_mid}
 use Rattle.bytes_utils_buf.proofs.segmented.fill.fill_from.Goals as goal
 
 pub loop-i-preserved : goal.loop-i-preserved
@@ -18,13 +18,13 @@ loop-i-preserved g c =
     ∙ ap (λ l. concat (take i (map f items)) ++ l) (read_at f items i c.index-bufs-i.result here c.index-bufs-i.is) in (
       search rules,
       length-put_mid c.loop-i.dst c.chunks_into-filled.new.dst c.loop-i.filled (search rules) (search rules) ∙ c.loop-i.invariant.1,
-      FillsTable-same _ _ _ _ _ more
-          (FillsTable-more c.loop-i.filled c.chunks_into-filled.result _ c.loop-i.dst c.chunks_into-filled.new.dst _ _ (search rules) c.loop-i.invariant.1
+      FillsSlices-same _ _ _ _ _ more
+          (FillsSlices-more c.loop-i.filled c.chunks_into-filled.result _ c.loop-i.dst c.chunks_into-filled.new.dst _ _ (search rules) c.loop-i.invariant.1
           (search rules) c.loop-i.invariant.2 c.chunks_into-filled.ensures),
     )
 
 pub returns-else-filled-dst : goal.returns-else-filled-dst
 returns-else-filled-dst g c =
     let lists = map g.B.Buf.unread c.args.bufs.now in
-    FillsTable-same _ _ _ _ _ (concat_split c.loop-i.i lists)
-    (FillsTable-full c.loop-i.filled _ _ _ _ (search rules) c.loop-i.invariant.2)
+    FillsSlices-same _ _ _ _ _ (concat_split c.loop-i.i lists)
+    (FillsSlices-full c.loop-i.filled _ _ _ _ (search rules) c.loop-i.invariant.2)

@@ -2,8 +2,8 @@ use Rattle.std.proofs.Common.{◌<◌, map, arith, rules}
 use Rattle.bytes_utils_buf.proofs.Pieces.{Gives-more, inside}
 use Rattle.bytes_utils_buf.proofs.segmented.pieces.share_pieces.Goals as goal
 
-pub part_at-requires-clause-some : goal.part_at-requires-clause-some
-part_at-requires-clause-some g c =
+pub part_of_piece-requires-clause-some : goal.part_of_piece-requires-clause-some
+part_of_piece-requires-clause-some g c =
     let l = c.loop-left in
     inside g.B.Buf.unread c.args.bufs.now.items l.place.passed l.place.offset l.left (search rules) l.invariant.gives.enough
 

@@ -1,5 +1,5 @@
 use Rattle.std.proofs.Common.{◌-◌, length, map}
-use Rattle.bytes_utils_buf.specs.Segments.{IsInside, lists_from, take_bytes}
+use Rattle.bytes_utils_buf.specs.Segments.{IsInsideSegment, segments_from, take_from_segments}
 use Rattle.bytes_utils_buf.proofs.Pieces.{Gives}
 use Rattle.bytes_utils_buf.proofs.segmented.pieces.share_pieces.Given as goal
 
@@ -7,9 +7,9 @@ abbrev pub invariant-loop-left : goal.invariant-loop-left
 invariant-loop-left g l =
     let lists = map g.B.Buf.unread l.bufs.items in
     record {
-      inside : IsInside l.place.passed l.place.offset lists;
-      gives : Gives (lists_from l.place.passed l.place.offset lists) l.left
-          (take_bytes l.fn.len (lists_from l.fn.from.passed l.fn.from.offset lists)) l.pieces.items;
+      inside : IsInsideSegment l.place.passed l.place.offset lists;
+      gives : Gives (segments_from l.place.passed l.place.offset lists) l.left
+          (take_from_segments l.fn.len (segments_from l.fn.from.passed l.fn.from.offset lists)) l.pieces.items;
     }
 
 abbrev pub decreases-loop-left : goal.decreases-loop-left

@@ -15,7 +15,7 @@ overflow_sub-before g c =
     let lists = map g.B.Buf.unread items in
     let some = some_before lists l.passed l.before l.invariant.begins (omega (arith, c.loop-before-test.true)) in
     let within : l.passed ≤ length lists = omega (arith, length-map items g.B.Buf.unread, l.invariant.within) in
-    omega (arith, one_before lists l.passed l.before some within l.invariant.begins, c.size_at-before.ensures)
+    omega (arith, one_before lists l.passed l.before some within l.invariant.begins, c.size_at_place-before.ensures)
 
 pub loop-before-preserved : goal.loop-before-preserved
 loop-before-preserved g c =
@@ -26,7 +26,7 @@ loop-before-preserved g c =
     let within : l.passed ≤ length lists = omega (arith, length-map items g.B.Buf.unread, l.invariant.within) in
     let one = one_before lists l.passed l.before some within l.invariant.begins in
     record {
-      begins = omega (arith, one, c.size_at-before.ensures);
+      begins = omega (arith, one, c.size_at_place-before.ensures);
       within = omega (arith, l.invariant.within);
-      inside = λ inside. omega (arith, one, c.size_at-before.ensures, c.loop-before-test.true);
+      inside = λ inside. omega (arith, one, c.size_at_place-before.ensures, c.loop-before-test.true);
     }

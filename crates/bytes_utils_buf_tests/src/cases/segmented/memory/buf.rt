@@ -5,7 +5,7 @@ use bytes_utils_buf::segmented::SegmentedBuf;
 
 // These calls allocate nothing, so they are never refused.
 #[test]
-fn no_memory_needed(rt: HostRuntime) {
+fn empty_segmented_buf_needs_no_memory(rt: HostRuntime) {
     let mut buf: SegmentedBuf<Bytes> = SegmentedBuf::new(rt.alloc());
     assert_that(
         &rt,

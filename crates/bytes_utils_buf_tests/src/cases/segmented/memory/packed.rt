@@ -1,8 +1,8 @@
 //! Refused memory: pieces of a `PackedBuf`, and bytes taken out of one.
 use crate::cases::fixtures::assert_that;
-use crate::cases::fixtures::refusals::copies_made;
-use crate::cases::segmented::packed::rows::assert_rows;
-use crate::cases::segmented::packed::{HELLO, hello};
+use crate::cases::fixtures::refusals::copies_made_or_refusal;
+use crate::cases::segmented::packed::rows::assert_packed_rows;
+use crate::cases::segmented::packed::{HELLO, packed_hello};
 use std::process::Abort;
 
 // A small piece takes a block and a place. A large one has a place left, or takes one. A small one is
@@ -37,24 +37,30 @@ push World 3 = shared Hello|_|World
 push World 3 = segments Hello|_|World";
 
 #[test]
-fn pieces(rt: HostRuntime) {
-    assert_rows(&rt, PUSHED);
-    assert_rows(&rt, MOVED);
-    assert_rows(&rt, READ);
-    assert_rows(&rt, TAKEN);
-    assert_rows(&rt, SHARED);
+fn packed_pieces_if_memory_is_refused(rt: HostRuntime) {
+    assert_packed_rows(&rt, PUSHED);
+    assert_packed_rows(&rt, MOVED);
+    assert_packed_rows(&rt, READ);
+    assert_packed_rows(&rt, TAKEN);
+    assert_packed_rows(&rt, SHARED);
 }
 
 #[test]
-fn copy_out(rt: HostRuntime) {
+fn packed_copies_if_memory_is_refused(rt: HostRuntime) {
     let alloc = rt.alloc();
-    let holds = copies_made(&rt, alloc, "copy_out of PackedBuf", hello(alloc), HELLO);
+    let holds = copies_made_or_refusal(
+        &rt,
+        alloc,
+        "copy_out of PackedBuf",
+        packed_hello(alloc),
+        HELLO,
+    );
     assert_that(&rt, holds);
 }
 
 #[test]
-fn no_memory_needed(rt: HostRuntime) {
-    assert_rows(
+fn packed_nothing_needs_no_memory(rt: HostRuntime) {
+    assert_packed_rows(
         &rt,
         "512: push - 0, copy - 0, advance - 0, take - 0, split - 0 0 pieces = shared 0 of 0",
     );
@@ -62,8 +68,8 @@ fn no_memory_needed(rt: HostRuntime) {
 
 // A block with room asks for nothing.
 #[test]
-fn room_in_a_block(rt: HostRuntime) {
-    assert_rows(
+fn packed_block_with_room_needs_no_memory(rt: HostRuntime) {
+    assert_packed_rows(
         &rt,
         "512: copy Hello_World 1 PackedBuf::push_slice, push small 1, copy small 1",
     );

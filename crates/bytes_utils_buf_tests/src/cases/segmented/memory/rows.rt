@@ -1,6 +1,6 @@
 //! Refused memory: rows of calls on a `SegmentedBuf`. `refusals.txt` has the most bytes that a request
 //! for long segments may ask for.
-use crate::cases::segmented::rows::assert_rows;
+use crate::cases::segmented::rows::assert_segmented_rows;
 use std::process::Abort;
 
 // Six letters, each in a buffer of its own. A deque grows twice while they are appended.
@@ -22,28 +22,28 @@ from_vec a|b|c|d|e|f a|b|c|d|e|f, prefix a|b|c|d|e|f, peek_bytes abcdef, try_clo
 from_vec a|b|c|d|e|f a|b|c|d|e|f, slice 2/c|d|e|f, copy_range 1/bcde, read_range 1/bcde";
 
 #[test]
-fn letters(rt: HostRuntime) {
-    assert_rows(&rt, ACCEPTED);
-    assert_rows(&rt, CUT_OFF);
-    assert_rows(&rt, SHOWN);
+fn rows_of_segments_if_memory_is_refused(rt: HostRuntime) {
+    assert_segmented_rows(&rt, ACCEPTED);
+    assert_segmented_rows(&rt, CUT_OFF);
+    assert_segmented_rows(&rt, SHOWN);
 }
 
 // The place for one segment.
 #[test]
-fn long_segment_is_shared(rt: HostRuntime) {
-    assert_rows(&rt, "push x*10000 #1, prefix x*10000 . few places");
+fn rows_of_a_long_segment_need_little_memory(rt: HostRuntime) {
+    assert_segmented_rows(&rt, "push x*10000 #1, prefix x*10000 . few places");
 }
 
 // A block of their length.
 #[test]
-fn long_segments_are_copied(rt: HostRuntime) {
-    assert_rows(&rt, "push x*10000 #1, push x*10000 #2, peek_bytes x*20000");
+fn rows_of_copied_segments_need_memory_of_their_length(rt: HostRuntime) {
+    assert_segmented_rows(&rt, "push x*10000 #1, push x*10000 #2, peek_bytes x*20000");
 }
 
 // Vectors and deques are held in their own memory, so this is never refused.
 #[test]
-fn no_memory_needed(rt: HostRuntime) {
-    assert_rows(
+fn rows_of_a_deque_need_no_memory(rt: HostRuntime) {
+    assert_segmented_rows(
         &rt,
         "from_deque a|b|c|d|e|f a|b|c|d|e|f, push - ., advance abcde f",
     );

@@ -12,6 +12,7 @@
 //! | `give` | the same of a piece with a block of its own, of which the row keeps a share |
 //! | `copy` | `push_slice` |
 //! | `read` | one call of `read_from`, which reads all of the bytes |
+//! | `wide` | one call of `read_with_room`, with room for 10,000 bytes, which reads all of the bytes |
 //! | `reads` | calls of `read_from`, until one reads nothing since the reader has ended |
 //! | `take`, `split` | `take_bytes`, `split_to`; the row keeps the first piece that comes |
 //! | `advance` | the bytes are passed |
@@ -37,7 +38,7 @@
 //! | `shared 20 of 64` | `into_shared` returns twenty segments, of 64 bytes in all |
 //! | `segments ab\|c` | `into_shared` of the held segments returns these |
 //! | `dropped ab` | as `shared`; and the piece that the row keeps is of their block, until they are dropped |
-use crate::cases::fixtures::refusals::{prints, reports};
+use crate::cases::fixtures::refusals::{prints_buffer_refusal, reports_buffer_refusal};
 use crate::cases::fixtures::{assert_row, fills, long, skip};
 use bytes::{Buf, Bytes, BytesMut};
 use bytes_utils_buf::segmented::{PackedBuf, SegmentedBuf};
@@ -48,12 +49,12 @@ use std::io::ErrorKind;
 use std::process::Abort;
 
 /// Whether these bytes are unread, and no others.
-pub(super) fn holds(buf: &PackedBuf, bytes: &[u8]) -> bool {
+pub(super) fn packed_row_holds(buf: &PackedBuf, bytes: &[u8]) -> bool {
     buf.remaining() == bytes.len() && buf.as_segmented().eq_bytes(bytes)
 }
 
 /// The bytes that a word of a row means.
-pub(in crate::cases::segmented) fn meant(word: &'static str) -> Option<&'static [u8]> {
+pub(in crate::cases::segmented) fn packed_row_means(word: &'static str) -> Option<&'static [u8]> {
     let ys: &'static [u8] = &[b'y'; 1_000];
     match word.split_once('*') {
         Some(("x", count)) => long().get(..count.parse().ok()?),
@@ -63,11 +64,21 @@ pub(in crate::cases::segmented) fn meant(word: &'static str) -> Option<&'static 
     }
 }
 
-/// Reads a text by one call. Returns whether all of it was read, or, as an error, whether only memory
-/// was refused, and nothing was read.
-fn read(alloc: Global, buf: &mut PackedBuf, mut text: &[u8]) -> Result<bool, bool> {
+/// Reads a text by one call, with room for at least `room` bytes, if that isn't 0. Returns whether all of
+/// it was read, or, as an error, whether only memory was refused, and nothing was read.
+fn read_by_packed_row(
+    alloc: Global,
+    buf: &mut PackedBuf,
+    room: usize,
+    mut text: &[u8],
+) -> Result<bool, bool> {
     let len = text.len();
-    match buf.read_from(alloc, &mut text) {
+    let count = if room > 0 {
+        buf.read_with_room(alloc, &mut text, room)
+    } else {
+        buf.read_from(alloc, &mut text)
+    };
+    match count {
         Ok(count) => Ok(count == len && text.is_empty()),
         Err(error) => Err(error.kind() == ErrorKind::OutOfMemory && text.len() == len),
     }
@@ -75,7 +86,7 @@ fn read(alloc: Global, buf: &mut PackedBuf, mut text: &[u8]) -> Result<bool, boo
 
 /// Reads a text until a call reads nothing. Returns whether that was at its end, and each call returned
 /// how many bytes it read.
-fn reads(alloc: Global, buf: &mut PackedBuf, mut text: &[u8]) -> bool {
+fn reads_by_packed_row(alloc: Global, buf: &mut PackedBuf, mut text: &[u8]) -> bool {
     for _ in 0..=text.len() {
         let len = text.len();
         match buf.read_from(alloc, &mut text) {
@@ -90,7 +101,7 @@ fn reads(alloc: Global, buf: &mut PackedBuf, mut text: &[u8]) -> bool {
 
 /// A buffer, the bytes that it was given, and those that it gave.
 #[derive(Drop)]
-pub(super) struct Packed {
+pub(super) struct PackedRow {
     pub buf: PackedBuf,
     given: Vec<u8>,
     /// How many of the given bytes were taken off.
@@ -101,9 +112,9 @@ pub(super) struct Packed {
     pieces: usize,
 }
 
-impl Packed {
-    pub(super) fn new(alloc: Global, threshold: usize, given: Vec<u8>) -> Packed {
-        Packed {
+impl PackedRow {
+    pub(super) fn new(alloc: Global, threshold: usize, given: Vec<u8>) -> PackedRow {
+        PackedRow {
             buf: PackedBuf::new(alloc, threshold),
             given,
             read: 0,
@@ -172,8 +183,9 @@ impl Packed {
                 Ok(()) => Ok(true),
                 Err(reason) => Err(reason == Reason::OutOfMemory),
             },
-            "read" => read(alloc, &mut self.buf, bytes),
-            "reads" => Ok(reads(alloc, &mut self.buf, bytes)),
+            "read" => read_by_packed_row(alloc, &mut self.buf, 0, bytes),
+            "wide" => read_by_packed_row(alloc, &mut self.buf, 10_000, bytes),
+            "reads" => Ok(reads_by_packed_row(alloc, &mut self.buf, bytes)),
             "take" => self.take(alloc, bytes),
             "split" => self.split(alloc, bytes),
             _ => Ok(name == "advance" && skip(&mut self.buf, bytes.len())),
@@ -181,7 +193,7 @@ impl Packed {
     }
 
     fn is_flat(&self) -> bool {
-        self.read <= self.given.len() && holds(&self.buf, &self.given[self.read..])
+        self.read <= self.given.len() && packed_row_holds(&self.buf, &self.given[self.read..])
     }
 
     /// Makes a call, and again if it is refused. Returns whether it was right.
@@ -194,7 +206,7 @@ impl Packed {
         let is_made = match self.make(rt.alloc(), name, bytes) {
             Ok(is_right) => is_right,
             Err(is_lawful) => {
-                prints(rt, printed)
+                prints_buffer_refusal(rt, printed)
                     && is_lawful
                     && self.is_flat()
                     && self.make(rt.alloc(), name, bytes) == Ok(true)
@@ -245,7 +257,7 @@ impl Packed {
         call: &'static str,
     ) -> Option<bool> {
         let mut words = call.splitn(4, ' ');
-        let (name, bytes) = (words.next()?, meant(words.next()?)?);
+        let (name, bytes) = (words.next()?, packed_row_means(words.next()?)?);
         let segments: usize = words.next()?.parse().ok()?;
         let wanted = words.next().unwrap_or(call);
         let is_made = match name.split_once('/') {
@@ -270,18 +282,25 @@ impl Packed {
         let (name, wanted) = end.split_once(' ').unwrap_or((end, ""));
         match name {
             "blocks" => {
-                are_blocks(&self.buf.into_segmented().into_inner(), wanted) == Some(true)
+                packed_row_has_blocks(&self.buf.into_segmented().into_inner(), wanted) == Some(true)
             }
-            "shared" => is_shared(&shared(rt, self.buf, wanted), wanted),
-            "segments" => is_shared(&shared_segments(rt, self.buf, wanted), wanted),
-            "dropped" => is_dropped(shared(rt, self.buf, wanted), &self.kept, wanted),
+            "shared" => is_packed_row_shared(&packed_row_shares(rt, self.buf, wanted), wanted),
+            "segments" => is_packed_row_shared(
+                &packed_row_shares_segments(rt, self.buf, wanted),
+                wanted,
+            ),
+            "dropped" => is_packed_row_dropped(
+                packed_row_shares(rt, self.buf, wanted),
+                &self.kept,
+                wanted,
+            ),
             _ => end.is_empty(),
         }
     }
 }
 
 /// Whether a segment is a block of this number of bytes, with room for at most that one.
-fn is_block(segment: &EitherBuf<Bytes, BytesMut>, block: &str) -> Option<bool> {
+fn packed_row_has_block(segment: &EitherBuf<Bytes, BytesMut>, block: &str) -> Option<bool> {
     let (len, most) = block.split_once(" of ")?;
     let (len, most): (usize, usize) = (len.parse().ok()?, most.parse().ok()?);
     Some(match segment {
@@ -290,10 +309,13 @@ fn is_block(segment: &EitherBuf<Bytes, BytesMut>, block: &str) -> Option<bool> {
     })
 }
 
-fn are_blocks(segments: &VecDeque<EitherBuf<Bytes, BytesMut>>, blocks: &str) -> Option<bool> {
+fn packed_row_has_blocks(
+    segments: &VecDeque<EitherBuf<Bytes, BytesMut>>,
+    blocks: &str,
+) -> Option<bool> {
     let mut wanted = blocks.split(", ");
     for segment in segments.iter() {
-        if !is_block(segment, wanted.next()?)? {
+        if !packed_row_has_block(segment, wanted.next()?)? {
             return Some(false);
         }
     }
@@ -302,7 +324,7 @@ fn are_blocks(segments: &VecDeque<EitherBuf<Bytes, BytesMut>>, blocks: &str) -> 
 
 /// The segments, each as shared bytes. If they are refused, the buffer has to come back with these
 /// texts, and becomes shared then.
-fn shared(
+fn packed_row_shares(
     rt: &(impl Print + Alloc<A = Global>),
     buf: PackedBuf,
     texts: &str,
@@ -310,7 +332,7 @@ fn shared(
     match buf.into_shared(rt.alloc()) {
         Ok(all) => Some(all),
         Err(refused) => {
-            let is_lawful = reports(rt, "PackedBuf::into_shared", refused.reason)
+            let is_lawful = reports_buffer_refusal(rt, "PackedBuf::into_shared", refused.reason)
                 && fills(&refused.back, 10, texts);
             let all = refused.back.into_shared(rt.alloc()).ok();
             if is_lawful { all } else { None }
@@ -319,7 +341,7 @@ fn shared(
 }
 
 /// The same of the held segments alone.
-fn shared_segments(
+fn packed_row_shares_segments(
     rt: &(impl Print + Alloc<A = Global>),
     buf: PackedBuf,
     texts: &str,
@@ -327,7 +349,7 @@ fn shared_segments(
     match buf.into_segmented().into_shared(rt.alloc()) {
         Ok(all) => Some(all),
         Err(refused) => {
-            let is_lawful = reports(rt, "SegmentedBuf::into_shared", refused.reason)
+            let is_lawful = reports_buffer_refusal(rt, "SegmentedBuf::into_shared", refused.reason)
                 && fills(&refused.back, 10, texts);
             let all = refused.back.into_shared(rt.alloc()).ok();
             if is_lawful { all } else { None }
@@ -336,7 +358,7 @@ fn shared_segments(
 }
 
 /// Whether these segments were returned, or this number of them, with this number of bytes.
-fn is_shared(all: &Option<SegmentedBuf<Bytes>>, wanted: &str) -> bool {
+fn is_packed_row_shared(all: &Option<SegmentedBuf<Bytes>>, wanted: &str) -> bool {
     let Some(all) = all else {
         return false;
     };
@@ -349,30 +371,33 @@ fn is_shared(all: &Option<SegmentedBuf<Bytes>>, wanted: &str) -> bool {
 }
 
 /// Whether these segments were returned, and `kept` is of their block until they are dropped.
-fn is_dropped(all: Option<SegmentedBuf<Bytes>>, kept: &Bytes, wanted: &str) -> bool {
-    let is_kept = is_shared(&all, wanted) && !kept.is_unique();
+fn is_packed_row_dropped(all: Option<SegmentedBuf<Bytes>>, kept: &Bytes, wanted: &str) -> bool {
+    let is_kept = is_packed_row_shared(&all, wanted) && !kept.is_unique();
     drop(all);
     is_kept && kept.is_unique()
 }
 
 /// Makes the calls of a row, and returns whether each was right. There is room for what is given.
-fn is_row(
+fn is_packed_row(
     rt: &(impl Print + Alloc<A = Global>),
     given: Vec<u8>,
     row: &'static str,
 ) -> Option<bool> {
     let (threshold, calls) = row.split_once(": ")?;
     let (calls, end) = calls.split_once(" = ").unwrap_or((calls, ""));
-    let mut packed = Packed::new(rt.alloc(), threshold.parse().ok()?, given);
+    let mut packed = PackedRow::new(rt.alloc(), threshold.parse().ok()?, given);
     let is_right = packed.are_right(rt, calls);
     Some(packed.ends(rt, end) & is_right)
 }
 
 /// Fails the test unless each row is right. A row for whose bytes there is no memory is left out.
-pub(crate) fn assert_rows(rt: &(impl Abort + Print + Alloc<A = Global>), rows: &'static str) {
+pub(crate) fn assert_packed_rows(
+    rt: &(impl Abort + Print + Alloc<A = Global>),
+    rows: &'static str,
+) {
     for row in rows.lines() {
         if let Ok(given) = Vec::with_capacity(rt.alloc(), 101_000) {
-            assert_row(rt, row, is_row(rt, given, row));
+            assert_row(rt, row, is_packed_row(rt, given, row));
         }
     }
 }

@@ -1,7 +1,7 @@
 use Rattle.std.proofs.Common.{◌≡◌, ◌-◌, ◌+◌, take, drop, arith, ap, ◌∙◌}
 use Rattle.std.specs.List.{concat}
-use Rattle.bytes_utils_codec.specs.Cursor.{Reading}
-use Rattle.bytes_utils_codec.proofs.CursorLemmas.{TakesFirst-passed}
+use Rattle.bytes_utils_codec.specs.Cursor.{CursorReading}
+use Rattle.bytes_utils_codec.proofs.CursorLemmas.{CursorTakesFirst-passed}
 use Rattle.bytes_utils_codec.proofs.cursor.Cursor.take_segments.Goals as goal
 
 pub returns-clause-gives : goal.returns-clause-gives
@@ -13,8 +13,8 @@ returns-clause-gives g c =
     let front : concat c.in_ok-part.part.segments ≡ take len rest = c.in_ok-part.ensures.bytes ∙ ap (λ n. take n rest) size in
     let some = rw (← c.self.view_is) at c.remaining.ensures in
     record {
-      bytes = rw (← c.self.view_is, front) (TakesFirst-passed (record { all = concat q.buf.now.segments; at = q.at }) len (omega (arith, some)));
+      bytes = rw (← c.self.view_is, front) (CursorTakesFirst-passed (record { all = concat q.buf.now.segments; at = q.at }) len (omega (arith, some)));
       waits = tt;
-      all = ap (λ (r : Reading). r.all) c.self.view_is;
+      all = ap (λ (r : CursorReading). r.all) c.self.view_is;
       err = tt;
     }

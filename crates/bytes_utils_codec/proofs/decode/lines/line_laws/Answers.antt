@@ -1,4 +1,4 @@
-use Rattle.bytes_utils_codec.proofs.LineItemsLemmas.{line_items_law, whole_lines_law}
+use Rattle.bytes_utils_codec.proofs.LineReadingLemmas.{line_items_law, whole_lines_law}
 use Rattle.bytes_utils_codec.proofs.StreamLinesLemmas.{first_lines_law, same_lines_law, text_lines_law}
 use Rattle.bytes_utils_codec.proofs.decode.lines.line_laws.Goals as goal
 

@@ -1,8 +1,8 @@
 use Rattle.std.proofs.Common.{◌≡◌, length, min, take, ap, ◌∙◌, subst, arith, take_at, length-take}
 use Rattle.std.proofs.lemmas.List.{take_min}
 use Rattle.std.specs.List.{concat}
-use Rattle.bytes_utils_codec.specs.StreamTexts.{IsFront, TextReading}
-use Rattle.bytes_utils_codec.proofs.StreamTextsLemmas.{front_of_four}
+use Rattle.bytes_utils_codec.specs.TextReading.{IsTextFront, TextReading}
+use Rattle.bytes_utils_codec.proofs.TextReadingLemmas.{front_of_four}
 use Rattle.bytes_utils_codec.proofs.texts.Texts.front.Goals as goal
 
 -- the bytes that were looked at are the first four
@@ -14,4 +14,4 @@ returns c =
     = ap (take c.peek-count.result) c.peek-count.ensures.bytes
     ∙ take_at (take c.peek-count.result all) _ c.peek-count.result (length-take c.peek-count.result all ∙ omega (arith, size))
     ∙ ap (λ n. take n all) size ∙ take_min 4 all ∙ ap (λ (r : TextReading). take 4 r.held) c.self.view_is in
-    front_of_four c.args.self.now.held _ (subst (λ l. IsFront l c.front_of_few.result) seen c.front_of_few.ensures)
+    front_of_four c.args.self.now.held _ (subst (λ l. IsTextFront l c.text_front_of_few.result) seen c.text_front_of_few.ensures)

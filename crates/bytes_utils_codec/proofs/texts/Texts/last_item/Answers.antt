@@ -1,8 +1,8 @@
 use Rattle.std.proofs.Common.{◌≡◌, length, ap, arith, ◌∙◌}
 use Rattle.std.specs.Str.Lossy.{utf8_valid_len}
 use Rattle.bytes_utils_buf.proofs.Results.{OnErr-always}
-use Rattle.bytes_utils_codec.specs.StreamTexts.{TextReading}
-use Rattle.bytes_utils_codec.proofs.StreamTextsLemmas.{asks_also_at_end, no_text_in}
+use Rattle.bytes_utils_codec.specs.TextReading.{TextReading}
+use Rattle.bytes_utils_codec.proofs.TextReadingLemmas.{asks_also_at_end, no_text_in}
 use Rattle.bytes_utils_codec.proofs.texts.Texts.last_item.Goals as goal
 
 pub returns-in_err-item-clause-asks : goal.returns-in_err-item-clause-asks

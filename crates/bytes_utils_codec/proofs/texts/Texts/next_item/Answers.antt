@@ -1,7 +1,7 @@
 use Rattle.std.proofs.Common.{inl, refl}
 use Rattle.bytes_utils_buf.proofs.Results.{OnErr-always}
 use Rattle.bytes_utils_codec.proofs.FaultLen.{fault_some, fault_within}
-use Rattle.bytes_utils_codec.proofs.StreamTextsLemmas.{fault_taken, front_some, is_unfinished, no_text_in}
+use Rattle.bytes_utils_codec.proofs.TextReadingLemmas.{fault_taken, front_some, is_unfinished, no_text_in}
 use Rattle.bytes_utils_codec.proofs.texts.Texts.next_item.Goals as goal
 
 pub returns-in_err-take_text-in-Text-clause-asks : goal.returns-in_err-take_text-in-Text-clause-asks

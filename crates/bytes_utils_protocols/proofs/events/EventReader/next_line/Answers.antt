@@ -1,7 +1,7 @@
 use Rattle.std.proofs.Common.{◌≡◌, None, refl, rules}
 use Rattle.std.proofs.lemmas.Result.{err_from_is_err_and}
-use Rattle.bytes_utils_codec.specs.UniversalItems.{keeps_universal}
-use Rattle.bytes_utils_protocols.specs.EventData.{text_if_any}
+use Rattle.bytes_utils_codec.specs.UniversalReading.{keeps_universal}
+use Rattle.bytes_utils_protocols.specs.EventData.{event_data_if_any}
 use Rattle.bytes_utils_protocols.specs.Events.{Eventing, Keeps}
 use Rattle.bytes_utils_protocols.proofs.EventsLemmas.{keeps_none}
 use Rattle.bytes_utils_protocols.proofs.events.EventReader.next_line.Goals.{After-next_item}
@@ -13,7 +13,7 @@ new c = record {
   lines = c.next_item.new.self;
   waiting = c.take.new.self;
   at_start = c.self.inside.at_start;
-  told = record { name = c.self.inside.name; text = text_if_any c.self.inside.text; id = c.self.inside.id; retry = c.self.inside.retry };
+  told = record { name = c.self.inside.name; text = event_data_if_any c.self.inside.text; id = c.self.inside.id; retry = c.self.inside.retry };
   max_data = c.self.inside.max_data;
 }
 

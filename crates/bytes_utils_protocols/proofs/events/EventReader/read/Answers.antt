@@ -2,30 +2,30 @@ use Rattle.std.proofs.Common.{IsUtf8, ◌≡◌, ◌≢◌, ◌==◌, [], ap, le
 use Rattle.std.proofs.lemmas.Bool.{false≢true}
 use Rattle.std.proofs.lemmas.List.{nil_from_length}
 use Rattle.std.proofs.lemmas.Result.{err_from_is_err_and}
-use Rattle.bytes_utils_protocols.specs.Events.{Eventing, IsEndOf, content}
+use Rattle.bytes_utils_protocols.specs.Events.{Eventing, IsEndOfEventLine, event_content}
 use Rattle.bytes_utils_protocols.proofs.EventsLemmas.{content_end, does_empty, does_field, field_too_large, if_none}
 use Rattle.bytes_utils_protocols.proofs.events.EventReader.read.Goals as goal
 use Rattle.bytes_utils_protocols.proofs.events.EventReader.read.Goals.{then-is_empty+in_ok-event, else-is_empty+in_ok-read_field}
 
 pub read_field-requires : goal.read_field-requires
 read_field-requires c =
-    let text : c.content-text.result.now ≡ content c.self.inside.at_start c.args.line.now = c.content-text.ensures ∙ ap (content c.self.inside.at_start) c.as_str.ensures.value in
-    subst (IsEndOf c.args.line.now) (sym text) (content_end c.self.inside.at_start c.args.line.now)
+    let text : c.event_content-text.result.now ≡ event_content c.self.inside.at_start c.args.line.now = c.event_content-text.ensures ∙ ap (event_content c.self.inside.at_start) c.as_str.ensures.value in
+    subst (IsEndOfEventLine c.args.line.now) (sym text) (content_end c.self.inside.at_start c.args.line.now)
 
 pub returns-clause-none : goal.returns-clause-none
 returns-clause-none c =
     let old = c.args.self.now in
     let line = c.args.line.now in
-    let is_content : c.content-text.result.now ≡ content old.at_start line =
-    c.content-text.ensures ∙ ap (content c.self.inside.at_start) c.as_str.ensures.value ∙ ap (λ (r : Eventing). content r.at_start line) c.self.view_is in
+    let is_content : c.event_content-text.result.now ≡ event_content old.at_start line =
+    c.event_content-text.ensures ∙ ap (event_content c.self.inside.at_start) c.as_str.ensures.value ∙ ap (λ (r : Eventing). event_content r.at_start line) c.self.view_is in
     elim c.if-is_empty.branch [
       | then-is_empty+in_ok-event w ↦
-          let zero : length c.content-text.result.now ≡ 0 = search (rules, tests) in
-          let empty : content old.at_start line ≡ [] = sym is_content ∙ nil_from_length _ zero in
+          let zero : length c.event_content-text.result.now ≡ 0 = search (rules, tests) in
+          let empty : event_content old.at_start line ≡ [] = sym is_content ∙ nil_from_length _ zero in
           rw w.event-is (if_none w.in_ok-event.event w.in_ok-event.ensures.none
           (λ is. does_empty old _ line (subst IsUtf8 c.as_str.ensures.value c.as_str.ensures.utf8) empty is.0 (c.self-2.view_is ∙ w.self-is ∙ is.1)))
       | else-is_empty+in_ok-read_field w ↦
-          let some : content old.at_start line ≢ [] =
+          let some : event_content old.at_start line ≢ [] =
           λ empty. false≢true (sym w.if-is_empty.false ∙ c.is_empty.ensures ∙ ap (λ l. length l == 0) (is_content ∙ empty)) in
           let is = c.self-2.view_is ∙ w.self-is ∙ w.in_ok-read_field.ensures.ok in
           rw w.event-is (does_field old _ line (subst IsUtf8 c.as_str.ensures.value c.as_str.ensures.utf8) some (rw is_content at is) c.self-2.invariant)
@@ -35,9 +35,9 @@ pub returns-in_err-read_field-clause-too_large : goal.returns-in_err-read_field-
 returns-in_err-read_field-clause-too_large c =
     let old = c.args.self.now in
     let line = c.args.line.now in
-    let text = c.content-text.result.now in
-    let is_content : text ≡ content old.at_start line =
-    c.content-text.ensures ∙ ap (content c.self.inside.at_start) c.as_str.ensures.value ∙ ap (λ (r : Eventing). content r.at_start line) c.self.view_is in
+    let text = c.event_content-text.result.now in
+    let is_content : text ≡ event_content old.at_start line =
+    c.event_content-text.ensures ∙ ap (event_content c.self.inside.at_start) c.as_str.ensures.value ∙ ap (λ (r : Eventing). event_content r.at_start line) c.self.view_is in
     let some : text ≢ [] = λ empty. false≢true (sym c.if-is_empty.false ∙ c.is_empty.ensures ∙ ap (λ l. length l == 0) empty) in
     let out = err_from_is_err_and c.from_residual-in_err-read_field.result c.from_residual-in_err-read_field.ensures.1 in
     rw out.1 (λ is. field_too_large old line text is_content some (c.in_err-read_field.ensures.too_large (sym out.2 ∙ is)))

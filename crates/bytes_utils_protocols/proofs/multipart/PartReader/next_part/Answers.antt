@@ -12,8 +12,8 @@ returns-then-is_over-clause-too_large c _ =
     let limits = c.self.inside.limits in
     let over : (limits.head + limits.body < length new.preamble) ⊎ ((new.stage ≢ Found) × (limits.head + limits.body + length new.delimiter.needle < length (waiting_in new))) =
     elim (c.is_over.ensures.over.0 c.if-is_over.true) [
-      | inl much ↦ inl (omega (arith, much, c.is_over.ensures.short, c.most.ensures))
-      | inr waits ↦ inr (waits.0, omega (arith, waits.1, c.is_over.ensures.fits, c.most.ensures))
+      | inl much ↦ inl (omega (arith, much, c.is_over.ensures.short, c.most_multipart_bytes.ensures))
+      | inr waits ↦ inr (waits.0, omega (arith, waits.1, c.is_over.ensures.fits, c.most_multipart_bytes.ensures))
     ] in
     rw (← c.self.view_is) (λ more. over_limits limits c.self.inside.sections new more new.stage refl c.in_ok-search.ensures.ok c.search.ensures.divided.0 over)
 
@@ -47,9 +47,9 @@ returns-in_default-clause-few c =
     let new = c.search.new.self in
     let limits = c.self.inside.limits in
     let is_not : c.is_over.result ≡ true → ⊥ = λ is. false≢true (sym c.if-is_over.false ∙ is) in
-    let not_much : c.most.result < length new.preamble → ⊥ = λ much. is_not (c.is_over.ensures.over.1 (inl much)) in
-    let not_long : c.most.result + length new.delimiter.needle < length (waiting_in new) → ⊥ =
+    let not_much : c.most_multipart_bytes.result < length new.preamble → ⊥ = λ much. is_not (c.is_over.ensures.over.1 (inl much)) in
+    let not_long : c.most_multipart_bytes.result + length new.delimiter.needle < length (waiting_in new) → ⊥ =
     λ long. is_not (c.is_over.ensures.over.1 (inr (c.in_default.not-Found, long))) in
-    let short : length new.preamble ≤ limits.head + limits.body = omega (arith, not_much, c.most.ensures) in
-    let few : length (waiting_in new) ≤ limits.head + limits.body + length new.delimiter.needle = omega (arith, not_long, c.most.ensures) in
+    let short : length new.preamble ≤ limits.head + limits.body = omega (arith, not_much, c.most_multipart_bytes.ensures) in
+    let few : length (waiting_in new) ≤ limits.head + limits.body + length new.delimiter.needle = omega (arith, not_long, c.most_multipart_bytes.ensures) in
     few_wait limits c.self.inside.sections new short few new.stage c.in_ok-search.ensures.ok c.in_default.not-Found c.search.ensures.divided.0

@@ -1,6 +1,6 @@
 use Rattle.std.proofs.Common.{◌≡◌, ◌<◌, subst, arith, length}
 use Rattle.bytes_utils_protocols.specs.Redis.{TakesReply}
-use Rattle.bytes_utils_protocols.specs.PendingReply.{held_by, unread_by}
+use Rattle.bytes_utils_protocols.specs.RedisPending.{held_by, unread_by}
 use Rattle.bytes_utils_protocols.proofs.RedisLemmas.{reply_takes}
 use Rattle.bytes_utils_protocols.proofs.PendingReplies.{reply_read}
 use Rattle.bytes_utils_protocols.proofs.redis.ReplyReader.next_reply.Goals as goal

@@ -2,9 +2,9 @@ use Rattle.std.proofs.Common.{List, [], ◌∷◌, ◌++◌, ℕ, map, refl, ap}
 use Rattle.std.proofs.KnownBytes.{Appends-nil}
 use Rattle.std.specs.List.{concat}
 use Rattle.std.specs.Str.{chars}
-use Rattle.bytes_utils.proofs.StepLemmas.{HasGiven-none, HasGiven-more, HasGiven-refused}
-use Rattle.bytes_utils_run.specs.Coming.{AreToCome}
-use Rattle.bytes_utils_run.specs.Moves.{AppendsBeginning}
+use Rattle.bytes_utils.proofs.StepLemmas.{StepsHaveGiven-none, StepsHaveGiven-more, StepsHaveGiven-refused}
+use Rattle.bytes_utils_run.specs.AnySplitter.{AreToCome}
+use Rattle.bytes_utils_run.specs.AppendsAndConsumes.{AppendsBeginning}
 use Rattle.bytes_utils_run.specs.Printed.{printed_part}
 use Rattle.bytes_utils_buf.proofs.Results.{OnErr-always}
 use Rattle.bytes_utils_run.proofs.PrintedLemmas.{print_after, print_begun_after}
@@ -13,7 +13,7 @@ use Rattle.bytes_utils_run.proofs.program.print.print_parts.Goals as goal
 pub loop-item-init : goal.loop-item-init
 loop-item-init g c = record {
   parts = [];
-  had = HasGiven-none AreToCome c.args.splitter.now c.requires refl (ap (λ s. s.now) c.into_iter-item-iterator.ensures.into_iter_gives);
+  had = StepsHaveGiven-none AreToCome c.args.splitter.now c.requires refl (ap (λ s. s.now) c.into_iter-item-iterator.ensures.into_iter_gives);
   printed = Appends-nil _;
 }
 
@@ -22,7 +22,7 @@ pub returns-in-Err-clause-ok : goal.returns-in-Err-clause-ok
 returns-in-Err-clause-ok g c =
     let before = c.loop-item.invariant in
     let step = rw c.in-Err.is at c.in-Some.ensures.steps in
-    (before.parts, HasGiven-refused AreToCome c.args.splitter.now before.had step.some, before.printed)
+    (before.parts, StepsHaveGiven-refused AreToCome c.args.splitter.now before.had step.some, before.printed)
 
 -- first bytes of the part were printed, and others are to come
 pub returns-in_err-print-in-Ok-clause-err : goal.returns-in_err-print-in-Ok-clause-err
@@ -46,6 +46,6 @@ loop-item-preserved g c =
     let step = rw c.in-Ok.is at c.in-Some.ensures.steps in
     record {
       parts = before.parts ++ part ∷ [];
-      had = HasGiven-more AreToCome c.args.splitter.now part before.had step.gives;
+      had = StepsHaveGiven-more AreToCome c.args.splitter.now part before.had step.gives;
       printed = print_after printed_part before.parts part _ _ _ before.printed c.in_ok-print-in-Ok.ensures.ok;
     }

@@ -1,8 +1,8 @@
 use Rattle.std.proofs.Common.{ℕ, List, map}
 use Rattle.std.specs.Io.KnownBytes.{Appends}
 use Rattle.std.specs.List.{concat}
-use Rattle.bytes_utils.specs.Step.{HasGiven}
-use Rattle.bytes_utils_run.specs.Coming.{AreToCome}
+use Rattle.bytes_utils.specs.Step.{StepsHaveGiven}
+use Rattle.bytes_utils_run.specs.AnySplitter.{AreToCome}
 use Rattle.bytes_utils_run.specs.Printed.{printed_part}
 use Rattle.bytes_utils_run.proofs.program.print.print_parts.Given as goal
 
@@ -10,6 +10,6 @@ use Rattle.bytes_utils_run.proofs.program.print.print_parts.Given as goal
 abbrev pub invariant-loop-item : goal.invariant-loop-item
 invariant-loop-item g l = record {
   parts : List (List ℕ);
-  had : HasGiven AreToCome l.fn.splitter parts l.item-iterator;
+  had : StepsHaveGiven AreToCome l.fn.splitter parts l.item-iterator;
   printed : Appends (g.W.Write.contents l.initial.writer) (g.W.Write.contents l.writer) (concat (map printed_part parts));
 }

@@ -1,7 +1,7 @@
 use Rattle.std.proofs.Common.{◌≡◌, ◌∙◌, ap, subst, sym, IfOk}
 use Rattle.std.proofs.lemmas.Result.{IfOk-weaker}
 use Rattle.std.specs.Str.{trim, trim_end}
-use Rattle.bytes_utils.specs.Ends.{IsBetweenSpace}
+use Rattle.bytes_utils.specs.Ends.{IsBetweenSpaceAtEnds}
 use Rattle.bytes_utils.proofs.EndsLemmas.{part_end, part_is, start_in_front, between}
 use Rattle.bytes_utils.proofs.string.text.StrInner.trim_bytes.Goals as goal
 
@@ -32,5 +32,5 @@ pub returns-clause-place : goal.returns-clause-place
 returns-clause-place g c =
     let is = between _ _ _ c.trim_start-following.utf8 c.trim_end.utf8 c.trim_start-following.ensures.value c.trim_end.ensures.value in
     rw (← c.as_str-text.ensures.value)
-    (IfOk-weaker c.cut_before.result _ (λ part. IsBetweenSpace part c.as_str-text.result.now)
-    (λ part e. subst (λ l. IsBetweenSpace l c.as_str-text.result.now) (sym e) is) (returned g c))
+    (IfOk-weaker c.cut_before.result _ (λ part. IsBetweenSpaceAtEnds part c.as_str-text.result.now)
+    (λ part e. subst (λ l. IsBetweenSpaceAtEnds l c.as_str-text.result.now) (sym e) is) (returned g c))

@@ -2,7 +2,7 @@ use Rattle.std.proofs.Common.{length, map, arith, ap, length-drop}
 use Rattle.std.proofs.lemmas.List.{length-map}
 use Rattle.std.specs.List.{concat}
 use Rattle.bytes_utils_buf.proofs.TallyLemmas.{IsPaid-passing}
-use Rattle.bytes_utils_buf.proofs.Lists.{NoneEmpty-Skips}
+use Rattle.bytes_utils_buf.proofs.Lists.{NoSegmentEmpty-SkipsSegments}
 use Rattle.bytes_utils_buf.proofs.segmented.buf.SegmentedBuf.advance.Goals as goal
 
 pub invariant_of-self : goal.invariant_of-self
@@ -12,7 +12,7 @@ invariant_of-self g c =
     let new = c.skip_held.new.segments.items in
     let s = c.skip_held.ensures in (
       omega (arith, ap length s.skips.bytes, length-drop c.args.cnt (concat (map f old)), c.self.invariant.0),
-      NoneEmpty-Skips c.args.cnt (map f old) (map f new) c.self.invariant.1 s.skips,
+      NoSegmentEmpty-SkipsSegments c.args.cnt (map f old) (map f new) c.self.invariant.1 s.skips,
       omega (
         arith,
         s.turns,

@@ -1,8 +1,8 @@
 use Rattle.std.proofs.Common.{◌^◌, ◌<◌, ◌++◌, length, map, arith, rules, ap, ◌∙◌}
 use Rattle.std.proofs.lemmas.Result.{err_from_is_err_and}
 use Rattle.std.specs.List.{concat}
-use Rattle.bytes_utils_buf.specs.Segments.{without_empty}
-use Rattle.bytes_utils_buf.proofs.Lists.{concat-without_empty}
+use Rattle.bytes_utils_buf.specs.Segments.{unread_segments}
+use Rattle.bytes_utils_buf.proofs.Lists.{concat-unread_segments}
 use Rattle.bytes_utils_buf.proofs.segmented.buf.SegmentedBuf.from_iter.Goals as goal
 
 pub returns-in_err-extend-clause-err : goal.returns-in_err-extend-clause-err
@@ -12,8 +12,8 @@ returns-in_err-extend-clause-err g c =
     let small : length (concat (map f c.all.inside.segments.items)) < 2 ^ 64 = search rules in
     let h = c.in_err-extend.ensures in
     let lists = map f h.err.0 in
-    let bytes = ap length (ap (λ q. concat q.segments) h.err.3 ∙ ap (λ q. concat (q.segments ++ without_empty lists)) c.new-all.ensures
-    ∙ concat-without_empty lists) in
+    let bytes = ap length (ap (λ q. concat q.segments) h.err.3 ∙ ap (λ q. concat (q.segments ++ unread_segments lists)) c.new-all.ensures
+    ∙ concat-unread_segments lists) in
     rw (p.1, p.2) (
       h.err.0,
       h.err.1,

@@ -8,7 +8,7 @@ pub invariant_of-result : goal.invariant_of-result
 invariant_of-result g c =
     let f = g.B.Buf.unread in
     let xs = c.args.bufs.now in
-    let count = c.count_empty-place in
+    let count = c.skip_empty_lent-place in
     let p = count.result in
     let handed_in = map f c.of-handed_in.result.value.bufs.now in
     let same = ap (λ loan. map f loan.bufs.now) c.of-handed_in.ensures in
@@ -21,8 +21,8 @@ pub returns-clause-place : goal.returns-clause-place
 returns-clause-place g c =
     let f = g.B.Buf.unread in
     let xs = c.args.bufs.now in
-    let p = c.count_empty-place.result in
-    omega (arith, length-drop p (map f xs), length-map xs f, c.count_empty-place.ensures.passed)
+    let p = c.skip_empty_lent-place.result in
+    omega (arith, length-drop p (map f xs), length-map xs f, c.skip_empty_lent-place.ensures.passed)
 
 pub returns-clause-bytes : goal.returns-clause-bytes
-returns-clause-bytes g c = c.count_empty-place.ensures.skips.bytes
+returns-clause-bytes g c = c.skip_empty_lent-place.ensures.skips.bytes

@@ -1,8 +1,8 @@
 use Rattle.std.proofs.Common.{◌≡◌, ap, refl, subst, ◌∙◌, true, Ok, Err}
 use Rattle.bytes_utils_codec.specs.Decoding.{Decoding, Item, decoding}
-use Rattle.bytes_utils_codec.specs.LineItems.{LineReading, gives_line}
+use Rattle.bytes_utils_codec.specs.LineReading.{LineReading, gives_line}
 use Rattle.bytes_utils_codec.specs.declared.decode.lines.LineFault.TheVariants.{TooLong}
-use Rattle.bytes_utils_codec.proofs.LineItemsLemmas.{gives_lossy}
+use Rattle.bytes_utils_codec.proofs.LineReadingLemmas.{gives_lossy}
 use Rattle.bytes_utils_codec.proofs.decode.lines.Lines.take_lossy.Goals as goal
 
 pub returns-in-Some-Err : goal.returns-in-Some-Err

@@ -1,5 +1,5 @@
 use Rattle.bytes_utils_codec.specs.Decoding.{decoding}
-use Rattle.bytes_utils_codec.proofs.LineItemsLemmas.{ends_line}
+use Rattle.bytes_utils_codec.proofs.LineReadingLemmas.{ends_line}
 use Rattle.bytes_utils_codec.proofs.decode.lines.LinesDecoder.decode_eof.Goals as goal
 
 pub returns : goal.returns

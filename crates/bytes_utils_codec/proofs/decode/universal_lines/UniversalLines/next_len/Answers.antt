@@ -1,5 +1,5 @@
 use Rattle.bytes_utils_codec.specs.Decoding.{decoding}
-use Rattle.bytes_utils_codec.proofs.UniversalItemsLemmas.{finds_then, reaches_then}
+use Rattle.bytes_utils_codec.proofs.UniversalReadingLemmas.{finds_then, reaches_then}
 use Rattle.bytes_utils_codec.proofs.decode.universal_lines.UniversalLines.next_len.Goals as goal
 
 pub returns : goal.returns

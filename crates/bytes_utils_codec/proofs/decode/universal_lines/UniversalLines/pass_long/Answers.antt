@@ -1,9 +1,9 @@
 use Rattle.std.proofs.Common.{◌≡◌, ◌∙◌, ap, sym, subst, MatchBool}
 use Rattle.std.specs.List.{concat}
 use Rattle.bytes_utils_codec.specs.Decoding.{decoding}
-use Rattle.bytes_utils_codec.specs.UniversalItems.{PassesLong, SkipsOn, after_end, after_feed, dropped}
-use Rattle.bytes_utils_codec.specs.UniversalItemsLaws.{State, state}
-use Rattle.bytes_utils_codec.proofs.UniversalItemsLemmas.{long_found, long_missed}
+use Rattle.bytes_utils_codec.specs.UniversalReading.{PassesLong, SkipsOn, after_end, after_feed, dropped}
+use Rattle.bytes_utils_codec.specs.UniversalReadingLaws.{State, state}
+use Rattle.bytes_utils_codec.proofs.UniversalReadingLemmas.{long_found, long_missed}
 use Rattle.bytes_utils_codec.proofs.decode.universal_lines.UniversalLines.pass_long.Goals as goal
 use Rattle.bytes_utils_codec.proofs.decode.universal_lines.UniversalLines.pass_long.Goals.{in-Some, in-None}
 

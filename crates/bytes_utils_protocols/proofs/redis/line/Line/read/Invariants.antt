@@ -1,5 +1,5 @@
 use Rattle.std.proofs.Common.{List, ℕ, ◌++◌, take}
-use Rattle.bytes_utils_protocols.specs.PendingReply.{IsReadAs}
+use Rattle.bytes_utils_protocols.specs.RedisLine.{IsReadAs}
 use Rattle.bytes_utils_protocols.proofs.redis.line.Line.read.Given as goal
 
 -- the bytes before this one were read

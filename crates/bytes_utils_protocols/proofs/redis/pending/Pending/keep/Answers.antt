@@ -8,4 +8,4 @@ returns-in_err-push-clause-err c =
     rw out.1 (λ limits is. same_items limits c.args.self.now c.push.new.self c.in_err-push.ensures.items is)
 
 pub returns-clause-next : goal.returns-clause-next
-returns-clause-next c limits = c.at_line-self.ensures limits _
+returns-clause-next c limits = c.pending_at_line-self.ensures limits _

@@ -1,5 +1,5 @@
 use Rattle.std.proofs.Common.{◌<◌, ◌+◌, ◌^◌, length}
-use Rattle.bytes_utils_protocols.specs.PendingReply.{held_by}
+use Rattle.bytes_utils_protocols.specs.RedisPending.{held_by}
 use Rattle.bytes_utils_protocols.proofs.PendingReplies.{still_pending}
 use Rattle.bytes_utils_protocols.proofs.redis.pending.Pending.push_slice.Goals as goal
 

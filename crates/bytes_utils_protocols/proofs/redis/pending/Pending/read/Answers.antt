@@ -1,7 +1,7 @@
 use Rattle.std.proofs.Common.{[], ◌++◌, ◌-◌, ◌∙◌, sym, subst, arith, append-nil}
 use Rattle.std.proofs.lemmas.Result.{err_from_is_err_and}
 use Rattle.bytes_utils_protocols.specs.Redis.{BeginsReply, NoItem, NoReply}
-use Rattle.bytes_utils_protocols.specs.PendingReply.{held_by, unread_by}
+use Rattle.bytes_utils_protocols.specs.RedisPending.{held_by, unread_by}
 use Rattle.bytes_utils_protocols.proofs.RedisLemmas.{no_next, no_room}
 use Rattle.bytes_utils_protocols.proofs.ReplyBeginnings.{begins_reply}
 use Rattle.bytes_utils_protocols.proofs.PendingReplies.{one_kept}

@@ -1,5 +1,5 @@
 use Rattle.std.proofs.Common.{◌≡◌, ◌-◌, length}
-use Rattle.bytes_utils_protocols.specs.PendingReply.{IsPending, held_by}
+use Rattle.bytes_utils_protocols.specs.RedisPending.{IsPending, held_by}
 use Rattle.bytes_utils_protocols.proofs.redis.pending.Pending.read.Given as goal
 
 abbrev pub invariant-loop-self : goal.invariant-loop-self

@@ -1,7 +1,0 @@
-use Rattle.bytes_utils.proofs.SearchLemmas.{FindsFirst-from_any}
-use Rattle.bytes_utils.proofs.split.search.find.Goals as goal
-
-pub returns : goal.returns
-returns c =
-    let found = rw (c.as_bytes.ensures.value, c.as_bytes-2.ensures.value) at c.find.ensures in
-    FindsFirst-from_any _ _ c.utf8.text c.utf8.separator _ found

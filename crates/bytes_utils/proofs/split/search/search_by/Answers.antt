@@ -1,0 +1,7 @@
+use Rattle.bytes_utils.proofs.SearchLemmas.{FindsFirstOccurrence-from_needle}
+use Rattle.bytes_utils.proofs.split.search.search_by.Goals as goal
+
+pub returns : goal.returns
+returns c =
+    let found = rw c.as_bytes.ensures.value at c.find.ensures in
+    FindsFirstOccurrence-from_needle _ _ c.utf8.text c.requires.utf8 c.requires.some _ found

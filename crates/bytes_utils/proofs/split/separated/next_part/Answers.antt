@@ -1,8 +1,0 @@
-use Rattle.std.proofs.Common.{rules, ◌≢◌, Some}
-use Rattle.bytes_utils.proofs.NextPart.{at_limit}
-use Rattle.bytes_utils.proofs.split.separated.next_part.Goals as goal
-
-pub returns-clause-gives : goal.returns-clause-gives
-returns-clause-gives g c =
-    let not_one : c.args.limit ≢ Some 1 = search rules in
-    at_limit c.cut_next.result _ c.args.limit c.requires.some not_one c.cut_next.ensures.gives

@@ -1,0 +1,25 @@
+use Rattle.std.proofs.Common.{◌≡◌, ◌++◌, ◌∙◌, refl, ap, subst, take, append_assoc, sym}
+use Rattle.std.specs.List.{concat, slice_range}
+use Rattle.bytes_utils_protocols.specs.Redis.{IsLineOf}
+use Rattle.bytes_utils_protocols.specs.RedisLine.{IsReadAs}
+use Rattle.bytes_utils_protocols.proofs.ReplyEnds.{read_on}
+use Rattle.bytes_utils_protocols.proofs.redis.pending.read_pending_to.Goals as goal
+
+pub returns-in-Some-clause-read : goal.returns-in-Some-clause-read
+returns-in-Some-clause-read c =
+    let u = concat c.args.pieces.now.held.segments in
+    let begun = c.args.begun in
+    let front : take begun.len u ++ c.deref.result.now ≡ take c.args.len u =
+    ap (λ l. take begun.len u ++ l) (c.deref.ensures.value ∙ c.in_ok-bytes.ensures.value ∙ ap (λ held. slice_range (concat held.segments) begun.len c.args.len) c.as_segmented.ensures)
+    ∙ read_on u begun.len c.args.len c.requires.further in
+    (refl, (c.requires.within, subst (IsReadAs c.in-Some.line) front (c.in-Some.ensures (take begun.len u) c.requires.begun.1)))
+
+pub returns-clause-malformed : goal.returns-clause-malformed
+returns-clause-malformed c _ item more line =
+    let u = concat c.args.pieces.now.held.segments in
+    let begun = c.args.begun in
+    let front : take begun.len u ++ c.deref.result.now ≡ take c.args.len u =
+    ap (λ l. take begun.len u ++ l) (c.deref.ensures.value ∙ c.in_ok-bytes.ensures.value ∙ ap (λ held. slice_range (concat held.segments) begun.len c.args.len) c.as_segmented.ensures)
+    ∙ read_on u begun.len c.args.len c.requires.further in
+    c.in-None.ensures (take begun.len u) c.requires.begun.1 item more
+    (subst (IsLineOf item) (ap (λ l. l ++ more) (sym front) ∙ append_assoc (take begun.len u) c.deref.result.now more) line)

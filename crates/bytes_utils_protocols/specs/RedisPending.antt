@@ -1,0 +1,79 @@
+-- What was read of a reply of the Redis protocol whose end is to come.
+use Rattle.std.specs.Prelude.{◌≡◌, ℕ, ◌+◌, ◌<◌, ◌≤◌, ◌^◌, List, ◌++◌, length, drop, Option, Result, MatchOption, MatchResult}
+use Rattle.std.specs.List.{concat}
+use Rattle.bytes_utils_buf.specs.declared.refused.Reason.{Reason}
+use Rattle.bytes_utils_buf.specs.declared.refused.Reason.TheVariants.{OutOfMemory}
+use Rattle.bytes_utils_codec.specs.Frames.{TakesFrame}
+use Rattle.bytes_utils_codec.specs.StreamRuns.{AreFirstOfRun}
+use Rattle.bytes_utils_protocols.specs.Redis.{redis_line_end, TakesItem, LeaveItemsDue, BeginsItem, NoItem, NoItemWithin, items_in}
+use Rattle.bytes_utils_protocols.specs.RedisLine.{IsHeadOf, IsReadTo, IsHead}
+use Rattle.bytes_utils_protocols.specs.declared.redis.item.Item.{Item}
+use Rattle.bytes_utils_protocols.specs.declared.redis.limits.Limits.{Limits}
+use Rattle.bytes_utils_protocols.specs.declared.redis.limits.ReplyError.{ReplyError}
+use Rattle.bytes_utils_protocols.specs.declared.redis.limits.ReplyError.TheVariants.{Refused, Malformed, TooLarge}
+use Rattle.bytes_utils_protocols.specs.declared.redis.line.LineHead.{LineHead}
+use Rattle.bytes_utils_protocols.specs.declared.redis.line.LineHead.TheVariants.{Body}
+use Rattle.bytes_utils_protocols.specs.declared.redis.pending.Next.{Next}
+use Rattle.bytes_utils_protocols.specs.declared.redis.pending.Next.TheVariants.{InLine, InBody}
+use Rattle.bytes_utils_protocols.specs.declared.redis.pending.Pending.{Pending}
+
+-- ---- the next item
+
+-- the first bytes are the line of a bulk item of this length, and the end of that line
+pub record AwaitsPendingBody (limits : Limits) (bytes : List ℕ) (start len : ℕ) : Type 0 where
+  pub line : List ℕ
+  pub framed : TakesFrame redis_line_end bytes line (drop start bytes)
+  pub is : IsHeadOf (Body len) line
+  pub short : length line ≤ limits.line
+  pub small : len ≤ limits.bulk
+  pub within : start ≤ length bytes
+
+-- the bytes begin with this item, which has `len` bytes, and at most `room` items of its own
+pub record HasPendingItem (limits : Limits) (room : ℕ) (bytes : List ℕ) (item : Item) (len : ℕ) : Type 0 where
+  pub takes : TakesItem limits bytes item (drop len bytes)
+  pub within : len ≤ length bytes
+  pub few : items_in item ≤ room
+
+-- the bytes begin with no item yet, and with some bytes after them they are one
+pub record AwaitsPendingItem (limits : Limits) (room : ℕ) (bytes : List ℕ) : Type 0 where
+  pub none : NoItem limits bytes
+  pub begins : BeginsItem limits room bytes
+
+-- why there is no item, whatever comes after the bytes
+pub record IsNoPendingItem (limits : Limits) (room : ℕ) (bytes : List ℕ) (e : ReplyError) : Type 0 where
+  pub malformed : e ≡ Malformed → (any : Limits) (more : List ℕ) → NoItem any (bytes ++ more)
+  pub too_large : e ≡ TooLarge → (more : List ℕ) → NoItemWithin limits room (bytes ++ more)
+  pub memory : (reason : Reason) → e ≡ Refused reason → reason ≡ OutOfMemory
+
+-- the first item of the bytes, if it has come
+abbrev pub FindsPendingItem : Limits → ℕ → List ℕ → Result (Option (Item × ℕ)) ReplyError → Type 0
+FindsPendingItem limits room bytes result =
+    MatchResult result (λ found. MatchOption found (AwaitsPendingItem limits room bytes) (λ read. HasPendingItem limits room bytes read.0 read.1)) (IsNoPendingItem limits room bytes)
+
+-- what the first line of the bytes reports, if it has come, with its number of bytes
+abbrev pub FindsPendingHead : Limits → ℕ → List ℕ → Result (Option LineHead) ReplyError → ℕ → Type 0
+FindsPendingHead limits room bytes result len =
+    MatchResult result (λ found. MatchOption found (AwaitsPendingItem limits room bytes) (λ head. IsHead limits room bytes head len)) (IsNoPendingItem limits room bytes)
+
+-- what was read of the first item of the bytes
+abbrev pub IsPendingNext : Limits → List ℕ → Next → Type 0
+IsPendingNext limits bytes (InLine begun) = IsReadTo bytes begun
+IsPendingNext limits bytes (InBody start len) = AwaitsPendingBody limits bytes start len
+
+-- ---- the reply
+
+-- the bytes of which no item was read
+abbrev pub unread_by : Pending → List ℕ
+unread_by p = concat p.pieces.held.segments
+
+-- all bytes that are of no reply yet
+abbrev pub held_by : Pending → List ℕ
+held_by p = p.passed ++ unread_by p
+
+-- the items are those of the bytes that were passed, and the others of the reply are still due
+pub record IsPending (limits : Limits) (p : Pending) : Type 0 where
+  pub are : AreFirstOfRun (TakesItem limits) (held_by p) p.items.items (unread_by p)
+  pub due : LeaveItemsDue 1 p.items.items p.due
+  pub within : 0 < limits.items → length p.items.items + p.due ≤ limits.items
+  pub next : IsPendingNext limits (unread_by p) p.next
+  pub fits : length (held_by p) < 2 ^ 64
