@@ -70,4 +70,9 @@ fn decoder_reads_if_memory_is_refused(rt: HostRuntime) {
         input,
         "9 width 4: read_from 5, =#5, read_from 5, =#10",
     );
+    assert_decode_row_reads::<LengthPrefixed, _>(
+        &rt,
+        input,
+        "9 width 4: room 600 5, =#5, room 600 5, =#10",
+    );
 }
