@@ -5,10 +5,20 @@ from collections import namedtuple
 from pathlib import Path
 
 from kit import CRATES, EXAMPLES, ROOT, files_of
+from uses import below
 
 # what is said of a goal that stays open. Else a term of a proof file no longer fits, as it also may for a right body
 OPEN = re.compile(r"src/|\./proofs/.*(does not follow|allow values at which|(found )?no proof\b)")
 BY_PROOF = "by the proof file alone"
+# a function of a file, and one whose body is one line
+FUNCTION = re.compile(
+    r"^( *)(pub(?:\([^)]*\))? )?(?:const |unsafe )*fn (\w+)((?:(?!^ *(?:pub(?:\([^)]*\))? )?fn ).)*?)^\1(?:\{\}|\})\n",
+    re.M | re.S,
+)
+ONE_LINE = re.compile(r"\{\n.*\n *\}\n\Z|\{\}\n\Z")
+HEAD = re.compile(r"^(?:unsafe )?(?:impl\b|pub trait\b)[^{]*", re.M)
+# it only takes a value apart, so that no wrong body can be written
+ONLY_TAKES_APART = [("bytes_utils", "into_inner")]
 # a program's files are texts by their paths, and its folder is that of its edits; a pair is an old text and a new one
 Program = namedtuple("Program", "name uses files folder")
 Edit = namedtuple("Edit", "program name file functions test breaks pairs")
@@ -61,6 +71,24 @@ def fault_of(edit):
     names = [it.split("::")[-1] for it in (*edit.functions, edit.test) if it]
     lost = [it for it in names if not re.search(rf"\bfn {it}\b", text)]
     return f"there is no function {lost[0]}" if lost else "" if names else "it names no function and no test"
+
+
+def unchanged(program):
+    """The public functions of a crate, of more than one line, in which no wrong body is, nor in a private function by
+    which they work."""
+    edits, found, calls, changed = edits_of(program), [], {}, set()
+    for path, text in program.files.items():
+        places = [text.find(old) for it in edits if it.file == path for old, _ in it.pairs]
+        for it in FUNCTION.finditer(text) if path.startswith("src/") else ():
+            head = "".join(HEAD.findall(text[: it.start()])[-1:]) if it[1] else ""
+            is_public = it[2] == "pub " or " for " in head or head.startswith("pub trait")
+            name = (path, it[3], it.start()) if is_public else it[3]
+            calls[name] = re.findall(r"\b(\w+)\(", it[4])
+            if any(it.start() <= at < it.end() for at in places):
+                changed |= set() if is_public else {name}
+            elif is_public and not ONE_LINE.search(it[0]) and (program.name, it[3]) not in ONLY_TAKES_APART:
+                found.append(name)
+    return [f"{program.name}/{it[0]}, {it[1]}" for it in found if not below(it, calls) & changed]
 
 
 def goals_in(said):

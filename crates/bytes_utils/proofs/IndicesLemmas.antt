@@ -8,7 +8,7 @@ use Rattle.std.specs.Str.{chars, encode_utf8_all as encodes}
 use Rattle.bytes_utils.specs.Indices.{Indexing, indexed, AreIndexedPartsToCome, CutsIndexedNext, index_and_chars}
 use Rattle.bytes_utils.specs.Occurrence.{OccursAt}
 use Rattle.bytes_utils.specs.Parts.{join, ArePartsFromFront}
-use Rattle.bytes_utils.specs.Splitting.{Splitting, splitting, AreForwardPartsToCome, ArePartsToCome, CutsNext, most_parts}
+use Rattle.bytes_utils.specs.Splitting.{Splitting, splitting, AreForwardPartsToCome, ArePartsToCome, SplitsNext, most_parts}
 use Rattle.bytes_utils.specs.Step.{StepGivesFirst, StepGivesItem, IsStepOf}
 use Rattle.bytes_utils.specs.declared.split.direction.Direction.{Direction}
 use Rattle.bytes_utils.specs.declared.split.direction.Direction.TheVariants.{Forward}
@@ -105,8 +105,8 @@ measured_after (Some r) separator begun at size left is empty left_is within at_
 
 -- a step that gives an item gives it with its place
 module _ {E : Type 0} (refuses : E → Type 0) (from : Direction) (forward : from ≡ Forward) (s t : Indexing) (item : Result (List ℕ) E)
-    (gives : StepGivesItem chars (ArePartsToCome from) CutsNext refuses s.parts item t.parts) where
-  forward_item : (it : Result (List ℕ) E) → item ≡ it → StepGivesItem chars AreForwardPartsToCome CutsNext refuses s.parts it t.parts
+    (gives : StepGivesItem chars (ArePartsToCome from) SplitsNext refuses s.parts item t.parts) where
+  forward_item : (it : Result (List ℕ) E) → item ≡ it → StepGivesItem chars AreForwardPartsToCome SplitsNext refuses s.parts it t.parts
   forward_item it is = grind arith
 
   pub ok_indexed : (size at : ℕ) (part : List ℕ) → t.parts.separator ≡ s.parts.separator → IsMeasured size s → IsMeasured size t → item ≡ Ok part → at ≡ s.at

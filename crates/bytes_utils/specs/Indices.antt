@@ -1,7 +1,7 @@
 -- The parts of a text between separators, each with the byte place at which it begins.
 use Rattle.std.specs.Prelude.{◌≡◌, ℕ, ◌+◌, List, [], ◌∷◌, length}
 use Rattle.std.specs.Str.{chars, encode_utf8_all}
-use Rattle.bytes_utils.specs.Splitting.{Splitting, AreForwardPartsToCome, CutsNext}
+use Rattle.bytes_utils.specs.Splitting.{Splitting, AreForwardPartsToCome, SplitsNext}
 
 -- Pairs each part, given as characters, with the byte place at which it begins: the first begins at this place, each
 -- other one after the part before it and the separator, which is given as bytes.
@@ -20,7 +20,7 @@ AreIndexedPartsToCome s items = (parts : List (List ℕ)) × AreForwardPartsToCo
 
 -- the next step splits the storage, as the step without places does
 abbrev pub CutsIndexedNext : Indexing → Type 0
-CutsIndexedNext s = CutsNext s.parts
+CutsIndexedNext s = SplitsNext s.parts
 
 -- an item as its place and the characters of its part
 abbrev pub index_and_chars : ℕ × List ℕ → ℕ × List ℕ

@@ -58,8 +58,8 @@ limit_after_split = option_map (λ most. most - 1)
 
 -- The next step splits the storage: the limit leaves more than one part, and what is left holds a separator. Every text
 -- holds the empty separator; but after all characters were given, what is left is the last part and needs no split.
-abbrev pub CutsNext : Splitting → Type 0
-CutsNext s = LeavesMoreToSplit s.limit
+abbrev pub SplitsNext : Splitting → Type 0
+SplitsNext s = LeavesMoreToSplit s.limit
     × IsSomeAnd s.rest (λ text. Occurs (chars s.separator) (chars text) × OnTrue s.begun (0 < length text))
 
 -- a bound on the number of parts to come

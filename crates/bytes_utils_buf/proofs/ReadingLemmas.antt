@@ -35,30 +35,27 @@ pub grown_by_read : (before after : Option (List ℕ)) (old new : List (List ℕ
     × IsBalanced new (record { given = tally.given + 1; dropped = tally.dropped + 1; calls = tally.calls + 1; turns = tally.turns })
 grown_by_read before after old new n remaining tally some read is = rw (← read.1.count) (grown old new read.0 remaining tally some read.2 is)
 
-pub reads_last : (before after : Option (List ℕ)) (old : HeldSegments) (new : List (List ℕ)) (n : ℕ) → 0 < n → 0 < length old.segments
-    → GrowsLast before after old.segments new n
-    → Reads (λ got old new. new ≡ after_packing old got) before after old (record {
-      segments = new;
+-- after a call that was given one more list, and dropped this number: these are the lists
+abbrev after_one_list : HeldSegments → ℕ → List (List ℕ) → HeldSegments
+after_one_list old dropped lists =
+    record {
+      segments = lists;
       tally = record {
         given = old.tally.given + 1;
-        dropped = old.tally.dropped + 1;
+        dropped = old.tally.dropped + dropped;
         calls = old.tally.calls + 1;
         turns = old.tally.turns;
       };
-    }) n
+    }
+
+pub reads_last : (before after : Option (List ℕ)) (old : HeldSegments) (new : List (List ℕ)) (n : ℕ) → 0 < n → 0 < length old.segments
+    → GrowsLast before after old.segments new n
+    → Reads (λ got old new. new ≡ after_packing old got) before after old (after_one_list old 1 new) n
 reads_last before after old new n came some read =
     record {
       got = read.0;
       gave = read.1;
-      added = λ _. ap (λ lists. record {
-        segments = lists;
-        tally = record {
-          given = old.tally.given + 1;
-          dropped = old.tally.dropped + 1;
-          calls = old.tally.calls + 1;
-          turns = old.tally.turns;
-        };
-      }) read.2;
+      added = λ _. ap (after_one_list old 1) read.2;
       bytes = ap concat read.2 ∙ concat-pack_into_last read.0 old.segments some;
       same = λ none. absurd (omega (arith, came, none));
     }
@@ -82,36 +79,12 @@ pushed_by_read before after old new n remaining tally came read is =
     )
 
 accepted : (old : HeldSegments) (got : List ℕ) (new : List (List ℕ)) → 0 < length got → new ≡ old.segments ++ got ∷ []
-    → record {
-      segments = new;
-      tally = record {
-        given = old.tally.given + 1;
-        dropped = old.tally.dropped + 0;
-        calls = old.tally.calls + 1;
-        turns = old.tally.turns;
-      };
-    } ≡ after_accepting old (got ∷ [])
+    → after_one_list old 0 new ≡ after_accepting old (got ∷ [])
 accepted old [] new some is = absurd (omega (arith, some))
-accepted old (b ∷ got) new some is = ap (λ lists. record {
-  segments = lists;
-  tally = record {
-    given = old.tally.given + 1;
-    dropped = old.tally.dropped + 0;
-    calls = old.tally.calls + 1;
-    turns = old.tally.turns;
-  };
-}) is
+accepted old (b ∷ got) new some is = ap (after_one_list old 0) is
 
 pub reads_more : (before after : Option (List ℕ)) (old : HeldSegments) (new : List (List ℕ)) (n : ℕ) → 0 < n → PushesList before after old.segments new n
-    → Reads (λ got old new. new ≡ after_accepting old (got ∷ [])) before after old (record {
-      segments = new;
-      tally = record {
-        given = old.tally.given + 1;
-        dropped = old.tally.dropped + 0;
-        calls = old.tally.calls + 1;
-        turns = old.tally.turns;
-      };
-    }) n
+    → Reads (λ got old new. new ≡ after_accepting old (got ∷ [])) before after old (after_one_list old 0 new) n
 reads_more before after old new n came (got, gave, is) =
     record {
       got = got;

@@ -12,7 +12,7 @@ use Rattle.memchr.specs.Find.{FindsNeedle}
 use Rattle.memchr.proofs.lemmas.MatchLemmas.{OccursAt-part, OccursAt-from_part}
 use Rattle.bytes_utils.specs.Occurrence.{Occurs, OccursAt, OccursFirstAt}
 use Rattle.bytes_utils_codec.specs.Frames.{TakesFrame, HasFrame, HasFrameWithin}
-use Rattle.bytes_utils_codec.specs.Cursor.{CursorReading, unread, passed_on, CursorWanted, Tag, First, Until, UpTo, Line, Reads, AreRead, CursorTakesFirst, CursorTakesUpTo, IsBegunAtCursor, CursorFindsWithin, NoFrameWithin, SameCursorLaw, CursorStaysLaw, CursorStaysWrongLaw, OneCursorReplyLaw}
+use Rattle.bytes_utils_codec.specs.Cursor.{CursorReading, unread, passed_on, CursorWanted, Tag, First, Until, UpTo, Line, CursorReads, AreReadByCursor, CursorTakesFirst, CursorTakesUpTo, IsBegunAtCursor, CursorFindsWithin, CursorHasNoFrameWithin, SameCursorLaw, CursorStaysLaw, CursorStaysWrongLaw, OneCursorReplyLaw}
 use Rattle.bytes_utils.proofs.Boundaries.{OccursAt-fits}
 use Rattle.bytes_utils_codec.proofs.FindLemmas.{has_read}
 use Rattle.bytes_utils_codec.proofs.FramesLemmas.{HasFrame-taken, HasFrameWithin-taken, TakesFrame-more, TakesFrame-same, first_more}
@@ -65,8 +65,8 @@ module _ (p old : List ℕ) where
 
   module _ (most : ℕ) (some : 0 < length p) (none : (n : ℕ) → OccursAt p old n → most < n) where
     -- all places within the limit have come, and the needle begins at none of them
-    pub NoFrameWithin-none : most + length p ≤ length old → NoFrameWithin most p old
-    NoFrameWithin-none all more front rest takes = ⊎_elim
+    pub CursorHasNoFrameWithin-none : most + length p ≤ length old → CursorHasNoFrameWithin most p old
+    CursorHasNoFrameWithin-none all more front rest takes = ⊎_elim
         (λ above. above)
         (λ within. none (length front) (OccursAt-front p old more (length front) takes.first.here (omega (arith, within, all))))
         (cases_lt most (length front))
@@ -168,12 +168,12 @@ CursorTakesFirst-same len old f g x y s t =
     let same = append_same f g x y (s.size ∙ sym t.size) (sym s.bytes ∙ t.bytes) in
     same
 
-Reads-same : (wanted : CursorWanted) (old a b x y : List ℕ) → Reads wanted old a x → Reads wanted old b y → (a ≡ b) × (x ≡ y)
-Reads-same (Tag bytes) old a b x y s t = (s.0 ∙ sym t.0, append_cancel_left bytes x y (sym s.1 ∙ t.1))
-Reads-same (First len) old a b x y s t = CursorTakesFirst-same len old a b x y s t
-Reads-same (Until needle) old a b x y s t = TakesFrame-same needle old a b x y s t
-Reads-same (UpTo needle) old a b x y s t = append_same a b x y (first_places_same needle old (length a) (length b) s.first t.first) (sym s.bytes ∙ t.bytes)
-Reads-same Line old a b x y s t =
+CursorReads-same : (wanted : CursorWanted) (old a b x y : List ℕ) → CursorReads wanted old a x → CursorReads wanted old b y → (a ≡ b) × (x ≡ y)
+CursorReads-same (Tag bytes) old a b x y s t = (s.0 ∙ sym t.0, append_cancel_left bytes x y (sym s.1 ∙ t.1))
+CursorReads-same (First len) old a b x y s t = CursorTakesFirst-same len old a b x y s t
+CursorReads-same (Until needle) old a b x y s t = TakesFrame-same needle old a b x y s t
+CursorReads-same (UpTo needle) old a b x y s t = append_same a b x y (first_places_same needle old (length a) (length b) s.first t.first) (sym s.bytes ∙ t.bytes)
+CursorReads-same Line old a b x y s t =
     let same = same_lines_law old (a ∷ []) (b ∷ []) x y (x, s, refl) (y, t, refl) refl in
     (ap first_item same.0, same.1)
   where
@@ -181,15 +181,15 @@ Reads-same Line old a b x y s t =
     first_item [] = []
     first_item (item ∷ items) = item
 
-Reads-more : (wanted : CursorWanted) (old item rest more : List ℕ) → Reads wanted old item rest → Reads wanted (old ++ more) item (rest ++ more)
-Reads-more (Tag bytes) old item rest more s = (s.0, ap (λ l. l ++ more) s.1 ∙ append_assoc bytes rest more)
-Reads-more (First len) old item rest more s = record { bytes = ap (λ l. l ++ more) s.bytes ∙ append_assoc item rest more; size = s.size }
-Reads-more (Until needle) old item rest more s = TakesFrame-more needle old item rest more s
-Reads-more (UpTo needle) old item rest more s = record {
+CursorReads-more : (wanted : CursorWanted) (old item rest more : List ℕ) → CursorReads wanted old item rest → CursorReads wanted (old ++ more) item (rest ++ more)
+CursorReads-more (Tag bytes) old item rest more s = (s.0, ap (λ l. l ++ more) s.1 ∙ append_assoc bytes rest more)
+CursorReads-more (First len) old item rest more s = record { bytes = ap (λ l. l ++ more) s.bytes ∙ append_assoc item rest more; size = s.size }
+CursorReads-more (Until needle) old item rest more s = TakesFrame-more needle old item rest more s
+CursorReads-more (UpTo needle) old item rest more s = record {
   bytes = ap (λ l. l ++ more) s.bytes ∙ append_assoc item rest more;
   first = first_more needle old more (length item) s.first;
 }
-Reads-more Line old item rest more s = TakesStreamLine-more old item rest more s
+CursorReads-more Line old item rest more s = TakesStreamLine-more old item rest more s
 
 pub same_read_law : SameCursorLaw
 same_read_law [] bytes [] [] x y a b = (refl, sym a ∙ b)
@@ -198,8 +198,8 @@ same_read_law [] bytes [] (g ∷ ys) x y a b = absurd b
 same_read_law (w ∷ ws) bytes [] ys x y a b = absurd a
 same_read_law (w ∷ ws) bytes (f ∷ xs) [] x y a b = absurd b
 same_read_law (w ∷ ws) bytes (f ∷ xs) (g ∷ ys) x y a b =
-    let same = Reads-same w bytes f g a.0 b.0 a.1 b.1 in
-    let later = same_read_law ws b.0 xs ys x y (subst (λ l. AreRead ws l xs x) same.1 a.2) b.2 in
+    let same = CursorReads-same w bytes f g a.0 b.0 a.1 b.1 in
+    let later = same_read_law ws b.0 xs ys x y (subst (λ l. AreReadByCursor ws l xs x) same.1 a.2) b.2 in
     ((λ i. same.0 i ∷ later.0 i), later.1)
 
 pub stays_read_law : CursorStaysLaw
@@ -207,7 +207,7 @@ stays_read_law [] bytes [] rest more are = ap (λ l. l ++ more) are
 stays_read_law [] bytes (item ∷ items) rest more are = absurd are
 stays_read_law (w ∷ ws) bytes [] rest more are = absurd are
 stays_read_law (w ∷ ws) bytes (item ∷ items) rest more are =
-    (are.0 ++ more, Reads-more w bytes item are.0 more are.1, stays_read_law ws are.0 items rest more are.2)
+    (are.0 ++ more, CursorReads-more w bytes item are.0 more are.1, stays_read_law ws are.0 items rest more are.2)
 
 pub stays_wrong_law : CursorStaysWrongLaw
 stays_wrong_law wanted bytes more never further rest same = never (more ++ further) rest (sym (append_assoc bytes more further) ∙ same)

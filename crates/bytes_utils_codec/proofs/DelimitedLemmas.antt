@@ -10,10 +10,10 @@ use Rattle.bytes_utils.specs.Occurrence.{Occurs, OccursAt}
 use Rattle.bytes_utils.proofs.Boundaries.{HasNeedleAt-from_occurs, OccursAt-fits}
 use Rattle.bytes_utils_codec.specs.StreamRuns.{Pushed, Taken, AreFirstOfRun, IsRunOver}
 use Rattle.bytes_utils_codec.specs.Frames.{AreFrames, TakesFrame}
-use Rattle.bytes_utils_codec.specs.Search.{NoneBegins}
+use Rattle.bytes_utils_codec.specs.Search.{NoneBeginsInSearch}
 use Rattle.bytes_utils_codec.specs.Decoding.{AreItems, Decoding, Item, Last, fed, starting}
-use Rattle.bytes_utils_codec.specs.Delimited.{Delimiting, GivesFrame, delimiting, ready, TakesFrameFrom, LacksSeparator, PassesSkipped, Passes, AwaitsSeparator, IsOverLimit, skipping_from, DropsSkipped, AwaitsFrame, gives_delimited, keeps_delimited, delimited_within, delimited_begun, AreDelimitedReports, delimited_left, DelimitedFramesLaw, DelimitedWholeLaw, DelimitedEvent, IsDelimitedCall, DelimitedHeldLaw}
-use Rattle.bytes_utils_codec.specs.DelimitedLaws.{occurs_in_front, occurs_after, IsOverLimit-more, Passes-same, SkipsOn-passes}
+use Rattle.bytes_utils_codec.specs.Delimited.{Delimiting, GivesDelimitedFrame, delimiting, ready_delimited, TakesDelimitedFrameFrom, LacksDelimitedSeparator, PassesSkippedDelimited, PassesDelimited, AwaitsDelimitedSeparator, IsDelimitedOverLimit, skipping_delimited_from, DropsDelimited, AwaitsDelimitedFrame, gives_delimited, keeps_delimited, delimited_within, delimited_begun, AreDelimitedReports, delimited_left, DelimitedFramesLaw, DelimitedWholeLaw, DelimitedEvent, IsDelimitedCall, DelimitedHeldLaw}
+use Rattle.bytes_utils_codec.specs.DelimitedLaws.{occurs_in_delimited_front, occurs_after, IsDelimitedOverLimit-more, PassesDelimited-same, SkipsDelimited-passes}
 use Rattle.bytes_utils_codec.specs.declared.decode.too_long.FrameTooLong.{FrameTooLong}
 use Rattle.bytes_utils_codec.proofs.DecodingLemmas.{SameNext-now}
 use Rattle.bytes_utils_codec.proofs.FramesLemmas.{AreFrames-next}
@@ -21,7 +21,7 @@ use Rattle.bytes_utils_codec.proofs.FramesLemmas.{AreFrames-next}
 -- ---- what a search found
 
 module _ (p held : List ℕ) (from : ℕ) (some : 0 < length p) where
-  pub found_from : (at : ℕ) → FindsNeedle held p from (Some at) → TakesFrameFrom p from held (take at held) (drop (at + length p) held)
+  pub found_from : (at : ℕ) → FindsNeedle held p from (Some at) → TakesDelimitedFrameFrom p from held (take at held) (drop (at + length p) held)
   found_from at found =
       let size : length (take at held) ≡ at = length-take-le at held (omega (arith, found.1.fits)) in
       record {
@@ -40,32 +40,32 @@ module _ (p held : List ℕ) (from : ℕ) (some : 0 < length p) where
   -- whatever comes after bytes without the separator, it begins at no place before their last ones
   none_passed : FindsNeedle held p from None → (more : List ℕ) (k : ℕ) → from ≤ k → OccursAt p (held ++ more) k → max from (length held - (length p - 1)) ≤ k
   none_passed missed more k on here =
-      ⊎_elim (λ below. absurd (missed_from missed k on (occurs_in_front p held more k here (omega (arith, below, on, some))))) (λ above. above)
+      ⊎_elim (λ below. absurd (missed_from missed k on (occurs_in_delimited_front p held more k here (omega (arith, below, on, some))))) (λ above. above)
       (cases_lt k (max from (length held - (length p - 1))))
 
 -- ---- what the search of a decoder found
 
 module _ (s : Decoding Delimiting) (some : 0 < length s.decoder.separator) where
   pub passed_found : (at : ℕ) (new : Decoding Delimiting) → FindsNeedle s.held s.decoder.separator s.decoder.searched (Some at) → s.decoder.skipping ≡ true
-      → new ≡ record s { decoder = ready s.decoder; held = drop (length s.decoder.separator) (drop at s.held) } → Passes s new
+      → new ≡ record s { decoder = ready_delimited s.decoder; held = drop (length s.decoder.separator) (drop at s.held) } → PassesDelimited s new
   passed_found at new found skipping is =
       let rest = ap (λ (t : Decoding Delimiting). t.held) is in
       let p = s.decoder.separator in
       let takes = found_from p s.held s.decoder.searched some at found in
-      subst (λ b. PassesSkipped b s new) (sym skipping) (
+      subst (λ b. PassesSkippedDelimited b s new) (sym skipping) (
         take at s.held,
-        subst (TakesFrameFrom p s.decoder.searched s.held (take at s.held)) (sym (rest ∙ drop-drop (length p) at s.held)) takes,
-        is ∙ ap (λ l. record s { decoder = ready s.decoder; held = l }) (sym rest),
+        subst (TakesDelimitedFrameFrom p s.decoder.searched s.held (take at s.held)) (sym (rest ∙ drop-drop (length p) at s.held)) takes,
+        is ∙ ap (λ l. record s { decoder = ready_delimited s.decoder; held = l }) (sym rest),
       )
 
   module _ (missed : FindsNeedle s.held s.decoder.separator s.decoder.searched None) where
-    pub lacks_missed : LacksSeparator s
+    pub lacks_missed : LacksDelimitedSeparator s
     lacks_missed = missed_from s.decoder.separator s.held s.decoder.searched some missed
 
-    pub awaits_missed : length s.held < s.decoder.max_length + length s.decoder.separator → AwaitsSeparator s
+    pub awaits_missed : length s.held < s.decoder.max_length + length s.decoder.separator → AwaitsDelimitedSeparator s
     awaits_missed few = record { lacks = lacks_missed; few = few }
 
-    pub over_missed : s.decoder.max_length + length s.decoder.separator ≤ length s.held → IsOverLimit s
+    pub over_missed : s.decoder.max_length + length s.decoder.separator ≤ length s.held → IsDelimitedOverLimit s
     over_missed many = record { many = many; none = λ k low here. absurd (lacks_missed k low here) }
 
     module _ (begun : ℕ) (is : begun ≡ max s.decoder.searched (length s.held - (length s.decoder.separator - 1))) where
@@ -76,7 +76,7 @@ module _ (s : Decoding Delimiting) (some : 0 < length s.decoder.separator) where
       same_missed short = omega (arith, is, short)
 
       pub drops_missed : (new : Decoding Delimiting) → begun ≤ length s.held → s.decoder.skipping ≡ true → new.held ≡ drop begun s.held
-          → new ≡ record s { decoder = record s.decoder { searched = 0 }; held = new.held } → DropsSkipped s new
+          → new ≡ record s { decoder = record s.decoder { searched = 0 }; held = new.held } → DropsDelimited s new
       drops_missed new fits skipping rest begins =
           let size : length (take begun s.held) ≡ begun = length-take-le begun s.held fits in
           record {
@@ -90,7 +90,7 @@ module _ (s : Decoding Delimiting) (some : 0 < length s.decoder.separator) where
           }
 
   -- the end of a frame is found, after the limit
-  pub over_found : (at : ℕ) → FindsNeedle s.held s.decoder.separator s.decoder.searched (Some at) → s.decoder.max_length < at → IsOverLimit s
+  pub over_found : (at : ℕ) → FindsNeedle s.held s.decoder.separator s.decoder.searched (Some at) → s.decoder.max_length < at → IsDelimitedOverLimit s
   over_found at found over =
       let takes = found_from s.decoder.separator s.held s.decoder.searched some at found in
       let size : length (take at s.held) ≡ at = length-take-le at s.held (omega (arith, found.1.fits)) in
@@ -101,7 +101,7 @@ module _ (s : Decoding Delimiting) (some : 0 < length s.decoder.separator) where
 -- a decoder at the front of a frame, or of one over the limit that was reported
 abbrev front : List ℕ → ℕ → ℕ → Bool → List ℕ → Decoding Delimiting
 front p limit threshold false bytes = fed (starting (delimiting p limit) threshold) bytes
-front p limit threshold true bytes = fed (starting (skipping_from (delimiting p limit)) threshold) bytes
+front p limit threshold true bytes = fed (starting (skipping_delimited_from (delimiting p limit)) threshold) bytes
 
 abbrev Gives : Decoding Delimiting → Result (List ℕ) FrameTooLong → Decoding Delimiting → Type 0
 Gives old item new = gives_delimited old (Item item) new
@@ -124,10 +124,10 @@ within-long : (limit : ℕ) (frame : List ℕ) → limit < length frame → deli
 within-long limit frame lt = cond-false _ _ _ (lt-leb (length frame) limit lt)
 
 module _ (p : List ℕ) where
-  begins_past : (bytes : List ℕ) (n k : ℕ) → NoneBegins p bytes n → OccursAt p bytes k → n ≤ k
+  begins_past : (bytes : List ℕ) (n k : ℕ) → NoneBeginsInSearch p bytes n → OccursAt p bytes k → n ≤ k
   begins_past bytes n k none here = none [] k (subst (λ l. OccursAt p l k) (sym (append-nil bytes)) here)
 
-  takes_long : (bytes : List ℕ) (n : ℕ) (frame rest : List ℕ) → NoneBegins p bytes n → TakesFrameFrom p n bytes frame rest → TakesFrame p bytes frame rest
+  takes_long : (bytes : List ℕ) (n : ℕ) (frame rest : List ℕ) → NoneBeginsInSearch p bytes n → TakesDelimitedFrameFrom p n bytes frame rest → TakesFrame p bytes frame rest
   takes_long bytes n frame rest none takes = record {
     bytes = takes.bytes;
     first = record {
@@ -136,13 +136,13 @@ module _ (p : List ℕ) where
     };
   }
 
-  takes_first : (bytes frame rest : List ℕ) → TakesFrameFrom p 0 bytes frame rest → TakesFrame p bytes frame rest
+  takes_first : (bytes frame rest : List ℕ) → TakesDelimitedFrameFrom p 0 bytes frame rest → TakesFrame p bytes frame rest
   takes_first bytes frame rest takes = takes_long bytes 0 frame rest (λ more k here. omega arith) takes
 
 module _ (p : List ℕ) (limit threshold : ℕ) where
-  none_begins : (bytes : List ℕ) → IsOverLimit (front p limit threshold false bytes) → NoneBegins p bytes (suc limit)
+  none_begins : (bytes : List ℕ) → IsDelimitedOverLimit (front p limit threshold false bytes) → NoneBeginsInSearch p bytes (suc limit)
   none_begins bytes over more k here =
-      omega (arith, (IsOverLimit-more (front p limit threshold false bytes) more over).none k (omega arith) here)
+      omega (arith, (IsDelimitedOverLimit-more (front p limit threshold false bytes) more over).none k (omega arith) here)
 
   -- one more frame, before the others
   reaches_next : (bytes frame rest : List ℕ) (item : Result (List ℕ) FrameTooLong) (items : List (Result (List ℕ) FrameTooLong)) (end : Decoding Delimiting)
@@ -166,8 +166,8 @@ module _ (p : List ℕ) (limit threshold : ℕ) where
     said : Err (record {}) ≡ delimited_within limit gone
     is : mid ≡ front p limit threshold false mid.held
 
-  passes_long : (bytes : List ℕ) (mid : Decoding Delimiting) → NoneBegins p bytes (suc limit)
-      → Passes (front p limit threshold true bytes) mid → IsPast bytes mid
+  passes_long : (bytes : List ℕ) (mid : Decoding Delimiting) → NoneBeginsInSearch p bytes (suc limit)
+      → PassesDelimited (front p limit threshold true bytes) mid → IsPast bytes mid
   passes_long bytes mid none (gone, takes, begins) = record {
     gone = gone;
     takes = takes_long p bytes (suc limit) gone mid.held none takes;
@@ -177,12 +177,12 @@ module _ (p : List ℕ) (limit threshold : ℕ) where
 
   -- the items of a state are reported, after that of the frame that is skipped
   abbrev Reaching : List (Result (List ℕ) FrameTooLong) → Decoding Delimiting → Type 0
-  Reaching items end = (b : Bool) (bytes : List ℕ) → OnTrue b (NoneBegins p bytes (suc limit)) → AreFirstOfRun Gives (front p limit threshold b bytes) items end
+  Reaching items end = (b : Bool) (bytes : List ℕ) → OnTrue b (NoneBeginsInSearch p bytes (suc limit)) → AreFirstOfRun Gives (front p limit threshold b bytes) items end
       → Reaches p limit threshold bytes (delimited_begun b ++ items) end
 
   reaches_front : (bytes : List ℕ) (item : Result (List ℕ) FrameTooLong)
       (items : List (Result (List ℕ) FrameTooLong)) (next end : Decoding Delimiting)
-      → GivesFrame (front p limit threshold false bytes) (Item item) next → AreFirstOfRun Gives next items end
+      → GivesDelimitedFrame (front p limit threshold false bytes) (Item item) next → AreFirstOfRun Gives next items end
       → Reaching items end → Reaches p limit threshold bytes (item ∷ items) end
   reaches_front bytes (Ok frame) items next end (takes, fits, begins) later reaching =
       reaches_next bytes frame next.held (Ok frame) items end (takes_first p bytes frame next.held takes) (sym (within-short limit frame fits))
@@ -195,15 +195,15 @@ module _ (p : List ℕ) (limit threshold : ℕ) where
       (record { frames = []; rest = bytes; over = b; are = refl; reported = append-nil (delimited_begun b); long = none }, sym are)
   reaches (item ∷ items) end b bytes none (next, inl g, later) = absurd cc
   reaches (item ∷ items) end false bytes none (next, inr (mid, is, g), later) =
-      reaches_front bytes item items next end (subst (λ s. GivesFrame s (Item item) next) is g) later (reaches items end)
+      reaches_front bytes item items next end (subst (λ s. GivesDelimitedFrame s (Item item) next) is g) later (reaches items end)
   reaches (item ∷ items) end true bytes none (next, inr (mid, passes, g), later) =
       let past = passes_long bytes mid none passes in
       reaches_next bytes past.gone mid.held (Err (record {})) (item ∷ items) end past.takes past.said
-      (reaches_front mid.held item items next end (subst (λ s. GivesFrame s (Item item) next) past.is g) later (reaches items end))
+      (reaches_front mid.held item items next end (subst (λ s. GivesDelimitedFrame s (Item item) next) past.is g) later (reaches items end))
 
   -- what comes at the end of the stream
   ends_front : (bytes : List ℕ) (items : List (Result (List ℕ) FrameTooLong)) (frames : List (List ℕ)) (rest : List ℕ) (after : Decoding Delimiting)
-      → AreFrames p bytes frames rest → items ≡ map (delimited_within limit) frames → GivesFrame (front p limit threshold false rest) (Last None) after
+      → AreFrames p bytes frames rest → items ≡ map (delimited_within limit) frames → GivesDelimitedFrame (front p limit threshold false rest) (Last None) after
       → Ends p limit bytes items after
   ends_front bytes items frames rest after are reported (awaits, left) =
       let all = reported ∙ sym (append-nil (map (delimited_within limit) frames)) in
@@ -221,9 +221,9 @@ module _ (p : List ℕ) (limit threshold : ℕ) where
   ends bytes items after reports false is (inl g) = absurd (false≢true g.0.0)
   ends bytes items after reports false is (inr (mid, here, g)) =
       let none = reports.reported ∙ ap (λ b. map (delimited_within limit) reports.frames ++ delimited_begun b) is ∙ append-nil (map (delimited_within limit) reports.frames) in
-      ends_front bytes items reports.frames reports.rest after reports.are none (subst (λ s. GivesFrame s (Last None) after) here g)
+      ends_front bytes items reports.frames reports.rest after reports.are none (subst (λ s. GivesDelimitedFrame s (Last None) after) here g)
   ends bytes items after reports true is (inl (skips, last, there)) =
-      let long = subst (λ b. OnTrue b (NoneBegins p reports.rest (suc limit))) is reports.long in
+      let long = subst (λ b. OnTrue b (NoneBeginsInSearch p reports.rest (suc limit))) is reports.long in
       let held : after.held ≡ [] = ap (λ (s : Decoding Delimiting). s.held) there in
       record {
         reports = reports;
@@ -232,13 +232,13 @@ module _ (p : List ℕ) (limit threshold : ℕ) where
         few = omega (arith, ap length held);
       }
   ends bytes items after reports true is (inr (mid, passes, g)) =
-      let past = passes_long reports.rest mid (subst (λ b. OnTrue b (NoneBegins p reports.rest (suc limit))) is reports.long) passes in
+      let past = passes_long reports.rest mid (subst (λ b. OnTrue b (NoneBeginsInSearch p reports.rest (suc limit))) is reports.long) passes in
       let one = reports.reported
       ∙ ap (λ b. map (delimited_within limit) reports.frames ++ delimited_begun b) is ∙ ap (λ x. map (delimited_within limit) reports.frames ++ x ∷ []) past.said
       ∙ sym (map-append (delimited_within limit) reports.frames (past.gone ∷ [])) in
       ends_front bytes items (reports.frames ++ past.gone ∷ []) mid.held after
       (AreFrames-next p bytes reports.frames reports.rest past.gone mid.held reports.are past.takes) one
-      (subst (λ s. GivesFrame s (Last None) after) past.is g)
+      (subst (λ s. GivesDelimitedFrame s (Last None) after) past.is g)
 
 pub delimited_frames_law : DelimitedFramesLaw
 delimited_frames_law p limit threshold bytes items end are = (reaches p limit threshold items are.rest false bytes tt are.are).0
@@ -260,7 +260,7 @@ delimited_whole_law p limit threshold bytes items end after are last =
 -- what the calls of a decoder keep: it looks for separators from a place on that is not after the first one over the
 -- limit
 record Kept (p : List ℕ) (limit : ℕ) (s : Decoding Delimiting) : Type 0 where
-  begins : ready s.decoder ≡ delimiting p limit
+  begins : ready_delimited s.decoder ≡ delimiting p limit
   searched : s.decoder.searched ≤ suc limit
 
 module _ (p : List ℕ) (limit : ℕ) where
@@ -268,15 +268,15 @@ module _ (p : List ℕ) (limit : ℕ) where
   kept_ready : (b : Bool) (s t : Decoding Delimiting) → Kept p limit s
       → t ≡ record s { decoder = record s.decoder { searched = 0; skipping = b }; held = t.held } → Kept p limit t
   kept_ready b s t kept is = record {
-    begins = ap (λ (u : Decoding Delimiting). ready u.decoder) is ∙ kept.begins;
+    begins = ap (λ (u : Decoding Delimiting). ready_delimited u.decoder) is ∙ kept.begins;
     searched = omega (arith, ap (λ (u : Decoding Delimiting). u.decoder.searched) is);
   }
 
-  kept_passed : (b : Bool) (s mid : Decoding Delimiting) → Kept p limit s → PassesSkipped b s mid → Kept p limit mid
+  kept_passed : (b : Bool) (s mid : Decoding Delimiting) → Kept p limit s → PassesSkippedDelimited b s mid → Kept p limit mid
   kept_passed false s mid kept passes = subst (Kept p limit) (sym passes) kept
   kept_passed true s mid kept (gone, takes, begins) = kept_ready false s mid kept begins
 
-  kept_passes : (s mid : Decoding Delimiting) → Kept p limit s → Passes s mid → Kept p limit mid
+  kept_passes : (s mid : Decoding Delimiting) → Kept p limit s → PassesDelimited s mid → Kept p limit mid
   kept_passes s mid kept passes = kept_passed s.decoder.skipping s mid kept passes
 
   kept_left : (old new : Decoding Delimiting) → Kept p limit old → keeps_delimited old new → Kept p limit new
@@ -305,17 +305,17 @@ module _ (p : List ℕ) (limit : ℕ) where
       kept_run events (fed s piece) end (record { begins = kept.begins; searched = kept.searched }) run
   kept_run (Taken result ∷ events) s end kept (next, call, run) = kept_run events next end (kept_call s next result kept call) run
 
-  few_awaited : (mid : Decoding Delimiting) → Kept p limit mid → AwaitsSeparator mid → length mid.held < limit + length p
+  few_awaited : (mid : Decoding Delimiting) → Kept p limit mid → AwaitsDelimitedSeparator mid → length mid.held < limit + length p
   few_awaited mid kept awaits =
       omega (arith, awaits.few, ap (λ (d : Delimiting). d.max_length) kept.begins, ap (λ (d : Delimiting). length d.separator) kept.begins)
 
-  few_held : (old new : Decoding Delimiting) → 0 < length p → Kept p limit old → AwaitsFrame old → keeps_delimited old new → length new.held < limit + length p
+  few_held : (old new : Decoding Delimiting) → 0 < length p → Kept p limit old → AwaitsDelimitedFrame old → keeps_delimited old new → length new.held < limit + length p
   few_held old new some kept waits (inl (inl drops)) = omega (arith, drops.few, ap (λ (d : Delimiting). length d.separator) kept.begins)
   few_held old new some kept waits (inl (inr same)) =
       omega (arith, same.0, ap (λ (s : Decoding Delimiting). length s.held) same.1, kept.searched, some)
-  few_held old new some kept (inl skips) (inr (mid, passes, left)) = absurd (SkipsOn-passes old mid skips passes)
+  few_held old new some kept (inl skips) (inr (mid, passes, left)) = absurd (SkipsDelimited-passes old mid skips passes)
   few_held old new some kept (inr (next, passed, awaits)) (inr (mid, passes, inl is)) =
-      let there = subst AwaitsSeparator (Passes-same old next mid passed passes) awaits in
+      let there = subst AwaitsDelimitedSeparator (PassesDelimited-same old next mid passed passes) awaits in
       omega (arith, few_awaited mid (kept_passes old mid kept passes) there, ap (λ (s : Decoding Delimiting). length s.held) is)
   few_held old new some kept (inr waits) (inr (mid, passes, inr (awaits, is))) =
       omega (arith, few_awaited mid (kept_passes old mid kept passes) awaits, ap (λ (s : Decoding Delimiting). length s.held) is)

@@ -11,11 +11,11 @@ use Rattle.bytes_utils.specs.Lines.{IsWithoutReturn, carriage_return, line_feed,
 use Rattle.bytes_utils.specs.Occurrence.{Occurs}
 use Rattle.bytes_utils.proofs.LinesLemmas.{lines-whole}
 use Rattle.bytes_utils_codec.specs.Decoding.{AreItems, Decoding, Item, Last, DecodesAtEnd, fed, starting}
-use Rattle.bytes_utils_codec.specs.Delimited.{Delimiting, FindsNext, StopsAt, delimited_begun, delimiting, gives_delimited, delimited_left, ready, delimited_within}
-use Rattle.bytes_utils_codec.specs.DelimitedLaws.{keeps_threshold}
+use Rattle.bytes_utils_codec.specs.Delimited.{Delimiting, FindsNextDelimited, StopsDelimitedAt, delimited_begun, delimiting, gives_delimited, delimited_left, ready_delimited, delimited_within}
+use Rattle.bytes_utils_codec.specs.DelimitedLaws.{delimited_keeps_threshold}
 use Rattle.bytes_utils_codec.specs.Frames.{AreFrames}
-use Rattle.bytes_utils_codec.specs.LineReading.{AreItemsOf, IsItemOf, IsLastOf, IsLeft, IsLineOf, IsTextItem, LineItem, LineReadingLaw, LineReading, TakesLast, TakesLineItem, WholeLineReadingLaw, begun_line, fails_line, frames_of, gives_line, keeps_line, ready_line}
-use Rattle.bytes_utils_codec.specs.Search.{NoneBegins}
+use Rattle.bytes_utils_codec.specs.LineReading.{AreLineItemsOf, IsLineItemOf, IsLastLineOf, IsLeftLine, IsLineOf, IsTextLineItem, LineItem, LineReadingLaw, LineReading, TakesLastLine, TakesLineItem, WholeLineReadingLaw, begun_line, fails_line, frames_of_lines, gives_line, keeps_line, ready_line}
+use Rattle.bytes_utils_codec.specs.Search.{NoneBeginsInSearch}
 use Rattle.bytes_utils_codec.specs.Skipping.{skipping_ended}
 use Rattle.bytes_utils_codec.specs.StreamLines.{AreFirstStreamLines, last_stream_line}
 use Rattle.bytes_utils_codec.specs.StreamRuns.{AreFirstOfRun}
@@ -27,37 +27,37 @@ use Rattle.bytes_utils_codec.proofs.StreamLinesLemmas.{TakesStreamLine-framed, b
 
 -- ---- the end of the stream
 
-ends_at : (b : Bool) (old new : Decoding Delimiting) → StopsAt b old new
-    → gives_delimited old (Last None) (record new { decoder = ready new.decoder; held = delimited_left b new.held })
-ends_at true old new (skips, inl drops) = inl (skips, refl, ap (skipping_ended ready) drops.is)
-ends_at true old new (skips, inr (short, same)) = inl (skips, refl, ap (skipping_ended ready) same)
+ends_at : (b : Bool) (old new : Decoding Delimiting) → StopsDelimitedAt b old new
+    → gives_delimited old (Last None) (record new { decoder = ready_delimited new.decoder; held = delimited_left b new.held })
+ends_at true old new (skips, inl drops) = inl (skips, refl, ap (skipping_ended ready_delimited) drops.is)
+ends_at true old new (skips, inr (short, same)) = inl (skips, refl, ap (skipping_ended ready_delimited) same)
 ends_at false old new (mid, passes, awaits, is) =
-    inr (mid, passes, (awaits, ap (λ (s : Decoding Delimiting). record s { decoder = ready s.decoder }) is))
+    inr (mid, passes, (awaits, ap (λ (s : Decoding Delimiting). record s { decoder = ready_delimited s.decoder }) is))
 
 module _ (s mid t : Decoding LineReading) (took : TakesLineItem s (Ok None) mid) where
   abbrev at_end : Decoding Delimiting
-  at_end = record (frames_of mid) { decoder = ready mid.decoder.frames; held = delimited_left mid.decoder.frames.skipping mid.held }
+  at_end = record (frames_of_lines mid) { decoder = ready_delimited mid.decoder.frames; held = delimited_left mid.decoder.frames.skipping mid.held }
 
-  left : t ≡ skipping_ended ready_line mid → IsLeft s (delimited_left mid.decoder.frames.skipping mid.held) t
+  left : t ≡ skipping_ended ready_line mid → IsLeftLine s (delimited_left mid.decoder.frames.skipping mid.held) t
   left is = (
     at_end,
-    ends_at mid.decoder.frames.skipping (frames_of s) (frames_of mid) took.0,
+    ends_at mid.decoder.frames.skipping (frames_of_lines s) (frames_of_lines mid) took.0,
     refl,
     is ∙ (λ i. record {
-      decoder = record { frames = ready mid.decoder.frames; lossy = took.2.1 i };
+      decoder = record { frames = ready_delimited mid.decoder.frames; lossy = took.2.1 i };
       held = [];
-      threshold = keeps_threshold (frames_of s) (frames_of mid) took.2.0 i;
+      threshold = delimited_keeps_threshold (frames_of_lines s) (frames_of_lines mid) took.2.0 i;
     }),
   )
 
-  last : (line : Option LineItem) → TakesLast mid (Ok line) t → gives_line s (Last line) t
+  last : (line : Option LineItem) → TakesLastLine mid (Ok line) t → gives_line s (Last line) t
   last line end = (
     delimited_left mid.decoder.frames.skipping mid.held,
     left end.1,
-    subst (λ b. IsLastOf b line (delimited_left mid.decoder.frames.skipping mid.held)) took.2.1 end.0,
+    subst (λ b. IsLastLineOf b line (delimited_left mid.decoder.frames.skipping mid.held)) took.2.1 end.0,
   )
 
-  pub ends_line : (r : Result (Option LineItem) Reason) → TakesLast mid r t → DecodesAtEnd gives_line fails_line keeps_line s r t
+  pub ends_line : (r : Result (Option LineItem) Reason) → TakesLastLine mid r t → DecodesAtEnd gives_line fails_line keeps_line s r t
   ends_line (Ok (Some item)) end = inr (last (Some item) end)
   ends_line (Ok None) end = last None end
   ends_line (Err reason) end = (
@@ -65,7 +65,7 @@ module _ (s mid t : Decoding LineReading) (took : TakesLineItem s (Ok None) mid)
       end.0,
       (
         at_end,
-        ends_at mid.decoder.frames.skipping (frames_of s) (frames_of mid) took.0,
+        ends_at mid.decoder.frames.skipping (frames_of_lines s) (frames_of_lines mid) took.0,
         subst (λ b. 0 < length (delimited_left b mid.held)) (sym end.2) end.1,
       ),
     ),
@@ -75,16 +75,16 @@ module _ (s mid t : Decoding LineReading) (took : TakesLineItem s (Ok None) mid)
 -- ---- a line that is lossy
 
 pub gives_lossy : (s t : Decoding LineReading) (mid : Decoding Delimiting) (len : ℕ) (text : List ℕ) → s.decoder.lossy ≡ true
-    → FindsNext (frames_of s) (Some (Ok len)) mid → IsLineOf true (Ok text) (Ok (take len mid.held))
+    → FindsNextDelimited (frames_of_lines s) (Some (Ok len)) mid → IsLineOf true (Ok text) (Ok (take len mid.held))
     → t ≡ record {
-      decoder = record { frames = ready mid.decoder; lossy = s.decoder.lossy };
+      decoder = record { frames = ready_delimited mid.decoder; lossy = s.decoder.lossy };
       held = drop (len + length mid.decoder.separator) mid.held;
       threshold = mid.threshold;
     }
     → gives_line s (Item (Ok text)) t
 gives_lossy s t mid len text lossy finds is ends = (
   Ok (take len mid.held),
-  subst (λ (u : Decoding Delimiting). gives_delimited (frames_of s) (Item (Ok (take len mid.held))) u) (ap frames_of (sym ends)) finds.2,
+  subst (λ (u : Decoding Delimiting). gives_delimited (frames_of_lines s) (Item (Ok (take len mid.held))) u) (ap frames_of_lines (sym ends)) finds.2,
   subst (λ b. IsLineOf b (Ok text) (Ok (take len mid.held))) (sym lossy) is,
   ap (λ (u : Decoding LineReading). u.decoder.lossy) ends,
 )
@@ -95,7 +95,7 @@ utf8_line line frame (inl returned) is = before_utf8 line carriage_return [] (om
 utf8_line line frame (inr whole) is = subst IsUtf8 whole.0 is
 
 -- of a text the lossy item is the strict one
-pub lossy_item : (lossy : Bool) (item : LineItem) (bytes : List ℕ) → (lossy ≡ true → IsUtf8 bytes) → IsTextItem false item bytes → IsTextItem lossy item bytes
+pub lossy_item : (lossy : Bool) (item : LineItem) (bytes : List ℕ) → (lossy ≡ true → IsUtf8 bytes) → IsTextLineItem false item bytes → IsTextLineItem lossy item bytes
 lossy_item false item bytes utf8 is = is
 lossy_item true (Ok text) bytes utf8 is = is.0 ∙ sym (utf8_lossy-IsUtf8 bytes is.1)
 lossy_item true (Err (NotUtf8 fault)) bytes utf8 is = absurd (is.1 (utf8 refl))
@@ -112,7 +112,7 @@ AreLinesOf lossy items frames = ⊥
 -- the frames of which these items are the lines
 record FramesOf (s : Decoding LineReading) (items : List LineItem) (rest : Decoding LineReading) : Type 0 where
   frames : List (Result (List ℕ) FrameTooLong)
-  are : AreFirstOfRun (λ old frame new. gives_delimited old (Item frame) new) (frames_of s) frames (frames_of rest)
+  are : AreFirstOfRun (λ old frame new. gives_delimited old (Item frame) new) (frames_of_lines s) frames (frames_of_lines rest)
   lines : AreLinesOf s.decoder.lossy items frames
   lossy : rest.decoder.lossy ≡ s.decoder.lossy
 
@@ -120,7 +120,7 @@ frames_of_items : (items : List LineItem) (s rest : Decoding LineReading)
     → AreFirstOfRun (λ old item new. gives_line old (Item item) new) s items rest → FramesOf s items rest
 frames_of_items [] s rest are = record {
   frames = [];
-  are = ap frames_of are;
+  are = ap frames_of_lines are;
   lines = tt;
   lossy = ap (λ (u : Decoding LineReading). u.decoder.lossy) (sym are);
 }
@@ -129,7 +129,7 @@ frames_of_items (item ∷ items) s rest are =
     let others = frames_of_items items are.0 rest are.2 in
     record {
       frames = given.0 ∷ others.frames;
-      are = (frames_of are.0, given.1, others.are);
+      are = (frames_of_lines are.0, given.1, others.are);
       lines = (given.2, subst (λ b. AreLinesOf b items others.frames) given.3 others.lines);
       lossy = others.lossy ∙ given.3;
     }
@@ -171,7 +171,7 @@ first_lines bytes frames lines rest are without = absurd without
 
 module _ (lossy : Bool) (limit : ℕ) where
   line_by : (item : LineItem) (frame : List ℕ) (b : Bool) → nat_le (length frame) limit ≡ b
-      → IsLineOf lossy item (if b then Ok frame else Err (record {})) → (line : List ℕ) × IsWithoutReturn line frame × IsItemOf lossy limit item line frame
+      → IsLineOf lossy item (if b then Ok frame else Err (record {})) → (line : List ℕ) × IsWithoutReturn line frame × IsLineItemOf lossy limit item line frame
   line_by item frame true fits is = (
     is.0,
     is.1,
@@ -189,7 +189,7 @@ module _ (lossy : Bool) (limit : ℕ) where
     given : List LineItem
     lines : List (List ℕ)
     without : AreWithoutReturns lines frames
-    are : AreItemsOf lossy limit given lines frames
+    are : AreLineItemsOf lossy limit given lines frames
     all : items ≡ given ++ begun_line over
 
   items_of_frames : (frames : List (List ℕ)) (over : Bool) (items : List LineItem) → AreLinesOf lossy items (map (delimited_within limit) frames ++ delimited_begun over)
@@ -216,14 +216,14 @@ new_lines lossy limit threshold bytes = fed (starting (record { frames = delimit
 
 -- the frames up to a state, and no more
 frames_up_to : (s rest : Decoding LineReading) (items : List LineItem) (of : FramesOf s items rest)
-    → AreItems gives_delimited (frames_of s) of.frames (frames_of rest)
-frames_up_to s rest items of = record { rest = frames_of rest; are = of.are; same = SameNext-refl gives_delimited (frames_of rest) }
+    → AreItems gives_delimited (frames_of_lines s) of.frames (frames_of_lines rest)
+frames_up_to s rest items of = record { rest = frames_of_lines rest; are = of.are; same = SameNext-refl gives_delimited (frames_of_lines rest) }
 
 pub line_items_law : LineReadingLaw
 line_items_law lossy limit threshold bytes items end are =
     let s = new_lines lossy limit threshold bytes in
     let of = frames_of_items items s are.rest are.are in
-    let reports = delimited_frames_law (line_feed ∷ []) limit threshold bytes of.frames (frames_of are.rest) (frames_up_to s are.rest items of) in
+    let reports = delimited_frames_law (line_feed ∷ []) limit threshold bytes of.frames (frames_of_lines are.rest) (frames_up_to s are.rest items of) in
     let got = items_of_frames lossy limit reports.frames reports.over items (subst (AreLinesOf lossy items) reports.reported of.lines) in
     record {
       given = got.given;
@@ -240,8 +240,8 @@ line_items_law lossy limit threshold bytes items end are =
 
 -- ---- with the last one
 
-pub items_append : (lossy : Bool) (limit : ℕ) (a b : List LineItem) (l m f g : List (List ℕ)) → AreItemsOf lossy limit a l f → AreItemsOf lossy limit b m g
-    → AreItemsOf lossy limit (a ++ b) (l ++ m) (f ++ g)
+pub items_append : (lossy : Bool) (limit : ℕ) (a b : List LineItem) (l m f g : List (List ℕ)) → AreLineItemsOf lossy limit a l f → AreLineItemsOf lossy limit b m g
+    → AreLineItemsOf lossy limit (a ++ b) (l ++ m) (f ++ g)
 items_append lossy limit [] b [] m [] g one two = two
 items_append lossy limit (item ∷ a) b (line ∷ l) m (frame ∷ f) g one two = (one.0, items_append lossy limit a b l m f g one.1 two)
 items_append lossy limit a b l m f g one two = absurd one
@@ -251,8 +251,8 @@ lines_of_last [] lacks = refl
 lines_of_last (c ∷ rest) lacks = lines-whole (c ∷ rest) (omega arith) lacks
 
 module _ (lossy : Bool) (limit : ℕ) where
-  pub last_items : (over : Bool) (last : Option LineItem) (rest : List ℕ) → IsLastOf lossy last (delimited_left over rest) → OnTrue over (limit < length rest)
-      → length (delimited_left over rest) ≤ limit → AreItemsOf lossy limit (begun_line over ++ option_to_list last) (last_stream_line rest) (last_stream_line rest)
+  pub last_items : (over : Bool) (last : Option LineItem) (rest : List ℕ) → IsLastLineOf lossy last (delimited_left over rest) → OnTrue over (limit < length rest)
+      → length (delimited_left over rest) ≤ limit → AreLineItemsOf lossy limit (begun_line over ++ option_to_list last) (last_stream_line rest) (last_stream_line rest)
   last_items true None [] is many few = absurd (omega (arith, many))
   last_items true None (c ∷ rest) is many few = (record { within = λ fits. absurd (omega (arith, many, fits)); over = λ long. refl }, tt)
   last_items true (Some item) rest is many few = absurd (omega (arith, is.0))
@@ -262,7 +262,7 @@ module _ (lossy : Bool) (limit : ℕ) where
   last_items false (Some item) (c ∷ rest) is many few = (record { within = λ fits. is.1; over = λ long. absurd (omega (arith, long, few)) }, tt)
 
   -- bytes in the first of which no line feed begins, whatever comes after them, are as many
-  many_over : (over : Bool) (rest : List ℕ) → OnTrue over (NoneBegins (line_feed ∷ []) rest (suc limit)) → OnTrue over (limit < length rest)
+  many_over : (over : Bool) (rest : List ℕ) → OnTrue over (NoneBeginsInSearch (line_feed ∷ []) rest (suc limit)) → OnTrue over (limit < length rest)
   many_over true rest long = long (line_feed ∷ []) (length rest) (ap (take 1) (drop_at rest (line_feed ∷ []) (length rest) refl))
   many_over false rest long = tt
 
@@ -272,7 +272,7 @@ whole_lines_law lossy limit threshold bytes items end last after are gives =
     let of = frames_of_items items s are.rest are.are in
     let ends = (SameNext-now gives_line are.rest end are.same (Last last) after).1 gives in
     let mid = ends.1.0 in
-    let whole = delimited_ends (line_feed ∷ []) limit threshold bytes of.frames (frames_of are.rest) mid (frames_up_to s are.rest items of) ends.1.1 in
+    let whole = delimited_ends (line_feed ∷ []) limit threshold bytes of.frames (frames_of_lines are.rest) mid (frames_up_to s are.rest items of) ends.1.1 in
     let reports = whole.reports in
     let over = reports.over in
     let rest = reports.rest in
@@ -282,8 +282,8 @@ whole_lines_law lossy limit threshold bytes items end last after are gives =
     first_lines_law bytes got.lines rest first ∙ ap (λ l. got.lines ++ l) (lines_of_last rest whole.lacks) in
     let given : items ++ option_to_list last ≡ got.given ++ (begun_line over ++ option_to_list last) =
     ap (λ l. l ++ option_to_list last) got.all ∙ append_assoc got.given (begun_line over) (option_to_list last) in
-    let is = subst (λ b. IsLastOf b last (delimited_left over rest)) of.lossy
-    (subst (IsLastOf are.rest.decoder.lossy last) (sym ends.1.2 ∙ whole.left) ends.2) in
+    let is = subst (λ b. IsLastLineOf b last (delimited_left over rest)) of.lossy
+    (subst (IsLastLineOf are.rest.decoder.lossy last) (sym ends.1.2 ∙ whole.left) ends.2) in
     let few : length (delimited_left over rest) ≤ limit = omega (arith, whole.few, ap length whole.left) in
     let tail = last_items lossy limit over last rest is (many_over lossy limit over rest reports.long) few in
     let joined = items_append lossy limit got.given (begun_line over ++ option_to_list last) got.lines (last_stream_line rest)
@@ -292,6 +292,6 @@ whole_lines_law lossy limit threshold bytes items end last after are gives =
       rest,
       reports.are,
       whole.lacks,
-      subst (λ l. AreItemsOf lossy limit l (lines bytes) (reports.frames ++ last_stream_line rest)) (sym given)
-          (subst (λ l. AreItemsOf lossy limit (got.given ++ (begun_line over ++ option_to_list last)) l (reports.frames ++ last_stream_line rest)) (sym all) joined),
+      subst (λ l. AreLineItemsOf lossy limit l (lines bytes) (reports.frames ++ last_stream_line rest)) (sym given)
+          (subst (λ l. AreLineItemsOf lossy limit (got.given ++ (begun_line over ++ option_to_list last)) l (reports.frames ++ last_stream_line rest)) (sym all) joined),
     )

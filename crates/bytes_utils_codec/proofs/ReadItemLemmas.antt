@@ -4,7 +4,7 @@ use Rattle.std.proofs.KnownBytes.{Consumes-nil, Consumes-trans, Consumes-whole}
 use Rattle.std.specs.Prelude.{◌⊎◌, IfOk, IfErr, IfSome, IfNone, OnErr}
 use Rattle.std.specs.Io.KnownBytes.{Consumes, IsAtEnd, Keeps}
 use Rattle.bytes_utils_codec.specs.Decoding.{Decoding, IsFedBy, Next, Item, Last, Gives, fed, HasSameNext, LacksItem, IsStable, IsSingle, AreItems}
-use Rattle.bytes_utils_codec.specs.ReadItem.{ReadsNext, ReadsMore, ReadItemTakesHeld, TakesLast, IsItemDue, IsReadDue, read_items_of, ReadItemsLaw, ReadWholeLaw, ReadSameLaw}
+use Rattle.bytes_utils_codec.specs.ReadItem.{ReadsNext, ReadsMore, ReadItemTakesHeld, ReadItemTakesLast, IsItemDue, IsReadDue, read_items_of, ReadItemsLaw, ReadWholeLaw, ReadSameLaw}
 use Rattle.bytes_utils_codec.specs.declared.decode.read.error.ReadItemError.{ReadItemError}
 use Rattle.bytes_utils_codec.specs.declared.decode.read.error.ReadItemError.TheVariants.{Decoder, Io, TooManyReads}
 use Rattle.bytes_utils_codec.proofs.DecodingLemmas.{fed-none, fed-joined, SameNext-refl, SameNext-trans, SameNext-fed, SameNext-now, items_fed, decoder_whole}
@@ -70,25 +70,25 @@ module _ {D A : Type 0} (gives : Gives D A) where
     held_due TooManyReads took = absurd took
 
     module _ {a b : Option (List ℕ)} {old : Decoding D} (reads : ReadsMore gives a b old s) where
-      pub last_some : IsAtEnd b → (r : Result (Option A) (ReadItemError E)) → TakesLast gives fails s r t
+      pub last_some : IsAtEnd b → (r : Result (Option A) (ReadItemError E)) → ReadItemTakesLast gives fails s r t
           → IfOk r (λ next. IfSome next (λ item. ReadsNext gives a b old (Item item) t ⊎ (IsAtEnd b × ReadsNext gives a b old (Last (Some item)) t)))
       last_some ends (Ok (Some item)) took = inr (ends, ReadsNext-taken reads (Last (Some item)) t took)
       last_some ends (Ok None) took = tt
       last_some ends (Err e) took = tt
 
-      pub last_none : IsAtEnd b → (r : Result (Option A) (ReadItemError E)) → TakesLast gives fails s r t
+      pub last_none : IsAtEnd b → (r : Result (Option A) (ReadItemError E)) → ReadItemTakesLast gives fails s r t
           → IfOk r (λ next. IfNone next (IsAtEnd b × ReadsNext gives a b old (Last None) t))
       last_none ends (Ok (Some item)) took = tt
       last_none ends (Ok None) took = (ends, ReadsNext-taken reads (Last None) t took)
       last_none ends (Err e) took = tt
 
-      pub last_lost : (r : Result (Option A) (ReadItemError E)) → TakesLast gives fails s r t → OnErr r (ReadsMore gives a b old t)
+      pub last_lost : (r : Result (Option A) (ReadItemError E)) → ReadItemTakesLast gives fails s r t → OnErr r (ReadsMore gives a b old t)
       last_lost (Ok last) took = tt
       last_lost (Err (Decoder e)) took = ReadsMore-same reads t took.1
       last_lost (Err (Io e)) took = absurd took
       last_lost (Err TooManyReads) took = absurd took
 
-    pub last_due : (r : Result (Option A) (ReadItemError E)) → TakesLast gives fails s r t → IfErr r (IsItemDue gives fails t)
+    pub last_due : (r : Result (Option A) (ReadItemError E)) → ReadItemTakesLast gives fails s r t → IfErr r (IsItemDue gives fails t)
     last_due (Ok last) took = tt
     last_due (Err (Decoder e)) took = (s, took.0, took.1)
     last_due (Err (Io e)) took = absurd took

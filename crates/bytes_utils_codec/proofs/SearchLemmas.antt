@@ -8,13 +8,13 @@ use Rattle.bytes_utils.specs.Occurrence.{Occurs, OccursAt, OccursFirstAt}
 use Rattle.bytes_utils.proofs.Boundaries.{HasNeedleAt-from_occurs, OccursAt-fits}
 use Rattle.bytes_utils.proofs.OccurrenceLemmas.{OccursAt-front}
 use Rattle.bytes_utils_codec.specs.Frames.{TakesFrame}
-use Rattle.bytes_utils_codec.specs.Search.{NoneBegins}
+use Rattle.bytes_utils_codec.specs.Search.{NoneBeginsInSearch}
 
 -- a piece is pushed
-pub NoneBegins-more : (p bytes piece : List ℕ) (from : ℕ) → NoneBegins p bytes from → NoneBegins p (bytes ++ piece) from
-NoneBegins-more p bytes piece from none more k here = none (piece ++ more) k (subst (λ l. OccursAt p l k) (append_assoc bytes piece more) here)
+pub NoneBeginsInSearch-more : (p bytes piece : List ℕ) (from : ℕ) → NoneBeginsInSearch p bytes from → NoneBeginsInSearch p (bytes ++ piece) from
+NoneBeginsInSearch-more p bytes piece from none more k here = none (piece ++ more) k (subst (λ l. OccursAt p l k) (append_assoc bytes piece more) here)
 
-module _ (p bytes : List ℕ) (from : ℕ) (some : 0 < length p) (none : NoneBegins p bytes from) where
+module _ (p bytes : List ℕ) (from : ℕ) (some : 0 < length p) (none : NoneBeginsInSearch p bytes from) where
   begins_on : (k : ℕ) → OccursAt p bytes k → from ≤ k
   begins_on k here = none [] k (subst (λ l. OccursAt p l k) (sym (append-nil bytes)) here)
 
@@ -23,8 +23,8 @@ module _ (p bytes : List ℕ) (from : ℕ) (some : 0 < length p) (none : NoneBeg
   nowhere_left missed (k, here) = missed k (begins_on k here) (omega (arith, OccursAt-fits p bytes k some here)) (HasNeedleAt-from_occurs p bytes k some here)
 
   -- so all these bytes were searched
-  pub NoneBegins-missed : FindsNeedle bytes p from None → NoneBegins p bytes (max from (length bytes - (length p - 1)))
-  NoneBegins-missed missed more k here =
+  pub NoneBeginsInSearch-missed : FindsNeedle bytes p from None → NoneBeginsInSearch p bytes (max from (length bytes - (length p - 1)))
+  NoneBeginsInSearch-missed missed more k here =
       let low = none more k here in
       ⊎_elim (λ below. absurd (nowhere_left missed (k, OccursAt-front p bytes more k here (omega (arith, below, some))))) (λ on. omega (arith, low, on))
       (cases_lt k (length bytes - (length p - 1)))

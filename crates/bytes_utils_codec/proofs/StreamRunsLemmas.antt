@@ -1,6 +1,6 @@
 -- Runs over pieces are runs over the joined bytes.
 use Rattle.std.proofs.Common.{◌≡◌, ℕ, List, [], ◌∷◌, ◌++◌, ap, ◌∙◌, sym, refl, subst, arith, append_assoc, append-nil}
-use Rattle.bytes_utils_codec.specs.StreamRuns.{StreamEvent, Pushed, Taken, IsRunOver, pushed_by, given_by, AreFirstOfRun, StreamRunLaw, StreamLaw, SameFirstOfRunLaw, AllFirstOfRunLaw}
+use Rattle.bytes_utils_codec.specs.StreamRuns.{StreamEvent, Pushed, Taken, IsRunOver, pushed_in_stream, given_in_stream, AreFirstOfRun, StreamRunLaw, StreamLaw, SameFirstOfRunLaw, AllFirstOfRunLaw}
 
 module _ {S A : Type 0} (Takes : S → A → S → Type 0) where
   -- more items
@@ -32,15 +32,15 @@ module _ {S A : Type 0} (Takes : S → A → S → Type 0) where
         ((λ i. same.0 i ∷ later.0 i), later.1)
 
 -- events, and others after them
-pub pushed_by-append : {A : Type 0} (xs ys : List (StreamEvent A)) → pushed_by (xs ++ ys) ≡ pushed_by xs ++ pushed_by ys
-pushed_by-append [] ys = refl
-pushed_by-append (Pushed piece ∷ xs) ys = ap (λ l. piece ++ l) (pushed_by-append xs ys) ∙ sym (append_assoc piece (pushed_by xs) (pushed_by ys))
-pushed_by-append (Taken item ∷ xs) ys = pushed_by-append xs ys
+pub pushed_in_stream-append : {A : Type 0} (xs ys : List (StreamEvent A)) → pushed_in_stream (xs ++ ys) ≡ pushed_in_stream xs ++ pushed_in_stream ys
+pushed_in_stream-append [] ys = refl
+pushed_in_stream-append (Pushed piece ∷ xs) ys = ap (λ l. piece ++ l) (pushed_in_stream-append xs ys) ∙ sym (append_assoc piece (pushed_in_stream xs) (pushed_in_stream ys))
+pushed_in_stream-append (Taken item ∷ xs) ys = pushed_in_stream-append xs ys
 
-pub given_by-append : {A : Type 0} (xs ys : List (StreamEvent A)) → given_by (xs ++ ys) ≡ given_by xs ++ given_by ys
-given_by-append [] ys = refl
-given_by-append (Pushed piece ∷ xs) ys = given_by-append xs ys
-given_by-append (Taken item ∷ xs) ys = ap (λ l. item ∷ l) (given_by-append xs ys)
+pub given_in_stream-append : {A : Type 0} (xs ys : List (StreamEvent A)) → given_in_stream (xs ++ ys) ≡ given_in_stream xs ++ given_in_stream ys
+given_in_stream-append [] ys = refl
+given_in_stream-append (Pushed piece ∷ xs) ys = given_in_stream-append xs ys
+given_in_stream-append (Taken item ∷ xs) ys = ap (λ l. item ∷ l) (given_in_stream-append xs ys)
 
 module _ {S A : Type 0} (push : S → List ℕ → S) (Takes : S → A → S → Type 0) where
   pub IsRunOver-append : (s : S) (xs : List (StreamEvent A)) (mid : S) (ys : List (StreamEvent A)) (end : S) → IsRunOver push Takes s xs mid
@@ -54,13 +54,13 @@ module _ {S A : Type 0} (push : S → List ℕ → S) (Takes : S → A → S →
       (pushed : (bytes : List ℕ) (items : List A) (s : S) (piece : List ℕ) → Holds bytes items s → Holds (bytes ++ piece) items (push s piece))
       (taken : (bytes : List ℕ) (items : List A) (s : S) (item : A) (next : S) → Holds bytes items s → Takes s item next → Holds bytes (items ++ item ∷ []) next) where
     pub run_keeps : (bytes : List ℕ) (items : List A) (s : S) (events : List (StreamEvent A)) (end : S) → Holds bytes items s → IsRunOver push Takes s events end
-        → Holds (bytes ++ pushed_by events) (items ++ given_by events) end
+        → Holds (bytes ++ pushed_in_stream events) (items ++ given_in_stream events) end
     run_keeps bytes items s [] end holds run = rw (append-nil bytes, append-nil items) (subst (Holds bytes items) (sym run) holds)
     run_keeps bytes items s (Pushed piece ∷ events) end holds run =
-        rw (← append_assoc bytes piece (pushed_by events)) (run_keeps (bytes ++ piece) items (push s piece) events end (pushed bytes items s piece holds) run)
+        rw (← append_assoc bytes piece (pushed_in_stream events)) (run_keeps (bytes ++ piece) items (push s piece) events end (pushed bytes items s piece holds) run)
     run_keeps bytes items s (Taken item ∷ events) end holds run =
         let later = run_keeps bytes (items ++ item ∷ []) run.0 events end (taken bytes items s item run.0 holds run.1) run.2 in
-        rw (append_assoc items (item ∷ []) (given_by events)) at later
+        rw (append_assoc items (item ∷ []) (given_in_stream events)) at later
 
   -- each item is taken from more bytes, too
   module _ (more : (old : S) (item : A) (rest : S) (piece : List ℕ) → Takes old item rest → Takes (push old piece) item (push rest piece)) where

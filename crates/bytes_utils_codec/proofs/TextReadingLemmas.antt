@@ -8,8 +8,8 @@ use Rattle.std.specs.List.{concat}
 use Rattle.std.specs.Str.Lossy.{replacement_bytes, utf8_lossy, utf8_valid_len, utf8_error_len}
 use Rattle.bytes_utils_codec.specs.declared.texts.Front.{Front}
 use Rattle.bytes_utils_codec.specs.declared.texts.Front.TheVariants.{Text, Fault, Unfinished}
-use Rattle.bytes_utils_codec.specs.StreamRuns.{StreamEvent, AreFirstOfRun, pushed_by, given_by}
-use Rattle.bytes_utils_codec.specs.TextReading.{AreTextItems, IsFaultItem, IsFaultyText, IsTextFront, IsTextRun, IsUnfinishedText, LossyTextLaw, TakesTextFault, TakesItem, TakesLast, TakesText, TextFaultLaw, TextFrontLaw, TextItem, TextItemsLaw, TextReading, WholeLossyTextLaw, asks_at_end, asks_for, bytes_of, text_fed, text_of, text_reading}
+use Rattle.bytes_utils_codec.specs.StreamRuns.{StreamEvent, AreFirstOfRun, pushed_in_stream, given_in_stream}
+use Rattle.bytes_utils_codec.specs.TextReading.{AreTextItems, IsTextFaultItem, IsFaultyText, IsTextFront, IsTextRun, IsUnfinishedText, LossyTextLaw, TakesTextFault, TakesTextItem, TakesLastText, TakesText, TextFaultLaw, TextFrontLaw, TextItem, TextItemsLaw, TextReading, WholeLossyTextLaw, asks_for_text_at_end, asks_for_text, bytes_of_text_item, text_fed, text_of, text_reading}
 use Rattle.bytes_utils_codec.proofs.CharacterBegins.{faulty}
 use Rattle.bytes_utils_codec.proofs.CharacterCompletes.{may_end}
 use Rattle.bytes_utils_codec.proofs.CharacterEnds.{few}
@@ -43,7 +43,7 @@ pub no_text_in : (old : List ℕ) (len : ℕ) → utf8_valid_len old ≡ 0 → 0
 no_text_in old len none some within = no_front old none len some within
 
 pub text_taken : (old new : TextReading) (len : ℕ) (text : List ℕ) → IsTextFront old.held (Text len) → text ≡ take len old.held
-    → new ≡ record old { held = drop len old.held } → TakesItem old (Ok text) new
+    → new ≡ record old { held = drop len old.held } → TakesTextItem old (Ok text) new
 text_taken old new len text is text_is new_is = record {
   lossy = ap (λ (r : TextReading). r.lossy) new_is;
   taken = inl (
@@ -57,8 +57,8 @@ text_taken old new len text is text_is new_is = record {
   );
 }
 
-pub fault_taken : (old new : TextReading) (len : ℕ) (item : TextItem) → IsTextFront old.held (Fault len) → IsFaultItem old.lossy item (take len old.held)
-    → new ≡ record old { held = drop len old.held } → TakesItem old item new
+pub fault_taken : (old new : TextReading) (len : ℕ) (item : TextItem) → IsTextFront old.held (Fault len) → IsTextFaultItem old.lossy item (take len old.held)
+    → new ≡ record old { held = drop len old.held } → TakesTextItem old item new
 fault_taken old new len item is given new_is =
     let size : length (take len old.held) ≡ len = length-take len old.held ∙ omega (arith, fault_within old.held len is.1) in
     record {
@@ -76,8 +76,8 @@ fault_taken old new len item is given new_is =
 
 -- ---- more bytes
 
-item_more : (old : TextReading) (item : TextItem) (new : TextReading) (piece : List ℕ) → TakesItem old item new
-    → TakesItem (text_fed old piece) item (text_fed new piece)
+item_more : (old : TextReading) (item : TextItem) (new : TextReading) (piece : List ℕ) → TakesTextItem old item new
+    → TakesTextItem (text_fed old piece) item (text_fed new piece)
 item_more old item new piece takes = record {
   lossy = takes.lossy;
   taken = ⊎_elim
@@ -108,43 +108,43 @@ text_fault old fault rest took = faulty old took.none (fault_of_four old (length
 -- ---- lists of items
 
 abbrev Items : TextReading → List TextItem → TextReading → Type 0
-Items r items end = AreFirstOfRun TakesItem r items end
+Items r items end = AreFirstOfRun TakesTextItem r items end
 
 ran : (lossy : Bool) (events : List (StreamEvent TextItem)) (end : TextReading) → IsTextRun lossy events end
-    → Items (record { held = pushed_by events; lossy = lossy }) (given_by events) end
+    → Items (record { held = pushed_in_stream events; lossy = lossy }) (given_in_stream events) end
 ran lossy events end run =
-    run_law text_fed TakesItem item_more (λ r one two. ap (λ l. record r { held = l }) (append_assoc r.held one two))
+    run_law text_fed TakesTextItem item_more (λ r one two. ap (λ l. record r { held = l }) (append_assoc r.held one two))
     (λ r. ap (λ l. record r { held = l }) (append-nil r.held)) (text_reading lossy) events end run
 
 -- of an item for bytes that are none
-fault_text : (lossy : Bool) (item : TextItem) (fault : List ℕ) → IsFaultItem lossy item fault → text_of item ≡ replacement_bytes
+fault_text : (lossy : Bool) (item : TextItem) (fault : List ℕ) → IsTextFaultItem lossy item fault → text_of item ≡ replacement_bytes
 fault_text true item fault is = ap text_of is
 fault_text false (Ok text) fault is = absurd is
 fault_text false (Err e) fault is = refl
 
-fault_bytes : (lossy : Bool) (item : TextItem) (fault : List ℕ) → lossy ≡ false → IsFaultItem lossy item fault → bytes_of item ≡ fault
+fault_bytes : (lossy : Bool) (item : TextItem) (fault : List ℕ) → lossy ≡ false → IsTextFaultItem lossy item fault → bytes_of_text_item item ≡ fault
 fault_bytes true item fault strict is = absurd (true≢false strict)
 fault_bytes false (Ok text) fault strict is = absurd is
 fault_bytes false (Err e) fault strict is = is.0
 
-no_ok : (lossy : Bool) (text fault : List ℕ) → lossy ≡ false → ¬ IsFaultItem lossy (Ok text) fault
+no_ok : (lossy : Bool) (text fault : List ℕ) → lossy ≡ false → ¬ IsTextFaultItem lossy (Ok text) fault
 no_ok true text fault strict is = true≢false strict
 no_ok false text fault strict is = is
 
 -- ---- no byte is lost
 
-item_all : (old : TextReading) (item : TextItem) (new : TextReading) → old.lossy ≡ false → TakesItem old item new → old.held ≡ bytes_of item ++ new.held
+item_all : (old : TextReading) (item : TextItem) (new : TextReading) → old.lossy ≡ false → TakesTextItem old item new → old.held ≡ bytes_of_text_item item ++ new.held
 item_all old item new strict takes = ⊎_elim
-    (λ (text, is, took). took.bytes ∙ ap (λ i. bytes_of i ++ new.held) (sym is))
+    (λ (text, is, took). took.bytes ∙ ap (λ i. bytes_of_text_item i ++ new.held) (sym is))
     (λ (fault, is, took). took.bytes ∙ ap (λ l. l ++ new.held) (sym (fault_bytes old.lossy item fault strict is)))
     takes.taken
 
 items_all : (r : TextReading) (items : List TextItem) (end : TextReading) → r.lossy ≡ false → Items r items end
-    → r.held ≡ concat (map bytes_of items) ++ end.held
+    → r.held ≡ concat (map bytes_of_text_item items) ++ end.held
 items_all r [] end strict is = ap (λ (t : TextReading). t.held) is
 items_all r (item ∷ items) end strict (next, takes, more) =
-    item_all r item next strict takes ∙ ap (λ l. bytes_of item ++ l) (items_all next items end (takes.lossy ∙ strict) more)
-    ∙ sym (append_assoc (bytes_of item) (concat (map bytes_of items)) end.held)
+    item_all r item next strict takes ∙ ap (λ l. bytes_of_text_item item ++ l) (items_all next items end (takes.lossy ∙ strict) more)
+    ∙ sym (append_assoc (bytes_of_text_item item) (concat (map bytes_of_text_item items)) end.held)
 
 -- ---- texts
 
@@ -161,11 +161,11 @@ items_texts r (item ∷ items) end (next, takes, more) utf8 = ⊎_elim
 
 pub text_items : TextItemsLaw
 text_items events end run = record {
-  all = items_all (record { held = pushed_by events; lossy = false }) (given_by events) end refl (ran false events end run);
-  texts = items_texts (record { held = pushed_by events; lossy = false }) (given_by events) end (ran false events end run);
+  all = items_all (record { held = pushed_in_stream events; lossy = false }) (given_in_stream events) end refl (ran false events end run);
+  texts = items_texts (record { held = pushed_in_stream events; lossy = false }) (given_in_stream events) end (ran false events end run);
 }
 
-is_text : (r : TextReading) (text : List ℕ) (next : TextReading) → r.lossy ≡ false → TakesItem r (Ok text) next → TakesText r.held text next.held
+is_text : (r : TextReading) (text : List ℕ) (next : TextReading) → r.lossy ≡ false → TakesTextItem r (Ok text) next → TakesText r.held text next.held
 is_text r text next strict takes = ⊎_elim
     (λ (other, is, took). subst (λ x. TakesText r.held x next.held) (sym (ap text_of is)) took)
     (λ (fault, is, took). absurd (no_ok r.lossy text fault strict is))
@@ -183,7 +183,7 @@ texts_joined r (text ∷ texts) end strict (next, takes, more) =
 
 pub text_front : TextFrontLaw
 text_front events end texts run are none =
-    let bytes = pushed_by events in
+    let bytes = pushed_in_stream events in
     let whole = concat texts in
     let start : TextReading = record { held = bytes; lossy = false } in
     let parts = texts_joined start texts end refl (subst (λ items. Items start items end) are (ran false events end run)) in
@@ -192,7 +192,7 @@ text_front events end texts run are none =
 
 -- ---- lossy texts
 
-item_lossy : (old : TextReading) (item : TextItem) (new : TextReading) → TakesItem old item new → utf8_lossy old.held ≡ text_of item ++ utf8_lossy new.held
+item_lossy : (old : TextReading) (item : TextItem) (new : TextReading) → TakesTextItem old item new → utf8_lossy old.held ≡ text_of item ++ utf8_lossy new.held
 item_lossy old item new takes = ⊎_elim
     (λ (text, is, took). ap utf8_lossy took.bytes ∙ lossy_text text new.held took.utf8 ∙ ap (λ i. text_of i ++ utf8_lossy new.held) (sym is))
     (λ (fault, is, took).
@@ -209,7 +209,7 @@ no_fault old is = by (utf8_error_len old) refl
     by None none = none
     by (Some n) some = absurd (faulty old is.none (fault_of_four old n some) is.may_end.0 is.may_end.1)
 
-last_lossy : (old : TextReading) (item : TextItem) (new : TextReading) → TakesLast old item new → utf8_lossy old.held ≡ text_of item ++ utf8_lossy new.held
+last_lossy : (old : TextReading) (item : TextItem) (new : TextReading) → TakesLastText old item new → utf8_lossy old.held ≡ text_of item ++ utf8_lossy new.held
 last_lossy old item new (inl takes) = item_lossy old item new takes
 last_lossy old item new (inr (is, some, given, new_is)) =
     lossy_unfinished old.held is.none (no_fault old.held is) some
@@ -226,17 +226,17 @@ module _ (Takes : TextReading → TextItem → TextReading → Type 0)
 
 pub lossy_runs : LossyTextLaw
 lossy_runs lossy events end run =
-    items_lossy TakesItem item_lossy (record { held = pushed_by events; lossy = lossy }) (given_by events) end (ran lossy events end run)
+    items_lossy TakesTextItem item_lossy (record { held = pushed_in_stream events; lossy = lossy }) (given_in_stream events) end (ran lossy events end run)
 
 pub whole_lossy : WholeLossyTextLaw
 whole_lossy lossy events end after last run are none =
     lossy_runs lossy events end run
-    ∙ ap (λ l. concat (map text_of (given_by events)) ++ l)
-    (items_lossy TakesLast last_lossy end last after are ∙ ap (λ l. concat (map text_of last) ++ l) (utf8_lossy_empty after.held (ap length none))
+    ∙ ap (λ l. concat (map text_of (given_in_stream events)) ++ l)
+    (items_lossy TakesLastText last_lossy end last after are ∙ ap (λ l. concat (map text_of last) ++ l) (utf8_lossy_empty after.held (ap length none))
     ∙ append-nil (concat (map text_of last)))
 
 -- ---- requests for memory
 
-pub asks_also_at_end : (r : TextReading) → asks_for r → asks_at_end r
+pub asks_also_at_end : (r : TextReading) → asks_for_text r → asks_for_text_at_end r
 asks_also_at_end r (inl some) = inl some
 asks_also_at_end r (inr (strict, (n, is))) = inr (strict, omega (arith, fault_some r.held n is, fault_within r.held n is))

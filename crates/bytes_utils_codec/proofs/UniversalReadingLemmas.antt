@@ -8,11 +8,11 @@ use Rattle.std.specs.Bool.{OnTrue}
 use Rattle.std.specs.Option.{option_to_list}
 use Rattle.memchr.specs.Find.{Nowhere}
 use Rattle.bytes_utils_codec.specs.Decoding.{Item, Last}
-use Rattle.bytes_utils_codec.specs.LineReading.{AreItemsOf, IsItemOf, IsLastOf, LineItem, begun_line}
+use Rattle.bytes_utils_codec.specs.LineReading.{AreLineItemsOf, IsLineItemOf, IsLastLineOf, LineItem, begun_line}
 use Rattle.bytes_utils_codec.specs.StreamLines.{last_stream_line}
 use Rattle.bytes_utils_codec.specs.StreamRuns.{AreFirstOfRun}
-use Rattle.bytes_utils_codec.specs.UniversalReading.{AreFirstOfUniversalReading, AreUniversalItems, AwaitsEnd, UniversalReadingFinds, GivesFrom, HasLineOf, IsComing, PassesLong, PassesLongBy, Reaches, SkipsOn, UniversalReadingLaw, WholeUniversalReadingLaw, after_end, after_feed, dropped, universal_feed_passed, gives_universal, universal_place_after}
-use Rattle.bytes_utils_codec.specs.UniversalReadingLaws.{IsPassed, Reaches-feed, Reaches-one, State, state, if_passed}
+use Rattle.bytes_utils_codec.specs.UniversalReading.{AreFirstOfUniversalReading, AreUniversalItems, AwaitsUniversalEnd, UniversalReadingFinds, GivesUniversalFrom, HasUniversalLineOf, IsUniversalComing, PassesLongUniversal, PassesLongUniversalBy, ReachesUniversal, SkipsUniversal, UniversalReadingLaw, WholeUniversalReadingLaw, after_universal_end, after_universal_feed, dropped_universal, universal_feed_passed, gives_universal, universal_place_after}
+use Rattle.bytes_utils_codec.specs.UniversalReadingLaws.{IsUniversalPassed, ReachesUniversal-feed, ReachesUniversal-one, UniversalState, universal_state, if_universal_passed}
 use Rattle.bytes_utils_codec.specs.UniversalLines.{AreFirstUniversalLines, FindsUniversalEnd, IsUniversalEndAt, IsFirstUniversalLine, IsInUniversalLine, IsUniversalEnd, LacksUniversalEnds, universal_lines}
 use Rattle.bytes_utils_codec.specs.declared.decode.too_long.FrameTooLong.{FrameTooLong}
 use Rattle.bytes_utils_codec.specs.declared.decode.lines.LineFault.TheVariants.{TooLong}
@@ -26,22 +26,22 @@ use Rattle.bytes_utils_codec.proofs.UniversalLinesLemmas.{all_universal_law}
 -- ---- the parts of a call
 
 -- a line feed is passed, and then a line that is skipped
-passes_then : (limit threshold from : ℕ) (lossy : Bool) (place : Place) (held : List ℕ) (mid : State)
-    → PassesLong (after_feed (state limit threshold from lossy place held)) mid
-    → Reaches (state limit threshold from lossy place held) mid
+passes_then : (limit threshold from : ℕ) (lossy : Bool) (place : Place) (held : List ℕ) (mid : UniversalState)
+    → PassesLongUniversal (after_universal_feed (universal_state limit threshold from lossy place held)) mid
+    → ReachesUniversal (universal_state limit threshold from lossy place held) mid
 passes_then limit threshold from lossy LongLine held mid (len, ends, is) =
-    record { ending = after_end len (state limit threshold from lossy LongLine held); ends = (len, ends, refl); is = is }
+    record { ending = after_universal_end len (universal_state limit threshold from lossy LongLine held); ends = (len, ends, refl); is = is }
 passes_then limit threshold from lossy AfterReturn (c ∷ t) mid is =
-    record { ending = state limit threshold from lossy AfterReturn (c ∷ t); ends = refl; is = is }
-passes_then limit threshold from lossy place held mid is = record { ending = state limit threshold from lossy place held; ends = refl; is = is }
+    record { ending = universal_state limit threshold from lossy AfterReturn (c ∷ t); ends = refl; is = is }
+passes_then limit threshold from lossy place held mid is = record { ending = universal_state limit threshold from lossy place held; ends = refl; is = is }
 
-pub reaches_then : (s fed : State) → fed ≡ after_feed s → (mid : State) → PassesLong fed mid → Reaches s mid
+pub reaches_then : (s fed : UniversalState) → fed ≡ after_universal_feed s → (mid : UniversalState) → PassesLongUniversal fed mid → ReachesUniversal s mid
 reaches_then s fed is mid passes =
     passes_then s.decoder.max_length s.threshold s.decoder.searched s.decoder.lossy s.decoder.place s.held mid
-    (subst (λ t. PassesLong t mid) is passes)
+    (subst (λ t. PassesLongUniversal t mid) is passes)
 
--- a line is dropped, and then its end
-pub after_end_is : (s : State) (len : ℕ) → after_end 0 (record s { held = drop len s.held }) ≡ after_end len s
+-- a line is dropped_universal, and then its end
+pub after_end_is : (s : UniversalState) (len : ℕ) → after_universal_end 0 (record s { held = drop len s.held }) ≡ after_universal_end len s
 after_end_is s len =
     let next : suc len ≡ len + 1 = omega arith in
     let held : drop 1 (drop len s.held) ≡ drop (suc len) s.held = drop-drop 1 len s.held ∙ ap (λ n. drop n s.held) (sym next) in
@@ -50,26 +50,26 @@ after_end_is s len =
     (λ i. record s { decoder = record s.decoder { searched = 0; place = universal_place_after (byte i) }; held = held i })
 
 -- a line that is skipped, whose end has come or has not
-passes_long : (place : Place) (s mid : State) (len : ℕ) → place ≡ LongLine → FindsUniversalEnd s.held s.decoder.searched (Some len) → mid ≡ after_feed (after_end len s)
-    → PassesLongBy place s mid
+passes_long : (place : Place) (s mid : UniversalState) (len : ℕ) → place ≡ LongLine → FindsUniversalEnd s.held s.decoder.searched (Some len) → mid ≡ after_universal_feed (after_universal_end len s)
+    → PassesLongUniversalBy place s mid
 passes_long LongLine s mid len is found there = (len, found, there)
 passes_long place s mid len is found there = absurd cc
 
-module _ (s : State) (long : s.decoder.place ≡ LongLine) where
-  pub long_found : (ending mid : State) (len : ℕ) → FindsUniversalEnd s.held s.decoder.searched (Some len)
-      → ending ≡ after_end 0 (record s { held = drop len s.held }) → mid ≡ after_feed ending → PassesLong s mid
+module _ (s : UniversalState) (long : s.decoder.place ≡ LongLine) where
+  pub long_found : (ending mid : UniversalState) (len : ℕ) → FindsUniversalEnd s.held s.decoder.searched (Some len)
+      → ending ≡ after_universal_end 0 (record s { held = drop len s.held }) → mid ≡ after_universal_feed ending → PassesLongUniversal s mid
   long_found ending mid len found ends is =
-      passes_long s.decoder.place s mid len long found (is ∙ ap after_feed (ends ∙ after_end_is s len))
+      passes_long s.decoder.place s mid len long found (is ∙ ap after_universal_feed (ends ∙ after_end_is s len))
 
-  pub long_missed : (new : State) (len : ℕ) → FindsUniversalEnd s.held s.decoder.searched None → len ≡ length s.held
-      → new ≡ record s { decoder = record s.decoder { searched = s.decoder.searched - len }; held = drop len s.held } → SkipsOn s × (new ≡ dropped s)
+  pub long_missed : (new : UniversalState) (len : ℕ) → FindsUniversalEnd s.held s.decoder.searched None → len ≡ length s.held
+      → new ≡ record s { decoder = record s.decoder { searched = s.decoder.searched - len }; held = drop len s.held } → SkipsUniversal s × (new ≡ dropped_universal s)
   long_missed new len missed all is =
       let none : drop len s.held ≡ [] = drop_all len s.held (omega (arith, all)) in
       ((long, missed), is ∙ (λ i. record s { decoder = record s.decoder { searched = s.decoder.searched - all i }; held = none i }))
 
-pub finds_then : (s mid : State) (r : Option (Result ℕ FrameTooLong)) (new : State) → Reaches s mid → IsComing mid r new → UniversalReadingFinds s r new
+pub finds_then : (s mid : UniversalState) (r : Option (Result ℕ FrameTooLong)) (new : UniversalState) → ReachesUniversal s mid → IsUniversalComing mid r new → UniversalReadingFinds s r new
 finds_then s mid (Some (Ok len)) new reaches coming =
-    (subst (Reaches s) (sym coming.0) reaches, subst (λ t. HasLineOf t len) (sym coming.0) coming.1)
+    (subst (ReachesUniversal s) (sym coming.0) reaches, subst (λ t. HasUniversalLineOf t len) (sym coming.0) coming.1)
 finds_then s mid (Some (Err over)) new reaches coming = inr (mid, reaches, inr (refl, coming.0, coming.1))
 finds_then s mid None new reaches coming = inr (mid, reaches, coming.0, coming.1)
 
@@ -116,18 +116,18 @@ first_line bytes len found =
 
 -- ---- the items of a new decoder
 
-abbrev Gives : State → LineItem → State → Type 0
+abbrev Gives : UniversalState → LineItem → UniversalState → Type 0
 Gives old item new = gives_universal old (Item item) new
 
 module _ (lossy : Bool) (limit threshold : ℕ) where
   -- what was read so far: all lines up to the front of one, or up to one that was reported to be too long
   data Front : Type 0 where
-    AtFront : (place : Place) → IsPassed place → List ℕ → Front
+    AtFront : (place : Place) → IsUniversalPassed place → List ℕ → Front
     InLong : (bytes : List ℕ) → limit < length bytes → Nowhere (IsUniversalEndAt bytes) 0 (suc limit) → Front
 
-  abbrev state_at : Front → State
-  state_at (AtFront place passed held) = state limit threshold 0 lossy place held
-  state_at (InLong bytes many none) = state limit threshold (suc limit) lossy LongLine bytes
+  abbrev state_at : Front → UniversalState
+  state_at (AtFront place passed held) = universal_state limit threshold 0 lossy place held
+  state_at (InLong bytes many none) = universal_state limit threshold (suc limit) lossy LongLine bytes
 
   -- the bytes from there on
   abbrev rest_at : Front → List ℕ
@@ -142,7 +142,7 @@ module _ (lossy : Bool) (limit threshold : ℕ) where
   record Reports (front : Front) (items : List LineItem) (end : Front) : Type 0 where
     given : List LineItem
     lines : List (List ℕ)
-    are : AreItemsOf lossy limit given lines lines
+    are : AreLineItemsOf lossy limit given lines lines
     are_lines : AreFirstUniversalLines (rest_at front) lines (rest_at end)
     all : begun_line (is_long front) ++ items ≡ given ++ begun_line (is_long end)
 
@@ -151,7 +151,7 @@ module _ (lossy : Bool) (limit threshold : ℕ) where
 
   -- one line, and its item
   one_line : (front end : Front) (items : List LineItem) (line : List ℕ) (item : LineItem) → IsFirstUniversalLine (rest_at front) line (rest_at end)
-      → IsItemOf lossy limit item line line → begun_line (is_long front) ++ items ≡ item ∷ begun_line (is_long end) → Reports front items end
+      → IsLineItemOf lossy limit item line line → begun_line (is_long front) ++ items ≡ item ∷ begun_line (is_long end) → Reports front items end
   one_line front end items line item first is all = record {
     given = item ∷ [];
     lines = line ∷ [];
@@ -172,7 +172,7 @@ module _ (lossy : Bool) (limit threshold : ℕ) where
 
   -- after a line
   abbrev after_line : ℕ → List ℕ → Front
-  after_line len bytes = AtFront (universal_place_after (slice_index bytes len)) (if_passed (slice_index bytes len == 13)) (drop (suc len) bytes)
+  after_line len bytes = AtFront (universal_place_after (slice_index bytes len)) (if_universal_passed (slice_index bytes len == 13)) (drop (suc len) bytes)
 
   -- the line that is skipped is passed
   long_passed : (bytes : List ℕ) (many : limit < length bytes) (none : Nowhere (IsUniversalEndAt bytes) 0 (suc limit)) (len : ℕ)
@@ -190,17 +190,17 @@ module _ (lossy : Bool) (limit threshold : ℕ) where
       one_line (InLong bytes many none) (after_line len bytes) [] (take len bytes) (Err TooLong) (first_line bytes len from_front)
       (record { within = λ few. absurd (omega (arith, few, length-take len bytes, found.0.low, found.0.high)); over = λ long. refl }) refl
 
-  -- the state after these items
-  record Ends (front : Front) (items : List LineItem) (end : State) : Type 0 where
+  -- the universal_state after these items
+  record Ends (front : Front) (items : List LineItem) (end : UniversalState) : Type 0 where
     last : Front
     is : end ≡ state_at last
     reports : Reports front items last
 
-  next_front : (place : Place) (passed : IsPassed place) (held : List ℕ) (item : LineItem) (next : State)
-      → GivesFrom (after_feed (state limit threshold 0 lossy place held)) (Item item) next → Ends (AtFront place passed held) (item ∷ []) next
+  next_front : (place : Place) (passed : IsUniversalPassed place) (held : List ℕ) (item : LineItem) (next : UniversalState)
+      → GivesUniversalFrom (after_universal_feed (universal_state limit threshold 0 lossy place held)) (Item item) next → Ends (AtFront place passed held) (item ∷ []) next
   next_front place passed held item next (inl (len, has, text, is)) =
       let bytes = (universal_feed_passed place held).1 in
-      let line : IsItemOf lossy limit item (take len bytes) (take len bytes) =
+      let line : IsLineItemOf lossy limit item (take len bytes) (take len bytes) =
       record { within = λ few. text; over = λ many. absurd (omega (arith, many, length-take len bytes, has.fits)) } in
       record {
         last = after_line len bytes;
@@ -212,44 +212,44 @@ module _ (lossy : Bool) (limit threshold : ℕ) where
       let end = InLong (universal_feed_passed place held).1 over.many over.none in
       record { last = end; is = is; reports = record { given = []; lines = []; are = tt; are_lines = refl; all = ap (λ i. i ∷ []) long } }
 
-  -- the front that a state reaches
-  record Reached (front : Front) (mid : State) : Type 0 where
+  -- the front that a universal_state reaches
+  record Reached (front : Front) (mid : UniversalState) : Type 0 where
     place : Place
-    passed : IsPassed place
+    passed : IsUniversalPassed place
     held : List ℕ
-    is : mid ≡ after_feed (state limit threshold 0 lossy place held)
+    is : mid ≡ after_universal_feed (universal_state limit threshold 0 lossy place held)
     reports : Reports front [] (AtFront place passed held)
 
-  reached_by : (front : Front) (mid : State) → Reaches (state_at front) mid → Reached front mid
+  reached_by : (front : Front) (mid : UniversalState) → ReachesUniversal (state_at front) mid → Reached front mid
   reached_by (AtFront place passed held) mid reaches = record {
     place = place;
     passed = passed;
     held = held;
-    is = Reaches-one (state limit threshold 0 lossy place held) mid _ reaches (Reaches-feed (state limit threshold 0 lossy place held) passed);
+    is = ReachesUniversal-one (universal_state limit threshold 0 lossy place held) mid _ reaches (ReachesUniversal-feed (universal_state limit threshold 0 lossy place held) passed);
     reports = none_more (AtFront place passed held);
   }
   reached_by (InLong bytes many none) mid reaches =
       let (len, found, ends) = reaches.ends in
       record {
         place = universal_place_after (slice_index bytes len);
-        passed = if_passed (slice_index bytes len == 13);
+        passed = if_universal_passed (slice_index bytes len == 13);
         held = drop (suc len) bytes;
-        is = reaches.is ∙ ap after_feed ends;
+        is = reaches.is ∙ ap after_universal_feed ends;
         reports = long_passed bytes many none len found;
       }
 
-  next_item : (front : Front) (item : LineItem) (next : State) → Gives (state_at front) item next → Ends front (item ∷ []) next
+  next_item : (front : Front) (item : LineItem) (next : UniversalState) → Gives (state_at front) item next → Ends front (item ∷ []) next
   next_item front item next (inl g) = absurd cc
   next_item front item next (inr (mid, reaches, gives)) =
       let at = reached_by front mid reaches in
-      let later = next_front at.place at.passed at.held item next (subst (λ t. GivesFrom t (Item item) next) at.is gives) in
+      let later = next_front at.place at.passed at.held item next (subst (λ t. GivesUniversalFrom t (Item item) next) at.is gives) in
       record {
         last = later.last;
         is = later.is;
         reports = then_more front (AtFront at.place at.passed at.held) later.last [] (item ∷ []) at.reports later.reports;
       }
 
-  ends_after : (items : List LineItem) (front : Front) (end : State) → AreFirstOfRun Gives (state_at front) items end → Ends front items end
+  ends_after : (items : List LineItem) (front : Front) (end : UniversalState) → AreFirstOfRun Gives (state_at front) items end → Ends front items end
   ends_after [] front end are = record { last = front; is = sym are; reports = none_more front }
   ends_after (item ∷ items) front end (next, gives, later) =
       let first = next_item front item next gives in
@@ -264,7 +264,7 @@ module _ (lossy : Bool) (limit threshold : ℕ) where
   long_at (AtFront place passed held) = tt
   long_at (InLong bytes many none) = (many, lacks_before bytes (suc limit) none)
 
-  items_of : (bytes : List ℕ) (items : List LineItem) (end : State) → AreUniversalItems lossy limit threshold bytes items end
+  items_of : (bytes : List ℕ) (items : List LineItem) (end : UniversalState) → AreUniversalItems lossy limit threshold bytes items end
       → AreFirstOfUniversalReading lossy limit bytes items
   items_of bytes items end are =
       let all = ends_after items (AtFront Line tt bytes) are.rest are.are in
@@ -283,11 +283,11 @@ module _ (lossy : Bool) (limit threshold : ℕ) where
 
   module _ (bytes : List ℕ) (items : List LineItem) (last : Option LineItem) where
     abbrev AreAll : Type 0
-    AreAll = AreItemsOf lossy limit (items ++ option_to_list last) (universal_lines bytes) (universal_lines bytes)
+    AreAll = AreLineItemsOf lossy limit (items ++ option_to_list last) (universal_lines bytes) (universal_lines bytes)
 
     -- the first lines are given, and what is left has no end
     all_given : (end : Front) → Reports (AtFront Line tt bytes) items end → LacksUniversalEnds (rest_at end)
-        → AreItemsOf lossy limit (begun_line (is_long end) ++ option_to_list last) (last_stream_line (rest_at end)) (last_stream_line (rest_at end)) → AreAll
+        → AreLineItemsOf lossy limit (begun_line (is_long end) ++ option_to_list last) (last_stream_line (rest_at end)) (last_stream_line (rest_at end)) → AreAll
     all_given end reports lacks tail =
         let rest = rest_at end in
         let over = begun_line (is_long end) in
@@ -300,26 +300,26 @@ module _ (lossy : Bool) (limit threshold : ℕ) where
         reports.lines (last_stream_line rest) reports.are tail)
 
     -- at the end of the stream
-    last_given : (end : Front) (after : State) → Reports (AtFront Line tt bytes) items end → gives_universal (state_at end) (Last last) after → AreAll
-    last_given (AtFront place passed held) after reports (inl g) = absurd (subst IsPassed g.0.0 passed)
+    last_given : (end : Front) (after : UniversalState) → Reports (AtFront Line tt bytes) items end → gives_universal (state_at end) (Last last) after → AreAll
+    last_given (AtFront place passed held) after reports (inl g) = absurd (subst IsUniversalPassed g.0.0 passed)
     last_given (InLong rest many none) after reports (inl (skips, is, there)) =
         let lacks : FindsUniversalEnd rest 0 None = λ k low high here.
         ⊎_elim (λ within. none k low within here) (λ above. skips.1 k above high here) (cases_lt k (suc limit)) in
         let tail = last_items lossy limit true None rest refl many (omega arith) in
         let no_last : last ≡ None = cc (is) in
         all_given (InLong rest many none) reports (lacks_all rest lacks)
-        (subst (λ l. AreItemsOf lossy limit (begun_line true ++ option_to_list l) (last_stream_line rest) (last_stream_line rest)) (sym no_last) tail)
+        (subst (λ l. AreLineItemsOf lossy limit (begun_line true ++ option_to_list l) (last_stream_line rest) (last_stream_line rest)) (sym no_last) tail)
     last_given end after reports (inr (mid, reaches, (awaits, ends, there))) =
         let at = reached_by end mid reaches in
         let front = AtFront at.place at.passed at.held in
         let rest = (universal_feed_passed at.place at.held).1 in
         let whole : Reports (AtFront Line tt bytes) items front =
         rw append-nil at (then_more (AtFront Line tt bytes) end front items [] reports at.reports) in
-        let waits = subst AwaitsEnd at.is awaits in
+        let waits = subst AwaitsUniversalEnd at.is awaits in
         all_given front whole (lacks_all rest waits.lacks)
-        (last_items lossy limit false last rest (subst (λ (t : State). IsLastOf t.decoder.lossy last t.held) at.is ends) tt waits.few)
+        (last_items lossy limit false last rest (subst (λ (t : UniversalState). IsLastLineOf t.decoder.lossy last t.held) at.is ends) tt waits.few)
 
-    whole_of : (end after : State) → AreUniversalItems lossy limit threshold bytes items end → gives_universal end (Last last) after → AreAll
+    whole_of : (end after : UniversalState) → AreUniversalItems lossy limit threshold bytes items end → gives_universal end (Last last) after → AreAll
     whole_of end after are gives =
         let all = ends_after items (AtFront Line tt bytes) are.rest are.are in
         let ends = (SameNext-now gives_universal are.rest end are.same (Last last) after).1 gives in

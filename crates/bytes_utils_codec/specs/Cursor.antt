@@ -36,8 +36,8 @@ abbrev pub NeverBeginsAtCursor : List ℕ → List ℕ → Type 0
 NeverBeginsAtCursor wanted bytes = (more rest : List ℕ) → bytes ++ more ≢ wanted ++ rest
 
 -- whatever comes after the bytes, more than this number of them are before the first needle
-abbrev pub NoFrameWithin : ℕ → List ℕ → List ℕ → Type 0
-NoFrameWithin most needle bytes = (more front rest : List ℕ) → TakesFrame needle (bytes ++ more) front rest → most < length front
+abbrev pub CursorHasNoFrameWithin : ℕ → List ℕ → List ℕ → Type 0
+CursorHasNoFrameWithin most needle bytes = (more front rest : List ℕ) → TakesFrame needle (bytes ++ more) front rest → most < length front
 
 -- the first place of the needle in the bytes, if that is within the limit
 abbrev pub CursorFindsWithin : ℕ → List ℕ → List ℕ → Option ℕ → Type 0
@@ -45,14 +45,14 @@ CursorFindsWithin most needle bytes (Some place) = OccursFirstAt needle bytes pl
 CursorFindsWithin most needle bytes None = (place : ℕ) → OccursAt needle bytes place → most < place
 
 -- what a call that reads a part returns: the part, and then the cursor is after it; none, if the bytes lack it, or an error, and then the cursor stays
-pub record ReadsPart {A E : Type 0} (IsPart : A → List ℕ → List ℕ → Type 0) (Lack : List ℕ → Type 0) (old new : CursorReading) (result : Result (Option A) E) : Type 0 where
+pub record CursorReadsPart {A E : Type 0} (IsPart : A → List ℕ → List ℕ → Type 0) (Lack : List ℕ → Type 0) (old new : CursorReading) (result : Result (Option A) E) : Type 0 where
   pub bytes : IfOk result (λ next. IfSome next (λ part. IsPart part (unread old) (unread new)))
   pub waits : IfOk result (λ next. IfNone next ((new ≡ old) × Lack (unread old)))
   pub all : new.all ≡ old.all
   pub err : OnErr result (new ≡ old)
 
 -- what a call that reads the value of the next bytes returns: it, and then the cursor is after them; none, if fewer are unread, and then it stays
-pub record ReadsValue {A : Type 0} (len : ℕ) (value_of : List ℕ → A) (old new : CursorReading) (result : Option A) : Type 0 where
+pub record CursorReadsValue {A : Type 0} (len : ℕ) (value_of : List ℕ → A) (old new : CursorReading) (result : Option A) : Type 0 where
   pub value : IfSome result (λ value. value ≡ value_of (take len (unread old)))
   pub bytes : IfSome result (λ _. CursorTakesFirst len (unread old) (take len (unread old)) (unread new))
   pub waits : IfNone result ((new ≡ old) × (length (unread old) < len))
@@ -67,29 +67,29 @@ pub data CursorWanted : Type 0 where
   Line : CursorWanted
 
 -- the bytes that a cursor returns for what is wanted, by the unread bytes before the call and those after it
-abbrev pub Reads : CursorWanted → List ℕ → List ℕ → List ℕ → Type 0
-Reads (Tag bytes) old item rest = (item ≡ bytes) × (old ≡ bytes ++ rest)
-Reads (First len) old item rest = CursorTakesFirst len old item rest
-Reads (Until needle) old item rest = TakesFrame needle old item rest
-Reads (UpTo needle) old item rest = CursorTakesUpTo needle old item rest
-Reads Line old item rest = TakesStreamLine old item rest
+abbrev pub CursorReads : CursorWanted → List ℕ → List ℕ → List ℕ → Type 0
+CursorReads (Tag bytes) old item rest = (item ≡ bytes) × (old ≡ bytes ++ rest)
+CursorReads (First len) old item rest = CursorTakesFirst len old item rest
+CursorReads (Until needle) old item rest = TakesFrame needle old item rest
+CursorReads (UpTo needle) old item rest = CursorTakesUpTo needle old item rest
+CursorReads Line old item rest = TakesStreamLine old item rest
 
 -- one after another, what is wanted is read off the bytes, and the rest is left
-abbrev pub AreRead : List CursorWanted → List ℕ → List (List ℕ) → List ℕ → Type 0
-AreRead [] bytes [] rest = bytes ≡ rest
-AreRead [] bytes (item ∷ items) rest = ⊥
-AreRead (wanted ∷ others) bytes [] rest = ⊥
-AreRead (wanted ∷ others) bytes (item ∷ items) rest = (left : List ℕ) × Reads wanted bytes item left × AreRead others left items rest
+abbrev pub AreReadByCursor : List CursorWanted → List ℕ → List (List ℕ) → List ℕ → Type 0
+AreReadByCursor [] bytes [] rest = bytes ≡ rest
+AreReadByCursor [] bytes (item ∷ items) rest = ⊥
+AreReadByCursor (wanted ∷ others) bytes [] rest = ⊥
+AreReadByCursor (wanted ∷ others) bytes (item ∷ items) rest = (left : List ℕ) × CursorReads wanted bytes item left × AreReadByCursor others left items rest
 
 -- the same bytes, however they are cut into segments, give the same items, with the same bytes after them
 abbrev pub SameCursorLaw : Type 0
-SameCursorLaw = (wanted : List CursorWanted) (bytes : List ℕ) (xs ys : List (List ℕ)) (x y : List ℕ) → AreRead wanted bytes xs x → AreRead wanted bytes ys y
+SameCursorLaw = (wanted : List CursorWanted) (bytes : List ℕ) (xs ys : List (List ℕ)) (x y : List ℕ) → AreReadByCursor wanted bytes xs x → AreReadByCursor wanted bytes ys y
     → (xs ≡ ys) × (x ≡ y)
 
 -- what was read stays read when more bytes come
 abbrev pub CursorStaysLaw : Type 0
-CursorStaysLaw = (wanted : List CursorWanted) (bytes : List ℕ) (items : List (List ℕ)) (rest more : List ℕ) → AreRead wanted bytes items rest
-    → AreRead wanted (bytes ++ more) items (rest ++ more)
+CursorStaysLaw = (wanted : List CursorWanted) (bytes : List ℕ) (items : List (List ℕ)) (rest more : List ℕ) → AreReadByCursor wanted bytes items rest
+    → AreReadByCursor wanted (bytes ++ more) items (rest ++ more)
 
 -- what is a wrong beginning stays one when more bytes come
 abbrev pub CursorStaysWrongLaw : Type 0
@@ -97,4 +97,4 @@ CursorStaysWrongLaw = (wanted bytes more : List ℕ) → NeverBeginsAtCursor wan
 
 -- bytes that don't begin with the wanted ones and may yet are no wrong beginning, and no wrong beginning is read
 abbrev pub OneCursorReplyLaw : Type 0
-OneCursorReplyLaw = (wanted bytes : List ℕ) → NeverBeginsAtCursor wanted bytes → (¬ IsBegunAtCursor wanted bytes) × ((item rest : List ℕ) → ¬ Reads (Tag wanted) bytes item rest)
+OneCursorReplyLaw = (wanted bytes : List ℕ) → NeverBeginsAtCursor wanted bytes → (¬ IsBegunAtCursor wanted bytes) × ((item rest : List ℕ) → ¬ CursorReads (Tag wanted) bytes item rest)

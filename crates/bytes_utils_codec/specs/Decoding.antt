@@ -3,7 +3,7 @@ use Rattle.std.specs.Prelude.{◌≡◌, ◌↔◌, ◌⊎◌, ℕ, List, [], �
 use Rattle.std.specs.Io.KnownBytes.{Consumes}
 use Rattle.std.specs.List.{concat, flat_map}
 use Rattle.bytes_utils_buf.specs.Packing.{Packing}
-use Rattle.bytes_utils_codec.specs.StreamRuns.{StreamEvent, IsRunOver, pushed_by, given_by, AreFirstOfRun}
+use Rattle.bytes_utils_codec.specs.StreamRuns.{StreamEvent, IsRunOver, pushed_in_stream, given_in_stream, AreFirstOfRun}
 
 -- a decoder D, the bytes that it has not taken yet, and the greatest length of a piece that is copied to those before it
 pub record Decoding (D : Type 0) : Type 0 where
@@ -95,7 +95,7 @@ pub record AreItems {D A : Type 0} (gives : Gives D A) (s : Decoding D) (items :
 -- returned one.
 abbrev pub DecoderRunLaw : {D A : Type 0} → (E : Type 0) → Gives D A → (Decoding D → Type 0) → (Decoding D → E → Type 0) → (Decoding D → Decoding D → Type 0) → Type 0
 DecoderRunLaw {D} {A} E gives waits fails keeps = (s : Decoding D) (events : List (StreamEvent (Result (Option A) E))) (end : Decoding D)
-    → IsRunOver fed (Decodes gives waits fails keeps) s events end → AreItems gives (fed s (pushed_by events)) (flat_map decoded_item (given_by events)) end
+    → IsRunOver fed (Decodes gives waits fails keeps) s events end → AreItems gives (fed s (pushed_in_stream events)) (flat_map decoded_item (given_in_stream events)) end
 
 -- Two lists of items of the same bytes after which no item is there are the same, and then the same comes next.
 abbrev pub DecoderAllLaw : {D A : Type 0} → Gives D A → Type 0

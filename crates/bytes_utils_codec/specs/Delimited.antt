@@ -7,7 +7,7 @@ use Rattle.bytes_utils_buf.specs.declared.refused.Reason.TheVariants.{OutOfMemor
 use Rattle.bytes_utils.specs.Occurrence.{Occurs, OccursAt}
 use Rattle.bytes_utils_codec.specs.Skipping.{gives_skipping}
 use Rattle.bytes_utils_codec.specs.Frames.{AreFrames}
-use Rattle.bytes_utils_codec.specs.Search.{NoneBegins}
+use Rattle.bytes_utils_codec.specs.Search.{NoneBeginsInSearch}
 use Rattle.bytes_utils_codec.specs.Decoding.{Decoding, Gives, Item, Last, AreItems, Decodes, fed, passed, starting}
 use Rattle.bytes_utils_codec.specs.StreamRuns.{StreamEvent, IsRunOver}
 use Rattle.bytes_utils_codec.specs.declared.decode.too_long.FrameTooLong.{FrameTooLong}
@@ -25,76 +25,76 @@ abbrev pub delimiting : List ℕ → ℕ → Delimiting
 delimiting separator limit = record { separator = separator; max_length = limit; searched = 0; skipping = false }
 
 -- the same decoder at the front of a frame
-abbrev pub ready : Delimiting → Delimiting
-ready d = record d { searched = 0; skipping = false }
+abbrev pub ready_delimited : Delimiting → Delimiting
+ready_delimited d = record d { searched = 0; skipping = false }
 
 -- The old bytes are the frame, the separator and the rest. Of the separators that begin at place `from` or after it,
 -- this is the first.
-pub record TakesFrameFrom (separator : List ℕ) (from : ℕ) (old frame rest : List ℕ) : Type 0 where
+pub record TakesDelimitedFrameFrom (separator : List ℕ) (from : ℕ) (old frame rest : List ℕ) : Type 0 where
   pub bytes : old ≡ frame ++ (separator ++ rest)
   pub low : from ≤ length frame
   pub first : (k : ℕ) → from ≤ k → OccursAt separator old k → length frame ≤ k
 
 -- the held bytes begin with this frame, which its separator ends
-abbrev pub Takes : Decoding Delimiting → List ℕ → List ℕ → Type 0
-Takes s frame rest = TakesFrameFrom s.decoder.separator s.decoder.searched s.held frame rest
+abbrev pub TakesDelimitedFrame : Decoding Delimiting → List ℕ → List ℕ → Type 0
+TakesDelimitedFrame s frame rest = TakesDelimitedFrameFrom s.decoder.separator s.decoder.searched s.held frame rest
 
 -- no separator begins at or after the place up to which was searched
-abbrev pub LacksSeparator : Decoding Delimiting → Type 0
-LacksSeparator s = (k : ℕ) → s.decoder.searched ≤ k → ¬ OccursAt s.decoder.separator s.held k
+abbrev pub LacksDelimitedSeparator : Decoding Delimiting → Type 0
+LacksDelimitedSeparator s = (k : ℕ) → s.decoder.searched ≤ k → ¬ OccursAt s.decoder.separator s.held k
 
 -- the frame that is skipped, if there is one, is passed with its separator
-abbrev pub PassesSkipped : Bool → Decoding Delimiting → Decoding Delimiting → Type 0
-PassesSkipped false old new = new ≡ old
-PassesSkipped true old new = (gone : List ℕ) × Takes old gone new.held × (new ≡ record old { decoder = ready old.decoder; held = new.held })
+abbrev pub PassesSkippedDelimited : Bool → Decoding Delimiting → Decoding Delimiting → Type 0
+PassesSkippedDelimited false old new = new ≡ old
+PassesSkippedDelimited true old new = (gone : List ℕ) × TakesDelimitedFrame old gone new.held × (new ≡ record old { decoder = ready_delimited old.decoder; held = new.held })
 
-abbrev pub Passes : Decoding Delimiting → Decoding Delimiting → Type 0
-Passes old new = PassesSkipped old.decoder.skipping old new
+abbrev pub PassesDelimited : Decoding Delimiting → Decoding Delimiting → Type 0
+PassesDelimited old new = PassesSkippedDelimited old.decoder.skipping old new
 
 -- no separator is there, and the next frame may still be within the limit
-pub record AwaitsSeparator (s : Decoding Delimiting) : Type 0 where
-  pub lacks : LacksSeparator s
+pub record AwaitsDelimitedSeparator (s : Decoding Delimiting) : Type 0 where
+  pub lacks : LacksDelimitedSeparator s
   pub few : length s.held < s.decoder.max_length + length s.decoder.separator
 
 -- all places within the limit at which a separator may begin have come, and none begins there
-pub record IsOverLimit (s : Decoding Delimiting) : Type 0 where
+pub record IsDelimitedOverLimit (s : Decoding Delimiting) : Type 0 where
   pub many : s.decoder.max_length + length s.decoder.separator ≤ length s.held
   pub none : (k : ℕ) → s.decoder.searched ≤ k → OccursAt s.decoder.separator s.held k → s.decoder.max_length < k
 
 -- the frame over the limit was reported: it is skipped up to the first separator that begins after the limit
-abbrev pub skipping_from : Delimiting → Delimiting
-skipping_from d = record d { searched = suc d.max_length; skipping = true }
+abbrev pub skipping_delimited_from : Delimiting → Delimiting
+skipping_delimited_from d = record d { searched = suc d.max_length; skipping = true }
 
 -- the end of the frame that is skipped has not come
-abbrev pub SkipsOn : Decoding Delimiting → Type 0
-SkipsOn s = (s.decoder.skipping ≡ true) × LacksSeparator s
+abbrev pub SkipsDelimited : Decoding Delimiting → Type 0
+SkipsDelimited s = (s.decoder.skipping ≡ true) × LacksDelimitedSeparator s
 
 -- the end of the next frame has not come, or that of the frame that is skipped
-abbrev pub AwaitsFrame : Decoding Delimiting → Type 0
-AwaitsFrame s = SkipsOn s ⊎ ((mid : Decoding Delimiting) × Passes s mid × AwaitsSeparator mid)
+abbrev pub AwaitsDelimitedFrame : Decoding Delimiting → Type 0
+AwaitsDelimitedFrame s = SkipsDelimited s ⊎ ((mid : Decoding Delimiting) × PassesDelimited s mid × AwaitsDelimitedSeparator mid)
 
 -- What comes next at the front of a frame: it, if it is within the limit, or that it is longer. At the end of the stream
 -- none, and what is held is left.
-abbrev pub GivesFrame : Gives Delimiting (Result (List ℕ) FrameTooLong)
-GivesFrame s (Item (Ok frame)) new = Takes s frame new.held × (length frame ≤ s.decoder.max_length)
-    × (new ≡ record s { decoder = ready s.decoder; held = new.held })
-GivesFrame s (Item (Err e)) new = IsOverLimit s × (new ≡ record s { decoder = skipping_from s.decoder })
-GivesFrame s (Last None) new = AwaitsSeparator s × (new ≡ record s { decoder = ready s.decoder })
-GivesFrame s (Last (Some item)) new = ⊥
+abbrev pub GivesDelimitedFrame : Gives Delimiting (Result (List ℕ) FrameTooLong)
+GivesDelimitedFrame s (Item (Ok frame)) new = TakesDelimitedFrame s frame new.held × (length frame ≤ s.decoder.max_length)
+    × (new ≡ record s { decoder = ready_delimited s.decoder; held = new.held })
+GivesDelimitedFrame s (Item (Err e)) new = IsDelimitedOverLimit s × (new ≡ record s { decoder = skipping_delimited_from s.decoder })
+GivesDelimitedFrame s (Last None) new = AwaitsDelimitedSeparator s × (new ≡ record s { decoder = ready_delimited s.decoder })
+GivesDelimitedFrame s (Last (Some item)) new = ⊥
 
 -- What comes next: that of the next frame. Of a frame that is skipped up to the end of the stream nothing is left.
 abbrev pub gives_delimited : Gives Delimiting (Result (List ℕ) FrameTooLong)
-gives_delimited = gives_skipping Passes SkipsOn ready GivesFrame
+gives_delimited = gives_skipping PassesDelimited SkipsDelimited ready_delimited GivesDelimitedFrame
 
 -- Memory was refused for the next frame, which has come, is within the limit and isn't empty.
 abbrev pub fails_delimited : Decoding Delimiting → Reason → Type 0
 fails_delimited s TooLong = ⊥
-fails_delimited s OutOfMemory = (mid : Decoding Delimiting) × Passes s mid
-    × ((frame : List ℕ) × (rest : List ℕ) × Takes mid frame rest × (length frame ≤ s.decoder.max_length) × (0 < length frame))
+fails_delimited s OutOfMemory = (mid : Decoding Delimiting) × PassesDelimited s mid
+    × ((frame : List ℕ) × (rest : List ℕ) × TakesDelimitedFrame mid frame rest × (length frame ≤ s.decoder.max_length) × (0 < length frame))
 
 -- The first bytes of the frame that is skipped are dropped: its separator begins in none of them, whatever comes after
 -- those held. Fewer are left than the separator has.
-pub record DropsSkipped (old new : Decoding Delimiting) : Type 0 where
+pub record DropsDelimited (old new : Decoding Delimiting) : Type 0 where
   pub gone : List ℕ
   pub bytes : old.held ≡ gone ++ new.held
   pub skipping : old.decoder.skipping ≡ true
@@ -104,35 +104,35 @@ pub record DropsSkipped (old new : Decoding Delimiting) : Type 0 where
   pub few : length new.held < length old.decoder.separator
 
 -- bytes of the frame that is skipped are dropped, unless no separator is looked for in those held
-abbrev pub SkipsMore : Decoding Delimiting → Decoding Delimiting → Type 0
-SkipsMore old new = DropsSkipped old new ⊎ ((length old.held < old.decoder.searched) × (new ≡ old))
+abbrev pub SkipsMoreDelimited : Decoding Delimiting → Decoding Delimiting → Type 0
+SkipsMoreDelimited old new = DropsDelimited old new ⊎ ((length old.held < old.decoder.searched) × (new ≡ old))
 
 -- all held bytes are searched: only those will be searched again in which a separator may begin, fewer than it has
-abbrev pub all_searched : Decoding Delimiting → Decoding Delimiting
-all_searched s =
+abbrev pub all_delimited_searched : Decoding Delimiting → Decoding Delimiting
+all_delimited_searched s =
     record s { decoder = record s.decoder { searched = max s.decoder.searched (length s.held - (length s.decoder.separator - 1)) } }
 
 -- What a call that gives no item leaves: the frame that is skipped is skipped on; or it is passed, and nothing more has
 -- changed, or all held bytes are searched.
 abbrev pub keeps_delimited : Decoding Delimiting → Decoding Delimiting → Type 0
 keeps_delimited old new =
-    SkipsMore old new ⊎ ((mid : Decoding Delimiting) × Passes old mid × ((new ≡ mid) ⊎ (AwaitsSeparator mid × (new ≡ all_searched mid))))
+    SkipsMoreDelimited old new ⊎ ((mid : Decoding Delimiting) × PassesDelimited old mid × ((new ≡ mid) ⊎ (AwaitsDelimitedSeparator mid × (new ≡ all_delimited_searched mid))))
 
 -- More bytes have to come, for the end of the frame that is skipped, if one is still, or of the next one: then all held
 -- bytes are searched.
-abbrev pub StopsAt : Bool → Decoding Delimiting → Decoding Delimiting → Type 0
-StopsAt true old new = SkipsOn old × SkipsMore old new
-StopsAt false old new = (mid : Decoding Delimiting) × Passes old mid × AwaitsSeparator mid × (new ≡ all_searched mid)
+abbrev pub StopsDelimitedAt : Bool → Decoding Delimiting → Decoding Delimiting → Type 0
+StopsDelimitedAt true old new = SkipsDelimited old × SkipsMoreDelimited old new
+StopsDelimitedAt false old new = (mid : Decoding Delimiting) × PassesDelimited old mid × AwaitsDelimitedSeparator mid × (new ≡ all_delimited_searched mid)
 
-abbrev pub Stops : Decoding Delimiting → Decoding Delimiting → Type 0
-Stops old new = StopsAt new.decoder.skipping old new
+abbrev pub StopsDelimited : Decoding Delimiting → Decoding Delimiting → Type 0
+StopsDelimited old new = StopsDelimitedAt new.decoder.skipping old new
 
 -- what a call that finds the next frame did, by what it returned: the frame can be taken then, by its length
-abbrev pub FindsNext : Decoding Delimiting → Option (Result ℕ FrameTooLong) → Decoding Delimiting → Type 0
-FindsNext old (Some (Ok len)) new = keeps_delimited old new × (len + length new.decoder.separator ≤ length new.held)
-    × gives_delimited old (Item (Ok (take len new.held))) (passed ready (len + length new.decoder.separator) new)
-FindsNext old (Some (Err over)) new = gives_delimited old (Item (Err over)) new
-FindsNext old None new = Stops old new × AwaitsFrame old × keeps_delimited old new
+abbrev pub FindsNextDelimited : Decoding Delimiting → Option (Result ℕ FrameTooLong) → Decoding Delimiting → Type 0
+FindsNextDelimited old (Some (Ok len)) new = keeps_delimited old new × (len + length new.decoder.separator ≤ length new.held)
+    × gives_delimited old (Item (Ok (take len new.held))) (passed ready_delimited (len + length new.decoder.separator) new)
+FindsNextDelimited old (Some (Err over)) new = gives_delimited old (Item (Err over)) new
+FindsNextDelimited old None new = StopsDelimited old new × AwaitsDelimitedFrame old × keeps_delimited old new
 
 -- what is reported of a frame: the frame, or that it is longer than the limit
 abbrev pub delimited_within : ℕ → List ℕ → Result (List ℕ) FrameTooLong
@@ -151,7 +151,7 @@ pub record AreDelimitedReports (separator : List ℕ) (limit : ℕ) (bytes : Lis
   pub over : Bool
   pub are : AreFrames separator bytes frames rest
   pub reported : items ≡ map (delimited_within limit) frames ++ delimited_begun over
-  pub long : OnTrue over (NoneBegins separator rest (suc limit))
+  pub long : OnTrue over (NoneBeginsInSearch separator rest (suc limit))
 
 -- The items of a new decoder are reported of the bytes.
 abbrev pub DelimitedFramesLaw : Type 0
@@ -175,7 +175,7 @@ abbrev pub DelimitedEvent : Type 0
 DelimitedEvent = StreamEvent (Result (Option (Result (List ℕ) FrameTooLong)) Reason)
 
 abbrev pub IsDelimitedCall : Decoding Delimiting → Result (Option (Result (List ℕ) FrameTooLong)) Reason → Decoding Delimiting → Type 0
-IsDelimitedCall old result new = Decodes gives_delimited AwaitsFrame fails_delimited keeps_delimited old result new
+IsDelimitedCall old result new = Decodes gives_delimited AwaitsDelimitedFrame fails_delimited keeps_delimited old result new
 
 -- Whatever the pieces are, after a call of a new decoder's that returned nothing fewer bytes are held than the limit
 -- and the separator have together.

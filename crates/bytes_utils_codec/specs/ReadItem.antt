@@ -35,11 +35,11 @@ ReadItemTakesHeld gives fails old (Err (Io error)) new = ⊥
 ReadItemTakesHeld gives fails old (Err TooManyReads) new = ⊥
 
 -- the same of a call at the end of the stream, while no item is held
-abbrev pub TakesLast : {D A E : Type 0} → Gives D A → (Decoding D → E → Type 0) → Decoding D → Result (Option A) (ReadItemError E) → Decoding D → Type 0
-TakesLast gives fails old (Ok last) new = gives old (Last last) new
-TakesLast gives fails old (Err (Decoder error)) new = fails old error × HasSameNext gives old new
-TakesLast gives fails old (Err (Io error)) new = ⊥
-TakesLast gives fails old (Err TooManyReads) new = ⊥
+abbrev pub ReadItemTakesLast : {D A E : Type 0} → Gives D A → (Decoding D → E → Type 0) → Decoding D → Result (Option A) (ReadItemError E) → Decoding D → Type 0
+ReadItemTakesLast gives fails old (Ok last) new = gives old (Last last) new
+ReadItemTakesLast gives fails old (Err (Decoder error)) new = fails old error × HasSameNext gives old new
+ReadItemTakesLast gives fails old (Err (Io error)) new = ⊥
+ReadItemTakesLast gives fails old (Err TooManyReads) new = ⊥
 
 -- the error is that of a read, which is not an interruption
 abbrev pub IsReadDue : {E : Type 0} → ReadItemError E → Type 0
@@ -55,10 +55,10 @@ IsItemDue gives fails new (Io error) = LacksItem gives new × (error_kind error 
 IsItemDue gives fails new TooManyReads = LacksItem gives new
 
 -- the error is the decoder's
-abbrev pub IsOfDecoder : {E : Type 0} → ReadItemError E → Type 0
-IsOfDecoder (Decoder error) = ⊤
-IsOfDecoder (Io error) = ⊥
-IsOfDecoder TooManyReads = ⊥
+abbrev pub IsReadItemErrorOfDecoder : {E : Type 0} → ReadItemError E → Type 0
+IsReadItemErrorOfDecoder (Decoder error) = ⊤
+IsReadItemErrorOfDecoder (Io error) = ⊥
+IsReadItemErrorOfDecoder TooManyReads = ⊥
 
 -- A run of calls leads from what the reader has left and a state to both at the end. Each call is given as the item that it returned, or `None` if it
 -- returned none.

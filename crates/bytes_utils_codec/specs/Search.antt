@@ -12,13 +12,13 @@ abbrev pub searching : List ℕ → Searching
 searching needle = record { needle = needle; searched = 0 }
 
 -- the same search, from the front
-abbrev pub from_front : Searching → Searching
-from_front s = record s { searched = 0 }
+abbrev pub search_from_front : Searching → Searching
+search_from_front s = record s { searched = 0 }
 
 -- All these bytes were looked at: only those will be looked at again in which the needle may begin, fewer than it has.
 abbrev pub searched_all : Searching → List ℕ → Searching
 searched_all s bytes = record s { searched = max s.searched (length bytes - (length s.needle - 1)) }
 
 -- whatever comes after the bytes, the needle begins at no place before this one
-abbrev pub NoneBegins : List ℕ → List ℕ → ℕ → Type 0
-NoneBegins needle bytes place = (more : List ℕ) (k : ℕ) → OccursAt needle (bytes ++ more) k → place ≤ k
+abbrev pub NoneBeginsInSearch : List ℕ → List ℕ → ℕ → Type 0
+NoneBeginsInSearch needle bytes place = (more : List ℕ) (k : ℕ) → OccursAt needle (bytes ++ more) k → place ≤ k

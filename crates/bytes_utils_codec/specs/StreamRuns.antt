@@ -18,16 +18,16 @@ abbrev pub IsStreamRun : {A : Type 0} → (List ℕ → A → List ℕ → Type 
 IsStreamRun Takes held events end = IsRunOver (λ bytes piece. bytes ++ piece) Takes held events end
 
 -- all pushed pieces, joined
-abbrev pub pushed_by : {A : Type 0} → List (StreamEvent A) → List ℕ
-pushed_by [] = []
-pushed_by (Pushed piece ∷ events) = piece ++ pushed_by events
-pushed_by (Taken item ∷ events) = pushed_by events
+abbrev pub pushed_in_stream : {A : Type 0} → List (StreamEvent A) → List ℕ
+pushed_in_stream [] = []
+pushed_in_stream (Pushed piece ∷ events) = piece ++ pushed_in_stream events
+pushed_in_stream (Taken item ∷ events) = pushed_in_stream events
 
 -- all taken items
-abbrev pub given_by : {A : Type 0} → List (StreamEvent A) → List A
-given_by [] = []
-given_by (Pushed piece ∷ events) = given_by events
-given_by (Taken item ∷ events) = item ∷ given_by events
+abbrev pub given_in_stream : {A : Type 0} → List (StreamEvent A) → List A
+given_in_stream [] = []
+given_in_stream (Pushed piece ∷ events) = given_in_stream events
+given_in_stream (Taken item ∷ events) = item ∷ given_in_stream events
 
 -- these are the first items of a state, such as the held bytes, in order, and the state after them
 abbrev pub AreFirstOfRun : {S A : Type 0} → (S → A → S → Type 0) → S → List A → S → Type 0
@@ -38,12 +38,12 @@ AreFirstOfRun {S} Takes s (item ∷ items) rest = (following : S) × Takes s ite
 -- state after them.
 abbrev pub StreamRunLaw : {S A : Type 0} → (S → List ℕ → S) → (S → A → S → Type 0) → Type 0
 StreamRunLaw {S} {A} push Takes =
-    (s : S) (events : List (StreamEvent A)) (end : S) → IsRunOver push Takes s events end → AreFirstOfRun Takes (push s (pushed_by events)) (given_by events) end
+    (s : S) (events : List (StreamEvent A)) (end : S) → IsRunOver push Takes s events end → AreFirstOfRun Takes (push s (pushed_in_stream events)) (given_in_stream events) end
 
 -- the same of a run from an empty reader, if the state is the held bytes
 abbrev pub StreamLaw : {A : Type 0} → (List ℕ → A → List ℕ → Type 0) → Type 0
 StreamLaw {A} Takes =
-    (events : List (StreamEvent A)) (end : List ℕ) → IsStreamRun Takes [] events end → AreFirstOfRun Takes (pushed_by events) (given_by events) end
+    (events : List (StreamEvent A)) (end : List ℕ) → IsStreamRun Takes [] events end → AreFirstOfRun Takes (pushed_in_stream events) (given_in_stream events) end
 
 -- two lists of first items of the same state that have the same length are the same, with the same state after them
 abbrev pub SameFirstOfRunLaw : {S A : Type 0} → (S → A → S → Type 0) → Type 0

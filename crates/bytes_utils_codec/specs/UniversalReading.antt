@@ -8,7 +8,7 @@ use Rattle.bytes_utils_buf.specs.declared.refused.Reason.TheVariants.{OutOfMemor
 use Rattle.bytes_utils.specs.Lines.{line_feed, carriage_return}
 use Rattle.bytes_utils_codec.specs.Decoding.{Decoding, Gives, Next, Item, Last, AreItems, fed, starting}
 use Rattle.bytes_utils_codec.specs.Skipping.{skipping_ended, gives_skipping}
-use Rattle.bytes_utils_codec.specs.LineReading.{LineItem, IsTextItem, IsLastOf, AreItemsOf, begun_line}
+use Rattle.bytes_utils_codec.specs.LineReading.{LineItem, IsTextLineItem, IsLastLineOf, AreLineItemsOf, begun_line}
 use Rattle.bytes_utils_codec.specs.UniversalLines.{AreFirstUniversalLines, FindsUniversalEnd, IsUniversalEndAt, LacksUniversalEnds, universal_lines}
 use Rattle.bytes_utils_codec.specs.declared.decode.too_long.FrameTooLong.{FrameTooLong}
 use Rattle.bytes_utils_codec.specs.declared.decode.lines.LineFault.TheVariants.{TooLong}
@@ -32,8 +32,8 @@ abbrev pub ready_universal : UniversalReading → UniversalReading
 ready_universal d = record d { searched = 0; place = Line }
 
 -- the next line is reported to be longer than the limit: it is skipped up to the first end after the limit
-abbrev pub skipping_line : UniversalReading → UniversalReading
-skipping_line d = record d { searched = suc d.max_length; place = LongLine }
+abbrev pub skipping_universal : UniversalReading → UniversalReading
+skipping_universal d = record d { searched = suc d.max_length; place = LongLine }
 
 -- ---- the front of a line
 
@@ -47,8 +47,8 @@ abbrev pub universal_feed_passed : Place → List ℕ → Place × List ℕ
 universal_feed_passed AfterReturn (c ∷ t) = (Line, without_universal_feed (c ∷ t))
 universal_feed_passed place held = (place, held)
 
-abbrev pub after_feed : Decoding UniversalReading → Decoding UniversalReading
-after_feed s =
+abbrev pub after_universal_feed : Decoding UniversalReading → Decoding UniversalReading
+after_universal_feed s =
     let passed = universal_feed_passed s.decoder.place s.held in
     record s { decoder = record s.decoder { place = passed.0 }; held = passed.1 }
 
@@ -57,112 +57,112 @@ abbrev pub universal_place_after : ℕ → Place
 universal_place_after c = if c == carriage_return then AfterReturn else Line
 
 -- the state after a line of this length, and the byte that ends it
-abbrev pub after_end : ℕ → Decoding UniversalReading → Decoding UniversalReading
-after_end len s =
+abbrev pub after_universal_end : ℕ → Decoding UniversalReading → Decoding UniversalReading
+after_universal_end len s =
     record s { decoder = record s.decoder { searched = 0; place = universal_place_after (slice_index s.held len) }; held = drop (suc len) s.held }
 
 -- of the ends that are looked for the first one is there; or none is there
-abbrev pub EndsAt : Decoding UniversalReading → ℕ → Type 0
-EndsAt s at = FindsUniversalEnd s.held s.decoder.searched (Some at)
+abbrev pub UniversalEndsAt : Decoding UniversalReading → ℕ → Type 0
+UniversalEndsAt s at = FindsUniversalEnd s.held s.decoder.searched (Some at)
 
-abbrev pub LacksEnd : Decoding UniversalReading → Type 0
-LacksEnd s = FindsUniversalEnd s.held s.decoder.searched None
+abbrev pub LacksUniversalEnd : Decoding UniversalReading → Type 0
+LacksUniversalEnd s = FindsUniversalEnd s.held s.decoder.searched None
 
 -- a line that is skipped, if there is one, is passed with its end
-abbrev pub PassesLongBy : Place → Decoding UniversalReading → Decoding UniversalReading → Type 0
-PassesLongBy LongLine old new = (len : ℕ) × EndsAt old len × (new ≡ after_feed (after_end len old))
-PassesLongBy place old new = new ≡ old
+abbrev pub PassesLongUniversalBy : Place → Decoding UniversalReading → Decoding UniversalReading → Type 0
+PassesLongUniversalBy LongLine old new = (len : ℕ) × UniversalEndsAt old len × (new ≡ after_universal_feed (after_universal_end len old))
+PassesLongUniversalBy place old new = new ≡ old
 
-abbrev pub PassesLong : Decoding UniversalReading → Decoding UniversalReading → Type 0
-PassesLong old new = PassesLongBy old.decoder.place old new
+abbrev pub PassesLongUniversal : Decoding UniversalReading → Decoding UniversalReading → Type 0
+PassesLongUniversal old new = PassesLongUniversalBy old.decoder.place old new
 
 -- the new state is after the byte that ends the line that is skipped, if there is one
-abbrev pub EndsLongBy : Place → Decoding UniversalReading → Decoding UniversalReading → Type 0
-EndsLongBy LongLine old new = (len : ℕ) × EndsAt old len × (new ≡ after_end len old)
-EndsLongBy place old new = new ≡ old
+abbrev pub EndsLongUniversalBy : Place → Decoding UniversalReading → Decoding UniversalReading → Type 0
+EndsLongUniversalBy LongLine old new = (len : ℕ) × UniversalEndsAt old len × (new ≡ after_universal_end len old)
+EndsLongUniversalBy place old new = new ≡ old
 
 -- the new state is at the front of the next line: the rest of an end, or a line that is skipped, is passed
-pub record Reaches (old new : Decoding UniversalReading) : Type 0 where
+pub record ReachesUniversal (old new : Decoding UniversalReading) : Type 0 where
   pub ending : Decoding UniversalReading
-  pub ends : EndsLongBy old.decoder.place old ending
-  pub is : new ≡ after_feed ending
+  pub ends : EndsLongUniversalBy old.decoder.place old ending
+  pub is : new ≡ after_universal_feed ending
 
 -- the end of the line that is skipped has not come
-abbrev pub SkipsOn : Decoding UniversalReading → Type 0
-SkipsOn s = (s.decoder.place ≡ LongLine) × LacksEnd s
+abbrev pub SkipsUniversal : Decoding UniversalReading → Type 0
+SkipsUniversal s = (s.decoder.place ≡ LongLine) × LacksUniversalEnd s
 
--- its bytes that have come are dropped
-abbrev pub dropped : Decoding UniversalReading → Decoding UniversalReading
-dropped s = record s { decoder = record s.decoder { searched = s.decoder.searched - length s.held }; held = [] }
+-- its bytes that have come are dropped_universal
+abbrev pub dropped_universal : Decoding UniversalReading → Decoding UniversalReading
+dropped_universal s = record s { decoder = record s.decoder { searched = s.decoder.searched - length s.held }; held = [] }
 
 -- ---- a line
 
 -- no end is there, and the line may still be within the limit
-pub record AwaitsEnd (s : Decoding UniversalReading) : Type 0 where
-  pub lacks : LacksEnd s
+pub record AwaitsUniversalEnd (s : Decoding UniversalReading) : Type 0 where
+  pub lacks : LacksUniversalEnd s
   pub few : length s.held ≤ s.decoder.max_length
 
 -- more bytes than the limit have come, and no end is at a place within it
-pub record IsOverLimit (s : Decoding UniversalReading) : Type 0 where
+pub record IsUniversalOverLimit (s : Decoding UniversalReading) : Type 0 where
   pub many : s.decoder.max_length < length s.held
   pub none : Nowhere (IsUniversalEndAt s.held) s.decoder.searched (suc s.decoder.max_length)
 
 -- a line within the limit has come, of this length
-pub record HasLineOf (s : Decoding UniversalReading) (len : ℕ) : Type 0 where
-  pub ends : EndsAt s len
+pub record HasUniversalLineOf (s : Decoding UniversalReading) (len : ℕ) : Type 0 where
+  pub ends : UniversalEndsAt s len
   pub fits : len ≤ s.decoder.max_length
 
 -- What comes next at the front of a line: the line, that it is longer than the limit, or at the end of the stream the bytes that are left.
-abbrev pub GivesFrom : Decoding UniversalReading → Next LineItem → Decoding UniversalReading → Type 0
-GivesFrom s (Item item) new =
-    ((len : ℕ) × HasLineOf s len × IsTextItem s.decoder.lossy item (take len s.held) × (new ≡ after_end len s))
-    ⊎ ((item ≡ Err TooLong) × IsOverLimit s × (new ≡ record s { decoder = skipping_line s.decoder }))
-GivesFrom s (Last last) new = AwaitsEnd s × IsLastOf s.decoder.lossy last s.held × (new ≡ skipping_ended ready_universal s)
+abbrev pub GivesUniversalFrom : Decoding UniversalReading → Next LineItem → Decoding UniversalReading → Type 0
+GivesUniversalFrom s (Item item) new =
+    ((len : ℕ) × HasUniversalLineOf s len × IsTextLineItem s.decoder.lossy item (take len s.held) × (new ≡ after_universal_end len s))
+    ⊎ ((item ≡ Err TooLong) × IsUniversalOverLimit s × (new ≡ record s { decoder = skipping_universal s.decoder }))
+GivesUniversalFrom s (Last last) new = AwaitsUniversalEnd s × IsLastLineOf s.decoder.lossy last s.held × (new ≡ skipping_ended ready_universal s)
 
 -- What comes next: that of the next line. Of a line that is skipped up to the end of the stream nothing is left.
 abbrev pub gives_universal : Gives UniversalReading LineItem
-gives_universal = gives_skipping Reaches SkipsOn ready_universal GivesFrom
+gives_universal = gives_skipping ReachesUniversal SkipsUniversal ready_universal GivesUniversalFrom
 
 -- the end of the next line has not come, or that of a line that is skipped
 abbrev pub AwaitsUniversal : Decoding UniversalReading → Type 0
-AwaitsUniversal s = SkipsOn s ⊎ ((mid : Decoding UniversalReading) × Reaches s mid × AwaitsEnd mid)
+AwaitsUniversal s = SkipsUniversal s ⊎ ((mid : Decoding UniversalReading) × ReachesUniversal s mid × AwaitsUniversalEnd mid)
 
 -- a line within the limit has come that isn't empty
-abbrev pub HasLine : Decoding UniversalReading → Type 0
-HasLine s = (mid : Decoding UniversalReading) × Reaches s mid × ((len : ℕ) × HasLineOf mid len × (0 < len))
+abbrev pub HasUniversalLine : Decoding UniversalReading → Type 0
+HasUniversalLine s = (mid : Decoding UniversalReading) × ReachesUniversal s mid × ((len : ℕ) × HasUniversalLineOf mid len × (0 < len))
 
 -- at the end of the stream some bytes are left
-abbrev pub HasRest : Decoding UniversalReading → Type 0
-HasRest s = (mid : Decoding UniversalReading) × Reaches s mid × AwaitsEnd mid × (0 < length mid.held)
+abbrev pub HasUniversalRest : Decoding UniversalReading → Type 0
+HasUniversalRest s = (mid : Decoding UniversalReading) × ReachesUniversal s mid × AwaitsUniversalEnd mid × (0 < length mid.held)
 
 -- memory was refused: for a line that has come, is within the limit and isn't empty, or at the end of the stream for the bytes that are left
 abbrev pub fails_universal : Decoding UniversalReading → Reason → Type 0
-fails_universal s reason = (reason ≡ OutOfMemory) × (HasLine s ⊎ HasRest s)
+fails_universal s reason = (reason ≡ OutOfMemory) × (HasUniversalLine s ⊎ HasUniversalRest s)
 
 -- all held bytes are searched
-abbrev pub all_searched : Decoding UniversalReading → Decoding UniversalReading
-all_searched s = record s { decoder = record s.decoder { searched = max s.decoder.searched (length s.held) } }
+abbrev pub all_universal_searched : Decoding UniversalReading → Decoding UniversalReading
+all_universal_searched s = record s { decoder = record s.decoder { searched = max s.decoder.searched (length s.held) } }
 
--- More bytes have to come. Those of a line that is skipped are dropped; those of the next line are all searched.
+-- More bytes have to come. Those of a line that is skipped are dropped_universal; those of the next line are all searched.
 abbrev pub StopsUniversal : Decoding UniversalReading → Decoding UniversalReading → Type 0
-StopsUniversal old new = (SkipsOn old × (new ≡ dropped old))
-    ⊎ ((mid : Decoding UniversalReading) × Reaches old mid × AwaitsEnd mid × (new ≡ all_searched mid))
+StopsUniversal old new = (SkipsUniversal old × (new ≡ dropped_universal old))
+    ⊎ ((mid : Decoding UniversalReading) × ReachesUniversal old mid × AwaitsUniversalEnd mid × (new ≡ all_universal_searched mid))
 
 -- what a call that gives no item leaves: it stopped, or it is at the front of the next line
 abbrev pub keeps_universal : Decoding UniversalReading → Decoding UniversalReading → Type 0
-keeps_universal old new = StopsUniversal old new ⊎ Reaches old new
+keeps_universal old new = StopsUniversal old new ⊎ ReachesUniversal old new
 
 -- ---- what the parts of a call do, by what they returned
 
 -- at the front of a line: the length of the next one
-abbrev pub IsComing : Decoding UniversalReading → Option (Result ℕ FrameTooLong) → Decoding UniversalReading → Type 0
-IsComing old (Some (Ok len)) new = (new ≡ old) × HasLineOf old len
-IsComing old (Some (Err over)) new = IsOverLimit old × (new ≡ record old { decoder = skipping_line old.decoder })
-IsComing old None new = AwaitsEnd old × (new ≡ all_searched old)
+abbrev pub IsUniversalComing : Decoding UniversalReading → Option (Result ℕ FrameTooLong) → Decoding UniversalReading → Type 0
+IsUniversalComing old (Some (Ok len)) new = (new ≡ old) × HasUniversalLineOf old len
+IsUniversalComing old (Some (Err over)) new = IsUniversalOverLimit old × (new ≡ record old { decoder = skipping_universal old.decoder })
+IsUniversalComing old None new = AwaitsUniversalEnd old × (new ≡ all_universal_searched old)
 
 -- anywhere: the line can be taken then, by its length
 abbrev pub UniversalReadingFinds : Decoding UniversalReading → Option (Result ℕ FrameTooLong) → Decoding UniversalReading → Type 0
-UniversalReadingFinds old (Some (Ok len)) new = Reaches old new × HasLineOf new len
+UniversalReadingFinds old (Some (Ok len)) new = ReachesUniversal old new × HasUniversalLineOf new len
 UniversalReadingFinds old (Some (Err over)) new = gives_universal old (Item (Err TooLong)) new
 UniversalReadingFinds old None new = StopsUniversal old new
 
@@ -170,7 +170,7 @@ UniversalReadingFinds old None new = StopsUniversal old new
 abbrev pub TakesUniversal : Decoding UniversalReading → Result (Option LineItem) Reason → Decoding UniversalReading → Type 0
 TakesUniversal old (Ok (Some item)) new = gives_universal old (Item item) new
 TakesUniversal old (Ok None) new = StopsUniversal old new
-TakesUniversal old (Err reason) new = (reason ≡ OutOfMemory) × HasLine old × Reaches old new
+TakesUniversal old (Err reason) new = (reason ≡ OutOfMemory) × HasUniversalLine old × ReachesUniversal old new
 
 -- ---- the items of a new decoder
 
@@ -181,7 +181,7 @@ pub record AreFirstOfUniversalReading (lossy : Bool) (limit : ℕ) (bytes : List
   pub lines : List (List ℕ)
   pub rest : List ℕ
   pub over : Bool
-  pub are : AreItemsOf lossy limit given lines lines
+  pub are : AreLineItemsOf lossy limit given lines lines
   pub are_lines : AreFirstUniversalLines bytes lines rest
   pub all : items ≡ given ++ begun_line over
   pub long : OnTrue over ((limit < length rest) × LacksUniversalEnds (take (suc limit) rest))
@@ -200,4 +200,4 @@ UniversalReadingLaw = (lossy : Bool) (limit threshold : ℕ) (bytes : List ℕ) 
 abbrev pub WholeUniversalReadingLaw : Type 0
 WholeUniversalReadingLaw = (lossy : Bool) (limit threshold : ℕ) (bytes : List ℕ) (items : List LineItem) (end : Decoding UniversalReading) (last : Option LineItem)
     (after : Decoding UniversalReading) → AreUniversalItems lossy limit threshold bytes items end → gives_universal end (Last last) after
-    → AreItemsOf lossy limit (items ++ option_to_list last) (universal_lines bytes) (universal_lines bytes)
+    → AreLineItemsOf lossy limit (items ++ option_to_list last) (universal_lines bytes) (universal_lines bytes)

@@ -1,11 +1,11 @@
 //! Reading on in a buffer that is only borrowed.
 ghost use Rattle.std.specs.Prelude.{◌≡◌, ◌≢◌, ℕ, ◌+◌, ◌<◌, ◌≤◌, ◌↔◌, List, ◌++◌, [], ◌∷◌, length, take, drop, false, IsTrue, IsOk, IfOk, IfErr, IfSome, IfNone, OnErr};
 ghost use Rattle.std.specs.List.{concat, slice_get};
-ghost use Rattle.bytes_utils_codec.specs.Cursor.{IsBegunAtCursor, CursorFindsWithin, NeverBeginsAtCursor, NoFrameWithin, OneCursorReplyLaw, ReadsPart, SameCursorLaw, CursorStaysLaw, CursorStaysWrongLaw, CursorTakesFirst, CursorTakesUpTo, passed_on, unread};
+ghost use Rattle.bytes_utils_codec.specs.Cursor.{IsBegunAtCursor, CursorFindsWithin, NeverBeginsAtCursor, CursorHasNoFrameWithin, OneCursorReplyLaw, CursorReadsPart, SameCursorLaw, CursorStaysLaw, CursorStaysWrongLaw, CursorTakesFirst, CursorTakesUpTo, passed_on, unread};
 ghost use Rattle.bytes_utils_codec.specs.Frames.{HasFrame, HasFrameWithin, TakesFrame};
 ghost use Rattle.bytes_utils.specs.Lines.{line_feed};
 ghost use Rattle.bytes_utils.specs.Occurrence.{Occurs, OccursAt, OccursFirstAt};
-ghost use Rattle.bytes_utils_codec.specs.LineReading.{IsTextItem};
+ghost use Rattle.bytes_utils_codec.specs.LineReading.{IsTextLineItem};
 ghost use Rattle.bytes_utils_codec.specs.StreamLines.{TakesStreamLine};
 
 pub mod integers;
@@ -47,10 +47,10 @@ impl Error for Mismatch {}
 /// nothing off the buffer until the whole message is there.
 ///
 /// ```text
-/// let mut cursor = Cursor::new(&came);                 // of `PUT 5\r\nHel` and `lo`
+/// let mut cursor = Cursor::new(alloc, &came);          // of `PUT 5\r\nHel` and `lo`
 /// cursor.tag(b"PUT ")?                                 // `Some(())`; `Err` for another byte
-/// cursor.take_until(alloc, b"\r\n")?                   // `5`
-/// cursor.take(alloc, 5)?                               // `Hello`; `None` if less of it has come
+/// cursor.take_until(b"\r\n")?                          // `5`
+/// cursor.take(5)?                                      // `Hello`; `None` if less of it has come
 /// let passed = cursor.at();
 /// came.advance(passed);
 /// ```
@@ -63,6 +63,7 @@ impl Error for Mismatch {}
 /// cursor and the nearer end. A `PackedBuf` bounds their number.
 #[derive(Drop)]
 pub struct Cursor<'a, B: ContiguousBuf + Drop> {
+    alloc: Global,
     buf: &'a SegmentedBuf<B>,
     len: usize,
     at: usize,
@@ -82,10 +83,11 @@ impl<'a, B: ContiguousBuf + Drop> Model for Cursor<'a, B> {
 
 impl<'a, B: ContiguousBuf + Drop> Cursor<'a, B> {
     /// Makes a cursor at the first byte of `buf`.
-    pub fn new(buf: &'a SegmentedBuf<B>) -> Cursor<'a, B>
+    pub fn new(alloc: Global, buf: &'a SegmentedBuf<B>) -> Cursor<'a, B>
         ensures { result ≡ record { all = concat buf.now.segments; at = 0 } }
     {
         Cursor {
+            alloc,
             buf,
             len: buf.remaining(),
             at: 0,
@@ -133,18 +135,18 @@ impl<'a, B: ContiguousBuf + Drop> Cursor<'a, B> {
 
     /// Returns all unread bytes in segments, shared as `SegmentedBuf::slice` shares them. The
     /// cursor stays. Fails with `OutOfMemory` if memory is refused, never if no byte is left.
-    pub fn rest(&self, alloc: Global) -> Result<SegmentedBuf<Bytes>, Reason>
+    pub fn rest(&self) -> Result<SegmentedBuf<Bytes>, Reason>
         ensures bytes { IfOk result (λ rest. concat rest.segments ≡ unread self.now) }
         ensures reason { IfErr result (λ reason. reason ≡ Reason.OutOfMemory) }
         ensures none { unread self.now ≡ [] → IsOk result }
     {
-        self.buf.slice(alloc, self.at..self.len)
+        self.buf.slice(self.alloc, self.at..self.len)
     }
 
     /// Returns how many bytes after the cursor `needle` occurs first, or `None` if it doesn't. The
     /// cursor stays. Fails with `OutOfMemory` if memory is refused, never for a needle of at most
     /// 16 bytes.
-    pub fn find(&self, alloc: Global, needle: &[u8]) -> Result<Option<usize>, Reason>
+    pub fn find(&self, needle: &[u8]) -> Result<Option<usize>, Reason>
         ensures found { IfOk result (λ place. IfSome place (λ n.
             OccursFirstAt needle.now (unread self.now) n)) }
         ensures within { IfOk result (λ place. IfSome place (λ n.
@@ -154,7 +156,7 @@ impl<'a, B: ContiguousBuf + Drop> Cursor<'a, B> {
         ensures reason { IfErr result (λ reason. reason ≡ Reason.OutOfMemory) }
         ensures short { length needle.now ≤ 16 → IsOk result }
     {
-        let Some(place) = find_from(self.buf, alloc, self.at, needle)? else {
+        let Some(place) = find_from(self.buf, self.alloc, self.at, needle)? else {
             return Ok(None);
         };
         Ok(Some(place - self.at))
@@ -164,8 +166,8 @@ impl<'a, B: ContiguousBuf + Drop> Cursor<'a, B> {
     /// if one segment has them all and shares its own, and else copied into one block. Fails with
     /// `OutOfMemory` if memory is refused, never for no bytes. The cursor then stays, as with
     /// `None`.
-    pub fn take(&mut self, alloc: Global, len: usize) -> Result<Option<Bytes>, Reason>
-        ensures gives { ReadsPart (λ part old new. CursorTakesFirst len old part new)
+    pub fn take(&mut self, len: usize) -> Result<Option<Bytes>, Reason>
+        ensures gives { CursorReadsPart (λ part old new. CursorTakesFirst len old part new)
             (λ bytes. length bytes < len) self.old self.new result }
         ensures reason { IfErr result (λ reason. reason ≡ Reason.OutOfMemory) }
         ensures none { len ≡ 0 → IsOk result }
@@ -173,17 +175,13 @@ impl<'a, B: ContiguousBuf + Drop> Cursor<'a, B> {
         if self.remaining() < len {
             return Ok(None);
         }
-        Ok(Some(self.take_bytes(alloc, len)?))
+        Ok(Some(self.take_bytes(len)?))
     }
 
     /// As `take`, but in segments, each shared if its own segment shares its bytes: for a body that
     /// is to stay uncopied.
-    pub fn take_segments(
-        &mut self,
-        alloc: Global,
-        len: usize,
-    ) -> Result<Option<SegmentedBuf<Bytes>>, Reason>
-        ensures gives { ReadsPart (λ part old new. CursorTakesFirst len old (concat part.segments) new)
+    pub fn take_segments(&mut self, len: usize) -> Result<Option<SegmentedBuf<Bytes>>, Reason>
+        ensures gives { CursorReadsPart (λ part old new. CursorTakesFirst len old (concat part.segments) new)
             (λ bytes. length bytes < len) self.old self.new result }
         ensures reason { IfErr result (λ reason. reason ≡ Reason.OutOfMemory) }
         ensures none { len ≡ 0 → IsOk result }
@@ -191,7 +189,7 @@ impl<'a, B: ContiguousBuf + Drop> Cursor<'a, B> {
         if self.remaining() < len {
             return Ok(None);
         }
-        let part = self.buf.slice(alloc, self.at..self.at + len)?;
+        let part = self.buf.slice(self.alloc, self.at..self.at + len)?;
         self.at += len;
         Ok(Some(part))
     }
@@ -200,17 +198,17 @@ impl<'a, B: ContiguousBuf + Drop> Cursor<'a, B> {
     /// Returns `None` if it has not come yet. Requires that `needle` is not empty (test:
     /// `is_empty`). Fails with `OutOfMemory` if memory is refused; with a needle of at most 16 bytes
     /// it is asked for only for the bytes before it. The cursor then stays, as with `None`.
-    pub fn take_until(&mut self, alloc: Global, needle: &[u8]) -> Result<Option<Bytes>, Reason>
+    pub fn take_until(&mut self, needle: &[u8]) -> Result<Option<Bytes>, Reason>
         requires { 0 < length needle.now }
-        ensures gives { ReadsPart (λ part old new. TakesFrame needle.now old part new)
+        ensures gives { CursorReadsPart (λ part old new. TakesFrame needle.now old part new)
             (λ bytes. ¬ Occurs needle.now bytes) self.old self.new result }
         ensures reason { IfErr result (λ reason. reason ≡ Reason.OutOfMemory) }
         ensures due { length needle.now ≤ 16 → OnErr result (HasFrame needle.now (unread self.old)) }
     {
-        let Some(len) = self.find(alloc, needle)? else {
+        let Some(len) = self.find(needle)? else {
             return Ok(None);
         };
-        Ok(Some(self.take_found(alloc, len, needle)?))
+        Ok(Some(self.take_found(len, needle)?))
     }
 
     /// As `take_until`, if at most `most` bytes are before the needle. Fails with `TooLong` if there
@@ -221,36 +219,26 @@ impl<'a, B: ContiguousBuf + Drop> Cursor<'a, B> {
     ///
     /// If the memory that `find` asks for is refused, the search asks for none and looks at each
     /// place within the limit.
-    pub fn take_until_within(
-        &mut self,
-        alloc: Global,
-        needle: &[u8],
-        most: usize,
-    ) -> Result<Option<Bytes>, Reason>
+    pub fn take_until_within(&mut self, needle: &[u8], most: usize) -> Result<Option<Bytes>, Reason>
         requires { 0 < length needle.now }
-        ensures gives { ReadsPart (λ part old new. TakesFrame needle.now old part new)
+        ensures gives { CursorReadsPart (λ part old new. TakesFrame needle.now old part new)
             (λ bytes. ¬ Occurs needle.now bytes) self.old self.new result }
         ensures within { IfOk result (λ next. IfSome next (λ front. length front ≤ most)) }
         ensures few { IfOk result (λ next. IfNone next
             (length (unread self.old) < most + length needle.now)) }
         ensures too_long { IfErr result (λ reason. reason ≡ Reason.TooLong
-            → NoFrameWithin most needle.now (unread self.old)) }
+            → CursorHasNoFrameWithin most needle.now (unread self.old)) }
         ensures due { IfErr result (λ reason. reason ≡ Reason.OutOfMemory
             → HasFrameWithin most needle.now (unread self.old)) }
     {
-        let Some(len) = self.find_within(alloc, needle, most)? else {
+        let Some(len) = self.find_within(needle, most)? else {
             return Ok(None);
         };
-        Ok(Some(self.take_found(alloc, len, needle)?))
+        Ok(Some(self.take_found(len, needle)?))
     }
 
     /// As `find`, if at most `most` bytes are before the needle. Fails with `TooLong` if not.
-    fn find_within(
-        &self,
-        alloc: Global,
-        needle: &[u8],
-        most: usize,
-    ) -> Result<Option<usize>, Reason>
+    fn find_within(&self, needle: &[u8], most: usize) -> Result<Option<usize>, Reason>
         requires { 0 < length needle.now }
         ensures found { IfOk result (λ place. IfSome place (λ n.
             OccursFirstAt needle.now (unread self.now) n)) }
@@ -261,9 +249,9 @@ impl<'a, B: ContiguousBuf + Drop> Cursor<'a, B> {
         ensures few { IfOk result (λ place. IfNone place
             (length (unread self.now) < most + length needle.now)) }
         ensures too_long { IfErr result (λ reason. (reason ≡ Reason.TooLong)
-            × NoFrameWithin most needle.now (unread self.now)) }
+            × CursorHasNoFrameWithin most needle.now (unread self.now)) }
     {
-        if let Some(len) = self.first_within(alloc, needle, most) {
+        if let Some(len) = self.first_within(needle, most) {
             return Ok(Some(len));
         }
         if self.has_all_within(needle, most) {
@@ -280,11 +268,11 @@ impl<'a, B: ContiguousBuf + Drop> Cursor<'a, B> {
     }
 
     /// Returns how many bytes after the cursor `needle` occurs first, if these are at most `most`.
-    fn first_within(&self, alloc: Global, needle: &[u8], most: usize) -> Option<usize>
+    fn first_within(&self, needle: &[u8], most: usize) -> Option<usize>
         requires { 0 < length needle.now }
         ensures { CursorFindsWithin most needle.now (unread self.now) result }
     {
-        match self.find(alloc, needle) {
+        match self.find(needle) {
             Ok(Some(place)) => (place <= most).then_some(place),
             Ok(None) => None,
             Err(_) => self.look_within(needle, most),
@@ -318,17 +306,17 @@ impl<'a, B: ContiguousBuf + Drop> Cursor<'a, B> {
     }
 
     /// As `take_until`, but the needle isn't passed: the cursor is at its first byte then.
-    pub fn take_to(&mut self, alloc: Global, needle: &[u8]) -> Result<Option<Bytes>, Reason>
+    pub fn take_to(&mut self, needle: &[u8]) -> Result<Option<Bytes>, Reason>
         requires { 0 < length needle.now }
-        ensures gives { ReadsPart (λ part old new. CursorTakesUpTo needle.now old part new)
+        ensures gives { CursorReadsPart (λ part old new. CursorTakesUpTo needle.now old part new)
             (λ bytes. ¬ Occurs needle.now bytes) self.old self.new result }
         ensures reason { IfErr result (λ reason. reason ≡ Reason.OutOfMemory) }
         ensures due { length needle.now ≤ 16 → OnErr result (HasFrame needle.now (unread self.old)) }
     {
-        let Some(place) = self.find(alloc, needle)? else {
+        let Some(place) = self.find(needle)? else {
             return Ok(None);
         };
-        Ok(Some(self.take_bytes(alloc, place)?))
+        Ok(Some(self.take_bytes(place)?))
     }
 
     /// Passes `bytes` if they are next. Returns `None` if only a beginning of them has come, or
@@ -358,14 +346,14 @@ impl<'a, B: ContiguousBuf + Drop> Cursor<'a, B> {
     /// it is not UTF-8, a fault that has its bytes. Returns `None` if its line feed has not come yet.
     /// Fails with `OutOfMemory` if memory for a line that has come is refused. The cursor then
     /// stays, as with `None`.
-    pub fn line(&mut self, alloc: Global) -> Result<Option<Result<Str, LineFault>>, Reason>
-        ensures gives { ReadsPart
-            (λ item old new. (line : List ℕ) × TakesStreamLine old line new × IsTextItem false item line)
+    pub fn line(&mut self) -> Result<Option<Result<Str, LineFault>>, Reason>
+        ensures gives { CursorReadsPart
+            (λ item old new. (line : List ℕ) × TakesStreamLine old line new × IsTextLineItem false item line)
             (λ bytes. ¬ Occurs (line_feed ∷ []) bytes) self.old self.new result }
         ensures reason { IfErr result (λ reason. reason ≡ Reason.OutOfMemory) }
         ensures due { OnErr result (HasFrame (line_feed ∷ []) (unread self.old)) }
     {
-        let Some(mut line) = self.take_until(alloc, b"\n")? else {
+        let Some(mut line) = self.take_until(b"\n")? else {
             return Ok(None);
         };
         drop_return(&mut line);
@@ -373,7 +361,7 @@ impl<'a, B: ContiguousBuf + Drop> Cursor<'a, B> {
     }
 
     /// Passes the next `len` bytes, which it returns, and the needle that was found after them.
-    fn take_found(&mut self, alloc: Global, len: usize, needle: &[u8]) -> Result<Bytes, Reason>
+    fn take_found(&mut self, len: usize, needle: &[u8]) -> Result<Bytes, Reason>
         requires within { len + length needle.now ≤ length (unread self.old) }
         requires found { OccursFirstAt needle.now (unread self.old) len }
         ensures bytes { IfOk result (λ front.
@@ -384,13 +372,13 @@ impl<'a, B: ContiguousBuf + Drop> Cursor<'a, B> {
         ensures reason { IfErr result (λ reason. reason ≡ Reason.OutOfMemory) }
         ensures some { OnErr result (0 < len) }
     {
-        let front = self.take_bytes(alloc, len)?;
+        let front = self.take_bytes(len)?;
         self.advance(needle.len());
         Ok(front)
     }
 
     /// Passes the next `len` bytes and returns them.
-    fn take_bytes(&mut self, alloc: Global, len: usize) -> Result<Bytes, Reason>
+    fn take_bytes(&mut self, len: usize) -> Result<Bytes, Reason>
         requires { len ≤ length (unread self.old) }
         ensures bytes { IfOk result (λ bytes. bytes ≡ take len (unread self.old)) }
         ensures passed { IfOk result (λ _. self.new ≡ passed_on len self.old) }
@@ -398,7 +386,7 @@ impl<'a, B: ContiguousBuf + Drop> Cursor<'a, B> {
         ensures reason { IfErr result (λ reason. reason ≡ Reason.OutOfMemory) }
         ensures none { len ≡ 0 → IsOk result }
     {
-        let bytes = self.buf.copy_range(alloc, self.at..self.at + len)?;
+        let bytes = self.buf.copy_range(self.alloc, self.at..self.at + len)?;
         self.at += len;
         Ok(bytes)
     }

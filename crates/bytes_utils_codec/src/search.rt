@@ -2,7 +2,7 @@
 ghost use Rattle.std.specs.Prelude.{◌≡◌, ◌<◌, length, IfOk, IfErr, IfNone, OnSome};
 ghost use Rattle.std.specs.List.{concat};
 ghost use Rattle.memchr.specs.Find.{FindsNeedle};
-ghost use Rattle.bytes_utils_codec.specs.Search.{from_front, searched_all, searching};
+ghost use Rattle.bytes_utils_codec.specs.Search.{search_from_front, searched_all, searching};
 
 use crate::find::find_prepared;
 use bytes::Buf;
@@ -108,7 +108,7 @@ impl Search {
 
     /// Searches from the front.
     pub fn restart(&mut self)
-        ensures { self.new ≡ from_front self.old }
+        ensures { self.new ≡ search_from_front self.old }
     {
         self.search_from(0);
     }

@@ -3,7 +3,7 @@ ghost use Rattle.std.specs.Prelude.{◌≡◌, ◌<◌, ◌≤◌, [], length, t
 ghost use Rattle.std.specs.List.{concat};
 ghost use Rattle.std.specs.Str.Lossy.{utf8_valid_len, utf8_error_len};
 ghost use Rattle.bytes_utils_codec.specs.Pushing.{IsPush};
-ghost use Rattle.bytes_utils_codec.specs.TextReading.{IsFaultItem, IsTextFront, IsUnfinishedText, LossyTextLaw, TakesItem, TakesLast, TextFaultLaw, TextFrontLaw, TextItemsLaw, WholeLossyTextLaw, asks_at_end, asks_for, text_fed, text_reading};
+ghost use Rattle.bytes_utils_codec.specs.TextReading.{IsTextFaultItem, IsTextFront, IsUnfinishedText, LossyTextLaw, TakesTextItem, TakesLastText, TextFaultLaw, TextFrontLaw, TextItemsLaw, WholeLossyTextLaw, asks_for_text_at_end, asks_for_text, text_fed, text_reading};
 
 use bytes::{Buf, Bytes};
 use bytes_utils::split::character::first_end;
@@ -33,11 +33,11 @@ enum Front {
 /// ```text
 /// let mut texts = Texts::new(alloc);
 /// texts.push(first)?;              // a `Bytes` of `caf` and the first byte of `é`
-/// texts.next_item(alloc)?          // `Ok(caf)`
-/// texts.next_item(alloc)?          // `None`: one byte is held
+/// texts.next_item()?               // `Ok(caf)`
+/// texts.next_item()?               // `None`: one byte is held
 /// texts.push(second)?;             // the second byte of `é`, and ` au lait`
-/// texts.next_item(alloc)?          // `Ok(é)`, and then `Ok( au lait)`
-/// texts.last_item(alloc)?          // `None`: the stream may end here
+/// texts.next_item()?               // `Ok(é)`, and then `Ok( au lait)`
+/// texts.last_item()?               // `None`: the stream may end here
 /// ```
 ///
 /// Bytes that are no text are an item that has them, and the next item is that of the bytes after
@@ -51,6 +51,7 @@ enum Front {
 /// the next `push`: then at most three bytes are held between two pieces.
 #[derive(Debug, Drop)]
 pub struct Texts {
+    alloc: Global,
     pieces: SegmentedBuf<Bytes>,
     lossy: bool,
 }
@@ -70,6 +71,7 @@ impl Texts {
         ensures { result ≡ text_reading false }
     {
         Texts {
+            alloc,
             pieces: SegmentedBuf::new(alloc),
             lossy: false,
         }
@@ -81,6 +83,7 @@ impl Texts {
         ensures { result ≡ record self { lossy = true } }
     {
         Texts {
+            alloc: self.alloc,
             pieces: self.pieces,
             lossy: true,
         }
@@ -101,41 +104,41 @@ impl Texts {
     /// Returns `None` while the held bytes are the beginning of a character, or none. Fails with
     /// `OutOfMemory` if memory is refused; it is asked for only if an item has come. Then nothing has
     /// changed.
-    pub fn next_item(&mut self, alloc: Global) -> Result<Option<Item>, Reason>
+    pub fn next_item(&mut self) -> Result<Option<Item>, Reason>
         ensures item { IfOk result
-            (λ next. IfSome next (λ item. TakesItem self.old item self.new)) }
+            (λ next. IfSome next (λ item. TakesTextItem self.old item self.new)) }
         ensures waits { IfOk result (λ next. IfNone next
             ((self.new ≡ self.old) × IsUnfinishedText self.old.held)) }
         ensures err { OnErr result (self.new ≡ self.old) }
-        ensures asks { OnErr result (asks_for self.old) }
+        ensures asks { OnErr result (asks_for_text self.old) }
         ensures reason { IfErr result (λ reason. reason ≡ Reason.OutOfMemory) }
     {
         match self.front() {
-            Front::Text(len) => Ok(Some(Ok(self.take_text(alloc, len)?))),
-            Front::Fault(len) => Ok(Some(self.take_fault(alloc, len)?)),
+            Front::Text(len) => Ok(Some(Ok(self.take_text(len)?))),
+            Front::Fault(len) => Ok(Some(self.take_fault(len)?)),
             Front::Unfinished => Ok(None),
         }
     }
 
     /// As `next_item`, at the end of the stream: the bytes of a character that isn't whole are no
     /// text, too. Returns `None` if no byte is held.
-    pub fn last_item(&mut self, alloc: Global) -> Result<Option<Item>, Reason>
+    pub fn last_item(&mut self) -> Result<Option<Item>, Reason>
         ensures item { IfOk result
-            (λ next. IfSome next (λ item. TakesLast self.old item self.new)) }
+            (λ next. IfSome next (λ item. TakesLastText self.old item self.new)) }
         ensures none { IfOk result
             (λ next. IfNone next ((self.old.held ≡ []) × (self.new ≡ self.old))) }
         ensures err { OnErr result (self.new ≡ self.old) }
-        ensures asks { OnErr result (asks_at_end self.old) }
+        ensures asks { OnErr result (asks_for_text_at_end self.old) }
         ensures reason { IfErr result (λ reason. reason ≡ Reason.OutOfMemory) }
     {
-        if let Some(item) = self.next_item(alloc)? {
+        if let Some(item) = self.next_item()? {
             return Ok(Some(item));
         }
         let held = self.remaining();
         if held == 0 {
             return Ok(None);
         }
-        Ok(Some(self.take_fault(alloc, held)?))
+        Ok(Some(self.take_fault(held)?))
     }
 
     /// Returns what the held bytes begin with.
@@ -152,7 +155,7 @@ impl Texts {
     }
 
     /// Takes the text of the first `len` bytes.
-    fn take_text(&mut self, alloc: Global, len: usize) -> Result<Str, Reason>
+    fn take_text(&mut self, len: usize) -> Result<Str, Reason>
         requires within { len ≤ length self.old.held }
         requires utf8 { IsUtf8 (take len self.old.held) }
         ensures ok { IfOk result (λ text. text ≡ take len self.old.held) }
@@ -160,17 +163,17 @@ impl Texts {
         ensures err { OnErr result (self.new ≡ self.old) }
         ensures reason { IfErr result (λ reason. reason ≡ Reason.OutOfMemory) }
     {
-        let text = self.pieces.peek_bytes(alloc, len)?;
+        let text = self.pieces.peek_bytes(self.alloc, len)?;
         self.pieces.advance(len);
         Ok(Str::from_inner_unchecked(text))
     }
 
     /// Takes the first `len` bytes, which are no text, as they are or as U+FFFD.
-    fn take_fault(&mut self, alloc: Global, len: usize) -> Result<Item, Reason>
+    fn take_fault(&mut self, len: usize) -> Result<Item, Reason>
         requires within { len ≤ length self.old.held }
         requires no_text { ¬ IsUtf8 (take len self.old.held) }
         ensures item { IfOk result
-            (λ item. IsFaultItem self.old.lossy item (take len self.old.held)) }
+            (λ item. IsTextFaultItem self.old.lossy item (take len self.old.held)) }
         ensures rest { OnOk result (self.new ≡ record self.old { held = drop len self.old.held }) }
         ensures err { OnErr result (self.new ≡ self.old) }
         ensures strict { OnErr result (self.old.lossy ≡ false) }
@@ -180,7 +183,7 @@ impl Texts {
             self.pieces.advance(len);
             return Ok(Ok(Str::from_static("\u{FFFD}")));
         }
-        let fault = self.pieces.peek_bytes(alloc, len)?;
+        let fault = self.pieces.peek_bytes(self.alloc, len)?;
         self.pieces.advance(len);
         Ok(Str::from_inner(fault))
     }

@@ -18,15 +18,15 @@ use Rattle.bytes_utils_codec.specs.UniversalReadingLaws.{universal_same, univers
 use Rattle.bytes_utils_codec.specs.declared.decode.lines.LineFault.{LineFault}
 use Rattle.bytes_utils_codec.specs.declared.decode.lines.LineFault.TheVariants.{NotUtf8 as NotText, TooLong}
 use Rattle.bytes_utils_codec.proofs.StreamRunsLemmas.{AreFirstOfRun-next}
-use Rattle.bytes_utils_protocols.specs.Events.{DoesLine, Eventing, Gives, IsEndOfEventLine, IsTooLarge, Keeps, LosesNothing, PassesFault, Reads, ReadsLine, TakesNext, EventTelling, WaitsTooLarge, error_of, left_to_read, waiting_event_lines, after_field, after_line, event_byte_order_mark, event_content, event_field_name, event_field_value, is_event_colon, is_event_number, event_number_of, event_text_len, event_value_of}
+use Rattle.bytes_utils_protocols.specs.Events.{DoesEventLine, Eventing, GivesEvent, IsEndOfEventLine, IsEventTooLarge, KeepsEvents, LosesNoEvent, PassesEventFault, ReadsEventLines, ReadsEventLine, TakesNextEventLine, EventBuffers, WaitsWithEventTooLarge, event_error_of, events_left_to_read, waiting_event_lines, after_event_field, after_event_line, event_byte_order_mark, event_content, event_field_name, event_field_value, is_event_colon, is_event_number, event_number_of, event_text_len, event_value_of}
 use Rattle.bytes_utils_protocols.specs.Digits.{WriteNumber}
 use Rattle.bytes_utils_protocols.specs.declared.events.Event.{Event}
 use Rattle.bytes_utils_protocols.specs.declared.events.EventError.TheVariants.{NotUtf8}
 
 -- one more line is read
-pub reads_more : (start old taken new : Eventing) (line : List ℕ) → Reads start old → TakesNext old line taken → DoesLine taken line new → Reads start new
+pub reads_more : (start old taken new : Eventing) (line : List ℕ) → ReadsEventLines start old → TakesNextEventLine old line taken → DoesEventLine taken line new → ReadsEventLines start new
 reads_more start old taken new line reads takes does =
-    (reads.0 ++ line ∷ [], AreFirstOfRun-next ReadsLine start reads.0 old line new reads.1 (record { taken = taken; takes = takes; does = does }))
+    (reads.0 ++ line ∷ [], AreFirstOfRun-next ReadsEventLine start reads.0 old line new reads.1 (record { taken = taken; takes = takes; does = does }))
 
 -- ---- what a line does
 
@@ -35,8 +35,8 @@ if_none None is so = so is
 if_none (Some x) is so = is
 
 -- an empty line where there is no data
-pub does_empty : (old mid : Eventing) (line : List ℕ) → IsUtf8 line → event_content old.at_start line ≡ [] → old.told.text ≡ None
-    → mid ≡ record old { told = record old.told { name = None } } → DoesLine old line (record mid { at_start = false })
+pub does_empty : (old mid : Eventing) (line : List ℕ) → IsUtf8 line → event_content old.at_start line ≡ [] → old.buffers.text ≡ None
+    → mid ≡ record old { buffers = record old.buffers { name = None } } → DoesEventLine old line (record mid { at_start = false })
 does_empty old mid line utf8 empty none is = record {
   utf8 = utf8;
   ends_none = λ _. none;
@@ -44,35 +44,35 @@ does_empty old mid line utf8 empty none is = record {
   small = rw (is, none) (omega arith);
 }
 
-field_told : (told : EventTelling) (text : List ℕ) → text ≢ [] → after_line told text ≡ after_field told (event_field_name text) (event_field_value text)
-field_told told [] some = absurd (some refl)
-field_told told (c ∷ t) some = refl
+buffers_after_field : (buffers : EventBuffers) (text : List ℕ) → text ≢ [] → after_event_line buffers text ≡ after_event_field buffers (event_field_name text) (event_field_value text)
+buffers_after_field buffers [] some = absurd (some refl)
+buffers_after_field buffers (c ∷ t) some = refl
 
 -- a field with which the data would be too large
 pub field_too_large : (old : Eventing) (line text : List ℕ) → text ≡ event_content old.at_start line → text ≢ []
-    → old.max_data < event_text_len (after_field old.told (event_field_name text) (event_field_value text)).text → IsTooLarge old line
+    → old.max_data < event_text_len (after_event_field old.buffers (event_field_name text) (event_field_value text)).text → IsEventTooLarge old line
 field_too_large old line text is some large =
-    let told : old.max_data < event_text_len (after_line old.told text).text = subst (λ (t : EventTelling). old.max_data < event_text_len t.text) (sym (field_told old.told text some)) large in
-    ((λ e. some (is ∙ e)), subst (λ t. old.max_data < event_text_len (after_line old.told t).text) is told)
+    let buffers : old.max_data < event_text_len (after_event_line old.buffers text).text = subst (λ (t : EventBuffers). old.max_data < event_text_len t.text) (sym (buffers_after_field old.buffers text some)) large in
+    ((λ e. some (is ∙ e)), subst (λ t. old.max_data < event_text_len (after_event_line old.buffers t).text) is buffers)
 
 -- a field
 pub does_field : (old mid : Eventing) (line : List ℕ) → IsUtf8 line → event_content old.at_start line ≢ []
-    → mid ≡ record old { told = after_field old.told (event_field_name (event_content old.at_start line)) (event_field_value (event_content old.at_start line)) }
-    → event_text_len mid.told.text ≤ mid.max_data → DoesLine old line (record mid { at_start = false })
+    → mid ≡ record old { buffers = after_event_field old.buffers (event_field_name (event_content old.at_start line)) (event_field_value (event_content old.at_start line)) }
+    → event_text_len mid.buffers.text ≤ mid.max_data → DoesEventLine old line (record mid { at_start = false })
 does_field old mid line utf8 some is small =
-    let told = field_told old.told (event_content old.at_start line) some in
+    let buffers = buffers_after_field old.buffers (event_content old.at_start line) some in
     let limits : mid.max_data ≡ old.max_data = ap (λ (r : Eventing). r.max_data) is in
     record {
       utf8 = utf8;
       ends_none = λ empty. absurd (some empty);
-      after = ap (λ (r : Eventing). record r { at_start = false }) (is ∙ ap (λ t. record old { told = t }) (sym told));
-      small = subst (λ l. event_text_len mid.told.text ≤ l) limits small;
+      after = ap (λ (r : Eventing). record r { at_start = false }) (is ∙ ap (λ t. record old { buffers = t }) (sym buffers));
+      small = subst (λ l. event_text_len mid.buffers.text ≤ l) limits small;
     }
 
 -- ---- less is left to read
 
 -- a line is taken off the held bytes, or waits no more
-taken_less : (old taken : Eventing) (line : List ℕ) → TakesNext old line taken → left_to_read taken < left_to_read old
+taken_less : (old taken : Eventing) (line : List ℕ) → TakesNextEventLine old line taken → events_left_to_read taken < events_left_to_read old
 taken_less old taken line takes =
     by old.waiting takes.next
   where
@@ -80,34 +80,34 @@ taken_less old taken line takes =
     none = ap (λ (r : Eventing). r.waiting) takes.others
 
     by : (waiting : Option (List ℕ)) → MatchOption waiting (gives_universal old.lines (Item (Ok line)) taken.lines) (λ w. (line ≡ w) × (taken.lines ≡ old.lines))
-        → left_to_read taken < length old.lines.held + waiting_event_lines waiting
+        → events_left_to_read taken < length old.lines.held + waiting_event_lines waiting
     by None next = rw none (omega (arith, universal_shortens old.lines (Ok line) taken.lines next (λ e. absurd cc)))
     by (Some w) next = rw (none, next.1) (omega arith)
 
-same_left : (old new : Eventing) → new.lines ≡ old.lines → new.waiting ≡ old.waiting → left_to_read new ≡ left_to_read old
+same_left : (old new : Eventing) → new.lines ≡ old.lines → new.waiting ≡ old.waiting → events_left_to_read new ≡ events_left_to_read old
 same_left old new lines waiting = rw (lines, waiting) refl
 
-pub reads_less : (old taken new : Eventing) (line : List ℕ) → TakesNext old line taken → DoesLine taken line new → left_to_read new < left_to_read old
+pub reads_less : (old taken new : Eventing) (line : List ℕ) → TakesNextEventLine old line taken → DoesEventLine taken line new → events_left_to_read new < events_left_to_read old
 reads_less old taken new line takes does =
     let same = same_left taken new (ap (λ (r : Eventing). r.lines) does.after) (ap (λ (r : Eventing). r.waiting) does.after) in
     omega (arith, same, taken_less old taken line takes)
 
-reads_no_more : (lines : List (List ℕ)) (old new : Eventing) → AreFirstOfRun ReadsLine old lines new → left_to_read new ≤ left_to_read old
-reads_no_more [] old new are = omega (arith, ap left_to_read are)
+reads_no_more : (lines : List (List ℕ)) (old new : Eventing) → AreFirstOfRun ReadsEventLine old lines new → events_left_to_read new ≤ events_left_to_read old
+reads_no_more [] old new are = omega (arith, ap events_left_to_read are)
 reads_no_more (line ∷ lines) old new are =
     omega (arith, reads_less old are.1.taken are.0 line are.1.takes are.1.does, reads_no_more lines are.0 new are.2)
 
-pub gives_less : (old : Eventing) (event : Event) (new : Eventing) → Gives old event new → left_to_read new < left_to_read old
+pub gives_less : (old : Eventing) (event : Event) (new : Eventing) → GivesEvent old event new → events_left_to_read new < events_left_to_read old
 gives_less old event new gives =
     let same = same_left gives.taken new (ap (λ (r : Eventing). r.lines) gives.ends.after) (ap (λ (r : Eventing). r.waiting) gives.ends.after) in
     omega (arith, same, taken_less gives.before gives.taken gives.line gives.takes, reads_no_more gives.reads.0 old gives.before gives.reads.1)
 
-not_long : (fault : LineFault) (item : LineItem) → item ≡ Err fault → NotUtf8 ≡ error_of fault → item ≡ Err TooLong → ⊥
+not_long : (fault : LineFault) (item : LineItem) → item ≡ Err fault → NotUtf8 ≡ event_error_of fault → item ≡ Err TooLong → ⊥
 not_long TooLong item one is e = absurd cc
 not_long (NotText fault) item one is e = absurd cc
 
 -- a line that isn't UTF-8 is passed over
-pub fault_less : (old new : Eventing) → PassesFault old NotUtf8 new → left_to_read new < left_to_read old
+pub fault_less : (old new : Eventing) → PassesEventFault old NotUtf8 new → events_left_to_read new < events_left_to_read old
 fault_less old new passes =
     let mid = passes.0 in
     let fault = passes.2 in
@@ -118,15 +118,15 @@ fault_less old new passes =
 -- ---- what a call of the decoder did
 
 -- with no line
-pub keeps_none : (old new : Eventing) → old.waiting ≡ None → keeps_universal old.lines new.lines → new ≡ record old { lines = new.lines } → Keeps old new
+pub keeps_none : (old new : Eventing) → old.waiting ≡ None → keeps_universal old.lines new.lines → new ≡ record old { lines = new.lines } → KeepsEvents old new
 keeps_none old new none keeps is = record { none = none; same = universal_same old.lines new.lines keeps; others = is }
 
 -- a line that can't be read is kept
-pub over_kept : (old mid taken new : Eventing) (line : List ℕ) → Reads old mid → TakesNext mid line taken → IsUtf8 line → new ≡ record taken { waiting = Some line }
-    → IsTooLarge taken line → LosesNothing old new × WaitsTooLarge new
+pub over_kept : (old mid taken new : Eventing) (line : List ℕ) → ReadsEventLines old mid → TakesNextEventLine mid line taken → IsUtf8 line → new ≡ record taken { waiting = Some line }
+    → IsEventTooLarge taken line → LosesNoEvent old new × WaitsWithEventTooLarge new
 over_kept old mid taken new line reads takes utf8 waits large = (
   (mid, reads, inr (record { line = line; taken = taken; takes = takes; utf8 = utf8; waits = waits })),
-  (line, ap (λ (r : Eventing). r.waiting) waits, subst (λ r. IsTooLarge r line) (sym waits) large),
+  (line, ap (λ (r : Eventing). r.waiting) waits, subst (λ r. IsEventTooLarge r line) (sym waits) large),
 )
 
 -- ---- the ends of a line

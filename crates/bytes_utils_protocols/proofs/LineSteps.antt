@@ -13,8 +13,8 @@ use Rattle.std.proofs.lemmas.Str.{digit_value_digit}
 use Rattle.std.proofs.lemmas.Str.Parse.{digit_from_value}
 use Rattle.std.specs.Char.{digit_value}
 use Rattle.bytes_utils_protocols.specs.Digits.{WriteNumber}
-use Rattle.bytes_utils_protocols.specs.Redis.{IsLineOf, IsRedisPlain, IsRedisTextLine, LacksRedisByte, WriteRedisInteger, WriteRedisLength}
-use Rattle.bytes_utils_protocols.specs.RedisLine.{AreLineDigits, IsReadAs, NoLineReturn, line_length_byte, line_sign_bytes, signed_line_number}
+use Rattle.bytes_utils_protocols.specs.Redis.{IsRedisLineOf, IsRedisPlain, IsRedisTextLine, LacksRedisByte, WriteRedisInteger, WriteRedisLength}
+use Rattle.bytes_utils_protocols.specs.RedisLine.{AreLineDigits, IsRedisLineReadAs, NoLineReturn, line_length_byte, line_sign_bytes, signed_line_number}
 use Rattle.bytes_utils_protocols.specs.declared.redis.item.Item.{Item}
 use Rattle.bytes_utils_protocols.specs.declared.redis.line.Counted.{Counted}
 use Rattle.bytes_utils_protocols.specs.declared.redis.line.Counted.TheVariants.{Bytes, Items}
@@ -108,10 +108,10 @@ integer_number sign rest n none writes =
 module _ (value : Option ℕ) (ds : List ℕ) (c : ℕ) (are : AreLineDigits value ds) (never : (n : ℕ) (more : List ℕ) → ¬ WriteNumber (ds ++ c ∷ more) n) where
   -- after an integer comes a byte that is no digit of it
   pub integer_stops : (sign : Sign) → (sign ≡ Unsigned → value ≡ None → (c ≢ 43) × (c ≢ 45)) → (bytes : List ℕ) → bytes ≡ 58 ∷ (line_sign_bytes sign ++ ds) → (item : Item) (rest : List ℕ)
-      → ¬ IsLineOf item (bytes ++ c ∷ rest)
+      → ¬ IsRedisLineOf item (bytes ++ c ∷ rest)
   integer_stops sign other bytes is item rest line =
       no_integer (line_sign_bytes sign ++ (ds ++ c ∷ rest)) none item
-      (subst (IsLineOf item) (ap (λ l. l ++ c ∷ rest) is ∙ ap (λ l. 58 ∷ l) (append_assoc (line_sign_bytes sign) ds (c ∷ rest))) line)
+      (subst (IsRedisLineOf item) (ap (λ l. l ++ c ∷ rest) is ∙ ap (λ l. 58 ∷ l) (append_assoc (line_sign_bytes sign) ds (c ∷ rest))) line)
     where
       none : (n : ℤ) → ¬ WriteRedisInteger (line_sign_bytes sign ++ (ds ++ c ∷ rest)) n
       none n writes = never (digits_value 10 (ds ++ c ∷ rest)) rest
@@ -120,14 +120,14 @@ module _ (value : Option ℕ) (ds : List ℕ) (c : ℕ) (are : AreLineDigits val
           writes)
 
   -- after a length comes a byte that is no digit of it
-  pub length_stops : (counted : Counted) → (value ≡ None → c ≢ 45) → (bytes : List ℕ) → bytes ≡ line_length_byte counted ∷ ds → (item : Item) (rest : List ℕ) → ¬ IsLineOf item (bytes ++ c ∷ rest)
-  length_stops counted other bytes is item rest line = of_counted counted (subst (IsLineOf item) (ap (λ l. l ++ c ∷ rest) is) line)
+  pub length_stops : (counted : Counted) → (value ≡ None → c ≢ 45) → (bytes : List ℕ) → bytes ≡ line_length_byte counted ∷ ds → (item : Item) (rest : List ℕ) → ¬ IsRedisLineOf item (bytes ++ c ∷ rest)
+  length_stops counted other bytes is item rest line = of_counted counted (subst (IsRedisLineOf item) (ap (λ l. l ++ c ∷ rest) is) line)
     where
       none : (len : Option ℕ) → ¬ WriteRedisLength (ds ++ c ∷ rest) len
       none None writes = first_byte_not 45 (omega arith) value ds rest c are other (ap (λ l. get_or l 0 0) writes)
       none (Some n) writes = never n rest writes
 
-      of_counted : (k : Counted) → ¬ IsLineOf item (line_length_byte k ∷ (ds ++ c ∷ rest))
+      of_counted : (k : Counted) → ¬ IsRedisLineOf item (line_length_byte k ∷ (ds ++ c ∷ rest))
       of_counted Bytes = no_bulk (ds ++ c ∷ rest) none item
       of_counted Items = no_array (ds ++ c ∷ rest) none item
 
@@ -141,13 +141,13 @@ not_plain [] rest c ends plain = plain 0 (omega arith) (omega arith) (ends_line 
     ends_line b (inr is) = ap (is_byte2 13 10) is
 not_plain (t ∷ text) rest c ends plain = not_plain text rest c ends (λ k low high passes. plain (suc k) (omega arith) (omega (arith, high)) passes)
 
-pub text_stops : (bytes : List ℕ) (c : ℕ) → IsRedisTextLine bytes → (c ≡ 13) ⊎ (c ≡ 10) → (item : Item) (rest : List ℕ) → ¬ IsLineOf item (bytes ++ c ∷ rest)
+pub text_stops : (bytes : List ℕ) (c : ℕ) → IsRedisTextLine bytes → (c ≡ 13) ⊎ (c ≡ 10) → (item : Item) (rest : List ℕ) → ¬ IsRedisLineOf item (bytes ++ c ∷ rest)
 text_stops bytes c text ends item rest line =
     let said = text.text ++ c ∷ rest in
     let at = ap (λ l. l ++ c ∷ rest) text.parts in
     ⊎_elim
-    (λ simple. no_simple said (not_plain text.text rest c ends) item (subst (IsLineOf item) (at ∙ ap (λ b. b ∷ said) simple) line))
-    (λ error. no_error said (not_plain text.text rest c ends) item (subst (IsLineOf item) (at ∙ ap (λ b. b ∷ said) error) line))
+    (λ simple. no_simple said (not_plain text.text rest c ends) item (subst (IsRedisLineOf item) (at ∙ ap (λ b. b ∷ said) simple) line))
+    (λ error. no_error said (not_plain text.text rest c ends) item (subst (IsRedisLineOf item) (at ∙ ap (λ b. b ∷ said) error) line))
     text.is
 
 -- ---- no carriage return is among them
@@ -156,7 +156,7 @@ no_length_byte : (counted : Counted) → line_length_byte counted ≢ 13
 no_length_byte Bytes e = omega (arith, e)
 no_length_byte Items e = omega (arith, e)
 
-pub read_no_return : (line : Line) (bytes : List ℕ) → IsReadAs line bytes → NoLineReturn bytes
+pub read_no_return : (line : Line) (bytes : List ℕ) → IsRedisLineReadAs line bytes → NoLineReturn bytes
 read_no_return Empty bytes is = subst NoLineReturn (sym is) tt
 read_no_return Text bytes is = subst NoLineReturn (sym is.parts) (⊎_elim (λ simple. λ e. omega (arith, e, simple)) (λ error. λ e. omega (arith, e, error)) is.is, plain_no_return is.text is.plain)
 read_no_return (Signed sign value) bytes is =
@@ -178,21 +178,21 @@ cut_at (a ∷ all) zero within = refl
 cut_at (a ∷ all) (suc k) within = ap (λ t. a ∷ t) (cut_at all k (omega (arith, within)))
 
 -- a byte of them is none of the line
-pub stops_within : (bytes all : List ℕ) (k : ℕ) → k < length all → ((item : Item) (rest : List ℕ) → ¬ IsLineOf item ((bytes ++ take k all) ++ get_or all k 0 ∷ rest))
-    → (item : Item) (rest : List ℕ) → ¬ IsLineOf item (bytes ++ (all ++ rest))
+pub stops_within : (bytes all : List ℕ) (k : ℕ) → k < length all → ((item : Item) (rest : List ℕ) → ¬ IsRedisLineOf item ((bytes ++ take k all) ++ get_or all k 0 ∷ rest))
+    → (item : Item) (rest : List ℕ) → ¬ IsRedisLineOf item (bytes ++ (all ++ rest))
 stops_within bytes all k within never item rest line =
     let front = take k all in
     let after = drop (suc k) all in
-    never item (after ++ rest) (subst (IsLineOf item)
+    never item (after ++ rest) (subst (IsRedisLineOf item)
     (ap (λ l. bytes ++ (l ++ rest)) (cut_at all k within) ∙ ap (λ l. bytes ++ l) (append_assoc front (get_or all k 0 ∷ after) rest) ∙ sym (append_assoc bytes front (get_or all k 0 ∷ (after ++ rest)))) line)
 
 -- one byte more was read
-pub reads_one : (line : Line) (bytes all : List ℕ) (k : ℕ) → k < length all → IsReadAs line ((bytes ++ take k all) ++ get_or all k 0 ∷ []) → IsReadAs line (bytes ++ take (k + 1) all)
+pub reads_one : (line : Line) (bytes all : List ℕ) (k : ℕ) → k < length all → IsRedisLineReadAs line ((bytes ++ take k all) ++ get_or all k 0 ∷ []) → IsRedisLineReadAs line (bytes ++ take (k + 1) all)
 reads_one line bytes all k within is =
-    subst (IsReadAs line) (append_assoc bytes (take k all) (get_or all k 0 ∷ []) ∙ ap (λ l. bytes ++ l) (sym (take_more all k 0 within))) is
+    subst (IsRedisLineReadAs line) (append_assoc bytes (take k all) (get_or all k 0 ∷ []) ∙ ap (λ l. bytes ++ l) (sym (take_more all k 0 within))) is
 
 -- what is no line of an item
-pub none_in : (ended lacks : Bool) (bytes : List ℕ) → ((item : Item) → ¬ IsLineOf item bytes) → (LacksRedisByte bytes → lacks ≡ true) → (ended ≡ false → lacks ≡ false)
-    → MatchBool ended ((item : Item) → ¬ IsLineOf item bytes) ((item : Item) (more : List ℕ) → ¬ IsLineOf item (bytes ++ more))
+pub none_in : (ended lacks : Bool) (bytes : List ℕ) → ((item : Item) → ¬ IsRedisLineOf item bytes) → (LacksRedisByte bytes → lacks ≡ true) → (ended ≡ false → lacks ≡ false)
+    → MatchBool ended ((item : Item) → ¬ IsRedisLineOf item bytes) ((item : Item) (more : List ℕ) → ¬ IsRedisLineOf item (bytes ++ more))
 none_in true lacks bytes none is whole = none
 none_in false lacks bytes none is whole = still_none bytes (λ l. true≢false (sym (is l) ∙ whole refl)) none

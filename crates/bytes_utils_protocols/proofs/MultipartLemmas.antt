@@ -9,13 +9,13 @@ use Rattle.std.specs.Str.Pattern.{FindsText, SplitsAroundMatch}
 use Rattle.bytes_utils_codec.specs.Frames.{TakesFrame}
 use Rattle.bytes_utils.specs.Occurrence.{Occurs, OccursAt}
 use Rattle.bytes_utils_codec.specs.Pushing.{IsPush}
-use Rattle.bytes_utils_codec.specs.Search.{NoneBegins, searched_all}
+use Rattle.bytes_utils_codec.specs.Search.{NoneBeginsInSearch, searched_all}
 use Rattle.bytes_utils_buf.specs.Packing.{Packing}
 use Rattle.bytes_utils_buf.specs.declared.refused.Refused.{Refused}
 use Rattle.bytes_utils_codec.proofs.FramesLemmas.{TakesFrame-more, TakesFrame-same}
-use Rattle.bytes_utils_codec.proofs.SearchLemmas.{NoneBegins-more}
+use Rattle.bytes_utils_codec.proofs.SearchLemmas.{NoneBeginsInSearch-more}
 use Rattle.bytes_utils.proofs.OccurrenceLemmas.{OccursAt-between, OccursAt-front, cut_whole}
-use Rattle.bytes_utils_protocols.specs.Multipart.{FewWaitInMultipart, IsIdle, Parting, appended, closed, multipart_line_end, multipart_dashes, multipart_head_end, PartBytes, part_bytes, IsMultipartHead, IsPart, TakesPart, IsPartDue, NoPart, ClosesMultipart, LacksNextInMultipart, held_in_sections, AreSectionsApart, sections_have_ended, multipart_quote, IsQuotedInMultipart, IsDisposition, NoDisposition, IsFirstDisposition, held_by, waiting_in, IsDivided, SameSections, AfterSearch}
+use Rattle.bytes_utils_protocols.specs.Multipart.{FewWaitInMultipart, IsMultipartIdle, MultipartReading, multipart_appended, multipart_closed, multipart_line_end, multipart_dashes, multipart_head_end, MultipartBytes, multipart_bytes, IsMultipartHead, IsMultipartPart, TakesMultipart, IsMultipartDue, NoMultipart, ClosesMultipart, LacksNextInMultipart, held_in_multipart_sections, AreMultipartSectionsApart, multipart_sections_have_ended, multipart_quote, IsQuotedInMultipart, IsMultipartDisposition, NoMultipartDisposition, IsFirstMultipartDisposition, held_by_multipart, waiting_in_multipart, IsMultipartDivided, SameMultipartSections, AfterMultipartSearch}
 use Rattle.bytes_utils_protocols.specs.declared.multipart.limits.Limits.{Limits}
 use Rattle.bytes_utils_protocols.specs.declared.multipart.sections.Sections.{Sections}
 use Rattle.bytes_utils_protocols.specs.declared.multipart.sections.Stage.{Stage}
@@ -50,36 +50,36 @@ one_head front a b (inr p) (inl q) = absurd (omega (arith, ap length (sym q.0 �
 one_head front a b (inr p) (inr q) = append_cancel_left multipart_line_end a b (sym p ∙ q)
 
 -- what is between two delimiters is one part, whatever the limits are
-pub IsPart-same : (limits other : Limits) (raw : List ℕ) (x y : PartBytes) → IsPart limits raw x → IsPart other raw y → x ≡ y
-IsPart-same limits other raw x y p q =
+pub IsMultipartPart-same : (limits other : Limits) (raw : List ℕ) (x y : MultipartBytes) → IsMultipartPart limits raw x → IsMultipartPart other raw y → x ≡ y
+IsMultipartPart-same limits other raw x y p q =
     let same = TakesFrame-same multipart_head_end raw p.front q.front x.body y.body p.cut q.cut in
     let head = one_head p.front x.head y.head p.head (subst (λ l. IsMultipartHead l y.head) (sym same.0) q.head) in
-    λ i. part_bytes (head i) (same.1 i)
+    λ i. multipart_bytes (head i) (same.1 i)
 
-part_size : (limits : Limits) (raw : List ℕ) (part : PartBytes) → IsPart limits raw part → length raw ≤ limits.head + limits.body
+part_size : (limits : Limits) (raw : List ℕ) (part : MultipartBytes) → IsMultipartPart limits raw part → length raw ≤ limits.head + limits.body
 part_size limits raw part is =
     omega (arith, ap length is.cut.bytes, length-append is.front (multipart_head_end ++ part.body), length-append multipart_head_end part.body, is.small, is.short)
 
 module _ (d : List ℕ) (limits : Limits) where
   -- the delimiter after a part has not come
-  pub no_part_yet : (bytes : List ℕ) → LacksNextInMultipart d bytes → NoPart d limits bytes
+  pub no_part_yet : (bytes : List ℕ) → LacksNextInMultipart d bytes → NoMultipart d limits bytes
   no_part_yet bytes lacks part rest takes = lacks takes.preamble takes.after takes.begins (length takes.raw, takes.ends.first.here)
 
-  pub long_preamble : (bytes : List ℕ) → (¬ Occurs d bytes) → limits.head + limits.body + length d < length bytes → (more : List ℕ) → NoPart d limits (bytes ++ more)
+  pub long_preamble : (bytes : List ℕ) → (¬ Occurs d bytes) → limits.head + limits.body + length d < length bytes → (more : List ℕ) → NoMultipart d limits (bytes ++ more)
   long_preamble bytes none long more part rest takes = omega (arith, long, takes.few, long_frame d bytes more takes.preamble takes.after none takes.begins)
 
   module _ (p w : List ℕ) (begins : TakesFrame d (p ++ (d ++ w)) p w) where
     -- what is before the first delimiter, and what is after it
-    around : (more : List ℕ) (part : PartBytes) (rest : List ℕ) (takes : TakesPart d limits ((p ++ (d ++ w)) ++ more) part rest) → (p ≡ takes.preamble) × (w ++ more ≡ takes.after)
+    around : (more : List ℕ) (part : MultipartBytes) (rest : List ℕ) (takes : TakesMultipart d limits ((p ++ (d ++ w)) ++ more) part rest) → (p ≡ takes.preamble) × (w ++ more ≡ takes.after)
     around more part rest takes =
         TakesFrame-same d ((p ++ (d ++ w)) ++ more) p takes.preamble (w ++ more) takes.after (TakesFrame-more d (p ++ (d ++ w)) p w more begins) takes.begins
 
     -- the preamble is too long
-    pub many_before : limits.head + limits.body < length p → (more : List ℕ) → NoPart d limits ((p ++ (d ++ w)) ++ more)
+    pub many_before : limits.head + limits.body < length p → (more : List ℕ) → NoMultipart d limits ((p ++ (d ++ w)) ++ more)
     many_before long more part rest takes = omega (arith, long, takes.few, ap length (around more part rest takes).0)
 
     -- what is before the next delimiter is too long
-    pub long_part : (¬ Occurs d w) → limits.head + limits.body + length d < length w → (more : List ℕ) → NoPart d limits ((p ++ (d ++ w)) ++ more)
+    pub long_part : (¬ Occurs d w) → limits.head + limits.body + length d < length w → (more : List ℕ) → NoMultipart d limits ((p ++ (d ++ w)) ++ more)
     long_part none long more part rest takes =
         let same = around more part rest takes in
         let ends = subst (λ l. TakesFrame d l takes.raw takes.next) (sym same.1) takes.ends in
@@ -87,7 +87,7 @@ module _ (d : List ℕ) (limits : Limits) where
 
   module _ (p f v : List ℕ) (begins : TakesFrame d (p ++ (d ++ (f ++ (d ++ v)))) p (f ++ (d ++ v))) (ends : TakesFrame d (f ++ (d ++ v)) f v) where
     -- what was found is a part
-    pub found_part : (part : PartBytes) → IsPart limits f part → length p ≤ limits.head + limits.body → TakesPart d limits (p ++ (d ++ (f ++ (d ++ v)))) part (d ++ v)
+    pub found_part : (part : MultipartBytes) → IsMultipartPart limits f part → length p ≤ limits.head + limits.body → TakesMultipart d limits (p ++ (d ++ (f ++ (d ++ v)))) part (d ++ v)
     found_part part is few = record {
       preamble = p;
       after = f ++ (d ++ v);
@@ -101,79 +101,79 @@ module _ (d : List ℕ) (limits : Limits) where
     }
 
     -- what was found is no part
-    pub no_found : ((part : PartBytes) → ¬ IsPart limits f part) → (more : List ℕ) → NoPart d limits ((p ++ (d ++ (f ++ (d ++ v)))) ++ more)
+    pub no_found : ((part : MultipartBytes) → ¬ IsMultipartPart limits f part) → (more : List ℕ) → NoMultipart d limits ((p ++ (d ++ (f ++ (d ++ v)))) ++ more)
     no_found none more part rest takes =
         let same = around p (f ++ (d ++ v)) begins more part rest takes in
         let next = subst (λ l. TakesFrame d l takes.raw takes.next) (sym same.1) takes.ends in
         let raw = TakesFrame-same d ((f ++ (d ++ v)) ++ more) f takes.raw (v ++ more) takes.next (TakesFrame-more d (f ++ (d ++ v)) f v more ends) next in
-        none part (subst (λ l. IsPart limits l part) (sym raw.0) takes.is)
+        none part (subst (λ l. IsMultipartPart limits l part) (sym raw.0) takes.is)
 
 -- ---- what is found
 
-module _ (s : Sections) (waiting : s.stage ≡ Waiting) (divided : IsDivided s) where
+module _ (s : Sections) (waiting : s.stage ≡ Waiting) (divided : IsMultipartDivided s) where
   -- neither the next delimiter nor the end
-  pub none_found : (new : Sections) → new ≡ record s { delimiter = searched_all s.delimiter (waiting_in s) } → (¬ Occurs s.delimiter.needle (waiting_in s))
-      → take 2 (waiting_in s) ≢ multipart_dashes → AfterSearch new.stage s new
+  pub none_found : (new : Sections) → new ≡ record s { delimiter = searched_all s.delimiter (waiting_in_multipart s) } → (¬ Occurs s.delimiter.needle (waiting_in_multipart s))
+      → take 2 (waiting_in_multipart s) ≢ multipart_dashes → AfterMultipartSearch new.stage s new
   none_found new is none other =
       let d = s.delimiter.needle in
       let p = s.preamble in
       let f = concat s.found.segments in
-      let w = waiting_in s in
-      let begins : TakesFrame d (p ++ (d ++ w)) p w = subst (λ stage. AreSectionsApart stage d p f w) waiting divided.0 in
-      let not_closed = subst (λ stage. ¬ ClosesMultipart d (held_in_sections stage d p f w)) (sym waiting) (not_closed d p w begins other) in
-      let lacks = subst (λ stage. LacksNextInMultipart d (held_in_sections stage d p f w)) (sym waiting) (lacks_next d p w begins none) in
+      let w = waiting_in_multipart s in
+      let begins : TakesFrame d (p ++ (d ++ w)) p w = subst (λ stage. AreMultipartSectionsApart stage d p f w) waiting divided.0 in
+      let not_closed = subst (λ stage. ¬ ClosesMultipart d (held_in_multipart_sections stage d p f w)) (sym waiting) (not_closed d p w begins other) in
+      let lacks = subst (λ stage. LacksNextInMultipart d (held_in_multipart_sections stage d p f w)) (sym waiting) (lacks_next d p w begins none) in
       let searched : Sections = record s { delimiter = searched_all s.delimiter w } in
-      subst (λ (l : Sections). AfterSearch l.stage s l) (sym is)
-      (subst (λ stage. AfterSearch stage s searched) (sym waiting) (record { delimiter = refl; ended = refl; held = refl }, none, not_closed, lacks))
+      subst (λ (l : Sections). AfterMultipartSearch l.stage s l) (sym is)
+      (subst (λ stage. AfterMultipartSearch stage s searched) (sym waiting) (record { delimiter = refl; ended = refl; held = refl }, none, not_closed, lacks))
 
-module _ (s : Sections) (is_found : s.stage ≡ Found) (divided : IsDivided s) where
+module _ (s : Sections) (is_found : s.stage ≡ Found) (divided : IsMultipartDivided s) where
   module _ (limits : Limits) where
     -- what was found is a part, and it is taken
-    pub takes_found : (part : PartBytes) (new : Sections) → IsPart limits (concat s.found.segments) part → length s.preamble ≤ limits.head + limits.body
-        → new.stage ≡ Waiting → new.delimiter ≡ s.delimiter → new.waiting ≡ s.waiting → new.preamble ≡ [] → TakesPart s.delimiter.needle limits (held_by s) part (held_by new)
+    pub takes_found : (part : MultipartBytes) (new : Sections) → IsMultipartPart limits (concat s.found.segments) part → length s.preamble ≤ limits.head + limits.body
+        → new.stage ≡ Waiting → new.delimiter ≡ s.delimiter → new.waiting ≡ s.waiting → new.preamble ≡ [] → TakesMultipart s.delimiter.needle limits (held_by_multipart s) part (held_by_multipart new)
     takes_found part new is few stage delimiter waiting preamble =
         let d = s.delimiter.needle in
         let p = s.preamble in
         let f = concat s.found.segments in
-        let v = waiting_in s in
-        let both : AreSectionsApart Found d p f v = subst (λ stage. AreSectionsApart stage d p f v) is_found divided.0 in
-        let left : held_by new ≡ d ++ v = rw (stage, delimiter, waiting, preamble) refl in
-        rw left (subst (λ stage. TakesPart d limits (held_in_sections stage d p f v) part (d ++ v)) (sym is_found) (found_part d limits p f v both.0 both.1 part is few))
+        let v = waiting_in_multipart s in
+        let both : AreMultipartSectionsApart Found d p f v = subst (λ stage. AreMultipartSectionsApart stage d p f v) is_found divided.0 in
+        let left : held_by_multipart new ≡ d ++ v = rw (stage, delimiter, waiting, preamble) refl in
+        rw left (subst (λ stage. TakesMultipart d limits (held_in_multipart_sections stage d p f v) part (d ++ v)) (sym is_found) (found_part d limits p f v both.0 both.1 part is few))
 
-    pub part_in_found : (part : PartBytes) → IsPart limits (concat s.found.segments) part → length s.preamble ≤ limits.head + limits.body
-        → (rest : List ℕ) × TakesPart s.delimiter.needle limits (held_by s) part rest
+    pub part_in_found : (part : MultipartBytes) → IsMultipartPart limits (concat s.found.segments) part → length s.preamble ≤ limits.head + limits.body
+        → (rest : List ℕ) × TakesMultipart s.delimiter.needle limits (held_by_multipart s) part rest
     part_in_found part is few =
         let d = s.delimiter.needle in
         let p = s.preamble in
         let f = concat s.found.segments in
-        let v = waiting_in s in
-        let both : AreSectionsApart Found d p f v = subst (λ stage. AreSectionsApart stage d p f v) is_found divided.0 in
-        (d ++ v, subst (λ stage. TakesPart d limits (held_in_sections stage d p f v) part (d ++ v)) (sym is_found) (found_part d limits p f v both.0 both.1 part is few))
+        let v = waiting_in_multipart s in
+        let both : AreMultipartSectionsApart Found d p f v = subst (λ stage. AreMultipartSectionsApart stage d p f v) is_found divided.0 in
+        (d ++ v, subst (λ stage. TakesMultipart d limits (held_in_multipart_sections stage d p f v) part (d ++ v)) (sym is_found) (found_part d limits p f v both.0 both.1 part is few))
 
     -- the delimiters before and after it have come
-    pub due_in_found : length s.preamble ≤ limits.head + limits.body → IsPartDue s.delimiter.needle limits (held_by s)
+    pub due_in_found : length s.preamble ≤ limits.head + limits.body → IsMultipartDue s.delimiter.needle limits (held_by_multipart s)
     due_in_found few =
         let d = s.delimiter.needle in
         let p = s.preamble in
         let f = concat s.found.segments in
-        let v = waiting_in s in
-        let both : AreSectionsApart Found d p f v = subst (λ stage. AreSectionsApart stage d p f v) is_found divided.0 in
-        subst (λ stage. IsPartDue d limits (held_in_sections stage d p f v)) (sym is_found)
+        let v = waiting_in_multipart s in
+        let both : AreMultipartSectionsApart Found d p f v = subst (λ stage. AreMultipartSectionsApart stage d p f v) is_found divided.0 in
+        subst (λ stage. IsMultipartDue d limits (held_in_multipart_sections stage d p f v)) (sym is_found)
         (record { preamble = p; after = f ++ (d ++ v); begins = both.0; raw = f; next = v; ends = both.1; few = few })
 
     -- what was found is no part
-    pub none_in_found : ((part : PartBytes) → ¬ IsPart limits (concat s.found.segments) part) → (more : List ℕ) → NoPart s.delimiter.needle limits (held_by s ++ more)
+    pub none_in_found : ((part : MultipartBytes) → ¬ IsMultipartPart limits (concat s.found.segments) part) → (more : List ℕ) → NoMultipart s.delimiter.needle limits (held_by_multipart s ++ more)
     none_in_found none more =
         let d = s.delimiter.needle in
         let p = s.preamble in
         let f = concat s.found.segments in
-        let v = waiting_in s in
-        let both : AreSectionsApart Found d p f v = subst (λ stage. AreSectionsApart stage d p f v) is_found divided.0 in
-        subst (λ stage. NoPart d limits (held_in_sections stage d p f v ++ more)) (sym is_found) (no_found d limits p f v both.0 both.1 none more)
+        let v = waiting_in_multipart s in
+        let both : AreMultipartSectionsApart Found d p f v = subst (λ stage. AreMultipartSectionsApart stage d p f v) is_found divided.0 in
+        subst (λ stage. NoMultipart d limits (held_in_multipart_sections stage d p f v ++ more)) (sym is_found) (no_found d limits p f v both.0 both.1 none more)
 
 -- ---- a piece is pushed
 
-apart_more : (stage : Stage) (d p f w piece : List ℕ) → sections_have_ended stage ≡ false → AreSectionsApart stage d p f w → AreSectionsApart stage d p f (w ++ piece)
+apart_more : (stage : Stage) (d p f w piece : List ℕ) → multipart_sections_have_ended stage ≡ false → AreMultipartSectionsApart stage d p f w → AreMultipartSectionsApart stage d p f (w ++ piece)
 apart_more Preamble d p f w piece on parts = parts
 apart_more Waiting d p f w piece on parts = apart d ((p ++ (d ++ w)) ++ piece) p (w ++ piece) (TakesFrame-more d (p ++ (d ++ w)) p w piece parts)
 apart_more Found d p f w piece on parts =
@@ -191,32 +191,32 @@ held_before Waiting d p f = p ++ d
 held_before Found d p f = (p ++ d) ++ (f ++ d)
 held_before Ended d p f = []
 
-pub held_apart : (stage : Stage) (d p f w : List ℕ) → sections_have_ended stage ≡ false → held_in_sections stage d p f w ≡ held_before stage d p f ++ w
+pub held_apart : (stage : Stage) (d p f w : List ℕ) → multipart_sections_have_ended stage ≡ false → held_in_multipart_sections stage d p f w ≡ held_before stage d p f ++ w
 unfolding held_before
 held_apart Preamble d p f w on = refl
 held_apart Waiting d p f w on = sym (append_assoc p d w)
 held_apart Found d p f w on = sym (append_assoc p d (f ++ (d ++ w))) ∙ ap (λ l. (p ++ d) ++ l) (sym (append_assoc f d w)) ∙ sym (append_assoc (p ++ d) (f ++ d) w)
 held_apart Ended d p f w on = cc
 
-module _ (s : Sections) (waiting : Packing) (piece : List ℕ) (held : concat waiting.held.segments ≡ waiting_in s ++ piece) where
-  pub divided_more : sections_have_ended s.stage ≡ false → IsDivided s → IsDivided (record s { waiting = waiting })
+module _ (s : Sections) (waiting : Packing) (piece : List ℕ) (held : concat waiting.held.segments ≡ waiting_in_multipart s ++ piece) where
+  pub divided_more : multipart_sections_have_ended s.stage ≡ false → IsMultipartDivided s → IsMultipartDivided (record s { waiting = waiting })
   divided_more on parts =
       let d = s.delimiter.needle in
       let p = s.preamble in
       let f = concat s.found.segments in
-      let w = waiting_in s in (
-        subst (AreSectionsApart s.stage d p f) (sym held) (apart_more s.stage d p f w piece on parts.0),
-        subst (λ l. NoneBegins d l s.delimiter.searched) (sym held) (NoneBegins-more d w piece s.delimiter.searched parts.1),
+      let w = waiting_in_multipart s in (
+        subst (AreMultipartSectionsApart s.stage d p f) (sym held) (apart_more s.stage d p f w piece on parts.0),
+        subst (λ l. NoneBeginsInSearch d l s.delimiter.searched) (sym held) (NoneBeginsInSearch-more d w piece s.delimiter.searched parts.1),
       )
 
-  pub held_more : sections_have_ended s.stage ≡ false → held_by (record s { waiting = waiting }) ≡ held_by s ++ piece
+  pub held_more : multipart_sections_have_ended s.stage ≡ false → held_by_multipart (record s { waiting = waiting }) ≡ held_by_multipart s ++ piece
   held_more on =
       let d = s.delimiter.needle in
       let p = s.preamble in
       let f = concat s.found.segments in
-      let w = waiting_in s in
+      let w = waiting_in_multipart s in
       let before = held_before s.stage d p f in
-      ap (held_in_sections s.stage d p f) held ∙ held_apart s.stage d p f (w ++ piece) on ∙ sym (append_assoc before w piece)
+      ap (held_in_multipart_sections s.stage d p f) held ∙ held_apart s.stage d p f (w ++ piece) on ∙ sym (append_assoc before w piece)
       ∙ ap (λ l. l ++ piece) (sym (held_apart s.stage d p f w on))
 
 -- what a push says of a part of the state, and of all of it
@@ -225,42 +225,42 @@ push_of_all held piece (Ok u) push all same = record { ok = all push.ok; err = t
 push_of_all held piece (Err e) push all same = record { ok = tt; err = same push.err; back = push.back; too_long = push.too_long; empty = push.empty }
 
 -- what clauses see
-abbrev seen : Limits → Sections → Parting
-seen limits s = record { delimiter = s.delimiter.needle; limits = limits; ended = sections_have_ended s.stage; held = held_by s }
+abbrev seen : Limits → Sections → MultipartReading
+seen limits s = record { delimiter = s.delimiter.needle; limits = limits; ended = multipart_sections_have_ended s.stage; held = held_by_multipart s }
 
 module _ (s new : Sections) (piece : List ℕ) (others : new ≡ record s { waiting = new.waiting }) where
-  pub still_divided : {E : Type 0} (result : Result (Unit {0}) E) → OnOk result (waiting_in new ≡ waiting_in s ++ piece) → OnErr result (new ≡ s) → sections_have_ended s.stage ≡ false
-      → IsDivided s → IsDivided new
-  still_divided (Ok u) held unchanged on parts = subst IsDivided (sym others) (divided_more s new.waiting piece held on parts)
-  still_divided (Err e) held unchanged on parts = subst IsDivided (sym unchanged) parts
+  pub still_divided : {E : Type 0} (result : Result (Unit {0}) E) → OnOk result (waiting_in_multipart new ≡ waiting_in_multipart s ++ piece) → OnErr result (new ≡ s) → multipart_sections_have_ended s.stage ≡ false
+      → IsMultipartDivided s → IsMultipartDivided new
+  still_divided (Ok u) held unchanged on parts = subst IsMultipartDivided (sym others) (divided_more s new.waiting piece held on parts)
+  still_divided (Err e) held unchanged on parts = subst IsMultipartDivided (sym unchanged) parts
 
-  pub seen_more : (limits : Limits) → waiting_in new ≡ waiting_in s ++ piece → sections_have_ended s.stage ≡ false → seen limits new ≡ appended (seen limits s) piece
+  pub seen_more : (limits : Limits) → waiting_in_multipart new ≡ waiting_in_multipart s ++ piece → multipart_sections_have_ended s.stage ≡ false → seen limits new ≡ multipart_appended (seen limits s) piece
   seen_more limits held on =
       let more = held_more s new.waiting piece held on in
       ap (seen limits) others ∙ (rw on (λ i. record { delimiter = s.delimiter.needle; limits = limits; ended = false; held = more i }))
 
 -- the bytes that wait are the last ones that are held
-pub waiting_last : (s : Sections) → sections_have_ended s.stage ≡ false → (front : List ℕ) × (held_by s ≡ front ++ (waiting_in s))
+pub waiting_last : (s : Sections) → multipart_sections_have_ended s.stage ≡ false → (front : List ℕ) × (held_by_multipart s ≡ front ++ (waiting_in_multipart s))
 waiting_last s on = (
   held_before s.stage s.delimiter.needle s.preamble (concat s.found.segments),
-  held_apart s.stage s.delimiter.needle s.preamble (concat s.found.segments) (waiting_in s) on,
+  held_apart s.stage s.delimiter.needle s.preamble (concat s.found.segments) (waiting_in_multipart s) on,
 )
 
 module _ (s new : Sections) (limits : Limits) (piece : List ℕ) (result : Result (Unit {0}) (Refused (List ℕ))) (others : new ≡ record s { waiting = new.waiting })
-    (push : IsPush (waiting_in s) piece result (waiting_in new ≡ waiting_in s ++ piece) (new ≡ s)) where
-  pub is_pushed : sections_have_ended s.stage ≡ false → (front : List ℕ) × (waiting : List ℕ) × (held_by s ≡ front ++ waiting)
-      × IsPush waiting piece result (seen limits new ≡ appended (seen limits s) piece) (seen limits new ≡ seen limits s)
+    (push : IsPush (waiting_in_multipart s) piece result (waiting_in_multipart new ≡ waiting_in_multipart s ++ piece) (new ≡ s)) where
+  pub is_pushed : multipart_sections_have_ended s.stage ≡ false → (front : List ℕ) × (waiting : List ℕ) × (held_by_multipart s ≡ front ++ waiting)
+      × IsPush waiting piece result (seen limits new ≡ multipart_appended (seen limits s) piece) (seen limits new ≡ seen limits s)
   is_pushed on = let last = waiting_last s on in (
     last.0,
-    waiting_in s,
+    waiting_in_multipart s,
     last.1,
-    push_of_all (waiting_in s) piece result push (λ held. seen_more s new piece others limits held on) (ap (seen limits)),
+    push_of_all (waiting_in_multipart s) piece result push (λ held. seen_more s new piece others limits held on) (ap (seen limits)),
   )
 
 -- ---- without a part
 
 -- no part begins as a close delimiter goes on
-no_dashes : (limits : Limits) (raw : List ℕ) (part : PartBytes) (after : List ℕ) → IsPart limits raw part → raw ++ after ≢ multipart_dashes ++ drop 2 (raw ++ after)
+no_dashes : (limits : Limits) (raw : List ℕ) (part : MultipartBytes) (after : List ℕ) → IsMultipartPart limits raw part → raw ++ after ≢ multipart_dashes ++ drop 2 (raw ++ after)
 no_dashes limits raw part after is same = not_first is.front is.head (sym (ap (λ l. l ++ after) is.cut.bytes) ∙ same)
   where
     follows : List ℕ
@@ -275,7 +275,7 @@ no_dashes limits raw part after is same = not_first is.front is.head (sym (ap (�
         dash front (inr p) = omega (arith, ap (λ l. get_or l 0 0) p)
 
 module _ (d : List ℕ) (limits : Limits) where
-  pub none_in_nothing : NoPart d limits []
+  pub none_in_nothing : NoMultipart d limits []
   none_in_nothing part rest takes =
       omega (
         arith,
@@ -289,17 +289,17 @@ module _ (d : List ℕ) (limits : Limits) where
         length-append multipart_head_end part.body,
       )
 
-  pub none_closed : (bytes : List ℕ) → ClosesMultipart d bytes → NoPart d limits bytes
+  pub none_closed : (bytes : List ℕ) → ClosesMultipart d bytes → NoMultipart d limits bytes
   none_closed bytes closing part rest takes =
       let same = TakesFrame-same d bytes closing.0 takes.preamble (multipart_dashes ++ closing.1) takes.after closing.2 takes.begins in
       let whole : takes.raw ++ (d ++ takes.next) ≡ multipart_dashes ++ closing.1 = sym takes.ends.bytes ∙ sym same.1 in
       no_dashes limits takes.raw part (d ++ takes.next) takes.is (whole ∙ ap (λ l. multipart_dashes ++ l) (sym (ap (drop 2) whole)))
 
 -- the bytes that are held now are those from before
-pub none_of_same : (old new : Sections) → SameSections old new → (limits : Limits) (more : List ℕ) → NoPart new.delimiter.needle limits (held_by new ++ more)
-    → NoPart old.delimiter.needle limits (held_by old ++ more)
+pub none_of_same : (old new : Sections) → SameMultipartSections old new → (limits : Limits) (more : List ℕ) → NoMultipart new.delimiter.needle limits (held_by_multipart new ++ more)
+    → NoMultipart old.delimiter.needle limits (held_by_multipart old ++ more)
 none_of_same old new same limits more none =
-    subst (λ l. NoPart l limits (held_by old ++ more)) same.delimiter (subst (λ l. NoPart new.delimiter.needle limits (l ++ more)) same.held none)
+    subst (λ l. NoMultipart l limits (held_by_multipart old ++ more)) same.delimiter (subst (λ l. NoMultipart new.delimiter.needle limits (l ++ more)) same.held none)
 
 -- ---- few bytes wait
 
@@ -330,72 +330,72 @@ module _ (limits : Limits) (d : List ℕ) where
 
 module _ (limits : Limits) (old s : Sections) where
   -- if it found no part, there is none
-  pub none_after : (stage : Stage) → AfterSearch stage old s → stage ≢ Found → NoPart old.delimiter.needle limits (held_by old)
-  none_after Preamble after not_found = no_part_yet old.delimiter.needle limits (held_by old) after.3
-  none_after Waiting after not_found = no_part_yet old.delimiter.needle limits (held_by old) after.3
+  pub none_after : (stage : Stage) → AfterMultipartSearch stage old s → stage ≢ Found → NoMultipart old.delimiter.needle limits (held_by_multipart old)
+  none_after Preamble after not_found = no_part_yet old.delimiter.needle limits (held_by_multipart old) after.3
+  none_after Waiting after not_found = no_part_yet old.delimiter.needle limits (held_by_multipart old) after.3
   none_after Found after not_found = absurd (not_found refl)
   none_after Ended (inl before) not_found =
-      subst (λ stage. NoPart old.delimiter.needle limits (held_in_sections stage old.delimiter.needle old.preamble (concat old.found.segments) (waiting_in old))) (sym before)
+      subst (λ stage. NoMultipart old.delimiter.needle limits (held_in_multipart_sections stage old.delimiter.needle old.preamble (concat old.found.segments) (waiting_in_multipart old))) (sym before)
       (none_in_nothing old.delimiter.needle limits)
-  none_after Ended (inr closing) not_found = none_closed old.delimiter.needle limits (held_by old) closing
+  none_after Ended (inr closing) not_found = none_closed old.delimiter.needle limits (held_by_multipart old) closing
 
   abbrev Kept : Type 0
-  Kept = (seen limits s ≡ seen limits old) × (¬ ClosesMultipart old.delimiter.needle (held_by old)) × LacksNextInMultipart old.delimiter.needle (held_by old)
+  Kept = (seen limits s ≡ seen limits old) × (¬ ClosesMultipart old.delimiter.needle (held_by_multipart old)) × LacksNextInMultipart old.delimiter.needle (held_by_multipart old)
 
   abbrev End : Type 0
-  End = (seen limits s ≡ closed (seen limits old)) × ((sections_have_ended old.stage ≡ true) ⊎ ClosesMultipart old.delimiter.needle (held_by old))
+  End = (seen limits s ≡ multipart_closed (seen limits old)) × ((multipart_sections_have_ended old.stage ≡ true) ⊎ ClosesMultipart old.delimiter.needle (held_by_multipart old))
 
-  idle_kept : sections_have_ended s.stage ≡ false → SameSections old s → (¬ ClosesMultipart old.delimiter.needle (held_by old)) → LacksNextInMultipart old.delimiter.needle (held_by old)
-      → IsIdle (seen limits old) (seen limits s)
+  idle_kept : multipart_sections_have_ended s.stage ≡ false → SameMultipartSections old s → (¬ ClosesMultipart old.delimiter.needle (held_by_multipart old)) → LacksNextInMultipart old.delimiter.needle (held_by_multipart old)
+      → IsMultipartIdle (seen limits old) (seen limits s)
   idle_kept on same still_open lacks =
       let unchanged : seen limits s ≡ seen limits old =
       λ i. record { delimiter = same.delimiter i; limits = limits; ended = same.ended i; held = same.held i } in
       subst (λ b. MatchBool b End Kept) (sym on) (unchanged, still_open, lacks)
 
   -- then it changed nothing, or the close delimiter was read
-  pub idle_after : (stage : Stage) → s.stage ≡ stage → s.delimiter.needle ≡ old.delimiter.needle → AfterSearch stage old s → stage ≢ Found → IsIdle (seen limits old) (seen limits s)
-  idle_after Preamble is delimiter after not_found = idle_kept (ap sections_have_ended is) after.0 after.2 after.3
-  idle_after Waiting is delimiter after not_found = idle_kept (ap sections_have_ended is) after.0 after.2 after.3
+  pub idle_after : (stage : Stage) → s.stage ≡ stage → s.delimiter.needle ≡ old.delimiter.needle → AfterMultipartSearch stage old s → stage ≢ Found → IsMultipartIdle (seen limits old) (seen limits s)
+  idle_after Preamble is delimiter after not_found = idle_kept (ap multipart_sections_have_ended is) after.0 after.2 after.3
+  idle_after Waiting is delimiter after not_found = idle_kept (ap multipart_sections_have_ended is) after.0 after.2 after.3
   idle_after Found is delimiter after not_found = absurd (not_found refl)
   idle_after Ended is delimiter after not_found =
-      let nothing : held_by s ≡ [] = ap (λ stage. held_in_sections stage s.delimiter.needle s.preamble (concat s.found.segments) (waiting_in s)) is in
-      let ended : seen limits s ≡ closed (seen limits old) =
-      λ i. record { delimiter = delimiter i; limits = limits; ended = ap sections_have_ended is i; held = nothing i } in
-      let why : (sections_have_ended old.stage ≡ true) ⊎ ClosesMultipart old.delimiter.needle (held_by old) = elim after [ inl before ↦ inl (ap sections_have_ended before) | inr closing ↦ inr closing ] in
-      subst (λ b. MatchBool b End Kept) (sym (ap sections_have_ended is)) (ended, why)
+      let nothing : held_by_multipart s ≡ [] = ap (λ stage. held_in_multipart_sections stage s.delimiter.needle s.preamble (concat s.found.segments) (waiting_in_multipart s)) is in
+      let ended : seen limits s ≡ multipart_closed (seen limits old) =
+      λ i. record { delimiter = delimiter i; limits = limits; ended = ap multipart_sections_have_ended is i; held = nothing i } in
+      let why : (multipart_sections_have_ended old.stage ≡ true) ⊎ ClosesMultipart old.delimiter.needle (held_by_multipart old) = elim after [ inl before ↦ inl (ap multipart_sections_have_ended before) | inr closing ↦ inr closing ] in
+      subst (λ b. MatchBool b End Kept) (sym (ap multipart_sections_have_ended is)) (ended, why)
 
   -- few bytes wait then, if they are within the limits
-  module _ (short : length s.preamble ≤ limits.head + limits.body) (few : length (waiting_in s) ≤ limits.head + limits.body + length s.delimiter.needle) where
-    pub few_wait : (stage : Stage) → AfterSearch stage old s → stage ≢ Found → AreSectionsApart stage s.delimiter.needle s.preamble (concat s.found.segments) (waiting_in s)
-        → FewWaitInMultipart s.delimiter.needle limits (held_in_sections stage s.delimiter.needle s.preamble (concat s.found.segments) (waiting_in s))
+  module _ (short : length s.preamble ≤ limits.head + limits.body) (few : length (waiting_in_multipart s) ≤ limits.head + limits.body + length s.delimiter.needle) where
+    pub few_wait : (stage : Stage) → AfterMultipartSearch stage old s → stage ≢ Found → AreMultipartSectionsApart stage s.delimiter.needle s.preamble (concat s.found.segments) (waiting_in_multipart s)
+        → FewWaitInMultipart s.delimiter.needle limits (held_in_multipart_sections stage s.delimiter.needle s.preamble (concat s.found.segments) (waiting_in_multipart s))
     few_wait Preamble after not_found parts =
-        few_before limits s.delimiter.needle (waiting_in s) (subst (λ d. ¬ Occurs d (waiting_in s)) (sym after.0.delimiter) after.1) few
-    few_wait Waiting after not_found parts = few_after limits s.delimiter.needle s.preamble (waiting_in s) parts short few
+        few_before limits s.delimiter.needle (waiting_in_multipart s) (subst (λ d. ¬ Occurs d (waiting_in_multipart s)) (sym after.0.delimiter) after.1) few
+    few_wait Waiting after not_found parts = few_after limits s.delimiter.needle s.preamble (waiting_in_multipart s) parts short few
     few_wait Found after not_found parts = absurd (not_found refl)
     few_wait Ended after not_found parts = few_in_nothing limits s.delimiter.needle
 
   -- if they are not, no part comes
   module _ (more : List ℕ) where
-    same_none : (stage : Stage) → s.stage ≡ stage → SameSections old s
-        → NoPart s.delimiter.needle limits (held_in_sections stage s.delimiter.needle s.preamble (concat s.found.segments) (waiting_in s) ++ more) → NoPart old.delimiter.needle limits (held_by old ++ more)
+    same_none : (stage : Stage) → s.stage ≡ stage → SameMultipartSections old s
+        → NoMultipart s.delimiter.needle limits (held_in_multipart_sections stage s.delimiter.needle s.preamble (concat s.found.segments) (waiting_in_multipart s) ++ more) → NoMultipart old.delimiter.needle limits (held_by_multipart old ++ more)
     same_none stage is same none =
         none_of_same old s same limits more
-        (subst (λ stage. NoPart s.delimiter.needle limits (held_in_sections stage s.delimiter.needle s.preamble (concat s.found.segments) (waiting_in s) ++ more)) (sym is) none)
+        (subst (λ stage. NoMultipart s.delimiter.needle limits (held_in_multipart_sections stage s.delimiter.needle s.preamble (concat s.found.segments) (waiting_in_multipart s) ++ more)) (sym is) none)
 
-    pub over_limits : (stage : Stage) → s.stage ≡ stage → AfterSearch stage old s → AreSectionsApart stage s.delimiter.needle s.preamble (concat s.found.segments) (waiting_in s)
-        → ((limits.head + limits.body < length s.preamble) ⊎ ((s.stage ≢ Found) × (limits.head + limits.body + length s.delimiter.needle < length (waiting_in s))))
-        → NoPart old.delimiter.needle limits (held_by old ++ more)
+    pub over_limits : (stage : Stage) → s.stage ≡ stage → AfterMultipartSearch stage old s → AreMultipartSectionsApart stage s.delimiter.needle s.preamble (concat s.found.segments) (waiting_in_multipart s)
+        → ((limits.head + limits.body < length s.preamble) ⊎ ((s.stage ≢ Found) × (limits.head + limits.body + length s.delimiter.needle < length (waiting_in_multipart s))))
+        → NoMultipart old.delimiter.needle limits (held_by_multipart old ++ more)
     over_limits Preamble is after parts (inl much) = absurd (omega (arith, much, ap length parts))
     over_limits Preamble is after parts (inr waits) =
         same_none Preamble is after.0
-        (long_preamble s.delimiter.needle limits (waiting_in s) (subst (λ d. ¬ Occurs d (waiting_in s)) (sym after.0.delimiter) after.1) waits.1 more)
-    over_limits Waiting is after parts (inl much) = same_none Waiting is after.0 (many_before s.delimiter.needle limits s.preamble (waiting_in s) parts much more)
+        (long_preamble s.delimiter.needle limits (waiting_in_multipart s) (subst (λ d. ¬ Occurs d (waiting_in_multipart s)) (sym after.0.delimiter) after.1) waits.1 more)
+    over_limits Waiting is after parts (inl much) = same_none Waiting is after.0 (many_before s.delimiter.needle limits s.preamble (waiting_in_multipart s) parts much more)
     over_limits Waiting is after parts (inr waits) =
         same_none Waiting is after.0
-        (long_part s.delimiter.needle limits s.preamble (waiting_in s) parts (subst (λ d. ¬ Occurs d (waiting_in s)) (sym after.0.delimiter) after.1) waits.1 more)
+        (long_part s.delimiter.needle limits s.preamble (waiting_in_multipart s) parts (subst (λ d. ¬ Occurs d (waiting_in_multipart s)) (sym after.0.delimiter) after.1) waits.1 more)
     over_limits Found is after parts (inl much) =
         same_none Found is after
-        (many_before s.delimiter.needle limits s.preamble (concat s.found.segments ++ (s.delimiter.needle ++ (waiting_in s))) parts.0 much more)
+        (many_before s.delimiter.needle limits s.preamble (concat s.found.segments ++ (s.delimiter.needle ++ (waiting_in_multipart s))) parts.0 much more)
     over_limits Found is after parts (inr waits) = absurd (waits.0 is)
     over_limits Ended is after parts (inl much) = absurd (omega (arith, much, ap length parts.0))
     over_limits Ended is after parts (inr waits) = absurd (omega (arith, waits.1, ap length parts.1))
@@ -431,18 +431,18 @@ module _ (key text before after : List ℕ) (begins : TakesFrame key text before
       none (length other, subst (λ l. OccursAt multipart_quote l (length other)) (sym same.1) is.ends.first.here)
 
 -- the lines before these are no such header, and this one is
-pub first_of : (all before : List (List ℕ)) (line : List ℕ) (others : List (List ℕ)) (value : List ℕ) → all ≡ before ++ line ∷ others → All NoDisposition before → IsDisposition line value
-    → IsFirstDisposition all value
+pub first_of : (all before : List (List ℕ)) (line : List ℕ) (others : List (List ℕ)) (value : List ℕ) → all ≡ before ++ line ∷ others → All NoMultipartDisposition before → IsMultipartDisposition line value
+    → IsFirstMultipartDisposition all value
 first_of all before line others value parts none is = record { before = before; line = line; others = others; parts = parts; none = none; is = is }
 
 -- ---- what is in a raw part
 
 -- no head ends
-pub no_head_end : (limits : Limits) (raw : List ℕ) (part : PartBytes) → (¬ Occurs multipart_head_end raw) → ¬ IsPart limits raw part
+pub no_head_end : (limits : Limits) (raw : List ℕ) (part : MultipartBytes) → (¬ Occurs multipart_head_end raw) → ¬ IsMultipartPart limits raw part
 no_head_end limits raw part none is = none (length is.front, is.cut.first.here)
 
 -- what is before the end of the head is no head
-pub no_head : (limits : Limits) (raw front body : List ℕ) (part : PartBytes) → TakesFrame multipart_head_end raw front body → ((head : List ℕ) → ¬ IsMultipartHead front head) → ¬ IsPart limits raw part
+pub no_head : (limits : Limits) (raw front body : List ℕ) (part : MultipartBytes) → TakesFrame multipart_head_end raw front body → ((head : List ℕ) → ¬ IsMultipartHead front head) → ¬ IsMultipartPart limits raw part
 no_head limits raw front body part cut none is =
     let same = TakesFrame-same multipart_head_end raw front is.front body part.body cut is.cut in
     none part.head (subst (λ l. IsMultipartHead l part.head) (sym same.0) is.head)
@@ -450,7 +450,7 @@ no_head limits raw front body part cut none is =
 -- a head that ends within the limits, and a body within them
 pub is_part : (limits : Limits) (raw : List ℕ) (len : ℕ) (head : List ℕ) → TakesFrame multipart_head_end raw (take len raw) (drop (len + length multipart_head_end) raw) → IsMultipartHead (take len raw) head
     → len + length multipart_head_end ≤ length raw → len + length multipart_head_end ≤ limits.head → length raw - (len + length multipart_head_end) ≤ limits.body
-    → IsPart limits raw (part_bytes head (drop (len + length multipart_head_end) raw))
+    → IsMultipartPart limits raw (multipart_bytes head (drop (len + length multipart_head_end) raw))
 is_part limits raw len head cut is within small short = record {
   front = take len raw;
   cut = cut;

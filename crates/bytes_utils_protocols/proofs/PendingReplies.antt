@@ -13,9 +13,9 @@ use Rattle.bytes_utils_codec.specs.Frames.{TakesFrame}
 use Rattle.bytes_utils_codec.specs.StreamRuns.{AreFirstOfRun}
 use Rattle.bytes_utils_codec.proofs.FramesLemmas.{TakesFrame-more}
 use Rattle.bytes_utils_codec.proofs.StreamRunsLemmas.{AreFirstOfRun-more}
-use Rattle.bytes_utils_protocols.specs.Redis.{redis_line_end, BeginsRedisBody, HasNoRedisBody, IsLineOf, IsRedisTextLine, TakesItem, TakesReply, LeaveItemsDue, NoItem, items_in}
-use Rattle.bytes_utils_protocols.specs.RedisLine.{IsReadAs}
-use Rattle.bytes_utils_protocols.specs.RedisPending.{AwaitsPendingBody, AwaitsPendingItem, HasPendingItem, IsPendingNext, IsNoPendingItem, IsPending, held_by, unread_by}
+use Rattle.bytes_utils_protocols.specs.Redis.{redis_line_end, BeginsRedisBody, HasNoRedisBody, IsRedisLineOf, IsRedisTextLine, TakesRedisItem, TakesRedisReply, LeaveRedisItemsDue, NoRedisItem, redis_items_in}
+use Rattle.bytes_utils_protocols.specs.RedisLine.{IsRedisLineReadAs}
+use Rattle.bytes_utils_protocols.specs.RedisPending.{AwaitsPendingBody, AwaitsPendingItem, HasPendingItem, IsPendingNext, IsNoPendingItem, IsPending, held_by_pending, unread_by_pending}
 use Rattle.bytes_utils_protocols.specs.declared.redis.item.Item.{Item}
 use Rattle.bytes_utils_protocols.specs.declared.redis.item.Item.TheVariants.{Simple, Error}
 use Rattle.bytes_utils_protocols.specs.declared.redis.limits.Limits.{Limits}
@@ -24,14 +24,14 @@ use Rattle.bytes_utils_protocols.specs.declared.redis.limits.ReplyError.TheVaria
 use Rattle.bytes_utils_protocols.specs.declared.redis.pending.Next.{Next}
 use Rattle.bytes_utils_protocols.specs.declared.redis.pending.Next.TheVariants.{InLine, InBody}
 use Rattle.bytes_utils_protocols.specs.declared.redis.pending.Pending.{Pending}
-use Rattle.bytes_utils_protocols.proofs.RedisLemmas.{TakesItem-more, no_body, read_one, whole_reply}
+use Rattle.bytes_utils_protocols.proofs.RedisLemmas.{TakesRedisItem-more, no_body, read_one, whole_reply}
 use Rattle.bytes_utils_protocols.proofs.ReplyBeginnings.{begins_bulk}
 
 -- ---- more bytes come
 
 still_next : (limits : Limits) (u piece : List ℕ) (next : Next) → IsPendingNext limits u next → IsPendingNext limits (u ++ piece) next
 still_next limits u piece (InLine begun) is =
-    (omega (arith, is.0, length-append u piece), subst (IsReadAs begun.line) (sym (take-append-le begun.len u piece is.0)) is.1)
+    (omega (arith, is.0, length-append u piece), subst (IsRedisLineReadAs begun.line) (sym (take-append-le begun.len u piece is.0)) is.1)
 still_next limits u piece (InBody start len) is = record {
   line = is.line;
   framed = subst (TakesFrame redis_line_end (u ++ piece) is.line) (sym (drop-append-le start u piece is.within)) (TakesFrame-more redis_line_end u is.line (drop start u) piece is.framed);
@@ -42,30 +42,30 @@ still_next limits u piece (InBody start len) is = record {
 }
 
 module _ (limits : Limits) (p : Pending) (pieces : Packing) (piece : List ℕ) where
-  pushed : concat pieces.held.segments ≡ unread_by p ++ piece → length (held_by p) + length piece < 2 ^ 64 → IsPending limits p → IsPending limits (record p { pieces = pieces })
+  pushed : concat pieces.held.segments ≡ unread_by_pending p ++ piece → length (held_by_pending p) + length piece < 2 ^ 64 → IsPending limits p → IsPending limits (record p { pieces = pieces })
   pushed more fits is =
-      let all : p.passed ++ concat pieces.held.segments ≡ held_by p ++ piece = ap (λ l. p.passed ++ l) more ∙ sym (append_assoc p.passed (unread_by p) piece) in
+      let all : p.passed ++ concat pieces.held.segments ≡ held_by_pending p ++ piece = ap (λ l. p.passed ++ l) more ∙ sym (append_assoc p.passed (unread_by_pending p) piece) in
       record {
-        are = subst (λ l. AreFirstOfRun (TakesItem limits) l p.items.items (concat pieces.held.segments)) (sym all)
-            (subst (λ l. AreFirstOfRun (TakesItem limits) (held_by p ++ piece) p.items.items l) (sym more)
-            (AreFirstOfRun-more (λ l x. l ++ x) (TakesItem limits) (TakesItem-more limits) (held_by p) p.items.items (unread_by p) piece is.are));
+        are = subst (λ l. AreFirstOfRun (TakesRedisItem limits) l p.items.items (concat pieces.held.segments)) (sym all)
+            (subst (λ l. AreFirstOfRun (TakesRedisItem limits) (held_by_pending p ++ piece) p.items.items l) (sym more)
+            (AreFirstOfRun-more (λ l x. l ++ x) (TakesRedisItem limits) (TakesRedisItem-more limits) (held_by_pending p) p.items.items (unread_by_pending p) piece is.are));
         due = is.due;
         within = is.within;
-        next = subst (λ l. IsPendingNext limits l p.next) (sym more) (still_next limits (unread_by p) piece p.next is.next);
-        fits = omega (arith, fits, ap length all, length-append (held_by p) piece);
+        next = subst (λ l. IsPendingNext limits l p.next) (sym more) (still_next limits (unread_by_pending p) piece p.next is.next);
+        fits = omega (arith, fits, ap length all, length-append (held_by_pending p) piece);
       }
 
   -- after a push, or a refused one
-  pub still_pending : {U E : Type 0} → (result : Result U E) → OnOk result (concat pieces.held.segments ≡ unread_by p ++ piece) → OnErr result (pieces ≡ p.pieces)
-      → length (held_by p) + length piece < 2 ^ 64 → IsPending limits p → IsPending limits (record p { pieces = pieces })
+  pub still_pending : {U E : Type 0} → (result : Result U E) → OnOk result (concat pieces.held.segments ≡ unread_by_pending p ++ piece) → OnErr result (pieces ≡ p.pieces)
+      → length (held_by_pending p) + length piece < 2 ^ 64 → IsPending limits p → IsPending limits (record p { pieces = pieces })
   still_pending (Ok u) more same fits is = pushed more fits is
   still_pending (Err e) more same fits is = subst (λ held. IsPending limits (record p { pieces = held })) (sym same) is
 
 -- the same items, in whatever room
 pub same_items : (limits : Limits) (p : Pending) (items : Vec Item) → items.items ≡ p.items.items → IsPending limits p → IsPending limits (record p { items = items })
 same_items limits p items same is = record {
-  are = subst (λ l. AreFirstOfRun (TakesItem limits) (held_by p) l (unread_by p)) (sym same) is.are;
-  due = subst (λ l. LeaveItemsDue 1 l p.due) (sym same) is.due;
+  are = subst (λ l. AreFirstOfRun (TakesRedisItem limits) (held_by_pending p) l (unread_by_pending p)) (sym same) is.are;
+  due = subst (λ l. LeaveRedisItemsDue 1 l p.due) (sym same) is.due;
   within = λ some. omega (arith, is.within some, ap length same);
   next = is.next;
   fits = is.fits;
@@ -73,12 +73,12 @@ same_items limits p items same is = record {
 
 -- ---- nothing was read
 
-pub nothing_read : (limits : Limits) (p : Pending) → p.passed ≡ [] → p.items.items ≡ [] → p.due ≡ 1 → IsPendingNext limits (unread_by p) p.next → length (unread_by p) < 2 ^ 64 → IsPending limits p
+pub nothing_read : (limits : Limits) (p : Pending) → p.passed ≡ [] → p.items.items ≡ [] → p.due ≡ 1 → IsPendingNext limits (unread_by_pending p) p.next → length (unread_by_pending p) < 2 ^ 64 → IsPending limits p
 nothing_read limits p passed items due next fits =
-    let all : held_by p ≡ unread_by p = ap (λ l. l ++ unread_by p) passed in
+    let all : held_by_pending p ≡ unread_by_pending p = ap (λ l. l ++ unread_by_pending p) passed in
     record {
-      are = subst (λ l. AreFirstOfRun (TakesItem limits) (held_by p) l (unread_by p)) (sym items) all;
-      due = subst (λ l. LeaveItemsDue 1 l p.due) (sym items) (sym due);
+      are = subst (λ l. AreFirstOfRun (TakesRedisItem limits) (held_by_pending p) l (unread_by_pending p)) (sym items) all;
+      due = subst (λ l. LeaveRedisItemsDue 1 l p.due) (sym items) (sym due);
       within = λ some. omega (arith, some, due, ap length items);
       next = next;
       fits = omega (arith, fits, ap length all);
@@ -96,12 +96,12 @@ module _ (u : List ℕ) (len : ℕ) (line : IsRedisTextLine (take len u)) where
       some : 1 ≤ len
       some = omega (arith, ap length line.parts, length-take len u)
 
-  pub simple_text : (text : List ℕ) → text ≡ slice_range u 1 len → slice_get u 0 ≡ Some 43 → IsLineOf (Simple text) (take len u)
+  pub simple_text : (text : List ℕ) → text ≡ slice_range u 1 len → slice_get u 0 ≡ Some 43 → IsRedisLineOf (Simple text) (take len u)
   simple_text text is first =
       let kind : line.kind ≡ 43 = same_Some line.kind 43 (sym begins_with ∙ first) in
       (line.text, line.parts ∙ ap (λ b. b ∷ line.text) kind, (is ∙ its_text, line.plain))
 
-  pub error_text : (text : List ℕ) → text ≡ slice_range u 1 len → slice_get u 0 ≢ Some 43 → IsLineOf (Error text) (take len u)
+  pub error_text : (text : List ℕ) → text ≡ slice_range u 1 len → slice_get u 0 ≢ Some 43 → IsRedisLineOf (Error text) (take len u)
   error_text text is first =
       let kind : line.kind ≡ 45 = ⊎_elim (λ simple. absurd (first (begins_with ∙ ap Some simple))) (λ error. error) line.is in
       (line.text, line.parts ∙ ap (λ b. b ∷ line.text) kind, (is ∙ its_text, line.plain))
@@ -124,28 +124,28 @@ module _ (limits : Limits) (room : ℕ) (u : List ℕ) (start len : ℕ) (awaits
 
   pub awaits_bulk : HasNoRedisBody len (drop start u) → BeginsRedisBody len (drop start u) → AwaitsPendingItem limits room u
   awaits_bulk none begins = record {
-    none = subst (NoItem limits) (append-nil u) (no_body limits u [] awaits.line (drop start u) awaits.framed len awaits.is (subst (HasNoRedisBody len) (sym (append-nil (drop start u))) none));
+    none = subst (NoRedisItem limits) (append-nil u) (no_body limits u [] awaits.line (drop start u) awaits.framed len awaits.is (subst (HasNoRedisBody len) (sym (append-nil (drop start u))) none));
     begins = begins_bulk limits room u awaits.line (drop start u) len awaits.framed awaits.is awaits.short awaits.small begins;
   }
 
 -- ---- an item is kept
 
 pub one_kept : (limits : Limits) (room : ℕ) (p next : Pending) (item : Item) (len : ℕ) → IsPending limits p → 0 < p.due → length p.items.items + p.due + room ≤ limits.items
-    → HasPendingItem limits room (unread_by p) item len → next.items.items ≡ p.items.items ++ item ∷ [] → next.due ≡ (p.due - 1) + items_in item → unread_by next ≡ drop len (unread_by p)
-    → held_by next ≡ held_by p → IsPendingNext limits (unread_by next) next.next → IsPending limits next
+    → HasPendingItem limits room (unread_by_pending p) item len → next.items.items ≡ p.items.items ++ item ∷ [] → next.due ≡ (p.due - 1) + redis_items_in item → unread_by_pending next ≡ drop len (unread_by_pending p)
+    → held_by_pending next ≡ held_by_pending p → IsPendingNext limits (unread_by_pending next) next.next → IsPending limits next
 one_kept limits room p next item len is some full has items due rest held at =
-    let read = read_one limits limits [] (held_by p) p.items.items (unread_by p) p.due is.are is.due item (drop len (unread_by p)) (items_in item) some has.takes refl in
+    let read = read_one limits limits [] (held_by_pending p) p.items.items (unread_by_pending p) p.due is.are is.due item (drop len (unread_by_pending p)) (redis_items_in item) some has.takes refl in
     record {
-      are = subst (λ l. AreFirstOfRun (TakesItem limits) (held_by next) l (unread_by next)) (sym items)
-          (subst (λ l. AreFirstOfRun (TakesItem limits) (held_by next) (p.items.items ++ item ∷ []) l) (sym rest)
-          (subst (λ l. AreFirstOfRun (TakesItem limits) l (p.items.items ++ item ∷ []) (drop len (unread_by p))) (sym held) read.0));
-      due = subst (λ l. LeaveItemsDue 1 l next.due) (sym items) (subst (LeaveItemsDue 1 (p.items.items ++ item ∷ [])) (sym due) read.1);
+      are = subst (λ l. AreFirstOfRun (TakesRedisItem limits) (held_by_pending next) l (unread_by_pending next)) (sym items)
+          (subst (λ l. AreFirstOfRun (TakesRedisItem limits) (held_by_pending next) (p.items.items ++ item ∷ []) l) (sym rest)
+          (subst (λ l. AreFirstOfRun (TakesRedisItem limits) l (p.items.items ++ item ∷ []) (drop len (unread_by_pending p))) (sym held) read.0));
+      due = subst (λ l. LeaveRedisItemsDue 1 l next.due) (sym items) (subst (LeaveRedisItemsDue 1 (p.items.items ++ item ∷ [])) (sym due) read.1);
       within = λ _. omega (arith, full, has.few, due, some, ap length items, length-append p.items.items (item ∷ []));
       next = at;
       fits = omega (arith, is.fits, ap length held);
     }
 
 -- all items of a reply are kept
-pub reply_read : (limits : Limits) (p : Pending) → IsPending limits p → 0 < limits.items → p.due ≡ 0 → TakesReply limits (held_by p) p.items.items (unread_by p)
+pub reply_read : (limits : Limits) (p : Pending) → IsPending limits p → 0 < limits.items → p.due ≡ 0 → TakesRedisReply limits (held_by_pending p) p.items.items (unread_by_pending p)
 reply_read limits p is some none =
-    whole_reply limits (held_by p) p.items.items (unread_by p) is.are (subst (LeaveItemsDue 1 p.items.items) none is.due) (omega (arith, is.within some))
+    whole_reply limits (held_by_pending p) p.items.items (unread_by_pending p) is.are (subst (LeaveRedisItemsDue 1 p.items.items) none is.due) (omega (arith, is.within some))

@@ -12,8 +12,8 @@ use Rattle.bytes_utils_buf.specs.declared.refused.Reason.{Reason}
 use Rattle.bytes_utils_codec.specs.Frames.{TakesFrame}
 use Rattle.bytes_utils.specs.Lines.{carriage_return}
 use Rattle.bytes_utils.specs.Occurrence.{Occurs, OccursAt}
-use Rattle.bytes_utils_protocols.specs.Redis.{redis_line_end, BeginsItem, IsLineOf, IsLineWithin, LacksRedisByte, NoItem, NoItemWithin}
-use Rattle.bytes_utils_protocols.specs.RedisLine.{IsHead, IsHeadOf, IsHeadWithin, IsReadAs, NoLineEnds, NoLineReturn}
+use Rattle.bytes_utils_protocols.specs.Redis.{redis_line_end, BeginsRedisItem, IsRedisLineOf, IsRedisLineWithin, LacksRedisByte, NoRedisItem, NoRedisItemWithin}
+use Rattle.bytes_utils_protocols.specs.RedisLine.{IsRedisLineHead, IsRedisLineHeadOf, IsRedisLineHeadWithin, IsRedisLineReadAs, NoLineEnds, NoLineReturn}
 use Rattle.bytes_utils_protocols.specs.RedisPending.{AwaitsPendingItem, FindsPendingHead, IsNoPendingItem}
 use Rattle.bytes_utils_protocols.specs.declared.redis.item.Item.{Item}
 use Rattle.bytes_utils_protocols.specs.declared.redis.limits.Limits.{Limits}
@@ -111,34 +111,34 @@ module _ (limits : Limits) (room : ℕ) (u : List ℕ) (len : ℕ) (fits : len �
   none_in_front more = subst (λ n. NoLineEnds n ((take len u ++ drop len u) ++ more)) (sym size) (subst (λ l. NoLineEnds len (l ++ more)) (sym (take-append-drop len u)) (none more))
 
   -- no item's line begins with these bytes
-  pub stays_none : ((item : Item) (x : List ℕ) → ¬ IsLineOf item (take len u ++ x)) → (any : Limits) (more : List ℕ) → NoItem any (u ++ more)
-  stays_none never any more = subst (λ l. NoItem any (l ++ more)) (take-append-drop len u) (no_begun any (take len u) (drop len u) more (none_in_front more) never)
+  pub stays_none : ((item : Item) (x : List ℕ) → ¬ IsRedisLineOf item (take len u ++ x)) → (any : Limits) (more : List ℕ) → NoRedisItem any (u ++ more)
+  stays_none never any more = subst (λ l. NoRedisItem any (l ++ more)) (take-append-drop len u) (no_begun any (take len u) (drop len u) more (none_in_front more) never)
 
-  pub stays_large : ((item : Item) (x : List ℕ) → ¬ IsLineWithin limits room item (take len u ++ x)) → (more : List ℕ) → NoItemWithin limits room (u ++ more)
-  stays_large never more = subst (λ l. NoItemWithin limits room (l ++ more)) (take-append-drop len u) (large_begun limits (take len u) (drop len u) more (none_in_front more) room never)
+  pub stays_large : ((item : Item) (x : List ℕ) → ¬ IsRedisLineWithin limits room item (take len u ++ x)) → (more : List ℕ) → NoRedisItemWithin limits room (u ++ more)
+  stays_large never more = subst (λ l. NoRedisItemWithin limits room (l ++ more)) (take-append-drop len u) (large_begun limits (take len u) (drop len u) more (none_in_front more) room never)
 
   -- these bytes are a line, and that of no item
-  stays_ended : (after : List ℕ) → drop len u ≡ carriage_return ∷ after → ((item : Item) → ¬ IsLineOf item (take len u)) → (any : Limits) (more : List ℕ) → NoItem any (u ++ more)
+  stays_ended : (after : List ℕ) → drop len u ≡ carriage_return ∷ after → ((item : Item) → ¬ IsRedisLineOf item (take len u)) → (any : Limits) (more : List ℕ) → NoRedisItem any (u ++ more)
   stays_ended after ended never any more =
-      subst (λ l. NoItem any (l ++ more)) (take-append-drop len u) (no_ended any (take len u) (drop len u) more (none_in_front more) after ended never)
+      subst (λ l. NoRedisItem any (l ++ more)) (take-append-drop len u) (no_ended any (take len u) (drop len u) more (none_in_front more) after ended never)
 
   -- the line is too long
-  pub too_long : limits.line < len → (more : List ℕ) → NoItemWithin limits room (u ++ more)
+  pub too_long : limits.line < len → (more : List ℕ) → NoRedisItemWithin limits room (u ++ more)
   too_long long = stays_large (long_line limits room (take len u) (omega (arith, long, size)))
 
-  module _ (line : Line) (read : IsReadAs line (take len u)) where
+  module _ (line : Line) (read : IsRedisLineReadAs line (take len u)) where
     -- what a check of the line found
     abbrev Gives : LineHead → Type 0
-    Gives head = IsHeadWithin limits.bulk room head × ((bytes : List ℕ) → IsReadAs line bytes → IsHeadOf head bytes)
+    Gives head = IsRedisLineHeadWithin limits.bulk room head × ((bytes : List ℕ) → IsRedisLineReadAs line bytes → IsRedisLineHeadOf head bytes)
 
     abbrev Lacks : Bool → Type 0
-    Lacks ended = (len < limits.line) × (¬ (ended ≡ true)) × ((bytes : List ℕ) → IsReadAs line bytes → LacksRedisByte bytes)
+    Lacks ended = (len < limits.line) × (¬ (ended ≡ true)) × ((bytes : List ℕ) → IsRedisLineReadAs line bytes → LacksRedisByte bytes)
 
     abbrev NeverHas : Bool → Type 0
-    NeverHas ended = (bytes : List ℕ) → IsReadAs line bytes → MatchBool ended ((item : Item) → ¬ IsLineOf item bytes) ((item : Item) (more : List ℕ) → ¬ IsLineOf item (bytes ++ more))
+    NeverHas ended = (bytes : List ℕ) → IsRedisLineReadAs line bytes → MatchBool ended ((item : Item) → ¬ IsRedisLineOf item bytes) ((item : Item) (more : List ℕ) → ¬ IsRedisLineOf item (bytes ++ more))
 
     abbrev NeverWithin : Type 0
-    NeverWithin = (bytes : List ℕ) → IsReadAs line bytes → length bytes ≡ len → (item : Item) (more : List ℕ) → ¬ IsLineWithin limits room item (bytes ++ more)
+    NeverWithin = (bytes : List ℕ) → IsRedisLineReadAs line bytes → length bytes ≡ len → (item : Item) (more : List ℕ) → ¬ IsRedisLineWithin limits room item (bytes ++ more)
 
     -- a line that was checked is none
     pub not_checked : (ended : Bool) → MatchBool ended ((after : List ℕ) × (drop len u ≡ carriage_return ∷ after)) (Unit {0}) → (e : ReplyError)
@@ -155,7 +155,7 @@ module _ (limits : Limits) (room : ℕ) (u : List ℕ) (len : ℕ) (fits : len �
     }
 
     module _ (short : len ≤ limits.line) where
-      item_within : (head : LineHead) → IsHeadWithin limits.bulk room head → IsHeadOf head (take len u) → (item : Item) × IsLineWithin limits room item (take len u)
+      item_within : (head : LineHead) → IsRedisLineHeadWithin limits.bulk room head → IsRedisLineHeadOf head (take len u) → (item : Item) × IsRedisLineWithin limits room item (take len u)
       item_within head small is = line_within limits room (take len u) (omega (arith, short, size)) head is small
 
       -- no end has come
@@ -171,13 +171,13 @@ module _ (limits : Limits) (room : ℕ) (u : List ℕ) (len : ℕ) (fits : len �
           same : take len u ≡ u
           same = take_all len u (omega (arith, all))
 
-          begins : (next : Option LineHead) → IfSome next Gives → IfNone next (Lacks false) → BeginsItem limits room u
+          begins : (next : Option LineHead) → IfSome next Gives → IfNone next (Lacks false) → BeginsRedisItem limits room u
           begins None gives lacks =
               let later = completed_within limits room (take len u) (lacks.2 (take len u) read) (omega (arith, lacks.0, size)) in
-              subst (BeginsItem limits room) same (begun_item limits room later.1 (take len u) later.0 later.2)
+              subst (BeginsRedisItem limits room) same (begun_item limits room later.1 (take len u) later.0 later.2)
           begins (Some head) gives lacks =
               let item = item_within head gives.0 (gives.1 (take len u) read) in
-              subst (BeginsItem limits room) same (begun_item limits room item.0 (take len u) [] (subst (IsLineWithin limits room item.0) (sym (append-nil (take len u))) item.1))
+              subst (BeginsRedisItem limits room) same (begun_item limits room item.0 (take len u) [] (subst (IsRedisLineWithin limits room item.0) (sym (append-nil (take len u))) item.1))
 
       -- a carriage return has come
       pub awaits_feed : u ≡ take len u ++ carriage_return ∷ [] → (next : Option LineHead) → IfSome next Gives → IfNone next (Lacks true) → AwaitsPendingItem limits room u
@@ -192,13 +192,13 @@ module _ (limits : Limits) (room : ℕ) (u : List ℕ) (len : ℕ) (fits : len �
               (λ high. omega (arith, high, two, ap length here, length-take 2 (drop k u), length-drop k u))
               (cases_lt k len)
 
-          begins : (next : Option LineHead) → IfSome next Gives → IfNone next (Lacks true) → BeginsItem limits room u
+          begins : (next : Option LineHead) → IfSome next Gives → IfNone next (Lacks true) → BeginsRedisItem limits room u
           begins None gives lacks = absurd (lacks.1 refl)
           begins (Some head) gives lacks =
-              let item = item_within head gives.0 (gives.1 (take len u) read) in subst (BeginsItem limits room) (sym half) (ended_item limits room item.0 (take len u) item.1)
+              let item = item_within head gives.0 (gives.1 (take len u) read) in subst (BeginsRedisItem limits room) (sym half) (ended_item limits room item.0 (take len u) item.1)
 
       -- the line and its end have come
-      is_head : u ≡ take len u ++ (redis_line_end ++ drop (len + 2) u) → (head : LineHead) → Gives head → IsHead limits room u head len
+      is_head : u ≡ take len u ++ (redis_line_end ++ drop (len + 2) u) → (head : LineHead) → Gives head → IsRedisLineHead limits room u head len
       is_head whole head gives = record {
         framed = subst (λ l. TakesFrame redis_line_end l (take len u) (drop (len + 2) u)) (sym whole) (framed_line (take len u) (drop (len + 2) u) (read_no_return line (take len u) read));
         is = gives.1 (take len u) read;

@@ -12,8 +12,8 @@ use Rattle.bytes_utils_codec.specs.Frames.{TakesFrame}
 use Rattle.bytes_utils.specs.Lines.{carriage_return, line_feed}
 use Rattle.bytes_utils.specs.Occurrence.{OccursAt}
 use Rattle.bytes_utils_protocols.specs.Digits.{WriteNumber}
-use Rattle.bytes_utils_protocols.specs.Redis.{redis_line_end, redis_no_length, IsRedisPlain, IsRedisTextLine, IsLineWithin, LacksRedisByte, LacksRedisDigit, LacksRedisLength, WriteRedisInteger, WriteRedisLength, first_byte, Says, IsLineOf, body, items_in}
-use Rattle.bytes_utils_protocols.specs.RedisLine.{IsHeadOf, IsHeadWithin, NoLineReturn}
+use Rattle.bytes_utils_protocols.specs.Redis.{redis_line_end, redis_no_length, IsRedisPlain, IsRedisTextLine, IsRedisLineWithin, LacksRedisByte, LacksRedisDigit, LacksRedisLength, WriteRedisInteger, WriteRedisLength, redis_first_byte, IsRedisLineRest, IsRedisLineOf, redis_body, redis_items_in}
+use Rattle.bytes_utils_protocols.specs.RedisLine.{IsRedisLineHeadOf, IsRedisLineHeadWithin, NoLineReturn}
 use Rattle.bytes_utils_protocols.specs.declared.redis.line.LineHead.{LineHead}
 use Rattle.bytes_utils_protocols.specs.declared.redis.line.LineHead.TheVariants.{Whole, Plain, Body}
 use Rattle.bytes_utils_protocols.specs.declared.redis.item.Item.{Item}
@@ -112,21 +112,21 @@ length_no_return : (said : List ℕ) (len : Option ℕ) → WriteRedisLength sai
 length_no_return said None writes = subst NoLineReturn (sym writes) (λ is. omega (arith, is), (λ is. omega (arith, is), tt))
 length_no_return said (Some n) writes = digits_no_return said writes.0.1
 
-says_no_return : (item : Item) (said : List ℕ) → Says item said → NoLineReturn said
+says_no_return : (item : Item) (said : List ℕ) → IsRedisLineRest item said → NoLineReturn said
 says_no_return (Simple a) said says = plain_no_return said says.1
 says_no_return (Error a) said says = plain_no_return said says.1
 says_no_return (Integer n) said says = integer_no_return said n says
 says_no_return (Bulk bytes) said says = length_no_return said (option_map length bytes) says
 says_no_return (Array count) said says = length_no_return said count says
 
-first_no_return : (item : Item) → first_byte item ≢ carriage_return
+first_no_return : (item : Item) → redis_first_byte item ≢ carriage_return
 first_no_return (Simple a) is = omega (arith, is)
 first_no_return (Error a) is = omega (arith, is)
 first_no_return (Integer a) is = omega (arith, is)
 first_no_return (Bulk a) is = omega (arith, is)
 first_no_return (Array a) is = omega (arith, is)
 
-pub line_no_return : (item : Item) (line : List ℕ) → IsLineOf item line → NoLineReturn line
+pub line_no_return : (item : Item) (line : List ℕ) → IsRedisLineOf item line → NoLineReturn line
 line_no_return item line is = subst NoLineReturn (sym is.1) (first_no_return item, says_no_return item is.0 is.2)
 
 pub no_return_within : (front x : List ℕ) → ¬ NoLineReturn ((front ++ carriage_return ∷ []) ++ x)
@@ -147,15 +147,15 @@ framed_line line rest none = record {
 
 -- ---- a beginning of a line
 
-line_of : (item : Item) (kind : ℕ) (said : List ℕ) → kind ≡ first_byte item → Says item said → IsLineOf item (kind ∷ said)
+line_of : (item : Item) (kind : ℕ) (said : List ℕ) → kind ≡ redis_first_byte item → IsRedisLineRest item said → IsRedisLineOf item (kind ∷ said)
 line_of item kind said is says = (said, ap (λ b. b ∷ said) is, says)
 
-bulk_of : (kind : ℕ) (said : List ℕ) → kind ≡ 36 → (len : Option ℕ) → WriteRedisLength said len → (item : Item) × IsLineOf item (kind ∷ said)
+bulk_of : (kind : ℕ) (said : List ℕ) → kind ≡ 36 → (len : Option ℕ) → WriteRedisLength said len → (item : Item) × IsRedisLineOf item (kind ∷ said)
 bulk_of kind said is None writes = (Bulk None, line_of (Bulk None) kind said is writes)
 bulk_of kind said is (Some n) writes =
     (Bulk (Some (replicate n 0)), line_of (Bulk (Some (replicate n 0))) kind said is (subst (WriteNumber said) (sym (length-replicate {A = ℕ} n 0)) writes))
 
-said_line : (item : Item) (kind : ℕ) (said x : List ℕ) → kind ≡ first_byte item → Says item (said ++ x) → ((other : Item) × IsLineOf other (kind ∷ said)) ⊎ LacksRedisByte (kind ∷ said)
+said_line : (item : Item) (kind : ℕ) (said x : List ℕ) → kind ≡ redis_first_byte item → IsRedisLineRest item (said ++ x) → ((other : Item) × IsRedisLineOf other (kind ∷ said)) ⊎ LacksRedisByte (kind ∷ said)
 said_line (Simple a) kind said x is says = inl (Simple said, line_of (Simple said) kind said is (refl, plain_front said x says.1))
 said_line (Error a) kind said x is says = inl (Error said, line_of (Error said) kind said is (refl, plain_front said x says.1))
 said_line (Integer n) kind said x is says =
@@ -166,10 +166,10 @@ said_line (Array count) kind said x is says =
     ⊎_elim (λ w. inl (Array w.0, line_of (Array w.0) kind said is w.1)) (λ lacks. inr (inr (inr is, lacks))) (length_front said x count says)
 
 -- a beginning of a line is one, or lacks a byte
-begun_line : (item : Item) (begun x : List ℕ) → IsLineOf item (begun ++ x) → ((other : Item) × IsLineOf other begun) ⊎ LacksRedisByte begun
+begun_line : (item : Item) (begun x : List ℕ) → IsRedisLineOf item (begun ++ x) → ((other : Item) × IsRedisLineOf other begun) ⊎ LacksRedisByte begun
 begun_line item [] x is = inr tt
 begun_line item (kind ∷ said) x is =
-    said_line item kind said x (ap (λ l. get_or l 0 0) is.1) (subst (Says item) (sym (ap (drop 1) is.1)) is.2)
+    said_line item kind said x (ap (λ l. get_or l 0 0) is.1) (subst (IsRedisLineRest item) (sym (ap (drop 1) is.1)) is.2)
 
 lacks_digit : (said : List ℕ) → LacksRedisDigit said → (n : ℤ) → ¬ WriteRedisInteger said n
 lacks_digit said (inl (inl none)) n writes = let w : WriteRedisInteger [] n = subst (λ l. WriteRedisInteger l n) none writes in omega (arith, w.0.0)
@@ -184,26 +184,26 @@ lacks_length said (inr minus) (Some n) writes =
     let w : WriteNumber (45 ∷ []) n = subst (λ l. WriteNumber l n) minus writes in omega (arith, digit_from_value 45 w.0.1.0)
 
 -- what is no line and lacks no byte stays no line
-pub still_none : (begun : List ℕ) → (¬ LacksRedisByte begun) → ((item : Item) → ¬ IsLineOf item begun) → (item : Item) (more : List ℕ) → ¬ IsLineOf item (begun ++ more)
+pub still_none : (begun : List ℕ) → (¬ LacksRedisByte begun) → ((item : Item) → ¬ IsRedisLineOf item begun) → (item : Item) (more : List ℕ) → ¬ IsRedisLineOf item (begun ++ more)
 still_none begun whole none item more is = ⊎_elim (λ line. none line.0 line.1) (λ lacks. whole lacks) (begun_line item begun more is)
 
 -- what lacks a byte is no line
-pub lacks_none : (begun : List ℕ) → LacksRedisByte begun → (item : Item) → ¬ IsLineOf item begun
+pub lacks_none : (begun : List ℕ) → LacksRedisByte begun → (item : Item) → ¬ IsRedisLineOf item begun
 lacks_none [] lacks = no_item_of_none
 lacks_none (kind ∷ said) (inl lacks) =
-    subst (λ k. (item : Item) → ¬ IsLineOf item (k ∷ said)) (sym lacks.0) (no_integer said (lacks_digit said lacks.1))
+    subst (λ k. (item : Item) → ¬ IsRedisLineOf item (k ∷ said)) (sym lacks.0) (no_integer said (lacks_digit said lacks.1))
 lacks_none (kind ∷ said) (inr (inl bulk, lacks)) =
-    subst (λ k. (item : Item) → ¬ IsLineOf item (k ∷ said)) (sym bulk) (no_bulk said (lacks_length said lacks))
+    subst (λ k. (item : Item) → ¬ IsRedisLineOf item (k ∷ said)) (sym bulk) (no_bulk said (lacks_length said lacks))
 lacks_none (kind ∷ said) (inr (inr array, lacks)) =
-    subst (λ k. (item : Item) → ¬ IsLineOf item (k ∷ said)) (sym array) (no_array said (lacks_length said lacks))
+    subst (λ k. (item : Item) → ¬ IsRedisLineOf item (k ∷ said)) (sym array) (no_array said (lacks_length said lacks))
 
 -- a line with one byte more, of an item that needs nothing else
 record IsOneMore (begun : List ℕ) : Type 0 where
   byte : ℕ
   item : Item
-  is : IsLineOf item (begun ++ byte ∷ [])
-  no_body : body item ≡ []
-  alone : items_in item ≡ 0
+  is : IsRedisLineOf item (begun ++ byte ∷ [])
+  no_body : redis_body item ≡ []
+  alone : redis_items_in item ≡ 0
 
 zero_digits : AllDigits 10 (48 ∷ [])
 zero_digits = (omega arith, tt)
@@ -216,7 +216,7 @@ zero_after said (inl (inl none)) = subst (λ l. WriteRedisInteger (l ++ 48 ∷ [
 zero_after said (inr plus) = subst (λ l. WriteRedisInteger (l ++ 48 ∷ []) (signed_digits_value 10 (l ++ 48 ∷ []))) (sym plus) ((omega arith, zero_digits), record { sfits = omega arith }, refl)
 zero_after said (inl (inr minus)) = subst (λ l. WriteRedisInteger (l ++ 48 ∷ []) (signed_digits_value 10 (l ++ 48 ∷ []))) (sym minus) ((omega arith, zero_digits), record { sfits = omega arith }, refl)
 
-one_more : (item : Item) (kind byte : ℕ) (said : List ℕ) → kind ≡ first_byte item → Says item (said ++ byte ∷ []) → body item ≡ [] → items_in item ≡ 0 → IsOneMore (kind ∷ said)
+one_more : (item : Item) (kind byte : ℕ) (said : List ℕ) → kind ≡ redis_first_byte item → IsRedisLineRest item (said ++ byte ∷ []) → redis_body item ≡ [] → redis_items_in item ≡ 0 → IsOneMore (kind ∷ said)
 one_more item kind byte said is says none alone = record { byte = byte; item = item; is = line_of item kind (said ++ byte ∷ []) is says; no_body = none; alone = alone }
 
 completed : (begun : List ℕ) → LacksRedisByte begun → IsOneMore begun
@@ -240,7 +240,7 @@ no_longer said x n number is =
 length_grows : (said x : List ℕ) (m n : ℕ) → WriteNumber said m → WriteNumber (said ++ x) n → m ≤ n
 length_grows said x m n one other = omega (arith, one.1, other.1, value_front said x)
 
-body_grows : (item : Item) (said x : List ℕ) (n : ℕ) → WriteNumber said n → 36 ≡ first_byte item → Says item (said ++ x) → n ≤ length (body item)
+body_grows : (item : Item) (said x : List ℕ) (n : ℕ) → WriteNumber said n → 36 ≡ redis_first_byte item → IsRedisLineRest item (said ++ x) → n ≤ length (redis_body item)
 body_grows (Simple a) said x n number is says = absurd (omega (arith, is))
 body_grows (Error a) said x n number is says = absurd (omega (arith, is))
 body_grows (Integer a) said x n number is says = absurd (omega (arith, is))
@@ -248,7 +248,7 @@ body_grows (Bulk None) said x n number is says = absurd (no_longer said x n numb
 body_grows (Bulk (Some bytes)) said x n number is says = length_grows said x n (length bytes) number says
 body_grows (Array a) said x n number is says = absurd (omega (arith, is))
 
-count_grows : (item : Item) (said x : List ℕ) (n : ℕ) → WriteNumber said n → 42 ≡ first_byte item → Says item (said ++ x) → n ≤ items_in item
+count_grows : (item : Item) (said x : List ℕ) (n : ℕ) → WriteNumber said n → 42 ≡ redis_first_byte item → IsRedisLineRest item (said ++ x) → n ≤ redis_items_in item
 count_grows (Simple a) said x n number is says = absurd (omega (arith, is))
 count_grows (Error a) said x n number is says = absurd (omega (arith, is))
 count_grows (Integer a) said x n number is says = absurd (omega (arith, is))
@@ -256,8 +256,8 @@ count_grows (Bulk a) said x n number is says = absurd (omega (arith, is))
 count_grows (Array None) said x n number is says = absurd (no_longer said x n number says)
 count_grows (Array (Some count)) said x n number is says = length_grows said x n count number says
 
-says_grows : (one other : Item) (said x : List ℕ) → first_byte one ≡ first_byte other → Says one said → Says other (said ++ x)
-    → (length (body one) ≤ length (body other)) × (items_in one ≤ items_in other)
+says_grows : (one other : Item) (said x : List ℕ) → redis_first_byte one ≡ redis_first_byte other → IsRedisLineRest one said → IsRedisLineRest other (said ++ x)
+    → (length (redis_body one) ≤ length (redis_body other)) × (redis_items_in one ≤ redis_items_in other)
 says_grows (Simple a) other said x is p q = (omega arith, omega arith)
 says_grows (Error a) other said x is p q = (omega arith, omega arith)
 says_grows (Integer a) other said x is p q = (omega arith, omega arith)
@@ -266,17 +266,17 @@ says_grows (Bulk (Some bytes)) other said x is p q = (body_grows other said x (l
 says_grows (Array None) other said x is p q = (omega arith, omega arith)
 says_grows (Array (Some count)) other said x is p q = (omega arith, count_grows other said x count p is q)
 
-line_grows : (one other : Item) (line x : List ℕ) → IsLineOf one line → IsLineOf other (line ++ x) → (length (body one) ≤ length (body other)) × (items_in one ≤ items_in other)
+line_grows : (one other : Item) (line x : List ℕ) → IsRedisLineOf one line → IsRedisLineOf other (line ++ x) → (length (redis_body one) ≤ length (redis_body other)) × (redis_items_in one ≤ redis_items_in other)
 line_grows one other line x p q =
-    let same : first_byte one ∷ (p.0 ++ x) ≡ first_byte other ∷ q.0 = ap (λ l. l ++ x) (sym p.1) ∙ q.1 in
-    says_grows one other p.0 x (ap (λ l. get_or l 0 0) same) p.2 (subst (Says other) (sym (ap (drop 1) same)) q.2)
+    let same : redis_first_byte one ∷ (p.0 ++ x) ≡ redis_first_byte other ∷ q.0 = ap (λ l. l ++ x) (sym p.1) ∙ q.1 in
+    says_grows one other p.0 x (ap (λ l. get_or l 0 0) same) p.2 (subst (IsRedisLineRest other) (sym (ap (drop 1) same)) q.2)
 
 -- an item of the line
-bulk_line : (len : ℕ) (line : List ℕ) → IsHeadOf (Body len) line → IsLineOf (Bulk (Some (replicate len 0))) line
+bulk_line : (len : ℕ) (line : List ℕ) → IsRedisLineHeadOf (Body len) line → IsRedisLineOf (Bulk (Some (replicate len 0))) line
 bulk_line len line head = (head.0, head.1, subst (WriteNumber head.0) (sym (length-replicate {A = ℕ} len 0)) head.2)
 
 module _ (limits : Limits) (room : ℕ) (line : List ℕ) where
-  pub large_head : (head : LineHead) → IsHeadOf head line → (¬ IsHeadWithin limits.bulk room head) → (item : Item) (more : List ℕ) → ¬ IsLineWithin limits room item (line ++ more)
+  pub large_head : (head : LineHead) → IsRedisLineHeadOf head line → (¬ IsRedisLineHeadWithin limits.bulk room head) → (item : Item) (more : List ℕ) → ¬ IsRedisLineWithin limits room item (line ++ more)
   large_head (Whole one) is large item more within =
       let grows = line_grows one item line more is.0 within.is in large (omega (arith, grows.1, within.few))
   large_head Plain is large item more within = large tt
@@ -285,24 +285,24 @@ module _ (limits : Limits) (room : ℕ) (line : List ℕ) where
       large (omega (arith, grows.0, within.small, length-replicate {A = ℕ} len 0))
 
   module _ (short : length line ≤ limits.line) where
-    text_within : IsRedisTextLine line → (item : Item) × IsLineWithin limits room item line
+    text_within : IsRedisTextLine line → (item : Item) × IsRedisLineWithin limits room item line
     text_within text = ⊎_elim
         (λ simple. (Simple text.text, record { is = (text.text, text.parts ∙ ap (λ b. b ∷ text.text) simple, (refl, text.plain)); short = short; small = omega arith; few = omega arith }))
         (λ error. (Error text.text, record { is = (text.text, text.parts ∙ ap (λ b. b ∷ text.text) error, (refl, text.plain)); short = short; small = omega arith; few = omega arith }))
         text.is
 
-    pub line_within : (head : LineHead) → IsHeadOf head line → IsHeadWithin limits.bulk room head → (item : Item) × IsLineWithin limits room item line
+    pub line_within : (head : LineHead) → IsRedisLineHeadOf head line → IsRedisLineHeadWithin limits.bulk room head → (item : Item) × IsRedisLineWithin limits room item line
     line_within (Whole item) is within = (item, record { is = is.0; short = short; small = omega (arith, ap length is.2); few = within })
     line_within Plain is within = text_within is
     line_within (Body len) is within =
         (Bulk (Some (replicate len 0)), record { is = bulk_line len line is; short = short; small = omega (arith, within, length-replicate {A = ℕ} len 0); few = omega arith })
 
   -- it is too long
-  pub long_line : limits.line < length line → (item : Item) (more : List ℕ) → ¬ IsLineWithin limits room item (line ++ more)
+  pub long_line : limits.line < length line → (item : Item) (more : List ℕ) → ¬ IsRedisLineWithin limits room item (line ++ more)
   long_line long item more within = omega (arith, long, within.short, length-append line more)
 
   -- it lacks a byte, for which there is a place
-  pub completed_within : LacksRedisByte line → length line < limits.line → (more : List ℕ) × (item : Item) × IsLineWithin limits room item (line ++ more)
+  pub completed_within : LacksRedisByte line → length line < limits.line → (more : List ℕ) × (item : Item) × IsRedisLineWithin limits room item (line ++ more)
   completed_within lacks short =
       let done = completed line lacks in (
         done.byte ∷ [],

@@ -7,7 +7,7 @@ use Rattle.std.specs.Option.{option_or, option_to_list}
 use Rattle.std.specs.Str.Parse.{digits_value}
 use Rattle.bytes_utils.specs.Lines.{line_feed}
 use Rattle.bytes_utils_codec.specs.Decoding.{Decoding, HasSameNext, Item, fed, starting}
-use Rattle.bytes_utils_codec.specs.StreamRuns.{AreFirstOfRun, IsRunOver, SameFirstOfRunLaw, StreamEvent, given_by, pushed_by}
+use Rattle.bytes_utils_codec.specs.StreamRuns.{AreFirstOfRun, IsRunOver, SameFirstOfRunLaw, StreamEvent, given_in_stream, pushed_in_stream}
 use Rattle.bytes_utils_codec.specs.UniversalReading.{AwaitsUniversal, UniversalReading, gives_universal, universal_reading}
 use Rattle.bytes_utils_codec.specs.declared.decode.lines.LineFault.{LineFault}
 use Rattle.bytes_utils_codec.specs.declared.decode.lines.LineFault.TheVariants.{NotUtf8 as NotText, TooLong}
@@ -18,7 +18,7 @@ use Rattle.bytes_utils_protocols.specs.declared.events.Limits.{Limits}
 
 -- What the lines since the last event said of the next one: its name, and its text, which is the lines of data, joined. The identifier and the time
 -- to wait before connecting again, in milliseconds, are the last ones of the stream.
-pub record EventTelling : Type 0 where
+pub record EventBuffers : Type 0 where
   pub name : Option (List ℕ)
   pub text : Option (List ℕ)
   pub id : Option (List ℕ)
@@ -30,23 +30,23 @@ pub record Eventing : Type 0 where
   pub lines : Decoding UniversalReading
   pub waiting : Option (List ℕ)
   pub at_start : Bool
-  pub told : EventTelling
+  pub buffers : EventBuffers
   pub max_data : ℕ
 
-abbrev pub nothing_told : EventTelling
-nothing_told = record { name = None; text = None; id = None; retry = None }
+abbrev pub no_event_buffers : EventBuffers
+no_event_buffers = record { name = None; text = None; id = None; retry = None }
 
 -- a piece came
-abbrev pub pushed : Eventing → List ℕ → Eventing
-pushed old piece = record old { lines = fed old.lines piece }
+abbrev pub pushed_to_events : Eventing → List ℕ → Eventing
+pushed_to_events old piece = record old { lines = fed old.lines piece }
 
 -- how much is to be read: the held bytes, and one more for a line that waits
 abbrev pub waiting_event_lines : Option (List ℕ) → ℕ
 waiting_event_lines None = 0
 waiting_event_lines (Some line) = 1
 
-abbrev pub left_to_read : Eventing → ℕ
-left_to_read reading = length reading.lines.held + waiting_event_lines reading.waiting
+abbrev pub events_left_to_read : Eventing → ℕ
+events_left_to_read reading = length reading.lines.held + waiting_event_lines reading.waiting
 
 -- ---- what one line says
 
@@ -92,18 +92,18 @@ event_number_of digits = if is_event_number digits then Some (digits_value 10 di
 
 -- What a field of this name and value makes of what was said. An identifier with a zero, and a time that is no number, change nothing, and neither does
 -- a field of any other name.
-abbrev pub after_field : EventTelling → List ℕ → List ℕ → EventTelling
-after_field told name value =
-    if pointwise nat_eq name (codes "data") then record told { text = Some (with_event_line told.text value) }
-    else if pointwise nat_eq name (codes "event") then record told { name = event_name_of value }
-    else if pointwise nat_eq name (codes "id") && not (list_any (λ c. nat_eq c 0) value) then record told { id = Some value }
-    else if pointwise nat_eq name (codes "retry") then record told { retry = option_or (event_number_of value) told.retry }
-    else told
+abbrev pub after_event_field : EventBuffers → List ℕ → List ℕ → EventBuffers
+after_event_field buffers name value =
+    if pointwise nat_eq name (codes "data") then record buffers { text = Some (with_event_line buffers.text value) }
+    else if pointwise nat_eq name (codes "event") then record buffers { name = event_name_of value }
+    else if pointwise nat_eq name (codes "id") && not (list_any (λ c. nat_eq c 0) value) then record buffers { id = Some value }
+    else if pointwise nat_eq name (codes "retry") then record buffers { retry = option_or (event_number_of value) buffers.retry }
+    else buffers
 
 -- an empty line that ends no event takes the name back
-abbrev pub after_line : EventTelling → List ℕ → EventTelling
-after_line told [] = record told { name = None }
-after_line told (c ∷ t) = after_field told (event_field_name (c ∷ t)) (event_field_value (c ∷ t))
+abbrev pub after_event_line : EventBuffers → List ℕ → EventBuffers
+after_event_line buffers [] = record buffers { name = None }
+after_event_line buffers (c ∷ t) = after_event_field buffers (event_field_name (c ∷ t)) (event_field_value (c ∷ t))
 
 -- the number of bytes of the lines of data
 abbrev pub event_text_len : Option (List ℕ) → ℕ
@@ -113,101 +113,101 @@ event_text_len (Some text) = length text
 -- ---- lines that are read
 
 -- this is the next line: the one that waits, or the next of the stream
-pub record TakesNext (old : Eventing) (line : List ℕ) (new : Eventing) : Type 0 where
+pub record TakesNextEventLine (old : Eventing) (line : List ℕ) (new : Eventing) : Type 0 where
   pub next : MatchOption old.waiting (gives_universal old.lines (Item (Ok line)) new.lines) (λ waiting. (line ≡ waiting) × (new.lines ≡ old.lines))
   pub others : new ≡ record old { lines = new.lines; waiting = None }
 
 -- The line, which was taken and is a text, does what it says, within the limit of the data. It ends no event: it is not empty, or there is no data.
-pub record DoesLine (old : Eventing) (line : List ℕ) (new : Eventing) : Type 0 where
+pub record DoesEventLine (old : Eventing) (line : List ℕ) (new : Eventing) : Type 0 where
   pub utf8 : IsUtf8 line
-  pub ends_none : event_content old.at_start line ≡ [] → old.told.text ≡ None
-  pub after : new ≡ record old { at_start = false; told = after_line old.told (event_content old.at_start line) }
-  pub small : event_text_len new.told.text ≤ old.max_data
+  pub ends_none : event_content old.at_start line ≡ [] → old.buffers.text ≡ None
+  pub after : new ≡ record old { at_start = false; buffers = after_event_line old.buffers (event_content old.at_start line) }
+  pub small : event_text_len new.buffers.text ≤ old.max_data
 
 -- the line, which was taken, is empty and ends this event
 pub record EndsEvent (old : Eventing) (line : List ℕ) (event : Event) (new : Eventing) : Type 0 where
   pub empty : event_content old.at_start line ≡ []
-  pub text : old.told.text ≡ Some event.data
-  pub name : event.name ≡ old.told.name
-  pub id : event.id ≡ old.told.id
-  pub after : new ≡ record old { at_start = false; told = record old.told { name = None; text = None } }
+  pub text : old.buffers.text ≡ Some event.data
+  pub name : event.name ≡ old.buffers.name
+  pub id : event.id ≡ old.buffers.id
+  pub after : new ≡ record old { at_start = false; buffers = record old.buffers { name = None; text = None } }
 
 -- the next line is read
-pub record ReadsLine (old : Eventing) (line : List ℕ) (new : Eventing) : Type 0 where
+pub record ReadsEventLine (old : Eventing) (line : List ℕ) (new : Eventing) : Type 0 where
   pub taken : Eventing
-  pub takes : TakesNext old line taken
-  pub does : DoesLine taken line new
+  pub takes : TakesNextEventLine old line taken
+  pub does : DoesEventLine taken line new
 
 -- some lines are read, none of which ends an event
-abbrev pub Reads : Eventing → Eventing → Type 0
-Reads old new = (lines : List (List ℕ)) × AreFirstOfRun ReadsLine old lines new
+abbrev pub ReadsEventLines : Eventing → Eventing → Type 0
+ReadsEventLines old new = (lines : List (List ℕ)) × AreFirstOfRun ReadsEventLine old lines new
 
 -- some lines are read, and then the empty line that ends this event
-pub record Gives (old : Eventing) (event : Event) (new : Eventing) : Type 0 where
+pub record GivesEvent (old : Eventing) (event : Event) (new : Eventing) : Type 0 where
   pub before : Eventing
-  pub reads : Reads old before
+  pub reads : ReadsEventLines old before
   pub line : List ℕ
   pub taken : Eventing
-  pub takes : TakesNext before line taken
+  pub takes : TakesNextEventLine before line taken
   pub ends : EndsEvent taken line event new
 
 -- ---- calls that give no event
 
 -- no line waits and none is read, and the same lines come next
-pub record Keeps (old new : Eventing) : Type 0 where
+pub record KeepsEvents (old new : Eventing) : Type 0 where
   pub none : old.waiting ≡ None
   pub same : HasSameNext gives_universal old.lines new.lines
   pub others : new ≡ record old { lines = new.lines }
 
 -- the next line is taken, and waits
-pub record Awaits (old new : Eventing) : Type 0 where
+pub record AwaitsEventLine (old new : Eventing) : Type 0 where
   pub line : List ℕ
   pub taken : Eventing
-  pub takes : TakesNext old line taken
+  pub takes : TakesNextEventLine old line taken
   pub utf8 : IsUtf8 line
   pub waits : new ≡ record taken { waiting = Some line }
 
 -- no line is read; the next one may have been taken, and waits
-abbrev pub ReadsNone : Eventing → Eventing → Type 0
-ReadsNone old new = Keeps old new ⊎ Awaits old new
+abbrev pub ReadsNoEventLine : Eventing → Eventing → Type 0
+ReadsNoEventLine old new = KeepsEvents old new ⊎ AwaitsEventLine old new
 
 -- Nothing is lost: some lines are read, none of which ends an event. The line after them may have been taken, and waits.
-abbrev pub LosesNothing : Eventing → Eventing → Type 0
-LosesNothing old new = (mid : Eventing) × Reads old mid × ReadsNone mid new
+abbrev pub LosesNoEvent : Eventing → Eventing → Type 0
+LosesNoEvent old new = (mid : Eventing) × ReadsEventLines old mid × ReadsNoEventLine mid new
 
 -- some lines are read, none of which ends an event, and the end of the next one has not come
-abbrev pub Waits : Eventing → Eventing → Type 0
-Waits old new = (mid : Eventing) × Reads old mid × AwaitsUniversal mid.lines × Keeps mid new
+abbrev pub WaitsForEventLine : Eventing → Eventing → Type 0
+WaitsForEventLine old new = (mid : Eventing) × ReadsEventLines old mid × AwaitsUniversal mid.lines × KeepsEvents mid new
 
 -- why a line isn't read
-abbrev pub error_of : LineFault → EventError
-error_of TooLong = TooLarge
-error_of (NotText fault) = NotUtf8
+abbrev pub event_error_of : LineFault → EventError
+event_error_of TooLong = TooLarge
+event_error_of (NotText fault) = NotUtf8
 
 -- the next line of the stream is passed over, for this error: it passes its limit, or is within it and not UTF-8
-pub record TakesFault (old : Eventing) (error : EventError) (new : Eventing) : Type 0 where
+pub record TakesEventFault (old : Eventing) (error : EventError) (new : Eventing) : Type 0 where
   pub none : old.waiting ≡ None
   pub fault : LineFault
   pub gives : gives_universal old.lines (Item (Err fault)) new.lines
-  pub is : error ≡ error_of fault
+  pub is : error ≡ event_error_of fault
   pub others : new ≡ record old { lines = new.lines; at_start = false }
 
 -- some lines are read, none of which ends an event, and then a line is passed over
-abbrev pub PassesFault : Eventing → EventError → Eventing → Type 0
-PassesFault old error new = (mid : Eventing) × Reads old mid × TakesFault mid error new
+abbrev pub PassesEventFault : Eventing → EventError → Eventing → Type 0
+PassesEventFault old error new = (mid : Eventing) × ReadsEventLines old mid × TakesEventFault mid error new
 
 -- the next event, or the next line that is passed over
-abbrev pub GivesItem : Eventing → Result Event EventError → Eventing → Type 0
-GivesItem old (Ok event) new = Gives old event new
-GivesItem old (Err error) new = PassesFault old error new
+abbrev pub GivesEventItem : Eventing → Result Event EventError → Eventing → Type 0
+GivesEventItem old (Ok event) new = GivesEvent old event new
+GivesEventItem old (Err error) new = PassesEventFault old error new
 
 -- the line is not empty, and the data with it passes its limit
-abbrev pub IsTooLarge : Eventing → List ℕ → Type 0
-IsTooLarge old line = (event_content old.at_start line ≢ []) × (old.max_data < event_text_len (after_line old.told (event_content old.at_start line)).text)
+abbrev pub IsEventTooLarge : Eventing → List ℕ → Type 0
+IsEventTooLarge old line = (event_content old.at_start line ≢ []) × (old.max_data < event_text_len (after_event_line old.buffers (event_content old.at_start line)).text)
 
 -- a line waits that can't be read, whatever comes after it
-abbrev pub WaitsTooLarge : Eventing → Type 0
-WaitsTooLarge reading = (line : List ℕ) × (reading.waiting ≡ Some line) × IsTooLarge reading line
+abbrev pub WaitsWithEventTooLarge : Eventing → Type 0
+WaitsWithEventTooLarge reading = (line : List ℕ) × (reading.waiting ≡ Some line) × IsEventTooLarge reading line
 
 -- ---- what the code takes of a line
 
@@ -218,12 +218,12 @@ IsEndOfEventLine line text = (front : List ℕ) × (line ≡ front ++ text)
 -- ---- runs of calls
 
 -- before any byte
-abbrev pub nothing_held : Limits → Eventing
-nothing_held limits = record {
+abbrev pub no_event_bytes_held : Limits → Eventing
+no_event_bytes_held limits = record {
   lines = starting (universal_reading limits.line) 512;
   waiting = None;
   at_start = true;
-  told = nothing_told;
+  buffers = no_event_buffers;
   max_data = limits.data;
 }
 
@@ -232,28 +232,28 @@ abbrev pub EventGiven : Type 0
 EventGiven = Option (Result Event EventError)
 
 -- what one call does: it gives something, or it gives nothing and loses nothing
-abbrev pub Returns : Eventing → EventGiven → Eventing → Type 0
-Returns old None new = LosesNothing old new
-Returns old (Some item) new = GivesItem old item new
+abbrev pub ReturnsEvent : Eventing → EventGiven → Eventing → Type 0
+ReturnsEvent old None new = LosesNoEvent old new
+ReturnsEvent old (Some item) new = GivesEventItem old item new
 
 -- these pieces and calls lead from a reader that holds nothing to the last state
 abbrev pub IsEventRun : Limits → List (StreamEvent EventGiven) → Eventing → Type 0
-IsEventRun limits events end = IsRunOver pushed Returns (nothing_held limits) events end
+IsEventRun limits events end = IsRunOver pushed_to_events ReturnsEvent (no_event_bytes_held limits) events end
 
 -- Whatever the pieces are, whenever events are asked for, and whichever of the calls are refused memory, a run gives the first events of the joined
 -- pieces, with the lines that are passed over in their places, and loses nothing of what is after them.
 abbrev pub EventRunLaw : Type 0
 EventRunLaw = (limits : Limits) (events : List (StreamEvent EventGiven)) (end : Eventing) → IsEventRun limits events end
-    → (mid : Eventing) × AreFirstOfRun GivesItem (pushed (nothing_held limits) (pushed_by events)) (flat_map option_to_list (given_by events)) mid × LosesNothing mid end
+    → (mid : Eventing) × AreFirstOfRun GivesEventItem (pushed_to_events (no_event_bytes_held limits) (pushed_in_stream events)) (flat_map option_to_list (given_in_stream events)) mid × LosesNoEvent mid end
 
 -- if a call gave none, and wasn't refused, none was there
 abbrev pub NoEventLaw : Type 0
-NoEventLaw = (old new : Eventing) → Waits old new → (item : Result Event EventError) (end : Eventing) → ¬ GivesItem old item end
+NoEventLaw = (old new : Eventing) → WaitsForEventLine old new → (item : Result Event EventError) (end : Eventing) → ¬ GivesEventItem old item end
 
 -- nor if the data with the next line passes its limit
 abbrev pub LargeEventLaw : Type 0
-LargeEventLaw = (old new : Eventing) → LosesNothing old new → WaitsTooLarge new → (item : Result Event EventError) (end : Eventing) → ¬ GivesItem old item end
+LargeEventLaw = (old new : Eventing) → LosesNoEvent old new → WaitsWithEventTooLarge new → (item : Result Event EventError) (end : Eventing) → ¬ GivesEventItem old item end
 
 -- two lists of first events of the same bytes that have the same length are the same, with the same state after them
 abbrev pub SameEventLaw : Type 0
-SameEventLaw = SameFirstOfRunLaw GivesItem
+SameEventLaw = SameFirstOfRunLaw GivesEventItem

@@ -8,8 +8,8 @@ use Rattle.std.specs.Str.Lines.{lines}
 use Rattle.bytes_utils_codec.specs.Frames.{TakesFrame}
 use Rattle.bytes_utils.specs.Occurrence.{Occurs}
 use Rattle.bytes_utils.specs.Lines.{carriage_return, line_feed}
-use Rattle.bytes_utils_codec.specs.Search.{NoneBegins}
-use Rattle.bytes_utils_codec.specs.StreamRuns.{StreamEvent, IsRunOver, AreFirstOfRun, SameFirstOfRunLaw, pushed_by, given_by}
+use Rattle.bytes_utils_codec.specs.Search.{NoneBeginsInSearch}
+use Rattle.bytes_utils_codec.specs.StreamRuns.{StreamEvent, IsRunOver, AreFirstOfRun, SameFirstOfRunLaw, pushed_in_stream, given_in_stream}
 use Rattle.bytes_utils_protocols.specs.Digits.{colon}
 use Rattle.bytes_utils_protocols.specs.declared.multipart.limits.Limits.{Limits}
 use Rattle.bytes_utils_protocols.specs.declared.multipart.Part.{Part}
@@ -19,7 +19,7 @@ use Rattle.bytes_utils_protocols.specs.declared.multipart.sections.Stage.TheVari
 
 -- What clauses see of a `PartReader`: the delimiter before and after each part, the limits, whether the close delimiter was read, and the held bytes.
 -- The next part comes after the first delimiter in these. Of the bytes before that delimiter the reader keeps the number alone.
-pub record Parting : Type 0 where
+pub record MultipartReading : Type 0 where
   pub delimiter : List ℕ
   pub limits : Limits
   pub ended : Bool
@@ -42,15 +42,15 @@ multipart_head_end = multipart_line_end ++ multipart_line_end
 -- ---- one part
 
 -- the head and the body of a part, as bytes
-pub record PartBytes : Type 0 where
+pub record MultipartBytes : Type 0 where
   pub head : List ℕ
   pub body : List ℕ
 
-abbrev pub part_bytes : List ℕ → List ℕ → PartBytes
-part_bytes head body = record { head = head; body = body }
+abbrev pub multipart_bytes : List ℕ → List ℕ → MultipartBytes
+multipart_bytes head body = record { head = head; body = body }
 
-abbrev pub bytes_of : Part → PartBytes
-bytes_of part = part_bytes part.head (concat part.body.segments)
+abbrev pub bytes_of_multipart : Part → MultipartBytes
+bytes_of_multipart part = multipart_bytes part.head (concat part.body.segments)
 
 -- a space or a tab
 abbrev pub is_multipart_head_padding : ℕ → Bool
@@ -65,7 +65,7 @@ abbrev pub IsMultipartHead : List ℕ → List ℕ → Type 0
 IsMultipartHead front head = ((without_multipart_padding front ≡ []) × (head ≡ [])) ⊎ (without_multipart_padding front ≡ multipart_line_end ++ head)
 
 -- what is between two delimiters: up to the first empty line the head, and after it the body
-pub record IsPart (limits : Limits) (raw : List ℕ) (part : PartBytes) : Type 0 where
+pub record IsMultipartPart (limits : Limits) (raw : List ℕ) (part : MultipartBytes) : Type 0 where
   pub front : List ℕ
   pub cut : TakesFrame multipart_head_end raw front part.body
   pub head : IsMultipartHead front part.head
@@ -73,19 +73,19 @@ pub record IsPart (limits : Limits) (raw : List ℕ) (part : PartBytes) : Type 0
   pub short : length part.body ≤ limits.body
 
 -- The old bytes are a preamble, a delimiter, what is between this one and the next, and that next one with the bytes after it, which are left.
-pub record TakesPart (delimiter : List ℕ) (limits : Limits) (old : List ℕ) (part : PartBytes) (rest : List ℕ) : Type 0 where
+pub record TakesMultipart (delimiter : List ℕ) (limits : Limits) (old : List ℕ) (part : MultipartBytes) (rest : List ℕ) : Type 0 where
   pub preamble : List ℕ
   pub after : List ℕ
   pub begins : TakesFrame delimiter old preamble after
   pub raw : List ℕ
   pub next : List ℕ
   pub ends : TakesFrame delimiter after raw next
-  pub is : IsPart limits raw part
+  pub is : IsMultipartPart limits raw part
   pub few : length preamble ≤ limits.head + limits.body
   pub left : rest ≡ delimiter ++ next
 
 -- the delimiters before and after the next part have come, and the bytes before the first of them are within the limits
-pub record IsPartDue (delimiter : List ℕ) (limits : Limits) (bytes : List ℕ) : Type 0 where
+pub record IsMultipartDue (delimiter : List ℕ) (limits : Limits) (bytes : List ℕ) : Type 0 where
   pub preamble : List ℕ
   pub after : List ℕ
   pub begins : TakesFrame delimiter bytes preamble after
@@ -95,8 +95,8 @@ pub record IsPartDue (delimiter : List ℕ) (limits : Limits) (bytes : List ℕ)
   pub few : length preamble ≤ limits.head + limits.body
 
 -- no part is in the bytes
-abbrev pub NoPart : List ℕ → Limits → List ℕ → Type 0
-NoPart delimiter limits bytes = (part : PartBytes) (rest : List ℕ) → ¬ TakesPart delimiter limits bytes part rest
+abbrev pub NoMultipart : List ℕ → Limits → List ℕ → Type 0
+NoMultipart delimiter limits bytes = (part : MultipartBytes) (rest : List ℕ) → ¬ TakesMultipart delimiter limits bytes part rest
 
 -- the first delimiter is a close delimiter: two dashes follow it
 abbrev pub ClosesMultipart : List ℕ → List ℕ → Type 0
@@ -118,26 +118,26 @@ abbrev pub content_disposition : List ℕ
 content_disposition = codes "content-disposition"
 
 -- the line is this header, whatever the case of its name (RFC 9110, 5.1), with this value
-pub record IsDisposition (line value : List ℕ) : Type 0 where
+pub record IsMultipartDisposition (line value : List ℕ) : Type 0 where
   pub colon_is : position_or_len (λ b. b == colon) line < length line
   pub name : str_to_ascii_lowercase (before_first (λ b. b == colon) line) ≡ content_disposition
   pub value_is : value ≡ after_first (λ b. b == colon) line
 
-abbrev pub NoDisposition : List ℕ → Type 0
-NoDisposition line = (value : List ℕ) → ¬ IsDisposition line value
+abbrev pub NoMultipartDisposition : List ℕ → Type 0
+NoMultipartDisposition line = (value : List ℕ) → ¬ IsMultipartDisposition line value
 
 -- the first of the lines that is this header has this value
-pub record IsFirstDisposition (all : List (List ℕ)) (value : List ℕ) : Type 0 where
+pub record IsFirstMultipartDisposition (all : List (List ℕ)) (value : List ℕ) : Type 0 where
   pub before : List (List ℕ)
   pub line : List ℕ
   pub others : List (List ℕ)
   pub parts : all ≡ before ++ line ∷ others
-  pub none : All NoDisposition before
-  pub is : IsDisposition line value
+  pub none : All NoMultipartDisposition before
+  pub is : IsMultipartDisposition line value
 
 -- the value of that header, or `None` if no line is this header
-abbrev pub HasDisposition : List (List ℕ) → Option (List ℕ) → Type 0
-HasDisposition all r = MatchOption r (All NoDisposition all) (λ value. IsFirstDisposition all value)
+abbrev pub HasMultipartDisposition : List (List ℕ) → Option (List ℕ) → Type 0
+HasMultipartDisposition all r = MatchOption r (All NoMultipartDisposition all) (λ value. IsFirstMultipartDisposition all value)
 
 abbrev pub multipart_quote : List ℕ
 multipart_quote = 34 ∷ []
@@ -157,7 +157,7 @@ QuotesInMultipart key (Some text) r = MatchOption r ((value : List ℕ) → ¬ I
 
 -- what follows the key in the disposition of a head
 abbrev pub HasMultipartParameter : List ℕ → List ℕ → Option (List ℕ) → Type 0
-HasMultipartParameter key head r = (disposition : Option (List ℕ)) × HasDisposition (lines head) disposition × QuotesInMultipart key disposition r
+HasMultipartParameter key head r = (disposition : Option (List ℕ)) × HasMultipartDisposition (lines head) disposition × QuotesInMultipart key disposition r
 
 abbrev pub multipart_name_key : List ℕ
 multipart_name_key = codes "; name=\""
@@ -169,95 +169,95 @@ multipart_file_name_key = codes "; filename=\""
 
 -- The bytes that are held: those that wait, or the preamble and a delimiter before them, or what was found after that, too, with the delimiter after
 -- it.
-abbrev pub held_in_sections : Stage → List ℕ → List ℕ → List ℕ → List ℕ → List ℕ
-held_in_sections Preamble delimiter preamble found waiting = waiting
-held_in_sections Waiting delimiter preamble found waiting = preamble ++ (delimiter ++ waiting)
-held_in_sections Found delimiter preamble found waiting = preamble ++ (delimiter ++ (found ++ (delimiter ++ waiting)))
-held_in_sections Ended delimiter preamble found waiting = []
+abbrev pub held_in_multipart_sections : Stage → List ℕ → List ℕ → List ℕ → List ℕ → List ℕ
+held_in_multipart_sections Preamble delimiter preamble found waiting = waiting
+held_in_multipart_sections Waiting delimiter preamble found waiting = preamble ++ (delimiter ++ waiting)
+held_in_multipart_sections Found delimiter preamble found waiting = preamble ++ (delimiter ++ (found ++ (delimiter ++ waiting)))
+held_in_multipart_sections Ended delimiter preamble found waiting = []
 
 -- Each delimiter is the first one there. Before the first one, and after the close delimiter, nothing else is kept.
-abbrev pub AreSectionsApart : Stage → List ℕ → List ℕ → List ℕ → List ℕ → Type 0
-AreSectionsApart Preamble delimiter preamble found waiting = preamble ≡ []
-AreSectionsApart Waiting delimiter preamble found waiting = TakesFrame delimiter (preamble ++ (delimiter ++ waiting)) preamble waiting
-AreSectionsApart Found delimiter preamble found waiting =
+abbrev pub AreMultipartSectionsApart : Stage → List ℕ → List ℕ → List ℕ → List ℕ → Type 0
+AreMultipartSectionsApart Preamble delimiter preamble found waiting = preamble ≡ []
+AreMultipartSectionsApart Waiting delimiter preamble found waiting = TakesFrame delimiter (preamble ++ (delimiter ++ waiting)) preamble waiting
+AreMultipartSectionsApart Found delimiter preamble found waiting =
     TakesFrame delimiter (preamble ++ (delimiter ++ (found ++ (delimiter ++ waiting)))) preamble (found ++ (delimiter ++ waiting))
     × TakesFrame delimiter (found ++ (delimiter ++ waiting)) found waiting
-AreSectionsApart Ended delimiter preamble found waiting = (preamble ≡ []) × (waiting ≡ [])
+AreMultipartSectionsApart Ended delimiter preamble found waiting = (preamble ≡ []) × (waiting ≡ [])
 
-abbrev pub sections_have_ended : Stage → Bool
-sections_have_ended Preamble = false
-sections_have_ended Waiting = false
-sections_have_ended Found = false
-sections_have_ended Ended = true
+abbrev pub multipart_sections_have_ended : Stage → Bool
+multipart_sections_have_ended Preamble = false
+multipart_sections_have_ended Waiting = false
+multipart_sections_have_ended Found = false
+multipart_sections_have_ended Ended = true
 
 -- the bytes that wait for the next delimiter
-abbrev pub waiting_in : Sections → List ℕ
-waiting_in s = concat s.waiting.held.segments
+abbrev pub waiting_in_multipart : Sections → List ℕ
+waiting_in_multipart s = concat s.waiting.held.segments
 
-abbrev pub held_by : Sections → List ℕ
-held_by s = held_in_sections s.stage s.delimiter.needle s.preamble (concat s.found.segments) (waiting_in s)
+abbrev pub held_by_multipart : Sections → List ℕ
+held_by_multipart s = held_in_multipart_sections s.stage s.delimiter.needle s.preamble (concat s.found.segments) (waiting_in_multipart s)
 
 -- of the bytes that wait, the search has passed none in which a delimiter begins, whatever comes after them
-abbrev pub NonePassed : Sections → Type 0
-NonePassed s = NoneBegins s.delimiter.needle (waiting_in s) s.delimiter.searched
+abbrev pub NoMultipartPassed : Sections → Type 0
+NoMultipartPassed s = NoneBeginsInSearch s.delimiter.needle (waiting_in_multipart s) s.delimiter.searched
 
-abbrev pub IsDivided : Sections → Type 0
-IsDivided s = AreSectionsApart s.stage s.delimiter.needle s.preamble (concat s.found.segments) (waiting_in s) × NonePassed s
+abbrev pub IsMultipartDivided : Sections → Type 0
+IsMultipartDivided s = AreMultipartSectionsApart s.stage s.delimiter.needle s.preamble (concat s.found.segments) (waiting_in_multipart s) × NoMultipartPassed s
 
 -- the same delimiter, end and bytes
-pub record SameSections (old new : Sections) : Type 0 where
+pub record SameMultipartSections (old new : Sections) : Type 0 where
   pub delimiter : new.delimiter.needle ≡ old.delimiter.needle
-  pub ended : sections_have_ended new.stage ≡ sections_have_ended old.stage
-  pub held : held_by new ≡ held_by old
+  pub ended : multipart_sections_have_ended new.stage ≡ multipart_sections_have_ended old.stage
+  pub held : held_by_multipart new ≡ held_by_multipart old
 
 -- after a search, by what was found
-abbrev pub AfterSearch : Stage → Sections → Sections → Type 0
-AfterSearch Preamble old new =
-    SameSections old new × (¬ Occurs old.delimiter.needle (waiting_in new)) × (¬ ClosesMultipart old.delimiter.needle (held_by old)) × LacksNextInMultipart old.delimiter.needle (held_by old)
-AfterSearch Waiting old new =
-    SameSections old new × (¬ Occurs old.delimiter.needle (waiting_in new)) × (¬ ClosesMultipart old.delimiter.needle (held_by old)) × LacksNextInMultipart old.delimiter.needle (held_by old)
-AfterSearch Found old new = SameSections old new
-AfterSearch Ended old new = (old.stage ≡ Ended) ⊎ ClosesMultipart old.delimiter.needle (held_by old)
+abbrev pub AfterMultipartSearch : Stage → Sections → Sections → Type 0
+AfterMultipartSearch Preamble old new =
+    SameMultipartSections old new × (¬ Occurs old.delimiter.needle (waiting_in_multipart new)) × (¬ ClosesMultipart old.delimiter.needle (held_by_multipart old)) × LacksNextInMultipart old.delimiter.needle (held_by_multipart old)
+AfterMultipartSearch Waiting old new =
+    SameMultipartSections old new × (¬ Occurs old.delimiter.needle (waiting_in_multipart new)) × (¬ ClosesMultipart old.delimiter.needle (held_by_multipart old)) × LacksNextInMultipart old.delimiter.needle (held_by_multipart old)
+AfterMultipartSearch Found old new = SameMultipartSections old new
+AfterMultipartSearch Ended old new = (old.stage ≡ Ended) ⊎ ClosesMultipart old.delimiter.needle (held_by_multipart old)
 
 -- ---- a run of calls
 
 -- a piece is held too, unless the close delimiter was read
-abbrev pub appended : Parting → List ℕ → Parting
-appended s piece = if s.ended then s else record s { held = s.held ++ piece }
+abbrev pub multipart_appended : MultipartReading → List ℕ → MultipartReading
+multipart_appended s piece = if s.ended then s else record s { held = s.held ++ piece }
 
 -- the close delimiter was read, and nothing is held
-abbrev pub closed : Parting → Parting
-closed s = record s { ended = true; held = [] }
+abbrev pub multipart_closed : MultipartReading → MultipartReading
+multipart_closed s = record s { ended = true; held = [] }
 
 -- Without a part the close delimiter is read, or nothing changes: then the first delimiter is no close delimiter, and the next one has not come.
-abbrev pub IsIdle : Parting → Parting → Type 0
-IsIdle old new = MatchBool new.ended ((new ≡ closed old) × ((old.ended ≡ true) ⊎ ClosesMultipart old.delimiter old.held))
+abbrev pub IsMultipartIdle : MultipartReading → MultipartReading → Type 0
+IsMultipartIdle old new = MatchBool new.ended ((new ≡ multipart_closed old) × ((old.ended ≡ true) ⊎ ClosesMultipart old.delimiter old.held))
     ((new ≡ old) × (¬ ClosesMultipart old.delimiter old.held) × LacksNextInMultipart old.delimiter old.held)
 
 -- what a call did that returned a part, or none
-abbrev pub IsPartCall : Parting → Option PartBytes → Parting → Type 0
-IsPartCall old None new = IsIdle old new
-IsPartCall old (Some part) new = TakesPart old.delimiter old.limits old.held part new.held × (old.ended ≡ false) × (new ≡ record old { held = new.held })
+abbrev pub IsMultipartCall : MultipartReading → Option MultipartBytes → MultipartReading → Type 0
+IsMultipartCall old None new = IsMultipartIdle old new
+IsMultipartCall old (Some part) new = TakesMultipart old.delimiter old.limits old.held part new.held × (old.ended ≡ false) × (new ≡ record old { held = new.held })
 
 -- pushed pieces and calls for the next part lead from a state to the last one
-abbrev pub IsPartRun : Parting → List (StreamEvent (Option PartBytes)) → Parting → Type 0
-IsPartRun s events end = IsRunOver appended IsPartCall s events end
+abbrev pub IsMultipartRun : MultipartReading → List (StreamEvent (Option MultipartBytes)) → MultipartReading → Type 0
+IsMultipartRun s events end = IsRunOver multipart_appended IsMultipartCall s events end
 
 -- the state of a new reader
-abbrev pub started : List ℕ → Limits → Parting
-started delimiter limits = record { delimiter = delimiter; limits = limits; ended = false; held = multipart_line_end }
+abbrev pub multipart_started : List ℕ → Limits → MultipartReading
+multipart_started delimiter limits = record { delimiter = delimiter; limits = limits; ended = false; held = multipart_line_end }
 
 -- These are the first parts of the bytes. The bytes after them are held, or the close delimiter was read there.
-pub record AreParts (delimiter : List ℕ) (limits : Limits) (bytes : List ℕ) (parts : List PartBytes) (ended : Bool) (held : List ℕ) : Type 0 where
+pub record AreMultipartParts (delimiter : List ℕ) (limits : Limits) (bytes : List ℕ) (parts : List MultipartBytes) (ended : Bool) (held : List ℕ) : Type 0 where
   pub rest : List ℕ
-  pub are : AreFirstOfRun (TakesPart delimiter limits) bytes parts rest
+  pub are : AreFirstOfRun (TakesMultipart delimiter limits) bytes parts rest
   pub left : MatchBool ended (ClosesMultipart delimiter rest) (rest ≡ held)
 
 -- Whatever the pieces are and whenever parts are asked for, a run gives the first parts of the joined pieces.
-abbrev pub PartsLaw : Type 0
-PartsLaw = (delimiter : List ℕ) (limits : Limits) (events : List (StreamEvent (Option PartBytes))) (end : Parting) → IsPartRun (started delimiter limits) events end
-    → AreParts delimiter limits (multipart_line_end ++ pushed_by events) (flat_map option_to_list (given_by events)) end.ended end.held
+abbrev pub MultipartLaw : Type 0
+MultipartLaw = (delimiter : List ℕ) (limits : Limits) (events : List (StreamEvent (Option MultipartBytes))) (end : MultipartReading) → IsMultipartRun (multipart_started delimiter limits) events end
+    → AreMultipartParts delimiter limits (multipart_line_end ++ pushed_in_stream events) (flat_map option_to_list (given_in_stream events)) end.ended end.held
 
 -- two lists of first parts of the same bytes that have the same length are the same, with the same bytes after them
-abbrev pub SamePartsLaw : Type 0
-SamePartsLaw = (delimiter : List ℕ) (limits : Limits) → SameFirstOfRunLaw (TakesPart delimiter limits)
+abbrev pub SameMultipartLaw : Type 0
+SameMultipartLaw = (delimiter : List ℕ) (limits : Limits) → SameFirstOfRunLaw (TakesMultipart delimiter limits)

@@ -12,7 +12,7 @@ use Rattle.bytes_utils_protocols.specs.declared.redis.item.Item.TheVariants.{Sim
 use Rattle.bytes_utils_protocols.specs.declared.redis.limits.Limits.{Limits}
 
 -- what clauses see of a `ReplyReader`
-pub record Replying : Type 0 where
+pub record RedisReplying : Type 0 where
   pub held : List ℕ
   pub limits : Limits
 
@@ -38,62 +38,62 @@ WriteRedisLength text None = text ≡ redis_no_length
 WriteRedisLength text (Some n) = WriteNumber text n
 
 -- the first byte of the item's line
-abbrev pub first_byte : Item → ℕ
-first_byte (Simple text) = 43
-first_byte (Error text) = 45
-first_byte (Integer n) = 58
-first_byte (Bulk body) = 36
-first_byte (Array count) = 42
+abbrev pub redis_first_byte : Item → ℕ
+redis_first_byte (Simple text) = 43
+redis_first_byte (Error text) = 45
+redis_first_byte (Integer n) = 58
+redis_first_byte (Bulk redis_body) = 36
+redis_first_byte (Array count) = 42
 
 -- the first byte of the line of a text or of an error
 abbrev pub IsRedisText : ℕ → Type 0
 IsRedisText kind = (kind ≡ 43) ⊎ (kind ≡ 45)
 
 -- the bytes of the item's line after the first one
-abbrev pub Says : Item → List ℕ → Type 0
-Says (Simple text) said = (text ≡ said) × IsRedisPlain said
-Says (Error text) said = (text ≡ said) × IsRedisPlain said
-Says (Integer n) said = WriteRedisInteger said n
-Says (Bulk body) said = WriteRedisLength said (option_map length body)
-Says (Array count) said = WriteRedisLength said count
+abbrev pub IsRedisLineRest : Item → List ℕ → Type 0
+IsRedisLineRest (Simple text) said = (text ≡ said) × IsRedisPlain said
+IsRedisLineRest (Error text) said = (text ≡ said) × IsRedisPlain said
+IsRedisLineRest (Integer n) said = WriteRedisInteger said n
+IsRedisLineRest (Bulk redis_body) said = WriteRedisLength said (option_map length redis_body)
+IsRedisLineRest (Array count) said = WriteRedisLength said count
 
-abbrev pub IsLineOf : Item → List ℕ → Type 0
-IsLineOf item line = (said : List ℕ) × (line ≡ first_byte item ∷ said) × Says item said
+abbrev pub IsRedisLineOf : Item → List ℕ → Type 0
+IsRedisLineOf item line = (said : List ℕ) × (line ≡ redis_first_byte item ∷ said) × IsRedisLineRest item said
 
 -- the bytes of a bulk text
-abbrev pub body : Item → List ℕ
-body (Simple text) = []
-body (Error text) = []
-body (Integer n) = []
-body (Bulk None) = []
-body (Bulk (Some bytes)) = bytes
-body (Array count) = []
+abbrev pub redis_body : Item → List ℕ
+redis_body (Simple text) = []
+redis_body (Error text) = []
+redis_body (Integer n) = []
+redis_body (Bulk None) = []
+redis_body (Bulk (Some bytes)) = bytes
+redis_body (Array count) = []
 
 -- what follows the line: these bytes and the end of a line
-abbrev pub after_line : Item → List ℕ
-after_line (Simple text) = []
-after_line (Error text) = []
-after_line (Integer n) = []
-after_line (Bulk None) = []
-after_line (Bulk (Some bytes)) = bytes ++ redis_line_end
-after_line (Array count) = []
+abbrev pub after_redis_line : Item → List ℕ
+after_redis_line (Simple text) = []
+after_redis_line (Error text) = []
+after_redis_line (Integer n) = []
+after_redis_line (Bulk None) = []
+after_redis_line (Bulk (Some bytes)) = bytes ++ redis_line_end
+after_redis_line (Array count) = []
 
 -- the number of items that follow as those of this one
-abbrev pub items_in : Item → ℕ
-items_in (Simple text) = 0
-items_in (Error text) = 0
-items_in (Integer n) = 0
-items_in (Bulk body) = 0
-items_in (Array None) = 0
-items_in (Array (Some count)) = count
+abbrev pub redis_items_in : Item → ℕ
+redis_items_in (Simple text) = 0
+redis_items_in (Error text) = 0
+redis_items_in (Integer n) = 0
+redis_items_in (Bulk redis_body) = 0
+redis_items_in (Array None) = 0
+redis_items_in (Array (Some count)) = count
 
 -- the old bytes are the item's line up to the first end of a line, what follows that line, and the rest
-pub record TakesItem (limits : Limits) (old : List ℕ) (item : Item) (rest : List ℕ) : Type 0 where
+pub record TakesRedisItem (limits : Limits) (old : List ℕ) (item : Item) (rest : List ℕ) : Type 0 where
   pub line : List ℕ
-  pub is : IsLineOf item line
-  pub bytes : TakesFrame redis_line_end old line (after_line item ++ rest)
+  pub is : IsRedisLineOf item line
+  pub bytes : TakesFrame redis_line_end old line (after_redis_line item ++ rest)
   pub short : length line ≤ limits.line
-  pub small : length (body item) ≤ limits.bulk
+  pub small : length (redis_body item) ≤ limits.bulk
 
 -- the line is that of a text or of an error
 pub record IsRedisTextLine (line : List ℕ) : Type 0 where
@@ -104,11 +104,11 @@ pub record IsRedisTextLine (line : List ℕ) : Type 0 where
   pub plain : IsRedisPlain text
 
 -- the line is that of an item within the limits, which has at most `room` items of its own
-pub record IsLineWithin (limits : Limits) (room : ℕ) (item : Item) (line : List ℕ) : Type 0 where
-  pub is : IsLineOf item line
+pub record IsRedisLineWithin (limits : Limits) (room : ℕ) (item : Item) (line : List ℕ) : Type 0 where
+  pub is : IsRedisLineOf item line
   pub short : length line ≤ limits.line
-  pub small : length (body item) ≤ limits.bulk
-  pub few : items_in item ≤ room
+  pub small : length (redis_body item) ≤ limits.bulk
+  pub few : redis_items_in item ≤ room
 
 -- what follows the first byte of a line with a length is nothing, or a sign whose digit is to come
 abbrev pub LacksRedisLength : List ℕ → Type 0
@@ -132,37 +132,37 @@ abbrev pub BeginsRedisBody : ℕ → List ℕ → Type 0
 BeginsRedisBody len bytes = (more : List ℕ) × (front : List ℕ) × (length front ≡ len) × (bytes ++ more ≡ front ++ redis_line_end)
 
 -- the bytes don't begin with an item
-abbrev pub NoItem : Limits → List ℕ → Type 0
-NoItem limits bytes = (item : Item) (rest : List ℕ) → ¬ TakesItem limits bytes item rest
+abbrev pub NoRedisItem : Limits → List ℕ → Type 0
+NoRedisItem limits bytes = (item : Item) (rest : List ℕ) → ¬ TakesRedisItem limits bytes item rest
 
 -- the bytes don't begin with an item that has at most `room` items of its own
-abbrev pub NoItemWithin : Limits → ℕ → List ℕ → Type 0
-NoItemWithin limits room bytes = (item : Item) (rest : List ℕ) → TakesItem limits bytes item rest → room < items_in item
+abbrev pub NoRedisItemWithin : Limits → ℕ → List ℕ → Type 0
+NoRedisItemWithin limits room bytes = (item : Item) (rest : List ℕ) → TakesRedisItem limits bytes item rest → room < redis_items_in item
 
 -- with some bytes after them, the bytes are an item that has at most `room` items of its own
-abbrev pub BeginsItem : Limits → ℕ → List ℕ → Type 0
-BeginsItem limits room bytes = (more : List ℕ) × (item : Item) × TakesItem limits (bytes ++ more) item [] × (items_in item ≤ room)
+abbrev pub BeginsRedisItem : Limits → ℕ → List ℕ → Type 0
+BeginsRedisItem limits room bytes = (more : List ℕ) × (item : Item) × TakesRedisItem limits (bytes ++ more) item [] × (redis_items_in item ≤ room)
 
 -- n items are to come, and these are all of them: each is one of those to come, and after an array its own come too
-abbrev pub AreWhole : ℕ → List Item → Type 0
-AreWhole n [] = n ≡ 0
-AreWhole n (item ∷ items) = (0 < n) × AreWhole ((n - 1) + items_in item) items
+abbrev pub AreWholeRedisItems : ℕ → List Item → Type 0
+AreWholeRedisItems n [] = n ≡ 0
+AreWholeRedisItems n (item ∷ items) = (0 < n) × AreWholeRedisItems ((n - 1) + redis_items_in item) items
 
 -- n items were to come, and after these items this number still is
-abbrev pub LeaveItemsDue : ℕ → List Item → ℕ → Type 0
-LeaveItemsDue n [] due = n ≡ due
-LeaveItemsDue n (item ∷ items) due = (0 < n) × LeaveItemsDue ((n - 1) + items_in item) items due
+abbrev pub LeaveRedisItemsDue : ℕ → List Item → ℕ → Type 0
+LeaveRedisItemsDue n [] due = n ≡ due
+LeaveRedisItemsDue n (item ∷ items) due = (0 < n) × LeaveRedisItemsDue ((n - 1) + redis_items_in item) items due
 
 -- the old bytes are one whole item, an array with its items, and the rest
-pub record TakesReply (limits : Limits) (old : List ℕ) (items : List Item) (rest : List ℕ) : Type 0 where
-  pub are : AreFirstOfRun (TakesItem limits) old items rest
-  pub whole : AreWhole 1 items
+pub record TakesRedisReply (limits : Limits) (old : List ℕ) (items : List Item) (rest : List ℕ) : Type 0 where
+  pub are : AreFirstOfRun (TakesRedisItem limits) old items rest
+  pub whole : AreWholeRedisItems 1 items
   pub few : length items ≤ limits.items
 
 -- the bytes don't begin with a reply
-abbrev pub NoReply : Limits → List ℕ → Type 0
-NoReply limits bytes = (items : List Item) (rest : List ℕ) → ¬ TakesReply limits bytes items rest
+abbrev pub NoRedisReply : Limits → List ℕ → Type 0
+NoRedisReply limits bytes = (items : List Item) (rest : List ℕ) → ¬ TakesRedisReply limits bytes items rest
 
 -- the bytes are a beginning of a reply: with some bytes after them, they are one whole reply
-abbrev pub BeginsReply : Limits → List ℕ → Type 0
-BeginsReply limits bytes = (more : List ℕ) × (items : List Item) × TakesReply limits (bytes ++ more) items []
+abbrev pub BeginsRedisReply : Limits → List ℕ → Type 0
+BeginsRedisReply limits bytes = (more : List ℕ) × (items : List Item) × TakesRedisReply limits (bytes ++ more) items []

@@ -5,8 +5,8 @@ use Rattle.bytes_utils_buf.specs.declared.refused.Reason.{Reason}
 use Rattle.bytes_utils_buf.specs.declared.refused.Reason.TheVariants.{OutOfMemory}
 use Rattle.bytes_utils_codec.specs.Frames.{TakesFrame}
 use Rattle.bytes_utils_codec.specs.StreamRuns.{AreFirstOfRun}
-use Rattle.bytes_utils_protocols.specs.Redis.{redis_line_end, TakesItem, LeaveItemsDue, BeginsItem, NoItem, NoItemWithin, items_in}
-use Rattle.bytes_utils_protocols.specs.RedisLine.{IsHeadOf, IsReadTo, IsHead}
+use Rattle.bytes_utils_protocols.specs.Redis.{redis_line_end, TakesRedisItem, LeaveRedisItemsDue, BeginsRedisItem, NoRedisItem, NoRedisItemWithin, redis_items_in}
+use Rattle.bytes_utils_protocols.specs.RedisLine.{IsRedisLineHeadOf, IsRedisLineReadTo, IsRedisLineHead}
 use Rattle.bytes_utils_protocols.specs.declared.redis.item.Item.{Item}
 use Rattle.bytes_utils_protocols.specs.declared.redis.limits.Limits.{Limits}
 use Rattle.bytes_utils_protocols.specs.declared.redis.limits.ReplyError.{ReplyError}
@@ -23,26 +23,26 @@ use Rattle.bytes_utils_protocols.specs.declared.redis.pending.Pending.{Pending}
 pub record AwaitsPendingBody (limits : Limits) (bytes : List ℕ) (start len : ℕ) : Type 0 where
   pub line : List ℕ
   pub framed : TakesFrame redis_line_end bytes line (drop start bytes)
-  pub is : IsHeadOf (Body len) line
+  pub is : IsRedisLineHeadOf (Body len) line
   pub short : length line ≤ limits.line
   pub small : len ≤ limits.bulk
   pub within : start ≤ length bytes
 
 -- the bytes begin with this item, which has `len` bytes, and at most `room` items of its own
 pub record HasPendingItem (limits : Limits) (room : ℕ) (bytes : List ℕ) (item : Item) (len : ℕ) : Type 0 where
-  pub takes : TakesItem limits bytes item (drop len bytes)
+  pub takes : TakesRedisItem limits bytes item (drop len bytes)
   pub within : len ≤ length bytes
-  pub few : items_in item ≤ room
+  pub few : redis_items_in item ≤ room
 
 -- the bytes begin with no item yet, and with some bytes after them they are one
 pub record AwaitsPendingItem (limits : Limits) (room : ℕ) (bytes : List ℕ) : Type 0 where
-  pub none : NoItem limits bytes
-  pub begins : BeginsItem limits room bytes
+  pub none : NoRedisItem limits bytes
+  pub begins : BeginsRedisItem limits room bytes
 
 -- why there is no item, whatever comes after the bytes
 pub record IsNoPendingItem (limits : Limits) (room : ℕ) (bytes : List ℕ) (e : ReplyError) : Type 0 where
-  pub malformed : e ≡ Malformed → (any : Limits) (more : List ℕ) → NoItem any (bytes ++ more)
-  pub too_large : e ≡ TooLarge → (more : List ℕ) → NoItemWithin limits room (bytes ++ more)
+  pub malformed : e ≡ Malformed → (any : Limits) (more : List ℕ) → NoRedisItem any (bytes ++ more)
+  pub too_large : e ≡ TooLarge → (more : List ℕ) → NoRedisItemWithin limits room (bytes ++ more)
   pub memory : (reason : Reason) → e ≡ Refused reason → reason ≡ OutOfMemory
 
 -- the first item of the bytes, if it has come
@@ -53,27 +53,27 @@ FindsPendingItem limits room bytes result =
 -- what the first line of the bytes reports, if it has come, with its number of bytes
 abbrev pub FindsPendingHead : Limits → ℕ → List ℕ → Result (Option LineHead) ReplyError → ℕ → Type 0
 FindsPendingHead limits room bytes result len =
-    MatchResult result (λ found. MatchOption found (AwaitsPendingItem limits room bytes) (λ head. IsHead limits room bytes head len)) (IsNoPendingItem limits room bytes)
+    MatchResult result (λ found. MatchOption found (AwaitsPendingItem limits room bytes) (λ head. IsRedisLineHead limits room bytes head len)) (IsNoPendingItem limits room bytes)
 
 -- what was read of the first item of the bytes
 abbrev pub IsPendingNext : Limits → List ℕ → Next → Type 0
-IsPendingNext limits bytes (InLine begun) = IsReadTo bytes begun
+IsPendingNext limits bytes (InLine begun) = IsRedisLineReadTo bytes begun
 IsPendingNext limits bytes (InBody start len) = AwaitsPendingBody limits bytes start len
 
 -- ---- the reply
 
 -- the bytes of which no item was read
-abbrev pub unread_by : Pending → List ℕ
-unread_by p = concat p.pieces.held.segments
+abbrev pub unread_by_pending : Pending → List ℕ
+unread_by_pending p = concat p.pieces.held.segments
 
 -- all bytes that are of no reply yet
-abbrev pub held_by : Pending → List ℕ
-held_by p = p.passed ++ unread_by p
+abbrev pub held_by_pending : Pending → List ℕ
+held_by_pending p = p.passed ++ unread_by_pending p
 
 -- the items are those of the bytes that were passed, and the others of the reply are still due
 pub record IsPending (limits : Limits) (p : Pending) : Type 0 where
-  pub are : AreFirstOfRun (TakesItem limits) (held_by p) p.items.items (unread_by p)
-  pub due : LeaveItemsDue 1 p.items.items p.due
+  pub are : AreFirstOfRun (TakesRedisItem limits) (held_by_pending p) p.items.items (unread_by_pending p)
+  pub due : LeaveRedisItemsDue 1 p.items.items p.due
   pub within : 0 < limits.items → length p.items.items + p.due ≤ limits.items
-  pub next : IsPendingNext limits (unread_by p) p.next
-  pub fits : length (held_by p) < 2 ^ 64
+  pub next : IsPendingNext limits (unread_by_pending p) p.next
+  pub fits : length (held_by_pending p) < 2 ^ 64

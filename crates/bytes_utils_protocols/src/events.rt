@@ -5,7 +5,7 @@ ghost use Rattle.bytes_utils.specs.Lines.{line_feed};
 ghost use Rattle.bytes_utils_codec.specs.Pushing.{IsPush};
 ghost use Rattle.bytes_utils_codec.specs.UniversalReading.{AwaitsUniversal};
 ghost use Rattle.bytes_utils_protocols.specs.EventData.{event_data_if_any, event_data_text};
-ghost use Rattle.bytes_utils_protocols.specs.Events.{DoesLine, EndsEvent, EventRunLaw, Gives, IsEndOfEventLine, IsTooLarge, Keeps, LargeEventLaw, LosesNothing, NoEventLaw, PassesFault, SameEventLaw, TakesFault, TakesNext, Waits, WaitsTooLarge, after_field, event_content, event_field_name, event_field_value, event_name_of, event_number_of, event_text_len, event_value_of, left_to_read, nothing_held, pushed, with_event_line};
+ghost use Rattle.bytes_utils_protocols.specs.Events.{DoesEventLine, EndsEvent, EventRunLaw, GivesEvent, IsEndOfEventLine, IsEventTooLarge, KeepsEvents, LargeEventLaw, LosesNoEvent, NoEventLaw, PassesEventFault, SameEventLaw, TakesEventFault, TakesNextEventLine, WaitsForEventLine, WaitsWithEventTooLarge, after_event_field, event_content, event_field_name, event_field_value, event_name_of, event_number_of, event_text_len, event_value_of, events_left_to_read, no_event_bytes_held, pushed_to_events, with_event_line};
 
 use crate::number::number;
 use bytes::Bytes;
@@ -50,9 +50,9 @@ pub enum EventError {
 }
 
 impl From<LineFault> for EventError {
-    ghost use Rattle.bytes_utils_protocols.specs.Events.{error_of};
+    ghost use Rattle.bytes_utils_protocols.specs.Events.{event_error_of};
 
-    ghost from_gives = { λ fault error. error ≡ error_of fault };
+    ghost from_gives = { λ fault error. error ≡ event_error_of fault };
 
     fn from(fault: LineFault) -> EventError {
         match fault {
@@ -85,9 +85,9 @@ enum Data {
 /// let limits = Limits { data: 1 << 20, line: 64 << 10 };
 /// let mut events = EventReader::new(alloc, limits);
 /// events.push(first)?;             // a `Bytes` of `event: add\ndata: 73\r\nda`
-/// events.next_event(alloc)?        // `None`
+/// events.next_event()?             // `None`
 /// events.push(second)?;            // one of `ta: 9\n\n`
-/// events.next_event(alloc)?        // the event `add` with the data `73\n9`
+/// events.next_event()?             // the event `add` with the data `73\n9`
 /// ```
 ///
 /// The format is that of the HTML standard, sections 9.2.5 and 9.2.6. Comments, and fields that the
@@ -97,6 +97,7 @@ enum Data {
 /// of one line share the bytes of their lines, and several lines of data are copied into one text.
 #[derive(Drop)]
 pub struct EventReader {
+    alloc: Global,
     lines: Framed<UniversalLines>,
     waiting: Option<Str>,
     at_start: bool,
@@ -118,7 +119,7 @@ impl Model for EventReader {
       lines = r.lines;
       waiting = r.waiting;
       at_start = r.at_start;
-      told = record { name = r.name; text = event_data_if_any r.text; id = r.id; retry = r.retry };
+      buffers = record { name = r.name; text = event_data_if_any r.text; id = r.id; retry = r.retry };
       max_data = r.max_data;
     } };
 
@@ -128,9 +129,10 @@ impl Model for EventReader {
 impl EventReader {
     /// Makes a reader that holds no bytes.
     pub fn new(alloc: Global, limits: Limits) -> EventReader
-        ensures { result ≡ nothing_held limits }
+        ensures { result ≡ no_event_bytes_held limits }
     {
         EventReader {
+            alloc,
             lines: Framed::new(alloc, UniversalLines::with_limit(limits.line)),
             waiting: None,
             at_start: true,
@@ -147,7 +149,7 @@ impl EventReader {
     /// memory is refused; then nothing has changed and `piece` comes back.
     pub fn push(&mut self, piece: Bytes) -> Result<(), Refused<Bytes>>
         ensures pushed { IsPush self.old.lines.held piece result
-            (self.new ≡ pushed self.old piece) (self.new ≡ self.old) }
+            (self.new ≡ pushed_to_events self.old piece) (self.new ≡ self.old) }
     {
         self.lines.push(piece)
     }
@@ -155,7 +157,7 @@ impl EventReader {
     /// Appends a copy of `piece`, in a block that it shares with other small pieces: for a caller
     /// that reads into a buffer of its own. Fails as `push` does; then nothing has changed.
     pub fn push_slice(&mut self, piece: &[u8]) -> Result<(), Reason>
-        ensures ok { OnOk result (self.new ≡ pushed self.old piece.now) }
+        ensures ok { OnOk result (self.new ≡ pushed_to_events self.old piece.now) }
         ensures err { OnErr result (self.new ≡ self.old) }
         ensures too_long { IfErr result (λ reason. (reason ≡ Reason.TooLong)
             ↔ (2 ^ 64 ≤ length self.old.lines.held + length piece.now)) }
@@ -172,30 +174,30 @@ impl EventReader {
     /// line.) Each comes once, in its place, wherever the stream was cut. Fails with `TooLarge` also
     /// if the data with the next line passes its limit; then nothing is lost, but that line can't be
     /// read, whatever comes next.
-    pub fn next_event(&mut self, alloc: Global) -> Result<Option<Event>, EventError>
+    pub fn next_event(&mut self) -> Result<Option<Event>, EventError>
         ensures event { IfOk result
-            (λ next. IfSome next (λ event. Gives self.old event self.new)) }
+            (λ next. IfSome next (λ event. GivesEvent self.old event self.new)) }
         ensures less { IfOk result
-            (λ next. IfSome next (λ _. left_to_read self.new < left_to_read self.old)) }
-        ensures waits { IfOk result (λ next. IfNone next (Waits self.old self.new)) }
+            (λ next. IfSome next (λ _. events_left_to_read self.new < events_left_to_read self.old)) }
+        ensures waits { IfOk result (λ next. IfNone next (WaitsForEventLine self.old self.new)) }
 
         // Then no more bytes are held than a line may have.
         ensures short { IfOk result (λ next. IfNone next
             (length self.new.lines.held ≤ self.new.lines.decoder.max_length)) }
         ensures refused { IfErr result (λ e. (reason : _) → e ≡ EventError.Refused reason
-            → LosesNothing self.old self.new) }
+            → LosesNoEvent self.old self.new) }
         ensures reason { IfErr result (λ e. (reason : _) → e ≡ EventError.Refused reason
             → reason ≡ Reason.OutOfMemory) }
         ensures not_utf8 { IfErr result (λ e. e ≡ EventError.NotUtf8
-            → PassesFault self.old EventError.NotUtf8 self.new) }
+            → PassesEventFault self.old EventError.NotUtf8 self.new) }
         ensures less_by_fault { IfErr result (λ e. e ≡ EventError.NotUtf8
-            → left_to_read self.new < left_to_read self.old) }
+            → events_left_to_read self.new < events_left_to_read self.old) }
         ensures too_large { IfErr result (λ e. e ≡ EventError.TooLarge
-            → PassesFault self.old EventError.TooLarge self.new
-            ⊎ (LosesNothing self.old self.new × WaitsTooLarge self.new)) }
+            → PassesEventFault self.old EventError.TooLarge self.new
+            ⊎ (LosesNoEvent self.old self.new × WaitsWithEventTooLarge self.new)) }
     {
-        while let Some(line) = self.next_line(alloc)? {
-            match self.read(alloc, &line) {
+        while let Some(line) = self.next_line()? {
+            match self.read(&line) {
                 Ok(None) => {}
                 Ok(Some(event)) => return Ok(Some(event)),
                 Err(error) => {
@@ -210,7 +212,7 @@ impl EventReader {
     /// Returns how many milliseconds a client is to wait before it connects again, if the lines that
     /// were read gave such a number below 2^64.
     pub fn retry(&self) -> Option<u64>
-        ensures { result ≡ self.now.told.retry }
+        ensures { result ≡ self.now.buffers.retry }
     {
         self.retry
     }
@@ -220,34 +222,34 @@ impl EventReader {
         ensures value { result ≡ length self.now.lines.held }
 
         // True of every value, after any calls.
-        ensures small { event_text_len self.now.told.text ≤ self.now.max_data }
+        ensures small { event_text_len self.now.buffers.text ≤ self.now.max_data }
     {
         self.lines.remaining()
     }
 
     /// Takes the next line: the one that waits, or the next of the stream. A line for which there is
     /// an error is passed over.
-    fn next_line(&mut self, alloc: Global) -> Result<Option<Str>, EventError>
+    fn next_line(&mut self) -> Result<Option<Str>, EventError>
         ensures line { IfOk result
-            (λ next. IfSome next (λ line. TakesNext self.old line self.new)) }
+            (λ next. IfSome next (λ line. TakesNextEventLine self.old line self.new)) }
         ensures utf8 { IfOk result (λ next. IfSome next IsUtf8) }
         ensures waits { IfOk result
-            (λ next. IfNone next (AwaitsUniversal self.old.lines × Keeps self.old self.new)) }
+            (λ next. IfNone next (AwaitsUniversal self.old.lines × KeepsEvents self.old self.new)) }
         ensures short { IfOk result (λ next. IfNone next
             (length self.new.lines.held ≤ self.new.lines.decoder.max_length)) }
         ensures refused { IfErr result
-            (λ e. (reason : _) → e ≡ EventError.Refused reason → Keeps self.old self.new) }
+            (λ e. (reason : _) → e ≡ EventError.Refused reason → KeepsEvents self.old self.new) }
         ensures reason { IfErr result (λ e. (reason : _) → e ≡ EventError.Refused reason
             → reason ≡ Reason.OutOfMemory) }
         ensures not_utf8 { IfErr result (λ e. e ≡ EventError.NotUtf8
-            → TakesFault self.old EventError.NotUtf8 self.new) }
+            → TakesEventFault self.old EventError.NotUtf8 self.new) }
         ensures too_large { IfErr result (λ e. e ≡ EventError.TooLarge
-            → TakesFault self.old EventError.TooLarge self.new) }
+            → TakesEventFault self.old EventError.TooLarge self.new) }
     {
         if let Some(line) = self.waiting.take() {
             return Ok(Some(line));
         }
-        match self.lines.next_item(alloc)? {
+        match self.lines.next_item()? {
             None => Ok(None),
             Some(Ok(line)) => Ok(Some(line)),
             Some(Err(fault)) => {
@@ -258,22 +260,22 @@ impl EventReader {
     }
 
     /// Does what a line says. If it ends an event, that is returned.
-    fn read(&mut self, alloc: Global, line: &Str) -> Result<Option<Event>, EventError>
-        ensures none { IfOk result (λ event. IfNone event (DoesLine self.old line.now self.new)) }
+    fn read(&mut self, line: &Str) -> Result<Option<Event>, EventError>
+        ensures none { IfOk result (λ event. IfNone event (DoesEventLine self.old line.now self.new)) }
         ensures some { IfOk result
             (λ event. IfSome event (λ event. EndsEvent self.old line.now event self.new)) }
         ensures err { OnErr result (self.new ≡ self.old) }
         ensures too_large { IfErr result (λ e. e ≡ EventError.TooLarge
-            → IsTooLarge self.old line.now) }
+            → IsEventTooLarge self.old line.now) }
         ensures utf8 { IfErr result (λ e. e ≢ EventError.NotUtf8) }
         ensures reason { IfErr result (λ e. (reason : _) → e ≡ EventError.Refused reason
             → reason ≡ Reason.OutOfMemory) }
     {
         let text = event_content(self.at_start, line.as_str());
         let event = if text.is_empty() {
-            self.end_event(alloc)?
+            self.end_event()?
         } else {
-            self.read_field(alloc, line, text)?;
+            self.read_field(line, text)?;
             None
         };
         self.at_start = false;
@@ -281,16 +283,16 @@ impl EventReader {
     }
 
     /// Ends the event, if there is data. If there is none, there is no event, and no name.
-    fn end_event(&mut self, alloc: Global) -> Result<Option<Event>, Reason>
-        ensures none { IfOk result (λ event. IfNone event ((self.old.told.text ≡ None)
-            × (self.new ≡ record self.old { told = record self.old.told { name = None } }))) }
+    fn end_event(&mut self) -> Result<Option<Event>, Reason>
+        ensures none { IfOk result (λ event. IfNone event ((self.old.buffers.text ≡ None)
+            × (self.new ≡ record self.old { buffers = record self.old.buffers { name = None } }))) }
         ensures text { IfOk result (λ event. IfSome event (λ event.
-            self.old.told.text ≡ Some event.data)) }
+            self.old.buffers.text ≡ Some event.data)) }
         ensures name { IfOk result (λ event. IfSome event (λ event.
-            event.name ≡ self.old.told.name)) }
-        ensures id { IfOk result (λ event. IfSome event (λ event. event.id ≡ self.old.told.id)) }
+            event.name ≡ self.old.buffers.name)) }
+        ensures id { IfOk result (λ event. IfSome event (λ event. event.id ≡ self.old.buffers.id)) }
         ensures after { IfOk result (λ event. IfSome event (λ event.
-            self.new ≡ record self.old { told = record self.old.told { name = None; text = None } })) }
+            self.new ≡ record self.old { buffers = record self.old.buffers { name = None; text = None } })) }
         ensures err { OnErr result (self.new ≡ self.old) }
         ensures reason { IfErr result (λ reason. reason ≡ Reason.OutOfMemory) }
     {
@@ -298,7 +300,7 @@ impl EventReader {
             self.name = None;
             return Ok(None);
         };
-        match event_data_and_id(alloc, data, &self.id) {
+        match event_data_and_id(self.alloc, data, &self.id) {
             Ok((data, id)) => {
                 let name = self.name.take();
                 Ok(Some(Event { name, data, id }))
@@ -311,22 +313,22 @@ impl EventReader {
     }
 
     /// Does what the field says that is at the end of the line.
-    fn read_field(&mut self, alloc: Global, line: &Str, text: &str) -> Result<(), EventError>
+    fn read_field(&mut self, line: &Str, text: &str) -> Result<(), EventError>
         requires { IsEndOfEventLine line.now text.now }
         ensures ok { OnOk result (self.new ≡ record self.old {
-          told = after_field self.old.told
+          buffers = after_event_field self.old.buffers
               (event_field_name text.now) (event_field_value text.now);
         }) }
         ensures err { OnErr result (self.new ≡ self.old) }
         ensures too_large { IfErr result (λ e. e ≡ EventError.TooLarge → self.old.max_data
-            < event_text_len (after_field self.old.told (event_field_name text.now) (event_field_value text.now)).text) }
+            < event_text_len (after_event_field self.old.buffers (event_field_name text.now) (event_field_value text.now)).text) }
         ensures utf8 { IfErr result (λ e. e ≢ EventError.NotUtf8) }
         ensures reason { IfErr result (λ e. (reason : _) → e ≡ EventError.Refused reason
             → reason ≡ Reason.OutOfMemory) }
     {
         let (name, value) = event_field_of(text);
         if name == "data" {
-            self.add_line(alloc, line, value)?;
+            self.add_line(line, value)?;
         } else if name == "event" {
             self.name = event_name_of(line, value)?;
         } else if name == "id" && !value.as_bytes().contains(&0) {
@@ -339,16 +341,16 @@ impl EventReader {
 
     /// Adds `value` to the data, as one more line: it is the end of `line`. Fails with `TooLarge` if the
     /// data would pass its limit.
-    fn add_line(&mut self, alloc: Global, line: &Str, value: &str) -> Result<(), EventError>
+    fn add_line(&mut self, line: &Str, value: &str) -> Result<(), EventError>
         requires { IsEndOfEventLine line.now value.now }
         ensures ok { OnOk result (self.new ≡ record self.old {
-          told = record self.old.told {
-            text = Some (with_event_line self.old.told.text value.now);
+          buffers = record self.old.buffers {
+            text = Some (with_event_line self.old.buffers.text value.now);
           };
         }) }
         ensures err { OnErr result (self.new ≡ self.old) }
         ensures too_large { IfErr result (λ e. e ≡ EventError.TooLarge
-            → self.old.max_data < length (with_event_line self.old.told.text value.now)) }
+            → self.old.max_data < length (with_event_line self.old.buffers.text value.now)) }
         ensures utf8 { IfErr result (λ e. e ≢ EventError.NotUtf8) }
         ensures reason { IfErr result (λ e. (reason : _) → e ≡ EventError.Refused reason
             → reason ≡ Reason.OutOfMemory) }
@@ -356,7 +358,7 @@ impl EventReader {
         if !has_room_in_event(&self.text, value, self.max_data) {
             return Err(EventError::TooLarge);
         }
-        add_line(alloc, &mut self.text, line, value)?;
+        add_line(self.alloc, &mut self.text, line, value)?;
         Ok(())
     }
 }

@@ -2,7 +2,7 @@
 //! (RFC 2046, section 5.1.1; RFC 7578).
 ghost use Rattle.std.specs.Prelude.{◌≡◌, ◌+◌, ◌-◌, ◌^◌, ◌<◌, ◌≤◌, ◌↔◌, ℕ, List, [], ◌++◌, length, min, false, true, IsUtf8, IsOk, IsTrue, IfOk, IfErr, IfSome, IfNone, OnOk, OnErr};
 ghost use Rattle.bytes_utils_codec.specs.Pushing.{IsPush};
-ghost use Rattle.bytes_utils_protocols.specs.Multipart.{FewWaitInMultipart, HasMultipartParameter, IsDivided, IsIdle, IsPartDue, NoPart, PartBytes, PartsLaw, SamePartsLaw, TakesPart, appended, bytes_of, multipart_delimiter, multipart_file_name_key, held_by, multipart_line_end, multipart_name_key};
+ghost use Rattle.bytes_utils_protocols.specs.Multipart.{FewWaitInMultipart, HasMultipartParameter, IsMultipartDivided, IsMultipartIdle, IsMultipartDue, NoMultipart, MultipartBytes, MultipartLaw, SameMultipartLaw, TakesMultipart, multipart_appended, bytes_of_multipart, multipart_delimiter, multipart_file_name_key, held_by_multipart, multipart_line_end, multipart_name_key};
 
 mod head;
 mod limits;
@@ -36,10 +36,10 @@ pub struct Part {
 /// ```text
 /// let mut parts = PartReader::new(alloc, b"AaB", limits)?;
 /// parts.push(first)?;          // a `Bytes` of `--AaB\r\nContent-Disposition: form-data; na`
-/// parts.next_part(alloc)?      // `None`
+/// parts.next_part()?           // `None`
 /// parts.push(second)?;         // one of `me="a"\r\n\r\nHello\r\n--AaB--`
-/// parts.next_part(alloc)?      // a part with the name `a` and the body `Hello`
-/// parts.next_part(alloc)?      // `None`: `has_ended` is true now
+/// parts.next_part()?           // a part with the name `a` and the body `Hello`
+/// parts.next_part()?           // `None`: `has_ended` is true now
 /// ```
 ///
 /// A delimiter is a line end, two dashes and the boundary. The first one needs no line end before
@@ -57,18 +57,18 @@ pub struct PartReader {
 }
 
 impl Model for PartReader {
-    ghost use Rattle.bytes_utils_protocols.specs.Multipart.{IsDivided, Parting, sections_have_ended, held_by};
+    ghost use Rattle.bytes_utils_protocols.specs.Multipart.{IsMultipartDivided, MultipartReading, multipart_sections_have_ended, held_by_multipart};
 
-    ghost Value = { Parting };
+    ghost Value = { MultipartReading };
 
     ghost view = { λ r. record {
       delimiter = r.sections.delimiter.needle;
       limits = r.limits;
-      ended = sections_have_ended r.sections.stage;
-      held = held_by r.sections;
+      ended = multipart_sections_have_ended r.sections.stage;
+      held = held_by_multipart r.sections;
     } };
 
-    ghost invariant = { λ r. IsDivided r.sections };
+    ghost invariant = { λ r. IsMultipartDivided r.sections };
 }
 
 impl PartReader {
@@ -102,7 +102,7 @@ impl PartReader {
         ensures pushed { (front : List ℕ) × (waiting : List ℕ)
             × (self.old.held ≡ front ++ waiting)
             × IsPush waiting piece result
-            (self.new ≡ appended self.old piece) (self.new ≡ self.old) }
+            (self.new ≡ multipart_appended self.old piece) (self.new ≡ self.old) }
         ensures drops { self.old.ended ≡ true → IsOk result }
     {
         if self.has_ended() {
@@ -115,7 +115,7 @@ impl PartReader {
     /// the close delimiter was read: for a caller that reads into a buffer of its own. Fails as
     /// `push` does; then nothing has changed.
     pub fn push_slice(&mut self, piece: &[u8]) -> Result<(), Reason>
-        ensures ok { OnOk result (self.new ≡ appended self.old piece.now) }
+        ensures ok { OnOk result (self.new ≡ multipart_appended self.old piece.now) }
         ensures err { OnErr result (self.new ≡ self.old) }
         ensures too_long { (front : List ℕ) × (waiting : List ℕ)
             × (self.old.held ≡ front ++ waiting)
@@ -145,9 +145,9 @@ impl PartReader {
     /// and with `Refused` if memory is refused; then nothing has changed. `Malformed` comes only
     /// after the delimiter at the end of the part; before that, and where too many bytes are before
     /// the first delimiter, the error is `TooLarge`.
-    pub fn next_part(&mut self, alloc: Global) -> Result<Option<Part>, PartError>
-        ensures part { IfOk result (λ next. IfSome next (λ part. TakesPart self.old.delimiter
-            self.old.limits self.old.held (bytes_of part) self.new.held)) }
+    pub fn next_part(&mut self) -> Result<Option<Part>, PartError>
+        ensures part { IfOk result (λ next. IfSome next (λ part. TakesMultipart self.old.delimiter
+            self.old.limits self.old.held (bytes_of_multipart part) self.new.held)) }
         ensures fewer { IfOk result (λ next. IfSome next
             (λ _. length self.new.held < length self.old.held)) }
         ensures name { IfOk result (λ next. IfSome next
@@ -158,31 +158,31 @@ impl PartReader {
             (λ _. (self.old.ended ≡ false)
             × (self.new ≡ record self.old { held = self.new.held }))) }
         ensures waits { IfOk result (λ next. IfNone next
-            (NoPart self.old.delimiter self.old.limits self.old.held)) }
-        ensures idle { IfOk result (λ next. IfNone next (IsIdle self.old self.new)) }
+            (NoMultipart self.old.delimiter self.old.limits self.old.held)) }
+        ensures idle { IfOk result (λ next. IfNone next (IsMultipartIdle self.old self.new)) }
         ensures few { IfOk result (λ next. IfNone next
             (FewWaitInMultipart self.new.delimiter self.new.limits self.new.held)) }
         ensures err { OnErr result (self.new ≡ self.old) }
         ensures malformed { IfErr result (λ e. e ≡ PartError.Malformed
             → (limits : Limits) (more : List ℕ)
-            → NoPart self.old.delimiter limits (self.old.held ++ more)) }
+            → NoMultipart self.old.delimiter limits (self.old.held ++ more)) }
         ensures due { IfErr result (λ e. e ≡ PartError.Malformed
-            → IsPartDue self.old.delimiter self.old.limits self.old.held) }
+            → IsMultipartDue self.old.delimiter self.old.limits self.old.held) }
         ensures too_large { IfErr result (λ e. e ≡ PartError.TooLarge → (more : List ℕ)
-            → NoPart self.old.delimiter self.old.limits (self.old.held ++ more)) }
+            → NoMultipart self.old.delimiter self.old.limits (self.old.held ++ more)) }
         ensures not_utf8 { IfErr result (λ e. e ≡ PartError.NotUtf8
-            → (part : PartBytes) × (rest : List ℕ)
-            × TakesPart self.old.delimiter self.old.limits self.old.held part rest
+            → (part : MultipartBytes) × (rest : List ℕ)
+            × TakesMultipart self.old.delimiter self.old.limits self.old.held part rest
             × (¬ IsUtf8 part.head)) }
         ensures reason { IfErr result (λ e. (reason : _) → e ≡ PartError.Refused reason
             → reason ≡ Reason.OutOfMemory) }
     {
-        self.sections.search(alloc)?;
+        self.sections.search(self.alloc)?;
         if self.sections.is_over(most_multipart_bytes(self.limits)) {
             return Err(PartError::TooLarge);
         }
         match self.sections.stage {
-            Stage::Found => Ok(Some(take_part(&mut self.sections, alloc, self.limits)?)),
+            Stage::Found => Ok(Some(take_part(&mut self.sections, self.alloc, self.limits)?)),
             _ => Ok(None),
         }
     }
@@ -192,8 +192,8 @@ impl PartReader {
 /// on where these are cut or when parts are asked for.
 #[tactic(auto, using(crate::proofs::MultipartLaws::part_laws))]
 pub fn part_laws()
-    ensures run { PartsLaw }
-    ensures same { SamePartsLaw }
+    ensures run { MultipartLaw }
+    ensures same { SameMultipartLaw }
 {}
 
 /// The most bytes between two delimiters.
@@ -205,12 +205,12 @@ fn most_multipart_bytes(limits: Limits) -> usize
 
 /// Takes the part that was found.
 fn take_part(sections: &mut Sections, alloc: Global, limits: Limits) -> Result<Part, PartError>
-    requires divided { IsDivided sections.old }
+    requires divided { IsMultipartDivided sections.old }
     requires found { sections.old.stage ≡ Stage.Found }
     requires few { length sections.old.preamble ≤ limits.head + limits.body }
-    ensures divided { IsDivided sections.new }
-    ensures part { IfOk result (λ part. TakesPart sections.old.delimiter.needle limits
-        (held_by sections.old) (bytes_of part) (held_by sections.new)) }
+    ensures divided { IsMultipartDivided sections.new }
+    ensures part { IfOk result (λ part. TakesMultipart sections.old.delimiter.needle limits
+        (held_by_multipart sections.old) (bytes_of_multipart part) (held_by_multipart sections.new)) }
     ensures name { IfOk result (λ part. HasMultipartParameter multipart_name_key part.head part.name) }
     ensures file_name { IfOk result (λ part. HasMultipartParameter multipart_file_name_key part.head part.file_name) }
     ensures goes_on { OnOk result (sections.new.stage ≡ Stage.Waiting) }
@@ -218,14 +218,14 @@ fn take_part(sections: &mut Sections, alloc: Global, limits: Limits) -> Result<P
     ensures err { OnErr result (sections.new ≡ sections.old) }
     ensures malformed { IfErr result (λ e. e ≡ PartError.Malformed
         → (any : Limits) (more : List ℕ)
-        → NoPart sections.old.delimiter.needle any (held_by sections.old ++ more)) }
+        → NoMultipart sections.old.delimiter.needle any (held_by_multipart sections.old ++ more)) }
     ensures due { IfErr result (λ e. e ≡ PartError.Malformed
-        → IsPartDue sections.old.delimiter.needle limits (held_by sections.old)) }
+        → IsMultipartDue sections.old.delimiter.needle limits (held_by_multipart sections.old)) }
     ensures too_large { IfErr result (λ e. e ≡ PartError.TooLarge → (more : List ℕ)
-        → NoPart sections.old.delimiter.needle limits (held_by sections.old ++ more)) }
+        → NoMultipart sections.old.delimiter.needle limits (held_by_multipart sections.old ++ more)) }
     ensures not_utf8 { IfErr result (λ e. e ≡ PartError.NotUtf8
-        → (part : PartBytes) × (rest : List ℕ)
-        × TakesPart sections.old.delimiter.needle limits (held_by sections.old) part rest
+        → (part : MultipartBytes) × (rest : List ℕ)
+        × TakesMultipart sections.old.delimiter.needle limits (held_by_multipart sections.old) part rest
         × (¬ IsUtf8 part.head)) }
     ensures reason { IfErr result (λ e. (reason : _) → e ≡ PartError.Refused reason
         → reason ≡ Reason.OutOfMemory) }

@@ -53,8 +53,8 @@ impl Netstrings {
         ensures err { IfErr result (λ error. fails_netstring (decoding self held.old) error
             × (decoding self held.new ≡ decoding self held.old)) }
     {
-        let mut cursor = Cursor::new(held.as_segmented());
-        let Some(digits) = cursor.take_until_within(alloc, b":", 20)? else {
+        let mut cursor = Cursor::new(alloc, held.as_segmented());
+        let Some(digits) = cursor.take_until_within(b":", 20)? else {
             return Ok(None);
         };
         let Some(len) = number(&digits) else {
@@ -63,7 +63,11 @@ impl Netstrings {
         if len > self.max_length {
             return Err(NetstringError::Refused(Reason::TooLong));
         }
-        let Some(text) = cursor.take(alloc, len)? else {
+        // The text is taken once, when its comma has come too.
+        if cursor.remaining() <= len {
+            return Ok(None);
+        }
+        let Some(text) = cursor.take(len)? else {
             return Ok(None);
         };
         match cursor.tag(b",") {

@@ -1,7 +1,7 @@
 //! Records of a stream, each followed by an empty line, with a limit of length.
 ghost use Rattle.std.specs.Prelude.{◌≡◌, [], length, IfErr, IfNone, IfOk, IfSome};
 ghost use Rattle.bytes_utils_codec.specs.Decoding.{fed, starting};
-ghost use Rattle.bytes_utils_codec.specs.Delimited.{AwaitsFrame, delimiting, fails_delimited, keeps_delimited};
+ghost use Rattle.bytes_utils_codec.specs.Delimited.{AwaitsDelimitedFrame, delimiting, fails_delimited, keeps_delimited};
 ghost use Rattle.bytes_utils_codec.specs.Pushing.{IsPush};
 ghost use Rattle.bytes_utils_protocols.specs.Records.{GivesRecord, IsRecordOf, record_end};
 
@@ -68,15 +68,15 @@ impl Records {
     /// Takes out the next record, or returns `None` until its end has arrived. One that is longer
     /// than the limit, or not UTF-8, is reported once, in its place. Fails with `OutOfMemory` if
     /// memory is refused; then the call can be repeated.
-    pub fn next_record(&mut self, alloc: Global) -> Result<Option<Record>, Reason>
+    pub fn next_record(&mut self) -> Result<Option<Record>, Reason>
         ensures given { IfOk result (λ next. IfSome next
             (λ given. GivesRecord self.old given self.new)) }
-        ensures waits { IfOk result (λ next. IfNone next (AwaitsFrame self.old)) }
+        ensures waits { IfOk result (λ next. IfNone next (AwaitsDelimitedFrame self.old)) }
         ensures kept { IfOk result (λ next. IfNone next (keeps_delimited self.old self.new)) }
         ensures fails { IfErr result (fails_delimited self.old) }
         ensures kept_at_error { IfErr result (λ _. keeps_delimited self.old self.new) }
     {
-        match self.frames.next_item(alloc)? {
+        match self.frames.next_item()? {
             None => Ok(None),
             Some(frame) => Ok(Some(record_of(frame))),
         }

@@ -1,7 +1,7 @@
 //! Replies of the Redis protocol, version 2, with nested arrays, of a stream that comes in pieces.
 ghost use Rattle.std.specs.Prelude.{◌≡◌, ℕ, ◌+◌, ◌^◌, ◌<◌, ◌≤◌, ◌↔◌, List, [], ◌++◌, length, IfOk, IfErr, IfSome, IfNone, IsOk, OnOk, OnErr};
 ghost use Rattle.bytes_utils_codec.specs.Pushing.{IsPush};
-ghost use Rattle.bytes_utils_protocols.specs.Redis.{BeginsReply, NoReply, TakesReply};
+ghost use Rattle.bytes_utils_protocols.specs.Redis.{BeginsRedisReply, NoRedisReply, TakesRedisReply};
 
 mod item;
 mod limits;
@@ -23,14 +23,14 @@ use std::marker::Model;
 /// let limits = Limits { line: 64 << 10, bulk: 512 << 20, items: 1 << 20 };
 /// let mut replies = ReplyReader::new(alloc, limits);
 /// replies.push(first)?;            // a `Bytes` of `*2\r\n:1\r\n$5\r\nhe`
-/// replies.next_reply(alloc)?       // `None`
+/// replies.next_reply()?            // `None`
 /// replies.push(second)?;           // one of `llo\r\n`
-/// replies.next_reply(alloc)?       // `Array(Some(2))`, `Integer(1)`, `Bulk(Some(hello))`
+/// replies.next_reply()?            // `Array(Some(2))`, `Integer(1)`, `Bulk(Some(hello))`
 /// ```
 ///
-/// Each call goes on where the last one stopped: no byte of an item is read again. What can't become
-/// a reply within the limits is an error as soon as that is certain, so a peer can't send without
-/// end.
+/// Each call goes on where the last one stopped: no byte of an item is read again, but for a bulk
+/// string of which the last byte alone is to come. What can't become a reply within the limits is an
+/// error as soon as that is certain, so a peer can't send without end.
 #[derive(Drop)]
 pub struct ReplyReader {
     alloc: Global,
@@ -39,12 +39,12 @@ pub struct ReplyReader {
 }
 
 impl Model for ReplyReader {
-    ghost use Rattle.bytes_utils_protocols.specs.Redis.{Replying};
-    ghost use Rattle.bytes_utils_protocols.specs.RedisPending.{IsPending, held_by};
+    ghost use Rattle.bytes_utils_protocols.specs.Redis.{RedisReplying};
+    ghost use Rattle.bytes_utils_protocols.specs.RedisPending.{IsPending, held_by_pending};
 
-    ghost Value = { Replying };
+    ghost Value = { RedisReplying };
 
-    ghost view = { λ r. record { held = held_by r.pending; limits = r.limits } };
+    ghost view = { λ r. record { held = held_by_pending r.pending; limits = r.limits } };
 
     ghost invariant = { λ r. IsPending r.limits r.pending };
 }
@@ -90,20 +90,20 @@ impl ReplyReader {
     /// shared. Fails with `Malformed` if they begin with no reply, whatever comes after them, with
     /// `TooLarge` if they begin with none within the limits, and with `Refused` if memory is
     /// refused; then nothing has changed.
-    pub fn next_reply(&mut self, alloc: Global) -> Result<Option<Vec<Item>>, ReplyError>
+    pub fn next_reply(&mut self) -> Result<Option<Vec<Item>>, ReplyError>
         ensures reply { IfOk result (λ next. IfSome next (λ items.
-            TakesReply self.old.limits self.old.held items.items self.new.held)) }
+            TakesRedisReply self.old.limits self.old.held items.items self.new.held)) }
         ensures fewer { IfOk result (λ next. IfSome next (λ _.
             length self.new.held < length self.old.held)) }
         ensures waits { IfOk result (λ next. IfNone next
-            ((self.new ≡ self.old) × NoReply self.old.limits self.old.held)) }
+            ((self.new ≡ self.old) × NoRedisReply self.old.limits self.old.held)) }
         ensures begins { IfOk result (λ next. IfNone next
-            (BeginsReply self.old.limits self.old.held)) }
+            (BeginsRedisReply self.old.limits self.old.held)) }
         ensures err { OnErr result (self.new ≡ self.old) }
         ensures malformed { IfErr result (λ e. e ≡ ReplyError.Malformed
-            → (limits : Limits) (more : List ℕ) → NoReply limits (self.old.held ++ more)) }
+            → (limits : Limits) (more : List ℕ) → NoRedisReply limits (self.old.held ++ more)) }
         ensures too_large { IfErr result (λ e. e ≡ ReplyError.TooLarge
-            → (more : List ℕ) → NoReply self.old.limits (self.old.held ++ more)) }
+            → (more : List ℕ) → NoRedisReply self.old.limits (self.old.held ++ more)) }
         ensures reason { IfErr result (λ e. (reason : _) → e ≡ ReplyError.Refused reason
             → reason ≡ Reason.OutOfMemory) }
         ensures limits { self.new.limits ≡ self.old.limits }
@@ -111,9 +111,9 @@ impl ReplyReader {
         if self.limits.items == 0 {
             return Err(ReplyError::TooLarge);
         }
-        if !self.pending.read(alloc, self.limits)? {
+        if !self.pending.read(self.alloc, self.limits)? {
             return Ok(None);
         }
-        Ok(Some(self.pending.take(alloc)))
+        Ok(Some(self.pending.take(self.alloc)))
     }
 }

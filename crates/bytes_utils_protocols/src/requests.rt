@@ -5,7 +5,7 @@ ghost use Rattle.std.specs.Prelude.{◌≡◌, ◌≢◌, ℕ, ◌<◌, ◌≤�
 ghost use Rattle.std.specs.List.{concat, prefix_len, suffix_len};
 ghost use Rattle.std.specs.Option.{option_or};
 ghost use Rattle.bytes_utils_codec.specs.Decoding.{Decodes, fed, passed, starting};
-ghost use Rattle.bytes_utils_codec.specs.Delimited.{AwaitsFrame, delimiting, fails_delimited, gives_delimited, keeps_delimited, ready};
+ghost use Rattle.bytes_utils_codec.specs.Delimited.{AwaitsDelimitedFrame, delimiting, fails_delimited, gives_delimited, keeps_delimited, ready_delimited};
 ghost use Rattle.bytes_utils_codec.specs.Pushing.{IsPush};
 ghost use Rattle.bytes_utils_protocols.specs.Digits.{WriteNumber};
 ghost use Rattle.bytes_utils_protocols.specs.Requests.{IsRequestHeader, ReportRequestError, ReportRequestLength, RequestLineReports, request_head_end, request_header_lines, is_request_blank, is_request_name_byte, trimmed_request_value};
@@ -39,9 +39,9 @@ type Head = Result<Bytes, FrameTooLong>;
 /// ```text
 /// let mut requests = Requests::new(alloc, 8192)?;
 /// requests.push(piece)?;                     // `PUT / ..`, `Content-Length: 5`, and some of the body
-/// let Some(head) = requests.next_head(alloc)? else { .. };
+/// let Some(head) = requests.next_head()? else { .. };
 /// let len = body_len(&head?)?;               // 5
-/// requests.next_body(alloc, len)?            // `None`, until five bytes more have come
+/// requests.next_body(len)?                   // `None`, until five bytes more have come
 /// ```
 #[derive(Drop)]
 pub struct Requests {
@@ -86,24 +86,20 @@ impl Requests {
     /// Returns the head before the next empty line, or `None` while that line is to come. A head
     /// over the limit is reported once, in its place, as soon as that is certain, and is skipped.
     /// Fails with `OutOfMemory` if memory is refused; then the call can be made again.
-    pub fn next_head(&mut self, alloc: Global) -> Result<Option<Head>, Reason>
-        ensures step { Decodes gives_delimited AwaitsFrame fails_delimited keeps_delimited
+    pub fn next_head(&mut self) -> Result<Option<Head>, Reason>
+        ensures step { Decodes gives_delimited AwaitsDelimitedFrame fails_delimited keeps_delimited
             self.old result self.new }
     {
-        self.heads.next_item(alloc)
+        self.heads.next_item()
     }
 
     /// Returns a body of `len` bytes, in pieces as `Framed` returns them, or `None` while some of it
     /// is to come. Fails with `OutOfMemory` if memory is refused; then nothing has changed.
-    pub fn next_body(
-        &mut self,
-        alloc: Global,
-        len: usize,
-    ) -> Result<Option<SegmentedBuf<Bytes>>, Reason>
+    pub fn next_body(&mut self, len: usize) -> Result<Option<SegmentedBuf<Bytes>>, Reason>
         ensures body { IfOk result (λ next. IfSome next
             (λ body. concat body.segments ≡ take len self.old.held)) }
         ensures passed { IfOk result (λ next. IfSome next
-            (λ _. (len ≤ length self.old.held) × (self.new ≡ passed ready len self.old))) }
+            (λ _. (len ≤ length self.old.held) × (self.new ≡ passed ready_delimited len self.old))) }
         ensures waits { IfOk result
             (λ next. IfNone next ((self.new ≡ self.old) × (length self.old.held < len))) }
         ensures err { OnErr result (self.new ≡ self.old) }
@@ -112,7 +108,7 @@ impl Requests {
         if self.heads.remaining() < len {
             return Ok(None);
         }
-        Ok(Some(self.heads.split_to(alloc, len)?))
+        Ok(Some(self.heads.split_to(len)?))
     }
 }
 

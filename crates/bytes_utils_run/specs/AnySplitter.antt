@@ -4,7 +4,7 @@ use Rattle.std.specs.Char.{is_whitespace, is_ascii_whitespace}
 use Rattle.std.specs.Option.{option_map_or}
 use Rattle.bytes_utils.specs.Keeping.{AreInclusivePartsToCome, CutsAfterNext, most_inclusive_parts}
 use Rattle.bytes_utils.specs.Lines.{AreLinesToCome, HoldsLineFeed}
-use Rattle.bytes_utils.specs.Splitting.{AreForwardPartsToCome, AreBackwardPartsToCome, CutsNext, most_parts}
+use Rattle.bytes_utils.specs.Splitting.{AreForwardPartsToCome, AreBackwardPartsToCome, SplitsNext, most_parts}
 use Rattle.bytes_utils.specs.Words.{AreWordsToCome, HoldsSpaceBetweenWords}
 use Rattle.bytes_utils_run.specs.declared.splitter.AnySplitter.{AnySplitter}
 use Rattle.bytes_utils_run.specs.declared.splitter.AnySplitter.TheVariants.{Words, AsciiWords, Lines, Split, RSplit, Inclusive}
@@ -23,8 +23,8 @@ abbrev pub Cuts : {S C : Type 0} → AnySplitter S C → Type 0
 Cuts (Words rest) = HoldsSpaceBetweenWords is_whitespace rest
 Cuts (AsciiWords rest) = HoldsSpaceBetweenWords is_ascii_whitespace rest
 Cuts (Lines rest) = HoldsLineFeed rest
-Cuts (Split s) = CutsNext s
-Cuts (RSplit s) = CutsNext s
+Cuts (Split s) = SplitsNext s
+Cuts (RSplit s) = SplitsNext s
 Cuts (Inclusive s) = CutsAfterNext s
 
 -- a bound on the number of parts to come

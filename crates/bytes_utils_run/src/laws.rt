@@ -9,7 +9,6 @@ ghost use Rattle.bytes_utils_run.specs.Laws.{LimitLaw, JoinLaw, OneToComeLaw};
 ghost use Rattle.bytes_utils_run.specs.Laws.{ComeBackLaw, TextsComeBackLaw, PartPlacesLaw};
 ghost use Rattle.std.specs.Prelude.{◌≡◌, ◌<◌, ℕ, Bool, List, length, reverse};
 ghost use Rattle.std.specs.Str.{chars, IsAscii};
-ghost use Rattle.bytes_utils.specs.Halves.{AreHalvesAtFirst, AreHalvesAtLast};
 ghost use Rattle.bytes_utils.specs.Indices.{AreIndexedPartsToCome};
 ghost use Rattle.bytes_utils.specs.Keeping.{AreInclusivePartsToCome};
 ghost use Rattle.bytes_utils.specs.Lines.{AreLinesToCome};
@@ -17,7 +16,6 @@ ghost use Rattle.bytes_utils.specs.Parts.{AreForwardParts, AreBackwardParts, Are
 ghost use Rattle.bytes_utils.specs.Parts.{ArePartsFromFront, ArePartsFromBack};
 ghost use Rattle.bytes_utils.specs.Splitting.{AreForwardPartsToCome, AreBackwardPartsToCome};
 ghost use Rattle.bytes_utils.specs.Words.{AreWordsToCome};
-ghost use Rattle.bytes_utils_run.specs.Borrowed.{OwnedAsBorrowedLaw, OnceAsBorrowedLaw};
 ghost use Rattle.bytes_utils_run.specs.LineEnds.{LineEndsLaw};
 ghost use Rattle.bytes_utils_run.specs.WordRuns.{WordRunsLaw};
 
@@ -105,23 +103,6 @@ pub fn part_places()
 /// The characters of an ASCII text, such as a separator in source code, are its bytes.
 pub fn ascii_characters()
     ensures { (bytes : List ℕ) → IsAscii bytes → chars bytes ≡ bytes }
-{}
-
-/// `cut_all` gives the same parts, in the same order, as the method of `str`; if it is refused, it
-/// gives fewer of them, from the first on. The functions of [`borrowed`] state what those methods
-/// give.
-#[tactic(auto, using(crate::proofs::OwnedAsBorrowed::owned_as_borrowed_law))]
-pub fn owned_as_borrowed()
-    ensures { OwnedAsBorrowedLaw }
-{}
-
-/// `split_once_bytes` and `rsplit_once_bytes` give the same halves as the methods of `str`, or
-/// `None` if those do, since only one result is right. The functions of [`borrowed`] state what
-/// those methods give.
-#[tactic(auto, using(crate::proofs::OnceAsBorrowed::once_at_first, crate::proofs::OnceAsBorrowed::once_at_last))]
-pub fn once_as_borrowed()
-    ensures first { OnceAsBorrowedLaw AreHalvesAtFirst }
-    ensures last { OnceAsBorrowedLaw AreHalvesAtLast }
 {}
 
 /// The words of a text are its maximal runs of characters that aren't white space.

@@ -6,7 +6,7 @@ ghost use Rattle.bytes_utils.specs.Splitting.{most_parts};
 ghost use Rattle.bytes_utils.specs.Step.{IsStepOf};
 ghost use Rattle.bytes_utils.specs.declared.split.direction.Direction.TheVariants.{Forward};
 
-use super::separated::SeparatedText;
+use super::separator_step::SeparatedText;
 use crate::string::{Storage, StrInner};
 use bytes_utils_buf::Reason;
 use std::marker::Model;

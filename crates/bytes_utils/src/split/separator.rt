@@ -2,12 +2,12 @@
 ghost use Rattle.std.specs.Prelude.{◌≡◌, ℕ, List, None, Some};
 ghost use Rattle.std.specs.Iterator.{at_most};
 ghost use Rattle.bytes_utils.specs.Splitting.{AreForwardPartsToCome, AreBackwardPartsToCome};
-ghost use Rattle.bytes_utils.specs.Splitting.{CutsNext, all_of, most_parts};
+ghost use Rattle.bytes_utils.specs.Splitting.{SplitsNext, all_of, most_parts};
 ghost use Rattle.bytes_utils.specs.Step.{IsStep};
 
 use super::direction::Direction;
 use super::indices::SplitIndicesBytes;
-use super::separated::SeparatedText;
+use super::separator_step::SeparatedText;
 use crate::string::{Storage, StrInner};
 use bytes_utils_buf::Reason;
 use std::marker::Model;
@@ -73,7 +73,7 @@ impl<S: Storage> StrInner<S> {
 impl<'s, S: Storage> Iterator for SplitBytes<'s, S> {
     type Item = Result<StrInner<S>, Reason>;
 
-    ghost next_gives = { IsStep AreForwardPartsToCome CutsNext S.refuses };
+    ghost next_gives = { IsStep AreForwardPartsToCome SplitsNext S.refuses };
 
     ghost remaining = { λ s. at_most (most_parts s) };
 
@@ -132,7 +132,7 @@ impl<S: Storage> StrInner<S> {
 impl<'s, S: Storage> Iterator for RSplitBytes<'s, S> {
     type Item = Result<StrInner<S>, Reason>;
 
-    ghost next_gives = { IsStep AreBackwardPartsToCome CutsNext S.refuses };
+    ghost next_gives = { IsStep AreBackwardPartsToCome SplitsNext S.refuses };
 
     ghost remaining = { λ s. at_most (most_parts s) };
 

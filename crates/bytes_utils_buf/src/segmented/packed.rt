@@ -19,6 +19,9 @@ use std::mem::replace;
 /// this isn't kept.
 const SMALL_BLOCK: usize = 64;
 
+/// How many bytes a read has room for, at least, until the caller sets another number.
+const LEAST_READ: usize = 512;
+
 /// The most bytes of room that are kept while no byte is held.
 const MOST_EMPTIED: usize = 4 * BLOCK;
 
@@ -49,6 +52,7 @@ pub struct PackedBuf {
     held: SegmentedBuf<EitherBuf<Bytes, BytesMut>>,
     emptied: BytesMut,
     threshold: usize,
+    read_room: usize,
 }
 
 impl Model for PackedBuf {
@@ -71,7 +75,15 @@ impl PackedBuf {
             held: SegmentedBuf::new(alloc),
             emptied: BytesMut::new(alloc),
             threshold,
+            read_room: LEAST_READ,
         }
+    }
+
+    /// Sets the room that `read_from` has, at least: `room` bytes, or 1 for 0. It is 512 before.
+    pub fn set_read_room(&mut self, room: usize)
+        ensures { self.new ≡ self.old }
+    {
+        self.read_room = room;
     }
 
     /// Returns how many segments are held.
@@ -125,6 +137,7 @@ impl PackedBuf {
                     held,
                     emptied: BytesMut::new(alloc),
                     threshold: self.threshold,
+                    read_room: self.read_room,
                 },
             }),
         }

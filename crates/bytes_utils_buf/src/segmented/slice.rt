@@ -6,6 +6,7 @@ ghost use Rattle.bytes_utils_buf.specs.Lent.{held_of, lists_of, IsPassedOnce, Is
 ghost use Rattle.bytes_utils_buf.specs.Segments.{CountsPass, IsPaid, SkipsSegments};
 ghost use Rattle.bytes_utils_buf.specs.Tally.{IsBalanced, IsCovered};
 
+mod chunks;
 mod copy;
 
 use super::copy::SegmentedCopy;

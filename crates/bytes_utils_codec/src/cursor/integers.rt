@@ -2,7 +2,7 @@
 ghost use Rattle.std.specs.Prelude.{◌≡◌, ◌≤◌, length, take, slice_index};
 ghost use Rattle.std.specs.Int.{w16, w32, w64, from_be_bytes, from_le_bytes};
 ghost use Rattle.bytes.specs.Unread.{IsChunkOf};
-ghost use Rattle.bytes_utils_codec.specs.Cursor.{ReadsValue, passed_on, unread};
+ghost use Rattle.bytes_utils_codec.specs.Cursor.{CursorReadsValue, passed_on, unread};
 
 use super::Cursor;
 use bytes_utils_buf::contiguous::ContiguousBuf;
@@ -11,7 +11,7 @@ impl<'a, B: ContiguousBuf + Drop> Cursor<'a, B> {
     /// Passes the next `N` bytes and returns them, or returns `None` if fewer are there. The cursor
     /// then stays.
     pub fn take_array<const N: usize>(&mut self) -> Option<[u8; N]>
-        ensures { ReadsValue N (λ bytes. bytes) self.old self.new result }
+        ensures { CursorReadsValue N (λ bytes. bytes) self.old self.new result }
     {
         if self.remaining() < N {
             return None;
@@ -23,7 +23,7 @@ impl<'a, B: ContiguousBuf + Drop> Cursor<'a, B> {
 
     /// Passes the next byte and returns it, or returns `None` if there is none.
     pub fn take_u8(&mut self) -> Option<u8>
-        ensures { ReadsValue 1 (λ bytes. slice_index bytes 0) self.old self.new result }
+        ensures { CursorReadsValue 1 (λ bytes. slice_index bytes 0) self.old self.new result }
     {
         Some(u8::from_be_bytes(self.take_array()?))
     }
@@ -31,42 +31,42 @@ impl<'a, B: ContiguousBuf + Drop> Cursor<'a, B> {
     /// Passes the next two bytes and returns the number that they write, the most significant one
     /// first, or returns `None` if fewer are there.
     pub fn take_u16(&mut self) -> Option<u16>
-        ensures { ReadsValue 2 (from_be_bytes w16) self.old self.new result }
+        ensures { CursorReadsValue 2 (from_be_bytes w16) self.old self.new result }
     {
         Some(u16::from_be_bytes(self.take_array()?))
     }
 
     /// As `take_u16`, the least significant byte first.
     pub fn take_u16_le(&mut self) -> Option<u16>
-        ensures { ReadsValue 2 (from_le_bytes w16) self.old self.new result }
+        ensures { CursorReadsValue 2 (from_le_bytes w16) self.old self.new result }
     {
         Some(u16::from_le_bytes(self.take_array()?))
     }
 
     /// As `take_u16`, of four bytes.
     pub fn take_u32(&mut self) -> Option<u32>
-        ensures { ReadsValue 4 (from_be_bytes w32) self.old self.new result }
+        ensures { CursorReadsValue 4 (from_be_bytes w32) self.old self.new result }
     {
         Some(u32::from_be_bytes(self.take_array()?))
     }
 
     /// As `take_u32`, the least significant byte first.
     pub fn take_u32_le(&mut self) -> Option<u32>
-        ensures { ReadsValue 4 (from_le_bytes w32) self.old self.new result }
+        ensures { CursorReadsValue 4 (from_le_bytes w32) self.old self.new result }
     {
         Some(u32::from_le_bytes(self.take_array()?))
     }
 
     /// As `take_u16`, of eight bytes.
     pub fn take_u64(&mut self) -> Option<u64>
-        ensures { ReadsValue 8 (from_be_bytes w64) self.old self.new result }
+        ensures { CursorReadsValue 8 (from_be_bytes w64) self.old self.new result }
     {
         Some(u64::from_be_bytes(self.take_array()?))
     }
 
     /// As `take_u64`, the least significant byte first.
     pub fn take_u64_le(&mut self) -> Option<u64>
-        ensures { ReadsValue 8 (from_le_bytes w64) self.old self.new result }
+        ensures { CursorReadsValue 8 (from_le_bytes w64) self.old self.new result }
     {
         Some(u64::from_le_bytes(self.take_array()?))
     }

@@ -2,7 +2,7 @@
 ghost use Rattle.std.specs.Prelude.{◌≡◌, ◌↔◌, ◌+◌, ◌<◌, ◌≤◌, length, take, drop, IfErr, IfOk, IfNone, IfSome, IsTrue, MatchBool, not, OnErr, OnOk, false};
 ghost use Rattle.std.specs.List.{concat};
 ghost use Rattle.bytes_utils_codec.specs.Decoding.{Decodes, decoding, passed};
-ghost use Rattle.bytes_utils_codec.specs.Delimited.{AwaitsFrame, AwaitsSeparator, DelimitedFramesLaw, DelimitedHeldLaw, DelimitedWholeLaw, FindsNext, IsOverLimit, Passes, SkipsMore, SkipsOn, Stops, TakesFrameFrom, all_searched, delimiting, fails_delimited, gives_delimited, keeps_delimited, delimited_left, ready, skipping_from};
+ghost use Rattle.bytes_utils_codec.specs.Delimited.{AwaitsDelimitedFrame, AwaitsDelimitedSeparator, DelimitedFramesLaw, DelimitedHeldLaw, DelimitedWholeLaw, FindsNextDelimited, IsDelimitedOverLimit, PassesDelimited, SkipsMoreDelimited, SkipsDelimited, StopsDelimited, TakesDelimitedFrameFrom, all_delimited_searched, delimiting, fails_delimited, gives_delimited, keeps_delimited, delimited_left, ready_delimited, skipping_delimited_from};
 ghost use Rattle.bytes_utils_codec.specs.DelimitedLaws.{delimited_same, delimited_single, delimited_stable, delimited_waits};
 
 use super::{Decoder, FrameTooLong};
@@ -21,10 +21,10 @@ type Frame = Result<Bytes, FrameTooLong>;
 /// ```text
 /// let mut frames = Framed::new(alloc, Delimited::with_limit(alloc, b"\r\n", 10)?);
 /// frames.push_slice(b"GET / HTT")?;
-/// frames.next_item(alloc)?         // `None`
+/// frames.next_item()?         // `None`
 /// frames.push_slice(b"P/1.1\r\nHost: a\r\n")?;
-/// frames.next_item(alloc)?         // `Err(FrameTooLong)`, of `GET / HTTP/1.1`
-/// frames.next_item(alloc)?         // `Ok(Host: a)`
+/// frames.next_item()?         // `Err(FrameTooLong)`, of `GET / HTTP/1.1`
+/// frames.next_item()?         // `Ok(Host: a)`
 /// ```
 ///
 /// A frame over the limit is an item that says so: once, when it has ended, or as soon as it has as
@@ -111,7 +111,7 @@ impl Delimited {
     /// Finds the next frame, and returns its length, or reports that it is longer than the limit.
     /// No byte of the frame is taken.
     pub(super) fn next_frame(&mut self, held: &mut PackedBuf) -> Option<Result<usize, FrameTooLong>>
-        ensures finds { FindsNext (decoding self.old held.old) result (decoding self.new held.new) }
+        ensures finds { FindsNextDelimited (decoding self.old held.old) result (decoding self.new held.new) }
     {
         if !self.pass_skipped(held) {
             return None;
@@ -125,14 +125,14 @@ impl Delimited {
         alloc: Global,
         held: &mut PackedBuf,
     ) -> Result<Option<Frame>, Reason>
-        ensures step { Decodes gives_delimited AwaitsFrame fails_delimited keeps_delimited
+        ensures step { Decodes gives_delimited AwaitsDelimitedFrame fails_delimited keeps_delimited
             (decoding self.old held.old) result (decoding self.new held.new) }
         ensures stops { IfOk result (λ next. IfNone next
-            (Stops (decoding self.old held.old) (decoding self.new held.new))) }
+            (StopsDelimited (decoding self.old held.old) (decoding self.new held.new))) }
 
         // All waiting bytes were searched, but for the last ones, in which a separator may begin.
         ensures searched { self.old.skipping ≡ false → IfOk result (λ next. IfNone next
-            (decoding self.new held.new ≡ all_searched (decoding self.old held.old))) }
+            (decoding self.new held.new ≡ all_delimited_searched (decoding self.old held.old))) }
     {
         match self.next_frame(held) {
             None => Ok(None),
@@ -145,9 +145,9 @@ impl Delimited {
     /// whether the held bytes begin with the next frame now.
     fn pass_skipped(&mut self, held: &mut PackedBuf) -> bool
         ensures skipped { MatchBool result
-            (Passes (decoding self.old held.old) (decoding self.new held.new))
-            (SkipsOn (decoding self.old held.old)
-            × SkipsMore (decoding self.old held.old) (decoding self.new held.new)) }
+            (PassesDelimited (decoding self.old held.old) (decoding self.new held.new))
+            (SkipsDelimited (decoding self.old held.old)
+            × SkipsMoreDelimited (decoding self.old held.old) (decoding self.new held.new)) }
         ensures skipping { self.new.skipping ≡ not result }
     {
         if !self.skipping {
@@ -168,7 +168,7 @@ impl Delimited {
 
     /// Returns the length of the next frame, or reports that it is longer than the limit.
     fn next_len(&mut self, held: &PackedBuf) -> Option<Result<usize, FrameTooLong>>
-        ensures frame { IfSome result (λ next. IfOk next (λ len. TakesFrameFrom self.old.separator
+        ensures frame { IfSome result (λ next. IfOk next (λ len. TakesDelimitedFrameFrom self.old.separator
             self.old.searched (concat held.now.held.segments)
             (take len (concat held.now.held.segments))
             (drop (len + length self.old.separator) (concat held.now.held.segments)))) }
@@ -176,11 +176,11 @@ impl Delimited {
             × (len + length self.old.separator ≤ length (concat held.now.held.segments)))) }
         ensures same { IfSome result (λ next. OnOk next (self.new ≡ self.old)) }
         ensures over { IfSome result
-            (λ next. OnErr next (IsOverLimit (decoding self.old held.now))) }
-        ensures skips { IfSome result (λ next. OnErr next (self.new ≡ skipping_from self.old)) }
-        ensures waits { IfNone result (AwaitsSeparator (decoding self.old held.now)) }
+            (λ next. OnErr next (IsDelimitedOverLimit (decoding self.old held.now))) }
+        ensures skips { IfSome result (λ next. OnErr next (self.new ≡ skipping_delimited_from self.old)) }
+        ensures waits { IfNone result (AwaitsDelimitedSeparator (decoding self.old held.now)) }
         ensures searched { IfNone result
-            (decoding self.new held.now ≡ all_searched (decoding self.old held.now)) }
+            (decoding self.new held.now ≡ all_delimited_searched (decoding self.old held.now)) }
     {
         match self.search.find(held.as_segmented()) {
             Some(len) if len <= self.max_length => Some(Ok(len)),
@@ -202,7 +202,7 @@ impl Delimited {
         requires { len + length self.old.separator ≤ length (concat held.old.held.segments) }
         ensures frame { IfOk result (λ frame. frame ≡ take len (concat held.old.held.segments)) }
         ensures ok { OnOk result (decoding self.new held.new
-            ≡ passed ready (len + length self.old.separator) (decoding self.old held.old)) }
+            ≡ passed ready_delimited (len + length self.old.separator) (decoding self.old held.old)) }
         ensures err { OnErr result (decoding self.new held.new ≡ decoding self.old held.old) }
         ensures reason { IfErr result (λ reason. reason ≡ Reason.OutOfMemory) }
         ensures some { OnErr result (0 < len) }
@@ -216,7 +216,7 @@ impl Delimited {
     pub(super) fn pass_separator(&mut self, held: &mut PackedBuf)
         requires { length self.old.separator ≤ length (concat held.old.held.segments) }
         ensures { decoding self.new held.new
-            ≡ passed ready (length self.old.separator) (decoding self.old held.old) }
+            ≡ passed ready_delimited (length self.old.separator) (decoding self.old held.old) }
     {
         held.advance(self.separator().len());
         self.ready();
@@ -226,7 +226,7 @@ impl Delimited {
     /// front of a frame.
     pub(super) fn pass_end(&mut self, held: &mut PackedBuf)
         ensures { decoding self.new held.new ≡ record (decoding self.old held.old) {
-          decoder = ready self.old;
+          decoder = ready_delimited self.old;
           held = delimited_left self.old.skipping (concat held.old.held.segments);
         } }
     {
@@ -248,7 +248,7 @@ impl Delimited {
     /// Skips the next frame.
     fn skip(&mut self)
         requires { self.old.max_length < usize.MAX }
-        ensures { self.new ≡ skipping_from self.old }
+        ensures { self.new ≡ skipping_delimited_from self.old }
     {
         self.search.search_from(self.max_length + 1);
         self.skipping = true;
@@ -256,7 +256,7 @@ impl Delimited {
 
     /// Begins at the front of a frame.
     pub(super) fn ready(&mut self)
-        ensures { self.new ≡ ready self.old }
+        ensures { self.new ≡ ready_delimited self.old }
     {
         self.search.restart();
         self.skipping = false;
@@ -270,13 +270,13 @@ impl Decoder for Delimited {
 
     ghost gives = { gives_delimited };
 
-    ghost waits = { AwaitsFrame };
+    ghost waits = { AwaitsDelimitedFrame };
 
     ghost fails = { fails_delimited };
 
     ghost keeps = { keeps_delimited };
 
-    ghost restarted = { ready };
+    ghost restarted = { ready_delimited };
 
     fn decode(&mut self, alloc: Global, held: &mut PackedBuf) -> Result<Option<Frame>, Reason> {
         self.take_frame(alloc, held)

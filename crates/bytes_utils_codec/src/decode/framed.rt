@@ -21,9 +21,9 @@ const SMALL: usize = 512;
 /// ```text
 /// let mut frames = Framed::new(alloc, LengthPrefixed::new(1024));
 /// frames.push_slice(b"\0\0\0\x03ab")?;
-/// frames.next_item(alloc)?         // `None`
+/// frames.next_item()?         // `None`
 /// frames.push_slice(b"c\0\0")?;
-/// frames.next_item(alloc)?         // `Ok(abc)`; two bytes are left
+/// frames.next_item()?         // `Ok(abc)`; two bytes are left
 /// ```
 ///
 /// Pieces of at most 512 bytes, or of another threshold, are copied together, so that a peer that
@@ -52,8 +52,8 @@ impl<D: Decoder> Framed<D> {
         Framed::with_threshold(alloc, decoder, SMALL)
     }
 
-    /// As `new`, but copies pieces of at most `threshold` bytes together. With 0 each piece is held
-    /// as it is, so the caller has to bound their number.
+    /// As `new`, but copies pieces of at most `threshold` bytes together. With 0 each piece of `push`
+    /// is held as it is, so the caller has to bound their number.
     pub fn with_threshold(alloc: Global, decoder: D, threshold: usize) -> Framed<D>
         ensures { result ≡ starting decoder threshold }
     {
@@ -95,11 +95,19 @@ impl<D: Decoder> Framed<D> {
         self.held.push_slice(self.alloc, bytes)
     }
 
+    /// Sets the room that a read has, at least: `room` bytes, or 1 for 0. It is 512 before. A caller
+    /// who expects a long item sets more.
+    pub fn set_read_room(&mut self, room: usize)
+        ensures { self.new ≡ self.old }
+    {
+        self.held.set_read_room(room);
+    }
+
     /// Makes one read of `input`, straight into the room after the held bytes, which is at least 512
-    /// and mostly some 4,096 bytes. Returns the number of bytes that came, which is 0 at the end of
-    /// the input only. Fails with the reader's own error, `Interrupted` too, with `OutOfMemory` if
-    /// memory is refused, or with `FileTooLarge` if the number of held bytes might pass
-    /// `usize::MAX`. Then nothing was read and nothing has changed.
+    /// bytes, or as many as `set_read_room` set, and mostly some 4,096. Returns the number of bytes
+    /// that came, which is 0 at the end of the input only. Fails with the reader's own error,
+    /// `Interrupted` too, with `OutOfMemory` if memory is refused, or with `FileTooLarge` if the
+    /// number of held bytes might pass `usize::MAX`. Then nothing was read and nothing has changed.
     pub fn read_from<R: Read>(&mut self, input: &mut R) -> io::Result<usize>
         ensures read { OnOk result
             (IsFedBy (R.remaining input.old) (R.remaining input.new) self.old self.new) }
@@ -112,35 +120,20 @@ impl<D: Decoder> Framed<D> {
         self.held.read_from(self.alloc, input)
     }
 
-    /// As `read_from`, but with room for at least `room` bytes, in place of 512. Requires that
-    /// `room` is not 0 (test: compare).
-    pub fn read_with_room<R: Read>(&mut self, input: &mut R, room: usize) -> io::Result<usize>
-        requires { 0 < room }
-        ensures read { OnOk result
-            (IsFedBy (R.remaining input.old) (R.remaining input.new) self.old self.new) }
-        ensures count { IfOk result
-            (λ count. length self.new.held ≡ length self.old.held + count) }
-        ensures end { IfOk result (λ count. count ≡ 0 → IsAtEnd (R.remaining input.new)) }
-        ensures err { OnErr result (self.new ≡ self.old) }
-        ensures unread { OnErr result (Keeps (R.remaining input.old) (R.remaining input.new)) }
-    {
-        self.held.read_with_room(self.alloc, input, room)
-    }
-
     /// Returns the next item, or `None` if more bytes have to come. Fails as the decoder does; then
     /// the call can be made again.
-    pub fn next_item(&mut self, alloc: Global) -> Result<Option<D::Item>, D::Error>
+    pub fn next_item(&mut self) -> Result<Option<D::Item>, D::Error>
         ensures step { Decodes D.gives D.waits D.fails D.keeps self.old result self.new }
     {
-        self.decoder.decode(alloc, &mut self.held)
+        self.decoder.decode(self.alloc, &mut self.held)
     }
 
     /// Returns the next item at the end of the stream: also one that is ended by that alone. Returns
     /// `None` if there is none. Fails as the decoder does; then the call can be made again.
-    pub fn last_item(&mut self, alloc: Global) -> Result<Option<D::Item>, D::Error>
+    pub fn last_item(&mut self) -> Result<Option<D::Item>, D::Error>
         ensures step { DecodesAtEnd D.gives D.fails D.keeps self.old result self.new }
     {
-        self.decoder.decode_eof(alloc, &mut self.held)
+        self.decoder.decode_eof(self.alloc, &mut self.held)
     }
 
     /// Removes and returns the first `len` bytes, whatever they are: a body whose length an item
@@ -148,7 +141,7 @@ impl<D: Decoder> Framed<D> {
     /// The decoder begins at the front of the bytes after them. Requires that `len` is at most the
     /// number of held bytes (test: `remaining`). Fails with `OutOfMemory` if memory is refused; then
     /// nothing has changed.
-    pub fn take_bytes(&mut self, alloc: Global, len: usize) -> Result<Bytes, Reason>
+    pub fn take_bytes(&mut self, len: usize) -> Result<Bytes, Reason>
         requires { len ≤ length self.old.held }
         ensures front { IfOk result (λ front. front ≡ take len self.old.held) }
         ensures ok { OnOk result (self.new ≡ passed D.restarted len self.old) }
@@ -156,14 +149,14 @@ impl<D: Decoder> Framed<D> {
         ensures none { len ≡ 0 → IsOk result }
         ensures reason { IfErr result (λ reason. reason ≡ Reason.OutOfMemory) }
     {
-        let front = self.held.take_bytes(alloc, len)?;
+        let front = self.held.take_bytes(self.alloc, len)?;
         self.decoder.restart();
         Ok(front)
     }
 
     /// As `take_bytes`, but in the pieces that held them: those that were held as they came are
     /// shared, and bytes that were copied together are copied once more.
-    pub fn split_to(&mut self, alloc: Global, len: usize) -> Result<SegmentedBuf<Bytes>, Reason>
+    pub fn split_to(&mut self, len: usize) -> Result<SegmentedBuf<Bytes>, Reason>
         requires { len ≤ length self.old.held }
         ensures front { IfOk result (λ front. concat front.segments ≡ take len self.old.held) }
         ensures ok { OnOk result (self.new ≡ passed D.restarted len self.old) }
@@ -171,7 +164,7 @@ impl<D: Decoder> Framed<D> {
         ensures none { len ≡ 0 → IsOk result }
         ensures reason { IfErr result (λ reason. reason ≡ Reason.OutOfMemory) }
     {
-        let front = self.held.split_to(alloc, len)?;
+        let front = self.held.split_to(self.alloc, len)?;
         self.decoder.restart();
         Ok(front)
     }

@@ -3,7 +3,7 @@ ghost use Rattle.std.specs.Prelude.{◌≡◌, ◌+◌, ◌*◌, ◌-◌, ◌^�
 ghost use Rattle.std.specs.List.{concat};
 ghost use Rattle.std.specs.Int.Digits.{number_from_digits};
 ghost use Rattle.bytes_utils_codec.specs.Decoding.{Decodes, DecodesAtEnd, decoding};
-ghost use Rattle.bytes_utils_codec.specs.Prefixed.{IsLookedAt, IsOverLimit, IsPart, IsUnread, IsWithinLimit, TakesPrefixed, adjusted, after_skipped, awaits_front, awaits_prefixed, fails_front, fails_prefixed, gives_front, gives_prefixed, head_len, keeps_front, keeps_prefixed, needing, number_of, prefixing, ready, skipping, stated_len};
+ghost use Rattle.bytes_utils_codec.specs.Prefixed.{IsPrefixedLookedAt, IsPrefixedOverLimit, IsPrefixedPart, IsPrefixedUnread, IsPrefixedWithinLimit, TakesPrefixed, adjusted_prefixed_len, after_skipped_prefixed, awaits_prefixed_front, awaits_prefixed, fails_prefixed_front, fails_prefixed, gives_prefixed_front, gives_prefixed, prefixed_head_len, keeps_prefixed_front, keeps_prefixed, needing_prefixed, prefixed_number_of, prefixing, ready_prefixed, skipping_prefixed, stated_prefixed_len};
 ghost use Rattle.bytes_utils_codec.specs.PrefixedLaws.{prefixed_same, prefixed_single, prefixed_stable, prefixed_waits};
 
 use super::{Decoder, FrameTooLong};
@@ -23,8 +23,8 @@ type Frame = Result<Bytes, FrameTooLong>;
 /// let frames = LengthPrefixed::new(1024).length_at(1).width(2).adjusted_by(-3);
 /// let mut frames = Framed::new(alloc, frames);
 /// frames.push_slice(b"\x01\0\x08Hello\x02\0")?;
-/// frames.next_item(alloc)?         // `Ok(Hello)`
-/// frames.next_item(alloc)?         // `None`; two bytes are left
+/// frames.next_item()?         // `Ok(Hello)`
+/// frames.next_item()?         // `None`; two bytes are left
 /// ```
 ///
 /// The head of a frame ends with its length. A frame over the limit is an item that says so: once,
@@ -143,7 +143,7 @@ impl LengthPrefixed {
 
     /// Drops the bytes that are skipped, as many of them as are held.
     fn drop_skipped(&mut self, held: &mut PackedBuf)
-        ensures { decoding self.new held.new ≡ after_skipped (decoding self.old held.old) }
+        ensures { decoding self.new held.new ≡ after_skipped_prefixed (decoding self.old held.old) }
     {
         if self.skipped == 0 {
             return;
@@ -155,8 +155,8 @@ impl LengthPrefixed {
 
     /// The number of bytes of the head, if it is within the first `len` bytes.
     fn head_within(&self, len: usize) -> Option<usize>
-        ensures some { IfSome result (λ head. (head ≡ head_len self.now) × (head ≤ len)) }
-        ensures none { IfNone result (len < head_len self.now) }
+        ensures some { IfSome result (λ head. (head ≡ prefixed_head_len self.now) × (head ≤ len)) }
+        ensures none { IfNone result (len < prefixed_head_len self.now) }
     {
         let head = self.offset.checked_add(self.width)?;
         (head <= len).then_some(head)
@@ -165,12 +165,12 @@ impl LengthPrefixed {
     /// The number of bytes after the head of the next frame; or if it is over the limit, how many
     /// of them are skipped.
     fn body_len(&self, held: &PackedBuf, head: usize) -> Result<usize, u128>
-        requires head { head ≡ head_len self.now }
+        requires head { head ≡ prefixed_head_len self.now }
         requires within { head ≤ length (concat held.now.held.segments) }
         ensures within { IfOk result
-            (λ n. IsWithinLimit self.now (concat held.now.held.segments) n) }
+            (λ n. IsPrefixedWithinLimit self.now (concat held.now.held.segments) n) }
         ensures over { IfErr result
-            (λ n. IsOverLimit self.now (concat held.now.held.segments) n) }
+            (λ n. IsPrefixedOverLimit self.now (concat held.now.held.segments) n) }
     {
         match self.adjusted(self.stated_len(held, head)) {
             None => Err(0),
@@ -181,9 +181,9 @@ impl LengthPrefixed {
 
     /// The number in the length of the next frame, at the end of the head.
     fn stated_len(&self, held: &PackedBuf, head: usize) -> u64
-        requires head { head ≡ head_len self.now }
+        requires head { head ≡ prefixed_head_len self.now }
         requires within { head ≤ length (concat held.now.held.segments) }
-        ensures { result ≡ stated_len self.now (concat held.now.held.segments) }
+        ensures { result ≡ stated_prefixed_len self.now (concat held.now.held.segments) }
     {
         let front = held.chunk();
         if head <= front.len() {
@@ -198,7 +198,7 @@ impl LengthPrefixed {
     /// The number that the bytes of a length write.
     fn number_of(&self, bytes: &[u8]) -> u64
         requires { length bytes.now ≤ 8 }
-        ensures { result ≡ number_of self.now.is_little_endian bytes.now }
+        ensures { result ≡ prefixed_number_of self.now.is_little_endian bytes.now }
     {
         if self.is_little_endian {
             little_endian_number(bytes)
@@ -209,7 +209,7 @@ impl LengthPrefixed {
 
     /// The number of bytes after the head, if it isn't less than zero.
     fn adjusted(&self, stated: u64) -> Option<u128>
-        ensures { result ≡ adjusted stated self.now.adjustment }
+        ensures { result ≡ adjusted_prefixed_len stated self.now.adjustment }
     {
         let stated = stated as u128;
         let change = self.adjustment.unsigned_abs() as u128;
@@ -275,7 +275,7 @@ impl Decoder for LengthPrefixed {
 
     ghost keeps = { keeps_prefixed };
 
-    ghost restarted = { ready };
+    ghost restarted = { ready_prefixed };
 
     #[tactic(auto, using(crate::specs::PrefixedLaws::decodes_prefixed))]
     fn decode(&mut self, alloc: Global, held: &mut PackedBuf) -> Result<Option<Frame>, Reason> {

@@ -5,7 +5,7 @@ ghost use Rattle.std.specs.Str.Lossy.{utf8_lossy};
 ghost use Rattle.bytes_utils.specs.Lines.{IsWithoutReturn};
 ghost use Rattle.bytes_utils_codec.specs.Decoding.{Decodes, decoding, passed};
 ghost use Rattle.bytes_utils_codec.specs.Delimited.{fails_delimited};
-ghost use Rattle.bytes_utils_codec.specs.LineReading.{AwaitsLine, IsLastOf, IsLineOf, IsTextItem, LineReadingLaw, TakesLast, TakesLineItem, WholeLineReadingLaw, fails_line, frames_of, gives_line, keeps_line, line_reading, ready_line};
+ghost use Rattle.bytes_utils_codec.specs.LineReading.{AwaitsLine, IsLastLineOf, IsLineOf, IsTextLineItem, LineReadingLaw, TakesLastLine, TakesLineItem, WholeLineReadingLaw, fails_line, frames_of_lines, gives_line, keeps_line, line_reading, ready_line};
 ghost use Rattle.bytes_utils_codec.specs.StreamLines.{FirstStreamLinesLaw, SameStreamLinesLaw, TextStreamLinesLaw};
 ghost use Rattle.bytes_utils_codec.specs.LineReadingLaws.{line_same, line_single, line_stable, line_waits};
 
@@ -74,11 +74,11 @@ pub(crate) type Line = Result<Str, LineFault>;
 /// ```text
 /// let mut lines = Framed::new(alloc, Lines::with_limit(alloc, 8)?);
 /// lines.push_slice(b"Host: a\r")?;
-/// lines.next_item(alloc)?          // `None`
+/// lines.next_item()?          // `None`
 /// lines.push_slice(b"\nAccept: */*\nbody")?;
-/// lines.next_item(alloc)?          // `Ok(Host: a)`
-/// lines.next_item(alloc)?          // `Err(TooLong)`; `body` is left
-/// lines.last_item(alloc)?          // `Ok(body)`
+/// lines.next_item()?          // `Ok(Host: a)`
+/// lines.next_item()?          // `Err(TooLong)`; `body` is left
+/// lines.last_item()?          // `Ok(body)`
 /// ```
 ///
 /// A line over the limit is an item that says so, once; its bytes are dropped as they come. A line
@@ -207,7 +207,7 @@ impl Lines {
     /// Takes all bytes as the last line, if there are any and they are not those of a line that is
     /// skipped.
     fn take_last(&mut self, alloc: Global, held: &mut PackedBuf) -> Result<Option<Line>, Reason>
-        ensures { TakesLast (decoding self.old held.old) result (decoding self.new held.new) }
+        ensures { TakesLastLine (decoding self.old held.old) result (decoding self.new held.new) }
     {
         if self.frames.is_skipping() {
             self.frames.pass_end(held);
@@ -240,7 +240,7 @@ impl Decoder for Lines {
 
         // Before the end of the stream memory is asked for only for a line that has come.
         ensures before_end { IfErr result
-            (fails_delimited (frames_of (decoding self.old held.old))) }
+            (fails_delimited (frames_of_lines (decoding self.old held.old))) }
     {
         self.take_line(alloc, held)
     }
@@ -289,7 +289,7 @@ pub(super) fn take_last_line(
     held: &mut PackedBuf,
     lossy: bool,
 ) -> Result<Option<Line>, Reason>
-    ensures last { IfOk result (λ last. IsLastOf lossy last (concat held.old.held.segments)) }
+    ensures last { IfOk result (λ last. IsLastLineOf lossy last (concat held.old.held.segments)) }
     ensures ok { OnOk result (concat held.new.held.segments ≡ []) }
     ensures err { OnErr result
         (concat held.new.held.segments ≡ concat held.old.held.segments) }
@@ -314,7 +314,7 @@ pub(super) fn take_line(
 ) -> Result<Line, Reason>
     requires { len ≤ length (concat held.old.held.segments) }
     ensures line { IfOk result
-        (λ line. IsTextItem lossy line (take len (concat held.old.held.segments))) }
+        (λ line. IsTextLineItem lossy line (take len (concat held.old.held.segments))) }
     ensures ok { OnOk result
         (concat held.new.held.segments ≡ drop len (concat held.old.held.segments)) }
     ensures err { OnErr result
@@ -334,7 +334,7 @@ pub(super) fn take_line(
 
 /// The text of these bytes.
 pub(crate) fn text_of_line(bytes: Bytes) -> Line
-    ensures { IsTextItem false result bytes }
+    ensures { IsTextLineItem false result bytes }
 {
     Ok(Str::from_inner(bytes)?)
 }

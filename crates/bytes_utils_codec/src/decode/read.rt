@@ -3,13 +3,12 @@ ghost use Rattle.std.specs.Prelude.{◌≡◌, ◌⊎◌, None, Some, IfOk, IfEr
 ghost use Rattle.std.specs.Bool.{OnFalse};
 ghost use Rattle.std.specs.Io.KnownBytes.{IsAtEnd};
 ghost use Rattle.bytes_utils_codec.specs.Decoding.{Decoding, IsFedBy, Item, LacksItem, Last};
-ghost use Rattle.bytes_utils_codec.specs.ReadItem.{IsItemDue, IsOfDecoder, IsReadDue, ReadItemsLaw, ReadSameLaw, ReadWholeLaw, ReadsMore, ReadsNext, ReadItemTakesHeld, TakesLast};
+ghost use Rattle.bytes_utils_codec.specs.ReadItem.{IsItemDue, IsReadItemErrorOfDecoder, IsReadDue, ReadItemsLaw, ReadSameLaw, ReadWholeLaw, ReadsMore, ReadsNext, ReadItemTakesHeld, ReadItemTakesLast};
 
 mod error;
 
 use super::{Decoder, Framed};
 pub use error::ReadItemError;
-use std::alloc::Global;
 use std::io::{ErrorKind, Read};
 
 /// The number of reads that one call makes at most.
@@ -22,7 +21,6 @@ impl<D: Decoder> Framed<D> {
     /// what was read is held, and the call can be made again.
     pub fn read_item<R: Read>(
         &mut self,
-        alloc: Global,
         input: &mut R,
     ) -> Result<Option<D::Item>, ReadItemError<D::Error>>
         ensures item { IfOk result (λ next. IfSome next (λ item.
@@ -39,16 +37,16 @@ impl<D: Decoder> Framed<D> {
         ensures unread { (item : D.Item) (after : Decoding D)
             → D.gives self.old (Item item) after → input.new ≡ input.old }
         ensures at_once { (item : D.Item) (after : Decoding D)
-            → D.gives self.old (Item item) after → IfErr result IsOfDecoder }
+            → D.gives self.old (Item item) after → IfErr result IsReadItemErrorOfDecoder }
     {
-        if let Some(held) = self.held_item(alloc)? {
+        if let Some(held) = self.held_item()? {
             return Ok(Some(held));
         }
         for _ in 0..MOST_READS {
             if !self.read_more(input)? {
-                return self.end_item(alloc);
+                return self.end_item();
             }
-            if let Some(item) = self.held_item(alloc)? {
+            if let Some(item) = self.held_item()? {
                 return Ok(Some(item));
             }
         }
@@ -71,21 +69,21 @@ impl<D: Decoder> Framed<D> {
     }
 
     /// Returns the next item that the held bytes have.
-    fn held_item(&mut self, alloc: Global) -> Result<Option<D::Item>, ReadItemError<D::Error>>
+    fn held_item(&mut self) -> Result<Option<D::Item>, ReadItemError<D::Error>>
         ensures { ReadItemTakesHeld D.gives D.fails self.old result self.new }
     {
-        match self.next_item(alloc) {
+        match self.next_item() {
             Ok(next) => Ok(next),
             Err(error) => Err(ReadItemError::Decoder(error)),
         }
     }
 
     /// Returns the item that the end of the input ends.
-    fn end_item(&mut self, alloc: Global) -> Result<Option<D::Item>, ReadItemError<D::Error>>
+    fn end_item(&mut self) -> Result<Option<D::Item>, ReadItemError<D::Error>>
         requires { LacksItem D.gives self.old }
-        ensures { TakesLast D.gives D.fails self.old result self.new }
+        ensures { ReadItemTakesLast D.gives D.fails self.old result self.new }
     {
-        match self.last_item(alloc) {
+        match self.last_item() {
             Ok(last) => Ok(last),
             Err(error) => Err(ReadItemError::Decoder(error)),
         }

@@ -2,7 +2,7 @@
 ghost use Rattle.std.specs.Prelude.{◌≡◌, ◌<◌, true, IfErr, IfOk, IfNone, IfSome, MatchBool, OnErr, OnOk, length, take, drop, slice_index};
 ghost use Rattle.std.specs.List.{concat};
 ghost use Rattle.bytes_utils_codec.specs.Decoding.{Decodes, decoding};
-ghost use Rattle.bytes_utils_codec.specs.UniversalReading.{AwaitsUniversal, UniversalReadingFinds, HasLine, IsComing, PassesLong, SkipsOn, StopsUniversal, TakesUniversal, UniversalReadingLaw, WholeUniversalReadingLaw, after_end, after_feed, dropped, fails_universal, gives_universal, keeps_universal, ready_universal, skipping_line, universal_reading};
+ghost use Rattle.bytes_utils_codec.specs.UniversalReading.{AwaitsUniversal, UniversalReadingFinds, HasUniversalLine, IsUniversalComing, PassesLongUniversal, SkipsUniversal, StopsUniversal, TakesUniversal, UniversalReadingLaw, WholeUniversalReadingLaw, after_universal_end, after_universal_feed, dropped_universal, fails_universal, gives_universal, keeps_universal, ready_universal, skipping_universal, universal_reading};
 ghost use Rattle.bytes_utils_codec.specs.UniversalReadingLaws.{universal_same, universal_single, universal_stable, universal_waits};
 ghost use Rattle.bytes_utils_codec.specs.UniversalLines.{AllUniversalLinesLaw, SameUniversalLinesLaw, TextUniversalLinesLaw};
 
@@ -33,11 +33,11 @@ enum Place {
 /// ```text
 /// let mut lines = Framed::new(alloc, UniversalLines::with_limit(8));
 /// lines.push_slice(b"a\n\rb\r")?;
-/// lines.next_item(alloc)?          // `Ok(a)`, and then an empty line, and then `Ok(b)`
+/// lines.next_item()?          // `Ok(a)`, and then an empty line, and then `Ok(b)`
 /// lines.push_slice(b"\nAccept: */*\rc")?;
-/// lines.next_item(alloc)?          // `Err(TooLong)`: the line feed belongs to the end of `b`
-/// lines.next_item(alloc)?          // `None`; `c` is left
-/// lines.last_item(alloc)?          // `Ok(c)`
+/// lines.next_item()?          // `Err(TooLong)`: the line feed belongs to the end of `b`
+/// lines.next_item()?          // `None`; `c` is left
+/// lines.last_item()?          // `Ok(c)`
 /// ```
 ///
 /// These ends are known as universal newlines; the event streams of the HTML standard (section
@@ -147,7 +147,7 @@ impl UniversalLines {
     /// Drops a line feed that belongs to the end of the line before. If no byte is held, it may
     /// still come.
     fn pass_feed(&mut self, held: &mut PackedBuf)
-        ensures { decoding self.new held.new ≡ after_feed (decoding self.old held.old) }
+        ensures { decoding self.new held.new ≡ after_universal_feed (decoding self.old held.old) }
     {
         let Place::AfterReturn = self.place else {
             return;
@@ -165,9 +165,9 @@ impl UniversalLines {
     /// whether the held bytes begin with the next line now.
     fn pass_long(&mut self, held: &mut PackedBuf) -> bool
         ensures { MatchBool result
-            (PassesLong (decoding self.old held.old) (decoding self.new held.new))
-            (SkipsOn (decoding self.old held.old)
-            × (decoding self.new held.new ≡ dropped (decoding self.old held.old))) }
+            (PassesLongUniversal (decoding self.old held.old) (decoding self.new held.new))
+            (SkipsUniversal (decoding self.old held.old)
+            × (decoding self.new held.new ≡ dropped_universal (decoding self.old held.old))) }
     {
         let Place::LongLine = self.place else {
             return true;
@@ -190,7 +190,7 @@ impl UniversalLines {
 
     /// Returns the length of the next line, or reports that it is longer than the limit.
     fn find_len(&mut self, held: &PackedBuf) -> Option<Result<usize, FrameTooLong>>
-        ensures { IsComing (decoding self.old held.now) result (decoding self.new held.now) }
+        ensures { IsUniversalComing (decoding self.old held.now) result (decoding self.new held.now) }
     {
         match find_end(held.as_segmented(), self.searched) {
             Some(len) if len <= self.max_length => Some(Ok(len)),
@@ -208,7 +208,7 @@ impl UniversalLines {
     /// Skips the next line.
     fn skip(&mut self)
         requires { self.old.max_length < usize.MAX }
-        ensures { self.new ≡ skipping_line self.old }
+        ensures { self.new ≡ skipping_universal self.old }
     {
         self.searched = self.max_length + 1;
         self.place = Place::LongLine;
@@ -217,7 +217,7 @@ impl UniversalLines {
     /// Drops the byte that ends a line, with which the held bytes begin.
     fn pass_end(&mut self, held: &mut PackedBuf)
         requires { 0 < length (concat held.old.held.segments) }
-        ensures { decoding self.new held.new ≡ after_end 0 (decoding self.old held.old) }
+        ensures { decoding self.new held.new ≡ after_universal_end 0 (decoding self.old held.old) }
     {
         self.place = if held.as_segmented().starts_with(b"\r") {
             Place::AfterReturn
@@ -257,7 +257,7 @@ impl Decoder for UniversalLines {
             (decoding self.old held.old) result (decoding self.new held.new) }
 
         // Before the end of the stream memory is asked for only for a line that has come.
-        ensures before_end { IfErr result (λ reason. HasLine (decoding self.old held.old)) }
+        ensures before_end { IfErr result (λ reason. HasUniversalLine (decoding self.old held.old)) }
 
         // Of bytes that wait each was searched.
         ensures stops { IfOk result (λ next. IfNone next

@@ -9,11 +9,10 @@ use std::io::{self, Read, Write};
 
 /// Reads the next message, which comes after its length, or returns `None` at the end of the input.
 fn message<R: Read>(
-    alloc: Global,
     input: &mut R,
     messages: &mut Framed<LengthPrefixed>,
 ) -> Result<Option<Result<Bytes, FrameTooLong>>, ReadItemError<Reason>> {
-    messages.read_item(alloc, input) // after an error the call can be made again: no byte is lost
+    messages.read_item(input) // after an error the call can be made again: no byte is lost
 }
 
 /// Splits a line such as `Host: example.org` into name and value.

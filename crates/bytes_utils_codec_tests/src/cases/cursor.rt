@@ -30,7 +30,6 @@ use bytes_utils::{Reason, SegmentedBuf};
 use bytes_utils_buf::contiguous::ContiguousBuf;
 use bytes_utils_buf::segmented::PackedBuf;
 use bytes_utils_codec::cursor::Cursor;
-use std::alloc::Global;
 use std::borrow::CowSlice;
 use std::io::Print;
 use std::process::Abort;
@@ -38,7 +37,6 @@ use std::process::Abort;
 /// A cursor on which calls are made.
 #[derive(Drop)]
 struct CursorRun<'a, B: ContiguousBuf + Drop> {
-    alloc: Global,
     cursor: Cursor<'a, B>,
 }
 
@@ -79,10 +77,10 @@ impl<B: ContiguousBuf + Drop> CursorRun<'_, B> {
     /// Takes or reads a number of bytes, or passes them.
     fn count(&mut self, name: &str, len: usize, want: &str) -> Result<bool, Refusal> {
         match name {
-            "take" => is_taken_by_cursor(("take", self.cursor.take(self.alloc, len)), want),
-            "read" => is_read_by_cursor(("read", self.cursor.read(self.alloc, len)), want),
+            "take" => is_taken_by_cursor(("take", self.cursor.take(len)), want),
+            "read" => is_read_by_cursor(("read", self.cursor.read(len)), want),
             "take_segments" => {
-                let taken = self.cursor.take_segments(self.alloc, len);
+                let taken = self.cursor.take_segments(len);
                 match named_row_call("Cursor::", "take_segments", taken)? {
                     Some(parts) => Ok(are_parts_of_signs(parts, want)),
                     None => Ok(want == "none"),
@@ -100,30 +98,24 @@ impl<B: ContiguousBuf + Drop> CursorRun<'_, B> {
     fn search(&mut self, name: &str, needle: &[u8], want: &str) -> Result<bool, Refusal> {
         let (most, within) = want.split_once(' ').unwrap_or(("", want));
         let most = most.parse().unwrap_or(0);
-        let (alloc, cursor) = (self.alloc, &mut self.cursor);
+        let cursor = &mut self.cursor;
         if needle.is_empty() {
             return Ok(false);
         }
         match name {
             "find" => Ok(is_place_of_signs(
-                named_row_call("Cursor::", "find", cursor.find(alloc, needle))?,
+                named_row_call("Cursor::", "find", cursor.find(needle))?,
                 want,
             )),
-            "take_until" => is_taken_by_cursor(
-                ("take_until", cursor.take_until(alloc, needle)),
-                want,
-            ),
-            "take_to" => is_taken_by_cursor(("take_to", cursor.take_to(alloc, needle)), want),
-            "read_until" => is_read_by_cursor(
-                ("read_until", cursor.read_until(alloc, needle)),
-                want,
-            ),
+            "take_until" => is_taken_by_cursor(("take_until", cursor.take_until(needle)), want),
+            "take_to" => is_taken_by_cursor(("take_to", cursor.take_to(needle)), want),
+            "read_until" => is_read_by_cursor(("read_until", cursor.read_until(needle)), want),
             "take_until_within" => {
-                let taken = cursor.take_until_within(alloc, needle, most);
+                let taken = cursor.take_until_within(needle, most);
                 is_taken_by_cursor(("take_until_within", taken), within)
             }
             "read_until_within" => {
-                let read = cursor.read_until_within(alloc, needle, most);
+                let read = cursor.read_until_within(needle, most);
                 is_read_by_cursor(("read_until_within", read), within)
             }
             _ => Ok(false),
@@ -132,7 +124,7 @@ impl<B: ContiguousBuf + Drop> CursorRun<'_, B> {
 
     /// Takes the next line.
     fn line(&mut self, want: &str) -> Result<bool, Refusal> {
-        match named_row_call("Cursor::", "line", self.cursor.line(self.alloc))? {
+        match named_row_call("Cursor::", "line", self.cursor.line())? {
             Some(Ok(text)) => Ok(are_bytes_of_signs(text.as_bytes(), want)),
             Some(Err(_)) => Ok(false),
             None => Ok(want == "none"),
@@ -167,7 +159,7 @@ impl<B: ContiguousBuf + Drop> CalledByRow for CursorRun<'_, B> {
         match name {
             "line" => self.line(rest),
             "rest" => {
-                let unread = named_row_call("Cursor::", "rest", self.cursor.rest(self.alloc))?;
+                let unread = named_row_call("Cursor::", "rest", self.cursor.rest())?;
                 Ok(are_parts_of_signs(unread, rest))
             }
             "tag" => Ok(match self.cursor.tag(meant_by_signs(argument).as_slice()) {
@@ -194,8 +186,7 @@ fn is_cursor_row_right<B: ContiguousBuf + Drop, R: Abort + Print + AllocGlobal>(
     row: &str,
 ) -> bool {
     let mut run = CursorRun {
-        alloc: rt.alloc(),
-        cursor: Cursor::new(buf),
+        cursor: Cursor::new(rt.alloc(), buf),
     };
     is_row_right(rt, &mut run, row)
 }

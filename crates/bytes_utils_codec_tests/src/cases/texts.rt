@@ -79,11 +79,11 @@ impl CalledByRow for TextsRun<'_> {
         match name {
             "push" => self.push(rest),
             "next" => {
-                let item = self.texts.next_item(self.alloc);
+                let item = self.texts.next_item();
                 Ok(is_item_of_texts(named_row_call("Texts::", "next_item", item)?, rest))
             }
             "last" => {
-                let item = self.texts.last_item(self.alloc);
+                let item = self.texts.last_item();
                 Ok(is_item_of_texts(named_row_call("Texts::", "last_item", item)?, rest))
             }
             "remaining" => Ok(is_number_of_signs(rest, self.texts.remaining())),

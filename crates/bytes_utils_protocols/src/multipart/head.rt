@@ -2,7 +2,7 @@
 ghost use Rattle.std.specs.Prelude.{◌≡◌, ◌⊎◌, ◌+◌, ◌≤◌, ℕ, List, Option, [], length, drop, All, IsUtf8, IfOk, IfErr, IfSome, IfNone, MatchOption, option_map};
 ghost use Rattle.std.specs.List.{concat, prefix_len};
 ghost use Rattle.std.specs.Str.Lines.{lines};
-ghost use Rattle.bytes_utils_protocols.specs.Multipart.{HasDisposition, IsDisposition, IsMultipartHead, IsPart, IsQuotedInMultipart, NoDisposition, PartBytes, QuotesInMultipart, is_multipart_head_padding, part_bytes};
+ghost use Rattle.bytes_utils_protocols.specs.Multipart.{HasMultipartDisposition, IsMultipartDisposition, IsMultipartHead, IsMultipartPart, IsQuotedInMultipart, NoMultipartDisposition, MultipartBytes, QuotesInMultipart, is_multipart_head_padding, multipart_bytes};
 
 use super::limits::{Limits, PartError};
 use bytes::{Buf, Bytes};
@@ -23,14 +23,14 @@ pub(super) fn read_head(
     limits: Limits,
 ) -> Result<(Str, usize), PartError>
     ensures within { IfOk result (λ read. read.1 ≤ length (concat raw.now.segments)) }
-    ensures part { IfOk result (λ read. IsPart limits (concat raw.now.segments)
-        (part_bytes read.0 (drop read.1 (concat raw.now.segments)))) }
+    ensures part { IfOk result (λ read. IsMultipartPart limits (concat raw.now.segments)
+        (multipart_bytes read.0 (drop read.1 (concat raw.now.segments)))) }
     ensures malformed { IfErr result (λ e. e ≡ PartError.Malformed
-        → (any : Limits) (part : PartBytes) → ¬ IsPart any (concat raw.now.segments) part) }
+        → (any : Limits) (part : MultipartBytes) → ¬ IsMultipartPart any (concat raw.now.segments) part) }
     ensures too_large { IfErr result (λ e. e ≡ PartError.TooLarge
-        → (part : PartBytes) → ¬ IsPart limits (concat raw.now.segments) part) }
-    ensures not_utf8 { IfErr result (λ e. e ≡ PartError.NotUtf8 → (part : PartBytes)
-        × IsPart limits (concat raw.now.segments) part × (¬ IsUtf8 part.head)) }
+        → (part : MultipartBytes) → ¬ IsMultipartPart limits (concat raw.now.segments) part) }
+    ensures not_utf8 { IfErr result (λ e. e ≡ PartError.NotUtf8 → (part : MultipartBytes)
+        × IsMultipartPart limits (concat raw.now.segments) part × (¬ IsUtf8 part.head)) }
     ensures reason { IfErr result (λ e. (reason : _) → e ≡ PartError.Refused reason
         → reason ≡ Reason.OutOfMemory) }
 {
@@ -87,7 +87,7 @@ fn is_multipart_head_padding(byte: u8) -> bool
 
 /// The value of the first `Content-Disposition` header in a head.
 pub(super) fn disposition_of_head(head: &str) -> Option<&str>
-    ensures { HasDisposition (lines head.now) (option_map (λ value. value.now) result) }
+    ensures { HasMultipartDisposition (lines head.now) (option_map (λ value. value.now) result) }
 {
     for line in head.lines() {
         if let Some(value) = disposition_in_head(line) {
@@ -99,8 +99,8 @@ pub(super) fn disposition_of_head(head: &str) -> Option<&str>
 
 /// The value in a line, if that is a `Content-Disposition` header.
 fn disposition_in_head(line: &str) -> Option<&str>
-    ensures some { IfSome result (λ value. IsDisposition line.now value.now) }
-    ensures none { IfNone result (NoDisposition line.now) }
+    ensures some { IfSome result (λ value. IsMultipartDisposition line.now value.now) }
+    ensures none { IfNone result (NoMultipartDisposition line.now) }
 {
     let (name, value) = line.split_once(':')?;
     if !name.eq_ignore_ascii_case("content-disposition") {

@@ -4,8 +4,8 @@ ghost use Rattle.std.specs.List.{concat};
 ghost use Rattle.bytes_utils.specs.Occurrence.{Occurs};
 ghost use Rattle.bytes_utils_codec.specs.Frames.{TakesFrame};
 ghost use Rattle.bytes_utils_codec.specs.Pushing.{IsPush};
-ghost use Rattle.bytes_utils_codec.specs.Search.{from_front, searched_all};
-ghost use Rattle.bytes_utils_protocols.specs.Multipart.{AfterSearch, IsDivided, NonePassed, SameSections, waiting_in};
+ghost use Rattle.bytes_utils_codec.specs.Search.{search_from_front, searched_all};
+ghost use Rattle.bytes_utils_protocols.specs.Multipart.{AfterMultipartSearch, IsMultipartDivided, NoMultipartPassed, SameMultipartSections, waiting_in_multipart};
 
 use super::preamble::Preamble;
 use bytes::{Buf, Bytes};
@@ -48,9 +48,9 @@ impl Sections {
     pub(super) fn new(alloc: Global, delimiter: &[u8]) -> Result<Sections, Reason>
         requires { 0 < length delimiter.now }
         ensures delimiter { IfOk result (λ s. s.delimiter.needle ≡ delimiter.now) }
-        ensures waiting { IfOk result (λ s. waiting_in s ≡ []) }
+        ensures waiting { IfOk result (λ s. waiting_in_multipart s ≡ []) }
         ensures stage { IfOk result (λ s. s.stage ≡ Stage.Preamble) }
-        ensures divided { IfOk result IsDivided }
+        ensures divided { IfOk result IsMultipartDivided }
         ensures reason { IfErr result (λ reason. reason ≡ Reason.OutOfMemory) }
     {
         Ok(Sections {
@@ -64,8 +64,8 @@ impl Sections {
 
     /// Appends a piece to those that wait for a delimiter, as `PackedBuf` does.
     pub(super) fn push(&mut self, alloc: Global, piece: Bytes) -> Result<(), Refused<Bytes>>
-        ensures pushed { IsPush (waiting_in self.old) piece result
-            (waiting_in self.new ≡ waiting_in self.old ++ piece) (self.new ≡ self.old) }
+        ensures pushed { IsPush (waiting_in_multipart self.old) piece result
+            (waiting_in_multipart self.new ≡ waiting_in_multipart self.old ++ piece) (self.new ≡ self.old) }
         ensures others { self.new ≡ record self.old { waiting = self.new.waiting } }
     {
         self.waiting.push(alloc, piece)
@@ -73,10 +73,10 @@ impl Sections {
 
     /// Appends a copy of `piece`, as `PackedBuf` does.
     pub(super) fn push_slice(&mut self, alloc: Global, piece: &[u8]) -> Result<(), Reason>
-        ensures ok { OnOk result (waiting_in self.new ≡ waiting_in self.old ++ piece.now) }
+        ensures ok { OnOk result (waiting_in_multipart self.new ≡ waiting_in_multipart self.old ++ piece.now) }
         ensures err { OnErr result (self.new ≡ self.old) }
         ensures too_long { IfErr result (λ reason. (reason ≡ Reason.TooLong)
-            ↔ (2 ^ 64 ≤ length (waiting_in self.old) + length piece.now)) }
+            ↔ (2 ^ 64 ≤ length (waiting_in_multipart self.old) + length piece.now)) }
         ensures empty { piece.now ≡ [] → IsOk result }
         ensures others { self.new ≡ record self.old { waiting = self.new.waiting } }
     {
@@ -85,10 +85,10 @@ impl Sections {
 
     /// Searches for the delimiters before and after the next part, or for the close delimiter.
     pub(super) fn search(&mut self, alloc: Global) -> Result<(), Reason>
-        requires { IsDivided self.old }
-        ensures divided { IsDivided self.new }
-        ensures ok { OnOk result (AfterSearch self.new.stage self.old self.new) }
-        ensures err { OnErr result (SameSections self.old self.new) }
+        requires { IsMultipartDivided self.old }
+        ensures divided { IsMultipartDivided self.new }
+        ensures ok { OnOk result (AfterMultipartSearch self.new.stage self.old self.new) }
+        ensures err { OnErr result (SameMultipartSections self.old self.new) }
         ensures delimiter { self.new.delimiter.needle ≡ self.old.delimiter.needle }
         ensures reason { IfErr result (λ reason. reason ≡ Reason.OutOfMemory) }
     {
@@ -101,11 +101,11 @@ impl Sections {
 
     /// Finds the delimiter before the next part, if it has come, and lets go of what is before it.
     fn pass_preamble(&mut self, alloc: Global) -> Result<(), Reason>
-        requires { IsDivided self.old }
-        ensures divided { IsDivided self.new }
-        ensures same { SameSections self.old self.new }
+        requires { IsMultipartDivided self.old }
+        ensures divided { IsMultipartDivided self.new }
+        ensures same { SameMultipartSections self.old self.new }
         ensures waits { OnOk result (self.new.stage ≡ Stage.Preamble
-            → ¬ Occurs self.old.delimiter.needle (waiting_in self.new)) }
+            → ¬ Occurs self.old.delimiter.needle (waiting_in_multipart self.new)) }
         ensures ended { self.new.stage ≡ Stage.Ended → self.old.stage ≡ Stage.Ended }
         ensures reason { IfErr result (λ reason. reason ≡ Reason.OutOfMemory) }
     {
@@ -121,11 +121,11 @@ impl Sections {
     /// Finds the delimiter after the next part, if it has come, or ends, if two dashes follow the
     /// one before it.
     fn find_next(&mut self, alloc: Global) -> Result<(), Reason>
-        requires divided { IsDivided self.old }
+        requires divided { IsMultipartDivided self.old }
         requires waiting { self.old.stage ≡ Stage.Waiting }
-        ensures divided { IsDivided self.new }
-        ensures ok { OnOk result (AfterSearch self.new.stage self.old self.new) }
-        ensures err { OnErr result (SameSections self.old self.new) }
+        ensures divided { IsMultipartDivided self.new }
+        ensures ok { OnOk result (AfterMultipartSearch self.new.stage self.old self.new) }
+        ensures err { OnErr result (SameMultipartSections self.old self.new) }
         ensures delimiter { self.new.delimiter.needle ≡ self.old.delimiter.needle }
         ensures reason { IfErr result (λ reason. reason ≡ Reason.OutOfMemory) }
     {
@@ -143,20 +143,20 @@ impl Sections {
     /// Takes the bytes before the next delimiter, and drops that, or returns `None` if it has not
     /// come.
     fn next_section(&mut self, alloc: Global) -> Result<Option<SegmentedBuf<Bytes>>, Reason>
-        requires { NonePassed self.old }
+        requires { NoMultipartPassed self.old }
         ensures section { IfOk result (λ next. IfSome next (λ section. TakesFrame
-            self.old.delimiter.needle (waiting_in self.old)
-            (concat section.segments) (waiting_in self.new))) }
+            self.old.delimiter.needle (waiting_in_multipart self.old)
+            (concat section.segments) (waiting_in_multipart self.new))) }
         ensures some { IfOk result (λ next. IfSome next (λ _. self.new ≡ record self.old {
-          delimiter = from_front self.old.delimiter;
+          delimiter = search_from_front self.old.delimiter;
           waiting = self.new.waiting;
         })) }
         ensures lacks { IfOk result
-            (λ next. IfNone next (¬ Occurs self.old.delimiter.needle (waiting_in self.old))) }
+            (λ next. IfNone next (¬ Occurs self.old.delimiter.needle (waiting_in_multipart self.old))) }
         ensures none { IfOk result (λ next. IfNone next (self.new ≡ record self.old {
-          delimiter = searched_all self.old.delimiter (waiting_in self.old);
+          delimiter = searched_all self.old.delimiter (waiting_in_multipart self.old);
         })) }
-        ensures passed { NonePassed self.new }
+        ensures passed { NoMultipartPassed self.new }
         ensures err { OnErr result (self.new ≡ self.old) }
         ensures reason { IfErr result (λ reason. reason ≡ Reason.OutOfMemory) }
     {
@@ -171,7 +171,7 @@ impl Sections {
 
     /// Ends, and lets go of all that is held.
     fn end(&mut self, alloc: Global)
-        ensures divided { IsDivided self.new }
+        ensures divided { IsMultipartDivided self.new }
         ensures stage { self.new.stage ≡ Stage.Ended }
         ensures delimiter { self.new.delimiter.needle ≡ self.old.delimiter.needle }
     {
@@ -185,9 +185,9 @@ impl Sections {
     /// the bytes of one.
     pub(super) fn is_over(&self, most: usize) -> bool
         ensures over { IsTrue result ↔ ((most < length self.now.preamble) ⊎ ((self.now.stage ≢ Stage.Found)
-            × (most + length self.now.delimiter.needle < length (waiting_in self.now)))) }
+            × (most + length self.now.delimiter.needle < length (waiting_in_multipart self.now)))) }
         ensures short { length self.now.preamble < 2 ^ 64 }
-        ensures fits { length (waiting_in self.now) < 2 ^ 64 }
+        ensures fits { length (waiting_in_multipart self.now) < 2 ^ 64 }
     {
         let delimiter = self.delimiter.needle().len();
         let waiting = self.waiting.remaining().saturating_sub(delimiter);

@@ -1,6 +1,6 @@
 //! The items of replies.
 ghost use Rattle.std.specs.Prelude.{◌≡◌};
-ghost use Rattle.bytes_utils_protocols.specs.Redis.{items_in};
+ghost use Rattle.bytes_utils_protocols.specs.Redis.{redis_items_in};
 
 use bytes::Bytes;
 
@@ -20,8 +20,8 @@ pub enum Item {
 }
 
 /// The number of items that follow as those of this one.
-pub(super) fn items_in(item: &Item) -> usize
-    ensures { result ≡ items_in item.now }
+pub(super) fn redis_items_in(item: &Item) -> usize
+    ensures { result ≡ redis_items_in item.now }
 {
     match item {
         Item::Array(Some(count)) => *count,

@@ -2,11 +2,11 @@
 ghost use Rattle.std.specs.Prelude.{◌≡◌, ℕ, ◌↔◌, ◌<◌, ◌≤◌, List, [], ◌∷◌, ◌++◌, length, true, FitsSigned, IsTrue, IfOk, IfErr, IfSome, IfNone, MatchOption};
 ghost use Rattle.std.specs.Int.{w64};
 ghost use Rattle.std.specs.Bool.{MatchBool};
-ghost use Rattle.bytes_utils_protocols.specs.Redis.{IsLineOf, IsLineWithin, LacksRedisByte};
-ghost use Rattle.bytes_utils_protocols.specs.RedisLine.{AreLineDigits, IsHeadOf, IsHeadWithin, IsReadAs, ReadsOn, LineReports, signed_line_number};
+ghost use Rattle.bytes_utils_protocols.specs.Redis.{IsRedisLineOf, IsRedisLineWithin, LacksRedisByte};
+ghost use Rattle.bytes_utils_protocols.specs.RedisLine.{AreLineDigits, IsRedisLineHeadOf, IsRedisLineHeadWithin, IsRedisLineReadAs, ReadsOnRedisLine, LineReports, signed_line_number};
 ghost use Rattle.bytes_utils_protocols.specs.Digits.{WriteNumber};
 
-use super::item::{Item, items_in};
+use super::item::{Item, redis_items_in};
 use super::limits::{Limits, ReplyError};
 
 /// The sign of an integer.
@@ -60,7 +60,7 @@ pub(super) enum LineHead {
 impl Line {
     /// Reads more bytes of the line, or returns `None` if it is that of no item with them.
     pub(super) fn read(self, bytes: &[u8]) -> Option<Line>
-        ensures { ReadsOn self bytes.now result }
+        ensures { ReadsOnRedisLine self bytes.now result }
     {
         let mut line = self;
         for byte in bytes {
@@ -71,7 +71,7 @@ impl Line {
 
     /// Reads a byte.
     fn read_byte(self, byte: u8) -> Option<Line>
-        ensures { ReadsOn self (byte ∷ []) result }
+        ensures { ReadsOnRedisLine self (byte ∷ []) result }
     {
         match self {
             Line::Empty => line_from_first(byte),
@@ -85,7 +85,7 @@ impl Line {
 
     /// Whether one byte more can make it the line of an item, which it isn't yet.
     fn lacks_byte(self) -> bool
-        ensures { (bytes : List ℕ) → IsReadAs self bytes → IsTrue result ↔ LacksRedisByte bytes }
+        ensures { (bytes : List ℕ) → IsRedisLineReadAs self bytes → IsTrue result ↔ LacksRedisByte bytes }
     {
         matches!(
             self,
@@ -115,7 +115,7 @@ impl Line {
 
 /// Reads the first byte.
 fn line_from_first(byte: u8) -> Option<Line>
-    ensures { ReadsOn Line.Empty (byte ∷ []) result }
+    ensures { ReadsOnRedisLine Line.Empty (byte ∷ []) result }
 {
     match byte {
         b'+' | b'-' => Some(Line::Text),
@@ -128,7 +128,7 @@ fn line_from_first(byte: u8) -> Option<Line>
 
 /// Reads a byte of a text or of an error.
 fn line_in_text(byte: u8) -> Option<Line>
-    ensures { ReadsOn Line.Text (byte ∷ []) result }
+    ensures { ReadsOnRedisLine Line.Text (byte ∷ []) result }
 {
     match byte {
         b'\r' | b'\n' => None,
@@ -138,7 +138,7 @@ fn line_in_text(byte: u8) -> Option<Line>
 
 /// Reads a byte of an integer.
 fn line_in_integer(sign: Sign, value: Option<usize>, byte: u8) -> Option<Line>
-    ensures { ReadsOn (Line.Signed sign value) (byte ∷ []) result }
+    ensures { ReadsOnRedisLine (Line.Signed sign value) (byte ∷ []) result }
 {
     match (sign, value, byte) {
         (Sign::Unsigned, None, b'+') => Some(Line::Signed(Sign::Plus, None)),
@@ -149,7 +149,7 @@ fn line_in_integer(sign: Sign, value: Option<usize>, byte: u8) -> Option<Line>
 
 /// Reads a byte of a length.
 fn line_in_length(counted: Counted, value: Option<usize>, byte: u8) -> Option<Line>
-    ensures { ReadsOn (Line.Length counted value) (byte ∷ []) result }
+    ensures { ReadsOnRedisLine (Line.Length counted value) (byte ∷ []) result }
 {
     match (value, byte) {
         (None, b'-') => Some(Line::Dash(counted)),
@@ -159,7 +159,7 @@ fn line_in_length(counted: Counted, value: Option<usize>, byte: u8) -> Option<Li
 
 /// Reads the byte after the `-` of a length.
 fn line_after_dash(counted: Counted, byte: u8) -> Option<Line>
-    ensures { ReadsOn (Line.Dash counted) (byte ∷ []) result }
+    ensures { ReadsOnRedisLine (Line.Dash counted) (byte ∷ []) result }
 {
     match byte {
         b'1' => Some(Line::Null(counted)),
@@ -204,18 +204,18 @@ impl BegunLine {
     ) -> Result<Option<LineHead>, ReplyError>
         requires { self.len ≤ limits.line }
         ensures head { IfOk result (λ next. IfSome next (λ head.
-            IsHeadWithin limits.bulk room head
-            × ((bytes : List ℕ) → IsReadAs self.line bytes → IsHeadOf head bytes))) }
+            IsRedisLineHeadWithin limits.bulk room head
+            × ((bytes : List ℕ) → IsRedisLineReadAs self.line bytes → IsRedisLineHeadOf head bytes))) }
         ensures lacks { IfOk result (λ next. IfNone next
             ((self.len < limits.line) × (¬ (ended ≡ true))
-            × ((bytes : List ℕ) → IsReadAs self.line bytes → LacksRedisByte bytes))) }
+            × ((bytes : List ℕ) → IsRedisLineReadAs self.line bytes → LacksRedisByte bytes))) }
         ensures malformed { IfErr result (λ e. e ≡ ReplyError.Malformed
-            → (bytes : List ℕ) → IsReadAs self.line bytes
-            → MatchBool ended ((item : Item) → ¬ IsLineOf item bytes)
-            ((item : Item) (more : List ℕ) → ¬ IsLineOf item (bytes ++ more))) }
+            → (bytes : List ℕ) → IsRedisLineReadAs self.line bytes
+            → MatchBool ended ((item : Item) → ¬ IsRedisLineOf item bytes)
+            ((item : Item) (more : List ℕ) → ¬ IsRedisLineOf item (bytes ++ more))) }
         ensures too_large { IfErr result (λ e. e ≡ ReplyError.TooLarge
-            → (bytes : List ℕ) → IsReadAs self.line bytes → length bytes ≡ self.len
-            → (item : Item) (more : List ℕ) → ¬ IsLineWithin limits room item (bytes ++ more)) }
+            → (bytes : List ℕ) → IsRedisLineReadAs self.line bytes → length bytes ≡ self.len
+            → (item : Item) (more : List ℕ) → ¬ IsRedisLineWithin limits room item (bytes ++ more)) }
         ensures reason { IfErr result (λ e. (reason : _) → ¬ (e ≡ ReplyError.Refused reason)) }
     {
         if let Some(head) = self.line.head() {
@@ -236,10 +236,10 @@ impl BegunLine {
 
 /// Whether what a line reports is within the limits.
 fn is_line_within(head: &LineHead, most: usize, room: usize) -> bool
-    ensures { IsTrue result ↔ IsHeadWithin most room head.now }
+    ensures { IsTrue result ↔ IsRedisLineHeadWithin most room head.now }
 {
     match head {
-        LineHead::Whole(item) => items_in(item) <= room,
+        LineHead::Whole(item) => redis_items_in(item) <= room,
         LineHead::Plain => true,
         LineHead::Body(len) => *len <= most,
     }

@@ -4,11 +4,11 @@ ghost use Rattle.std.specs.List.{concat};
 ghost use Rattle.std.specs.Bool.{OnFalse, OnTrue};
 ghost use Rattle.bytes_utils_codec.specs.Cursor.{unread};
 ghost use Rattle.bytes_utils_codec.specs.Pushing.{IsPush};
-ghost use Rattle.bytes_utils_protocols.specs.Redis.{BeginsRedisBody, BeginsReply, HasNoRedisBody, IsLineOf, IsRedisTextLine, NoReply, after_line, body, items_in, redis_line_end};
-ghost use Rattle.bytes_utils_protocols.specs.RedisLine.{EndsAt, IsReadTo, NoLineReturn, NoLineEnds};
-ghost use Rattle.bytes_utils_protocols.specs.RedisPending.{AwaitsPendingBody, FindsPendingHead, FindsPendingItem, IsPendingNext, IsPending, held_by, unread_by};
+ghost use Rattle.bytes_utils_protocols.specs.Redis.{BeginsRedisBody, BeginsRedisReply, HasNoRedisBody, IsRedisLineOf, IsRedisTextLine, NoRedisReply, after_redis_line, redis_body, redis_items_in, redis_line_end};
+ghost use Rattle.bytes_utils_protocols.specs.RedisLine.{RedisLineEndsAt, IsRedisLineReadTo, NoLineReturn, NoLineEnds};
+ghost use Rattle.bytes_utils_protocols.specs.RedisPending.{AwaitsPendingBody, FindsPendingHead, FindsPendingItem, IsPendingNext, IsPending, held_by_pending, unread_by_pending};
 
-use super::item::{Item, items_in};
+use super::item::{Item, redis_items_in};
 use super::limits::{Limits, ReplyError};
 use super::line::{BegunLine, Line, LineHead};
 use super::passed::Passed;
@@ -59,7 +59,7 @@ impl Pending {
     /// Nothing was read, and no bytes are held.
     pub(super) fn new(alloc: Global) -> Pending
         ensures pending { (limits : Limits) → IsPending limits result }
-        ensures held { held_by result ≡ [] }
+        ensures held { held_by_pending result ≡ [] }
     {
         Pending {
             pieces: PackedBuf::new(alloc, SMALL),
@@ -72,10 +72,10 @@ impl Pending {
 
     /// Appends a piece, as `PackedBuf` does.
     pub(super) fn push(&mut self, alloc: Global, piece: Bytes) -> Result<(), Refused<Bytes>>
-        requires { length (held_by self.old) < 2 ^ 64 }
+        requires { length (held_by_pending self.old) < 2 ^ 64 }
         ensures pending { (limits : Limits) → IsPending limits self.old → IsPending limits self.new }
-        ensures pushed { IsPush (held_by self.old) piece result
-            (held_by self.new ≡ held_by self.old ++ piece) (self.new ≡ self.old) }
+        ensures pushed { IsPush (held_by_pending self.old) piece result
+            (held_by_pending self.new ≡ held_by_pending self.old ++ piece) (self.new ≡ self.old) }
     {
         if !self.fits(piece.len()) {
             return Err(Refused {
@@ -88,12 +88,12 @@ impl Pending {
 
     /// Appends a copy of `piece`, as `PackedBuf` does.
     pub(super) fn push_slice(&mut self, alloc: Global, piece: &[u8]) -> Result<(), Reason>
-        requires { length (held_by self.old) < 2 ^ 64 }
+        requires { length (held_by_pending self.old) < 2 ^ 64 }
         ensures pending { (limits : Limits) → IsPending limits self.old → IsPending limits self.new }
-        ensures ok { OnOk result (held_by self.new ≡ held_by self.old ++ piece.now) }
+        ensures ok { OnOk result (held_by_pending self.new ≡ held_by_pending self.old ++ piece.now) }
         ensures err { OnErr result (self.new ≡ self.old) }
         ensures too_long { IfErr result (λ reason. (reason ≡ Reason.TooLong)
-            ↔ (2 ^ 64 ≤ length (held_by self.old) + length piece.now)) }
+            ↔ (2 ^ 64 ≤ length (held_by_pending self.old) + length piece.now)) }
         ensures empty { piece.now ≡ [] → IsOk result }
     {
         if !self.fits(piece.len()) {
@@ -104,8 +104,8 @@ impl Pending {
 
     /// Whether the number of held bytes and `len` is a `usize`.
     fn fits(&self, len: usize) -> bool
-        requires { length (held_by self.now) < 2 ^ 64 }
-        ensures { IsTrue result ↔ (length (held_by self.now) + len < 2 ^ 64) }
+        requires { length (held_by_pending self.now) < 2 ^ 64 }
+        ensures { IsTrue result ↔ (length (held_by_pending self.now) + len < 2 ^ 64) }
     {
         len <= usize::MAX - self.passed.len() - self.pieces.remaining()
     }
@@ -115,14 +115,14 @@ impl Pending {
         requires pending { IsPending limits self.old }
         requires some { 0 < limits.items }
         ensures pending { IsPending limits self.new }
-        ensures held { held_by self.new ≡ held_by self.old }
+        ensures held { held_by_pending self.new ≡ held_by_pending self.old }
         ensures whole { IfOk result (λ whole. OnTrue whole (self.new.due ≡ 0)) }
-        ensures waits { IfOk result (λ whole. OnFalse whole (NoReply limits (held_by self.old))) }
-        ensures begins { IfOk result (λ whole. OnFalse whole (BeginsReply limits (held_by self.old))) }
+        ensures waits { IfOk result (λ whole. OnFalse whole (NoRedisReply limits (held_by_pending self.old))) }
+        ensures begins { IfOk result (λ whole. OnFalse whole (BeginsRedisReply limits (held_by_pending self.old))) }
         ensures malformed { IfErr result (λ e. e ≡ ReplyError.Malformed
-            → (any : Limits) (more : List ℕ) → NoReply any (held_by self.old ++ more)) }
+            → (any : Limits) (more : List ℕ) → NoRedisReply any (held_by_pending self.old ++ more)) }
         ensures too_large { IfErr result (λ e. e ≡ ReplyError.TooLarge
-            → (more : List ℕ) → NoReply limits (held_by self.old ++ more)) }
+            → (more : List ℕ) → NoRedisReply limits (held_by_pending self.old ++ more)) }
         ensures reason { IfErr result (λ e. (reason : _) → e ≡ ReplyError.Refused reason
             → reason ≡ Reason.OutOfMemory) }
     {
@@ -145,20 +145,20 @@ impl Pending {
 
     /// Keeps the next item, and lets go of its `len` bytes.
     fn keep(&mut self, item: Item, len: usize) -> Result<(), Reason>
-        requires within { len ≤ length (unread_by self.old) }
-        requires fits { length (held_by self.old) < 2 ^ 64 }
+        requires within { len ≤ length (unread_by_pending self.old) }
+        requires fits { length (held_by_pending self.old) < 2 ^ 64 }
         requires due { 0 < self.old.due }
-        requires few { (self.old.due - 1) + items_in item < 2 ^ 64 }
+        requires few { (self.old.due - 1) + redis_items_in item < 2 ^ 64 }
         ensures items { OnOk result (self.new.items.items ≡ self.old.items.items ++ item ∷ []) }
-        ensures due { OnOk result (self.new.due ≡ (self.old.due - 1) + items_in item) }
-        ensures unread { OnOk result (unread_by self.new ≡ drop len (unread_by self.old)) }
-        ensures held { held_by self.new ≡ held_by self.old }
-        ensures next { OnOk result ((limits : Limits) → IsPendingNext limits (unread_by self.new) self.new.next) }
+        ensures due { OnOk result (self.new.due ≡ (self.old.due - 1) + redis_items_in item) }
+        ensures unread { OnOk result (unread_by_pending self.new ≡ drop len (unread_by_pending self.old)) }
+        ensures held { held_by_pending self.new ≡ held_by_pending self.old }
+        ensures next { OnOk result ((limits : Limits) → IsPendingNext limits (unread_by_pending self.new) self.new.next) }
         ensures err { OnErr result
             ((limits : Limits) → IsPending limits self.old → IsPending limits self.new) }
         ensures reason { IfErr result (λ reason. reason ≡ Reason.OutOfMemory) }
     {
-        let of_its_own = items_in(&item);
+        let of_its_own = redis_items_in(&item);
         self.items.push(item)?;
         self.due = self.due - 1 + of_its_own;
         self.passed.add(len, &self.pieces);
@@ -169,10 +169,10 @@ impl Pending {
 
     /// Takes the items of a whole reply.
     pub(super) fn take(&mut self, alloc: Global) -> Vec<Item>
-        requires { length (unread_by self.old) < 2 ^ 64 }
+        requires { length (unread_by_pending self.old) < 2 ^ 64 }
         ensures items { result.items ≡ self.old.items.items }
         ensures pending { (limits : Limits) → IsPending limits self.new }
-        ensures held { held_by self.new ≡ unread_by self.old }
+        ensures held { held_by_pending self.new ≡ unread_by_pending self.old }
     {
         self.passed = Passed::none();
         self.due = 1;
@@ -233,8 +233,8 @@ fn read_pending_line(
     limits: Limits,
     room: usize,
 ) -> Result<Option<LineHead>, ReplyError>
-    requires { IsReadTo (concat pieces.now.held.segments) begun.old }
-    ensures read { IsReadTo (concat pieces.now.held.segments) begun.new }
+    requires { IsRedisLineReadTo (concat pieces.now.held.segments) begun.old }
+    ensures read { IsRedisLineReadTo (concat pieces.now.held.segments) begun.new }
     ensures head { FindsPendingHead limits room (concat pieces.now.held.segments) result begun.new.len }
 {
     let (len, end) = end_of_pending_line(pieces, begun.len);
@@ -262,13 +262,13 @@ fn read_pending_to(
     alloc: Global,
     len: usize,
 ) -> Result<BegunLine, ReplyError>
-    requires begun { IsReadTo (concat pieces.now.held.segments) begun }
+    requires begun { IsRedisLineReadTo (concat pieces.now.held.segments) begun }
     requires further { begun.len ≤ len }
     requires within { len ≤ length (concat pieces.now.held.segments) }
     ensures read { IfOk result
-        (λ next. (next.len ≡ len) × IsReadTo (concat pieces.now.held.segments) next) }
+        (λ next. (next.len ≡ len) × IsRedisLineReadTo (concat pieces.now.held.segments) next) }
     ensures malformed { IfErr result (λ e. e ≡ ReplyError.Malformed → (item : Item) (more : List ℕ)
-        → ¬ IsLineOf item (take len (concat pieces.now.held.segments) ++ more)) }
+        → ¬ IsRedisLineOf item (take len (concat pieces.now.held.segments) ++ more)) }
     ensures too_large { IfErr result (λ e. e ≢ ReplyError.TooLarge) }
     ensures reason { IfErr result (λ e. (reason : _) → e ≡ ReplyError.Refused reason
         → reason ≡ Reason.OutOfMemory) }
@@ -286,7 +286,7 @@ fn end_of_pending_line(pieces: &PackedBuf, read: usize) -> (usize, LineEnd)
     requires none { NoLineReturn (take read (concat pieces.now.held.segments)) }
     ensures within { (read ≤ result.0) × (result.0 ≤ length (concat pieces.now.held.segments)) }
     ensures none { (more : List ℕ) → NoLineEnds result.0 (concat pieces.now.held.segments ++ more) }
-    ensures end { EndsAt result.1 result.0 (concat pieces.now.held.segments) }
+    ensures end { RedisLineEndsAt result.1 result.0 (concat pieces.now.held.segments) }
 {
     if let Some(len) = find_short(pieces.as_segmented(), read, LINE_END) {
         return (len, LineEnd::Here);
@@ -303,8 +303,8 @@ fn pending_text(pieces: &PackedBuf, alloc: Global, len: usize) -> Result<Item, R
     requires line { IsRedisTextLine (take len (concat pieces.now.held.segments)) }
     requires within { len ≤ length (concat pieces.now.held.segments) }
     ensures item { IfOk result (λ item.
-        IsLineOf item (take len (concat pieces.now.held.segments))
-        × (after_line item ≡ []) × (body item ≡ []) × (items_in item ≡ 0)) }
+        IsRedisLineOf item (take len (concat pieces.now.held.segments))
+        × (after_redis_line item ≡ []) × (redis_body item ≡ []) × (redis_items_in item ≡ 0)) }
     ensures reason { IfErr result (λ reason. reason ≡ Reason.OutOfMemory) }
 {
     let bytes = pieces.as_segmented().copy_range(alloc, 1..len)?;
@@ -326,9 +326,9 @@ fn pending_bulk(
         → AwaitsPendingBody limits (concat pieces.now.held.segments) start len
         → FindsPendingItem limits room (concat pieces.now.held.segments) result }
 {
-    let mut cursor = Cursor::new(pieces.as_segmented());
+    let mut cursor = Cursor::new(alloc, pieces.as_segmented());
     cursor.advance(start);
-    let Some(bytes) = next_pending_body(&mut cursor, alloc, len)? else {
+    let Some(bytes) = next_pending_body(&mut cursor, len)? else {
         return Ok(None);
     };
     Ok(Some((Item::Bulk(Some(bytes)), cursor.at())))
@@ -337,7 +337,6 @@ fn pending_bulk(
 /// Passes the `len` bytes of a bulk item and the end of a line.
 fn next_pending_body<B: ContiguousBuf + Drop>(
     cursor: &mut Cursor<'_, B>,
-    alloc: Global,
     len: usize,
 ) -> Result<Option<Bytes>, ReplyError>
     ensures body { IfOk result (λ next. IfSome next (λ bytes.
@@ -352,7 +351,11 @@ fn next_pending_body<B: ContiguousBuf + Drop>(
     ensures reason { IfErr result (λ e. (reason : _) → e ≡ ReplyError.Refused reason
         → reason ≡ Reason.OutOfMemory) }
 {
-    let Some(bytes) = cursor.take(alloc, len)? else {
+    // While no byte of the line end has come, nothing is copied.
+    if cursor.remaining() <= len {
+        return Ok(None);
+    }
+    let Some(bytes) = cursor.take(len)? else {
         return Ok(None);
     };
     match cursor.tag(LINE_END) {

@@ -2,13 +2,16 @@
 //! prints a line for it. The same call is then made again, and all comes as if none had been refused.
 use super::readers::Protocol;
 use super::walks::{Way, assert_walk_of_row};
+use bytes_utils_protocols::redis::ReplyReader;
 use bytes_utils_protocols::{events, multipart, redis};
 
-const REDIS: Protocol = Protocol::Redis(redis::Limits {
+const LIMITS: redis::Limits = redis::Limits {
     line: 9,
     bulk: 9,
     items: 9,
-});
+};
+
+const REDIS: Protocol = Protocol::Redis(LIMITS);
 
 const EVENTS: Protocol = Protocol::Events(events::Limits { line: 9, data: 9 });
 
@@ -84,4 +87,15 @@ fn protocols_with_slices_if_memory_is_refused(rt: HostRuntime) {
     for (protocol, row) in [(REDIS, REPLY), (EVENTS, EVENT), (PARTS, LARGE_PART)] {
         assert_walk_of_row(&rt, rt.alloc(), protocol, row, way);
     }
+}
+
+/// Whether the reader waits for the end of this bulk string, if memory for its bytes is there.
+fn waits_for_bulk_end(replies: &mut ReplyReader) -> bool {
+    replies.push_slice(b"$5\r\nHello").is_err()
+        || (matches!(replies.next_reply(), Ok(None)) && matches!(replies.next_reply(), Ok(None)))
+}
+
+#[test]
+fn redis_bulk_without_its_end_needs_no_memory(rt: HostRuntime) {
+    assert!(rt; waits_for_bulk_end(&mut ReplyReader::new(rt.alloc(), LIMITS)));
 }

@@ -3,7 +3,6 @@ use super::readers::Protocol;
 use super::walks::assert_walks_of_rows;
 use bytes_utils_codec::decode::Framed;
 use bytes_utils_protocols::netstrings::Netstrings;
-use std::alloc::Global;
 
 const ROWS: &str = r#"
 12:hello world!, => b"hello world!"
@@ -39,13 +38,8 @@ fn netstrings_of_streams(rt: HostRuntime) {
 }
 
 /// Whether the next text is this one. A dash is none: the input has ended.
-fn is_next_netstring(
-    alloc: Global,
-    input: &mut &[u8],
-    texts: &mut Framed<Netstrings>,
-    wanted: &str,
-) -> bool {
-    match texts.read_item(alloc, input) {
+fn is_next_netstring(input: &mut &[u8], texts: &mut Framed<Netstrings>, wanted: &str) -> bool {
+    match texts.read_item(input) {
         Ok(Some(text)) => text.as_slice() == wanted.as_bytes(),
         Ok(None) => wanted == "-",
         Err(_) => false,
@@ -53,10 +47,10 @@ fn is_next_netstring(
 }
 
 /// Whether all texts are read, and then the end, after which five bytes are left.
-fn are_netstrings_read(alloc: Global, texts: &mut Framed<Netstrings>) -> bool {
+fn are_netstrings_read(texts: &mut Framed<Netstrings>) -> bool {
     let mut input = "12:hello world!,0:,5:hello,5:hel".as_bytes();
     for wanted in ["hello world!", "", "hello", "-"] {
-        if !is_next_netstring(alloc, &mut input, texts, wanted) {
+        if !is_next_netstring(&mut input, texts, wanted) {
             return false;
         }
     }
@@ -66,5 +60,5 @@ fn are_netstrings_read(alloc: Global, texts: &mut Framed<Netstrings>) -> bool {
 #[test]
 fn netstrings_from_a_reader(rt: HostRuntime) {
     let decoder = Netstrings { max_length: 12 };
-    assert!(rt; are_netstrings_read(rt.alloc(), &mut Framed::new(rt.alloc(), decoder)));
+    assert!(rt; are_netstrings_read(&mut Framed::new(rt.alloc(), decoder)));
 }

@@ -114,31 +114,19 @@ impl Reader {
     }
 
     /// Asks for the next message. Returns the name of the call, and what it returned.
-    pub(super) fn next(&mut self, alloc: Global) -> (&'static str, ReturnedByReader) {
+    pub(super) fn next(&mut self) -> (&'static str, ReturnedByReader) {
         match self {
-            Reader::Redis(replies) => (
-                "next_reply",
-                ReturnedByReader::Reply(replies.next_reply(alloc)),
-            ),
-            Reader::Events(events) => (
-                "next_event",
-                ReturnedByReader::Event(events.next_event(alloc)),
-            ),
-            Reader::Multipart(parts) => (
-                "next_part",
-                ReturnedByReader::Part(parts.next_part(alloc)),
-            ),
+            Reader::Redis(replies) => ("next_reply", ReturnedByReader::Reply(replies.next_reply())),
+            Reader::Events(events) => ("next_event", ReturnedByReader::Event(events.next_event())),
+            Reader::Multipart(parts) => ("next_part", ReturnedByReader::Part(parts.next_part())),
             Reader::Records(records) => {
                 (
                     "next_record",
-                    ReturnedByReader::Record(records.next_record(alloc)),
+                    ReturnedByReader::Record(records.next_record()),
                 )
             }
-            Reader::Requests(whole) => whole.next(alloc),
-            Reader::Netstrings(texts) => (
-                "next_item",
-                ReturnedByReader::Text(texts.next_item(alloc)),
-            ),
+            Reader::Requests(whole) => whole.next(),
+            Reader::Netstrings(texts) => ("next_item", ReturnedByReader::Text(texts.next_item())),
         }
     }
 
@@ -168,15 +156,15 @@ impl Reader {
 
 impl RequestsReader {
     /// Asks for the body that comes next, or else for a head.
-    fn next(&mut self, alloc: Global) -> (&'static str, ReturnedByReader) {
+    fn next(&mut self) -> (&'static str, ReturnedByReader) {
         if let Some(len) = self.body {
-            let returned = self.requests.next_body(alloc, len);
+            let returned = self.requests.next_body(len);
             if matches!(&returned, Ok(Some(_))) {
                 self.body = None;
             }
             return ("next_body", ReturnedByReader::Body(returned));
         }
-        let returned = self.requests.next_head(alloc);
+        let returned = self.requests.next_head();
         if let Ok(Some(Ok(head))) = &returned {
             self.body = match body_len(head.as_slice()) {
                 Ok(len) if len > 0 => Some(len),

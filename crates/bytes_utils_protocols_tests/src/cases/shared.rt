@@ -23,7 +23,7 @@ fn read_shared_line(
     kept: &mut Vec<Bytes>,
 ) -> Option<()> {
     if line == "next" {
-        drop(reader.next(alloc));
+        drop(reader.next());
         return Some(());
     }
     push_shared(
@@ -71,7 +71,7 @@ fn next_with_shared_pieces(
     if pieces.is_empty() {
         return None;
     }
-    Some((reader.next(alloc).1, pieces))
+    Some((reader.next().1, pieces))
 }
 
 /// The same of a reader that is dropped after it.

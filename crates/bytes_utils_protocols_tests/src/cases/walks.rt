@@ -71,7 +71,7 @@ impl Walk {
     /// Whether this comes next, or the name of the call if that is refused. Returns `None` if memory
     /// is refused for the text.
     fn sees(&mut self, wanted: &[u8]) -> Option<Result<bool, &'static str>> {
-        let (call, returned) = self.reader.next(self.alloc);
+        let (call, returned) = self.reader.next();
         let text = returned.text(self.alloc)?;
         Some(match text.as_str() {
             "OutOfMemory" | "Refused(OutOfMemory)" => Err(call),

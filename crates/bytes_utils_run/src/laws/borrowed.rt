@@ -1,10 +1,11 @@
-//! The methods of `str` that return borrowed parts, with contracts.
+//! The methods of `str` that return borrowed parts, with contracts, and the laws that the owned parts
+//! are the same.
 //!
-//! Each function calls the method of `str` that has its name (`split_character` and `split_tested`
-//! call `split`) and returns that method's own iterator or halves. Its contract adds which parts a
-//! run of the iterator gives, in order. The parts are right by the definitions that `cut_all`
-//! follows too, and the halves by those of `split_once_bytes` and `rsplit_once_bytes`. A run that
-//! stops early gives the first of the parts.
+//! Each function but the last two calls the method of `str` that has its name (`split_character` and
+//! `split_tested` call `split`) and returns that method's own iterator or halves. Its contract adds
+//! which parts a run of the iterator gives, in order. The parts are right by the definitions that
+//! `cut_all` follows too, and the halves by those of `split_once_bytes` and `rsplit_once_bytes`. A
+//! run that stops early gives the first of the parts.
 //!
 //! A separator must not be empty here: for the empty one, std's contract allows other parts too.
 ghost use Rattle.std.specs.Prelude.{◌≡◌, ◌<◌, ◌==◌, ℕ, Bool, [], ◌∷◌, None, Some, MatchOption, length};
@@ -17,6 +18,7 @@ ghost use Rattle.std.specs.Str.Pattern.{FindsChar};
 ghost use Rattle.bytes_utils.specs.Halves.{AreHalvesAtFirst, AreHalvesAtLast};
 ghost use Rattle.bytes_utils.specs.Occurrence.{Occurs};
 ghost use Rattle.bytes_utils_run.specs.Borrowed.{GivesBorrowedParts, finds_borrowed_text, rfinds_borrowed_text, keeps_borrowed_text};
+ghost use Rattle.bytes_utils_run.specs.Borrowed.{OwnedAsBorrowedLaw, OnceAsBorrowedLaw};
 ghost use Rattle.bytes_utils_run.specs.Borrowed.{keeps_character, AnswersBy, finds_tested};
 ghost use Rattle.bytes_utils_run.specs.Borrowed.{keeps_tested, AreBorrowedPartsByTest};
 ghost use Rattle.bytes_utils_run.specs.Cutting.{ArePartsBy, ByWords, ByAsciiWords, ByLines};
@@ -142,3 +144,18 @@ pub fn rsplit_once<'t>(text: &'t str, separator: &str) -> Option<(&'t str, &'t s
 {
     text.rsplit_once(separator)
 }
+
+/// `cut_all` gives the same parts, in the same order, as the method of `str`; if it is refused, it
+/// gives fewer of them, from the first on.
+#[tactic(auto, using(crate::proofs::OwnedAsBorrowed::owned_as_borrowed_law))]
+pub fn owned_as_borrowed()
+    ensures { OwnedAsBorrowedLaw }
+{}
+
+/// `split_once_bytes` and `rsplit_once_bytes` give the same halves as the methods of `str`, or
+/// `None` if those do, since only one result is right.
+#[tactic(auto, using(crate::proofs::OnceAsBorrowed::once_at_first, crate::proofs::OnceAsBorrowed::once_at_last))]
+pub fn once_as_borrowed()
+    ensures first { OnceAsBorrowedLaw AreHalvesAtFirst }
+    ensures last { OnceAsBorrowedLaw AreHalvesAtLast }
+{}

@@ -1,12 +1,12 @@
 //! The laws, on lists of characters and on texts. Runs that show them are in `runs.txt` of the crate
 //! `bytes_utils_demo`.
 use bytes_utils_run::laws::borrowed::{
-    lines, rsplit, rsplit_once, rsplitn, split, split_ascii_whitespace, split_character,
-    split_inclusive, split_once, split_tested, split_whitespace, splitn,
+    lines, once_as_borrowed, rsplit, rsplit_once, rsplitn, split, split_ascii_whitespace,
+    split_character, split_inclusive, split_once, split_tested, split_whitespace, splitn,
 };
 use bytes_utils_run::laws::{
-    agree, come_back, limits, mirror, once_as_borrowed, texts_come_back, unique_backward,
-    unique_forward, unique_inclusive,
+    agree, come_back, limits, mirror, texts_come_back, unique_backward, unique_forward,
+    unique_inclusive,
 };
 
 #[test]

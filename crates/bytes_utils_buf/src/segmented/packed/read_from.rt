@@ -12,13 +12,11 @@ use std::alloc::Global;
 use std::io::{self, Read};
 use std::mem::replace;
 
-/// How many bytes a read has room for, at least.
-const LEAST_READ: usize = 512;
-
 impl PackedBuf {
     /// Makes one read of `input`, straight into the room of the last block, or into a new one if
-    /// that has room for fewer than 512 bytes. Returns the number of bytes that came, which is 0 at
-    /// the end of the input only. They are held as `push_slice` holds them, without its copy.
+    /// that has room for too few bytes: fewer than 512, or than `set_read_room` set. Returns the
+    /// number of bytes that came, which is 0 at the end of the input only. They are held as
+    /// `push_slice` holds them, without its copy.
     ///
     /// Fails with the reader's own error, `Interrupted` too, or with `OutOfMemory` if memory is
     /// refused, or with `FileTooLarge` if the number of held bytes might pass `usize::MAX`. Then
@@ -31,25 +29,7 @@ impl PackedBuf {
         ensures unread { OnErr result (Keeps (R.remaining input.old) (R.remaining input.new)) }
         ensures paid { IsPaid self.old.held self.new.held }
     {
-        self.read_with_room(alloc, input, LEAST_READ)
-    }
-
-    /// As `read_from`, but with room for at least `room` bytes, in place of 512. Requires that
-    /// `room` is not 0 (test: compare).
-    pub fn read_with_room<R: Read>(
-        &mut self,
-        alloc: Global,
-        input: &mut R,
-        room: usize,
-    ) -> io::Result<usize>
-        requires { 0 < room }
-        ensures read { IfOk result (λ count. Reads Packs
-            (R.remaining input.old) (R.remaining input.new) self.old.held self.new.held count) }
-        ensures threshold { self.new.threshold ≡ self.old.threshold }
-        ensures err { OnErr result (self.new ≡ self.old) }
-        ensures unread { OnErr result (Keeps (R.remaining input.old) (R.remaining input.new)) }
-        ensures paid { IsPaid self.old.held self.new.held }
-    {
+        let room = self.read_room.max(1);
         self.held.make_room_in_last(alloc, room)?;
         if let Some(count) = self.held.read_last(input, room)? {
             return Ok(count);

@@ -1,15 +1,13 @@
-//! Copies of the bytes of borrowed buffers, and tables of their slices.
+//! Copies of the bytes of borrowed buffers.
 ghost use Rattle.std.specs.Prelude.{◌≡◌, ◌+◌, ◌<◌, ◌≤◌, [], length, map, take, drop, replicate, IsTrue, ◌↔◌, IfOk, IfErr, ◌⊎◌};
 ghost use Rattle.std.specs.List.{concat};
 ghost use Rattle.bytes_utils_buf.specs.Copies.{CountsCopy, taken_by_copy};
 ghost use Rattle.bytes_utils_buf.specs.Lent.{held_of, SkipsLent};
-ghost use Rattle.bytes_utils_buf.specs.Slices.{FillsSlices};
 ghost use Rattle.bytes_utils_buf.specs.Segments.{CountsPass, front_segment, IsPaid, SkipsSegments};
 
 use super::SegmentedSlice;
 use crate::parts::{BufParts, CopyRefused};
 use crate::segmented::copy::{SegmentedCopy, bytes_copied};
-use crate::segmented::fill::fill_from;
 use crate::segmented::skip::skip_empty_lent;
 use crate::segmented::tally::Tally;
 use bytes::{Buf, Bytes};
@@ -44,15 +42,6 @@ impl<B: BufParts> SegmentedSlice<'_, B> {
         } else {
             self.collect(alloc, len)
         }
-    }
-
-    /// Fills the first places of `dst` with slices of the unread bytes, and returns how many places
-    /// it filled. It asks the buffers in order. A nested one gives its own slices.
-    pub fn chunks_vectored<'s>(&'s self, dst: &mut [&'s [u8]]) -> usize
-        ensures { FillsSlices result dst.old dst.new (concat self.now.segments) }
-    {
-        let bufs = &*self.bufs;
-        fill_from(&bufs[self.place..], dst)
     }
 
     fn can_copy_front(&self, len: usize) -> bool

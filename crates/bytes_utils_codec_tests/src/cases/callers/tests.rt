@@ -8,12 +8,11 @@ use std::alloc::Global;
 
 /// Whether these messages are read, and then `-` for the end of the input.
 fn are_messages(
-    alloc: Global,
     mut input: &[u8],
     messages: &mut Framed<LengthPrefixed>,
 ) -> Result<bool, ReadItemError<Reason>> {
     for want in "Hi||long|!|-".split('|') {
-        let is_right = match message(alloc, &mut input, messages)? {
+        let is_right = match message(&mut input, messages)? {
             Some(Ok(message)) => message.as_slice() == want.as_bytes(),
             Some(Err(_)) => want == "long",
             None => want == "-",
@@ -29,7 +28,7 @@ fn are_messages(
 fn messages_of_a_reader(rt: HostRuntime) {
     let input = b"\0\0\0\x02Hi\0\0\0\0\0\0\0\x05abcde\0\0\0\x01!";
     let mut messages = Framed::new(rt.alloc(), LengthPrefixed::new(4));
-    let holds = matches!(are_messages(rt.alloc(), input, &mut messages), Ok(true));
+    let holds = matches!(are_messages(input, &mut messages), Ok(true));
     assert_that(&rt, holds);
 }
 

@@ -38,8 +38,7 @@ const LIMITED: &str = "take_until_within 12345678901234567 0 long, \
 fn cursor_within_a_limit_if_memory_is_refused(rt: HostRuntime) {
     if let Some(buf) = in_segments(rt.alloc(), PIECES) {
         let mut run = CursorRun {
-            alloc: rt.alloc(),
-            cursor: Cursor::new(&buf),
+            cursor: Cursor::new(rt.alloc(), &buf),
         };
         for call in LIMITED.split(", ") {
             let holds = matches!(run.make(call), Ok(true));

@@ -6,7 +6,6 @@ use super::made::{Made, made_reader};
 use crate::cases::fixtures::assert_row;
 use crate::cases::fixtures::signs::meant_by_signs;
 use bytes_utils_codec::decode::Framed;
-use std::alloc::Global;
 use std::io::Print;
 use std::process::Abort;
 
@@ -17,9 +16,9 @@ fn put_cut_item<D: Made>(item: D::Item, out: &mut Vec<u8>) -> Option<()> {
 }
 
 /// Takes the items that have come. Returns `None` if one is refused, or there are too many.
-fn take_cut_items<D: Made>(alloc: Global, reader: &mut Framed<D>, out: &mut Vec<u8>) -> Option<()> {
+fn take_cut_items<D: Made>(reader: &mut Framed<D>, out: &mut Vec<u8>) -> Option<()> {
     for _ in 0..16 {
-        match reader.next_item(alloc).ok()? {
+        match reader.next_item().ok()? {
             Some(item) => put_cut_item::<D>(item, out)?,
             None => return Some(()),
         }
@@ -29,27 +28,26 @@ fn take_cut_items<D: Made>(alloc: Global, reader: &mut Framed<D>, out: &mut Vec<
 
 /// Pushes a piece in parts of at most `most` bytes, and takes the items that come.
 fn take_cut_parts<D: Made>(
-    alloc: Global,
     reader: &mut Framed<D>,
     (piece, most): (&[u8], usize),
     out: &mut Vec<u8>,
 ) -> Option<()> {
     for part in piece.chunks(most.max(1)) {
         reader.push_slice(part).ok()?;
-        take_cut_items(alloc, reader, out)?;
+        take_cut_items(reader, out)?;
     }
     Some(())
 }
 
 /// Takes the last item, after a dollar, and the bytes that are left. Returns whether no other item is after it.
-fn take_cut_end<D: Made>(alloc: Global, reader: &mut Framed<D>, out: &mut Vec<u8>) -> Option<bool> {
+fn take_cut_end<D: Made>(reader: &mut Framed<D>, out: &mut Vec<u8>) -> Option<bool> {
     out.push(b'$').ok()?;
-    if let Some(item) = reader.last_item(alloc).ok()? {
+    if let Some(item) = reader.last_item().ok()? {
         put_cut_item::<D>(item, out)?;
     }
-    let is_last = matches!(reader.last_item(alloc), Ok(None));
+    let is_last = matches!(reader.last_item(), Ok(None));
     let len = reader.remaining();
-    let rest = reader.take_bytes(alloc, len).ok()?;
+    let rest = reader.take_bytes(len).ok()?;
     out.extend_from_slice(rest.as_slice()).ok()?;
     Some(is_last)
 }
@@ -68,11 +66,9 @@ fn cuts_give_of_pieces<D: Made, R: Abort + Print + AllocGlobal>(
     let mut out = Vec::new(rt.alloc());
     let mut is_taken = true;
     for piece in pieces {
-        is_taken &= take_cut_parts(rt.alloc(), &mut reader, (piece, most), &mut out).is_some();
+        is_taken &= take_cut_parts(&mut reader, (piece, most), &mut out).is_some();
     }
-    is_taken
-        && take_cut_end(rt.alloc(), &mut reader, &mut out) == Some(true)
-        && out.as_slice() == want
+    is_taken && take_cut_end(&mut reader, &mut out) == Some(true) && out.as_slice() == want
 }
 
 /// Whether this comes of a stream, in single bytes and cut at each two places.

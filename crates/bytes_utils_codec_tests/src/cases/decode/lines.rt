@@ -88,13 +88,9 @@ fn lines_say_why(alloc: Global, reader: &mut Framed<Lines>) -> bool {
     let why_unfinished = "incomplete utf-8 byte sequence from index 0";
     let why_invalid = "invalid utf-8 sequence of 1 bytes from index 1";
     reader.push_slice(b"\xE2\x82\nabcd\r\na\xFF").is_ok()
-        && is_line_fault(alloc, reader.next_item(alloc), (unfinished, why_unfinished))
-        && is_line_fault(
-            alloc,
-            reader.next_item(alloc),
-            (b"", "the line is too long"),
-        )
-        && is_line_fault(alloc, reader.last_item(alloc), (b"a\xFF", why_invalid))
+        && is_line_fault(alloc, reader.next_item(), (unfinished, why_unfinished))
+        && is_line_fault(alloc, reader.next_item(), (b"", "the line is too long"))
+        && is_line_fault(alloc, reader.last_item(), (b"a\xFF", why_invalid))
 }
 
 #[test]
@@ -132,18 +128,18 @@ fn lines_after_each_piece(rt: HostRuntime) {
 const TEXTS: &str = "|a|a\n|a\r|a\r\n\r|\n\r\n|a\nb\r\r\nc\r|é\n\r\r|\n\n\n é";
 
 /// Whether the lines of the text are those of `str::lines`, and then nothing is left.
-fn are_lines_of_text(alloc: Global, reader: &mut Framed<Lines>, text: &str) -> Option<bool> {
+fn are_lines_of_text(reader: &mut Framed<Lines>, text: &str) -> Option<bool> {
     reader.push_slice(text.as_bytes()).ok()?;
     for line in text.lines() {
-        let next = match reader.next_item(alloc).ok()? {
+        let next = match reader.next_item().ok()? {
             Some(line) => Some(line),
-            None => reader.last_item(alloc).ok()?,
+            None => reader.last_item().ok()?,
         };
         if Lines::into_bytes(next?).as_slice() != line.as_bytes() {
             return Some(false);
         }
     }
-    Some(matches!(reader.last_item(alloc), Ok(None)) && reader.remaining() == 0)
+    Some(matches!(reader.last_item(), Ok(None)) && reader.remaining() == 0)
 }
 
 /// The lines of each text come, one text after another.
@@ -152,7 +148,7 @@ fn all_lines_of_texts(rt: HostRuntime) {
     let decoder = Lines::new(rt.alloc()).expect(&rt, "no memory");
     let mut reader = Framed::new(rt.alloc(), decoder);
     for text in TEXTS.split('|') {
-        let holds = are_lines_of_text(rt.alloc(), &mut reader, text) == Some(true);
+        let holds = are_lines_of_text(&mut reader, text) == Some(true);
         assert_that(&rt, holds);
     }
 }

@@ -18,7 +18,7 @@
 //! | `read_item fails`, `read_item gives up` | fails with the error of that input, or after too many reads |
 //! | `read_from 2`, `read_from fails` | makes one read, of two bytes, or fails so |
 //! | `input ab` | these bytes are left of the input |
-//! | `room 4096 2` | makes one read, of two bytes, with room for 4,096 bytes or more |
+//! | `room 4096 2` | sets the room of a read to 4,096 bytes, and makes one read, of two bytes |
 //! | `reads 2` | it was read from twice |
 //! | `rooms 512 4096` | of the buffers for a read, the shortest and the longest have such lengths |
 use super::made::{Made, made_reader};
@@ -81,11 +81,11 @@ impl<D: Made> DecodeRun<'_, D> {
         }
         match name {
             "take_bytes" => {
-                let front = self.reader.take_bytes(self.alloc, len);
+                let front = self.reader.take_bytes(len);
                 Ok(is_block_of_signs(&named_row_call("Framed::", "take_bytes", front)?, want))
             }
             "split_to" => {
-                let front = self.reader.split_to(self.alloc, len);
+                let front = self.reader.split_to(len);
                 Ok(are_parts_of_signs(named_row_call("Framed::", "split_to", front)?, want))
             }
             "advance" => {
@@ -98,7 +98,7 @@ impl<D: Made> DecodeRun<'_, D> {
 
     /// Reads an item. A refused call is named by where it was refused.
     fn read_item(&mut self, want: &str) -> Result<bool, Refusal> {
-        match self.reader.read_item(self.alloc, &mut self.input) {
+        match self.reader.read_item(&mut self.input) {
             Ok(item) => Ok(is_item_of_decode_row::<D>(item, want)),
             Err(ReadItemError::TooManyReads) => Ok(want == "gives up"),
             Err(ReadItemError::Decoder(reason)) => named_row_call(
@@ -115,17 +115,6 @@ impl<D: Made> DecodeRun<'_, D> {
         match self.reader.read_from(&mut self.input) {
             Ok(count) => Ok(is_number_of_signs(want, count)),
             Err(error) => self.failed("Framed::read_from", &error, want),
-        }
-    }
-
-    /// Makes one read with at least such room.
-    fn read_with_room(&mut self, room: &str, want: &str) -> Result<bool, Refusal> {
-        let Ok(room @ 1..) = room.parse() else {
-            return Ok(false);
-        };
-        match self.reader.read_with_room(&mut self.input, room) {
-            Ok(count) => Ok(is_number_of_signs(want, count)),
-            Err(error) => self.failed("Framed::read_with_room", &error, want),
         }
     }
 
@@ -149,7 +138,11 @@ impl<D: Made> DecodeRun<'_, D> {
             ("starts_with", _) => Ok(self.reader.starts_with(meant_by_signs(rest).as_slice())),
             ("read_item", _) => self.read_item(rest),
             ("read_from", _) => self.read_from(rest),
-            ("room", Some((room, want))) => self.read_with_room(room, want),
+            ("room", Some((room, want))) => {
+                self.reader
+                    .set_read_room(room.parse().unwrap_or(usize::MAX));
+                self.read_from(want)
+            }
             ("input", _) => Ok(are_bytes_of_signs(self.input.rest, rest)),
             ("reads", _) => Ok(is_number_of_signs(rest, self.input.calls)),
             ("rooms", Some((first, last))) => {
@@ -169,7 +162,7 @@ impl<D: Made> CalledByRow for DecodeRun<'_, D> {
             return self.push_copy(meant_by_signs(bytes).as_slice());
         }
         if let Some(want) = call.strip_prefix("$") {
-            let item = self.reader.last_item(self.alloc);
+            let item = self.reader.last_item();
             return Ok(is_item_of_decode_row::<D>(
                 named_row_call(self.name, " at last_item", item)?,
                 want,
@@ -187,7 +180,7 @@ impl<D: Made> CalledByRow for DecodeRun<'_, D> {
         if call == "copy" {
             return self.push_copy(self.piece.as_slice());
         }
-        let item = self.reader.next_item(self.alloc);
+        let item = self.reader.next_item();
         Ok(is_item_of_decode_row::<D>(named_row_call(self.name, " at next_item", item)?, call))
     }
 

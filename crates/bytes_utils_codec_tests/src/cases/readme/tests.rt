@@ -4,7 +4,6 @@ use crate::cases::fixtures::assert_that;
 use bytes::Bytes;
 use bytes_utils::Reason;
 use bytes_utils_codec::decode::{Framed, LineFault, Lines};
-use std::alloc::Global;
 
 /// Whether this line was returned, or for `-` none.
 fn is_readme_line(line: Option<Line>, want: &str) -> bool {
@@ -26,9 +25,9 @@ const PIECES: [(&[u8], &str); 5] = [
 ];
 
 /// Whether the lines of these pieces come.
-fn are_readme_lines(alloc: Global, lines: &mut Framed<Lines>) -> Result<bool, Reason> {
+fn are_readme_lines(lines: &mut Framed<Lines>) -> Result<bool, Reason> {
     for (piece, want) in PIECES {
-        if !is_readme_line(next_line(alloc, lines, Bytes::from_static(piece))?, want) {
+        if !is_readme_line(next_line(lines, Bytes::from_static(piece))?, want) {
             return Ok(false);
         }
     }
@@ -38,6 +37,6 @@ fn are_readme_lines(alloc: Global, lines: &mut Framed<Lines>) -> Result<bool, Re
 #[test]
 fn readme_lines_across_pieces(rt: HostRuntime) {
     let decoder = Lines::with_limit(rt.alloc(), 8).expect(&rt, "no memory");
-    let holds = are_readme_lines(rt.alloc(), &mut Framed::new(rt.alloc(), decoder)) == Ok(true);
+    let holds = are_readme_lines(&mut Framed::new(rt.alloc(), decoder)) == Ok(true);
     assert_that(&rt, holds);
 }

@@ -18,9 +18,9 @@ fn put_cut_text(item: Result<Str, Utf8Error<Bytes>>, out: &mut String) -> Option
 }
 
 /// Appends the texts of all items that come. Returns `None` if memory is refused, or there are too many.
-fn take_cut_texts(alloc: Global, texts: &mut Texts, out: &mut String) -> Option<()> {
+fn take_cut_texts(texts: &mut Texts, out: &mut String) -> Option<()> {
     for _ in 0..64 {
-        match texts.next_item(alloc).ok()? {
+        match texts.next_item().ok()? {
             Some(item) => put_cut_text(item, out)?,
             None => return Some(()),
         }
@@ -57,21 +57,21 @@ fn is_right_after_cut_text(
         return None;
     }
     texts.push(block.slice(from..to).ok()?).ok()?;
-    take_cut_texts(alloc, texts, out)?;
+    take_cut_texts(texts, out)?;
     let came = &block.as_slice()[..to];
     Some(are_cut_texts_as_std(alloc, came, texts.remaining(), out.as_str()))
 }
 
 /// Whether the stream ends with these texts, the last of which is U+FFFD if it came with the end, and nothing is left.
-fn cut_texts_end(alloc: Global, texts: &mut Texts, out: &mut String, want: &str) -> bool {
-    let is_last = match texts.last_item(alloc) {
+fn cut_texts_end(texts: &mut Texts, out: &mut String, want: &str) -> bool {
+    let is_last = match texts.last_item() {
         Ok(Some(item)) => put_cut_text(item, out).is_some() && out.as_str().ends_with("\u{FFFD}"),
         Ok(None) => true,
         Err(_) => false,
     };
     is_last
         && texts.remaining() == 0
-        && matches!(texts.last_item(alloc), Ok(None))
+        && matches!(texts.last_item(), Ok(None))
         && out.as_str() == want
 }
 
@@ -91,7 +91,7 @@ fn is_cut_text_right(
         is_right &= after == Some(true);
         from = to;
     }
-    is_right && cut_texts_end(alloc, &mut texts, &mut out, want)
+    is_right && cut_texts_end(&mut texts, &mut out, want)
 }
 
 /// Whether that is so of both kinds of reader.

@@ -22,7 +22,7 @@ advance Hello 1, push x 1 PackedBuf::push to a full block";
 const READ: &str = "\
 4: read ab 1 PackedBuf::read_from, read cd 1, push Hello 2, advance abcdHell 1, \
 read ab 1 PackedBuf::read_from to a joined piece
-4: wide ab 1 PackedBuf::read_with_room, wide cd 1";
+4: wide ab 1 PackedBuf::read_from, wide cd 1";
 
 const TAKEN: &str = "\
 11: copy Hello_World 1 PackedBuf::push_slice, take Hel 1 PackedBuf::take_bytes in one segment

@@ -12,7 +12,7 @@
 //! | `give` | the same of a piece with a block of its own, of which the row keeps a share |
 //! | `copy` | `push_slice` |
 //! | `read` | one call of `read_from`, which reads all of the bytes |
-//! | `wide` | one call of `read_with_room`, with room for 10,000 bytes, which reads all of the bytes |
+//! | `wide` | the same after `set_read_room` of 10,000 bytes |
 //! | `reads` | calls of `read_from`, until one reads nothing since the reader has ended |
 //! | `take`, `split` | `take_bytes`, `split_to`; the row keeps the first piece that comes |
 //! | `advance` | the bytes are passed |
@@ -64,21 +64,11 @@ pub(in crate::cases::segmented) fn packed_row_means(word: &'static str) -> Optio
     }
 }
 
-/// Reads a text by one call, with room for at least `room` bytes, if that isn't 0. Returns whether all of
-/// it was read, or, as an error, whether only memory was refused, and nothing was read.
-fn read_by_packed_row(
-    alloc: Global,
-    buf: &mut PackedBuf,
-    room: usize,
-    mut text: &[u8],
-) -> Result<bool, bool> {
+/// Reads a text by one call. Returns whether all of it was read, or, as an error, whether only memory
+/// was refused, and nothing was read.
+fn read_by_packed_row(alloc: Global, buf: &mut PackedBuf, mut text: &[u8]) -> Result<bool, bool> {
     let len = text.len();
-    let count = if room > 0 {
-        buf.read_with_room(alloc, &mut text, room)
-    } else {
-        buf.read_from(alloc, &mut text)
-    };
-    match count {
+    match buf.read_from(alloc, &mut text) {
         Ok(count) => Ok(count == len && text.is_empty()),
         Err(error) => Err(error.kind() == ErrorKind::OutOfMemory && text.len() == len),
     }
@@ -183,8 +173,11 @@ impl PackedRow {
                 Ok(()) => Ok(true),
                 Err(reason) => Err(reason == Reason::OutOfMemory),
             },
-            "read" => read_by_packed_row(alloc, &mut self.buf, 0, bytes),
-            "wide" => read_by_packed_row(alloc, &mut self.buf, 10_000, bytes),
+            "read" => read_by_packed_row(alloc, &mut self.buf, bytes),
+            "wide" => {
+                self.buf.set_read_room(10_000);
+                read_by_packed_row(alloc, &mut self.buf, bytes)
+            }
             "reads" => Ok(reads_by_packed_row(alloc, &mut self.buf, bytes)),
             "take" => self.take(alloc, bytes),
             "split" => self.split(alloc, bytes),

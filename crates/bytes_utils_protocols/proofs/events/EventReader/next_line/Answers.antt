@@ -2,7 +2,7 @@ use Rattle.std.proofs.Common.{◌≡◌, None, refl, rules}
 use Rattle.std.proofs.lemmas.Result.{err_from_is_err_and}
 use Rattle.bytes_utils_codec.specs.UniversalReading.{keeps_universal}
 use Rattle.bytes_utils_protocols.specs.EventData.{event_data_if_any}
-use Rattle.bytes_utils_protocols.specs.Events.{Eventing, Keeps}
+use Rattle.bytes_utils_protocols.specs.Events.{Eventing, KeepsEvents}
 use Rattle.bytes_utils_protocols.proofs.EventsLemmas.{keeps_none}
 use Rattle.bytes_utils_protocols.proofs.events.EventReader.next_line.Goals.{After-next_item}
 use Rattle.bytes_utils_protocols.proofs.events.EventReader.next_line.Goals as goal
@@ -13,12 +13,12 @@ new c = record {
   lines = c.next_item.new.self;
   waiting = c.take.new.self;
   at_start = c.self.inside.at_start;
-  told = record { name = c.self.inside.name; text = event_data_if_any c.self.inside.text; id = c.self.inside.id; retry = c.self.inside.retry };
+  buffers = record { name = c.self.inside.name; text = event_data_if_any c.self.inside.text; id = c.self.inside.id; retry = c.self.inside.retry };
   max_data = c.self.inside.max_data;
 }
 
 -- no line waited, and none was taken
-keeps : (c : After-next_item) → keeps_universal c.self.inside.lines c.next_item.new.self → Keeps c.args.self.now (new c)
+keeps : (c : After-next_item) → keeps_universal c.self.inside.lines c.next_item.new.self → KeepsEvents c.args.self.now (new c)
 keeps c step =
     let none : c.self.inside.waiting ≡ None = search rules in
     let waiting : c.take.new.self ≡ c.self.inside.waiting = search rules in

@@ -2,7 +2,7 @@ use Rattle.std.proofs.Common.{[], ◌∷◌, ◌++◌, ◌∙◌, sym, refl, sub
 use Rattle.std.specs.Str.Lines.{lines}
 use Rattle.std.proofs.lemmas.Iterator.Splits.{YieldsList-from_lines}
 use Rattle.std.proofs.lemmas.List.Elements.{All-nil, All-push}
-use Rattle.bytes_utils_protocols.specs.Multipart.{NoDisposition}
+use Rattle.bytes_utils_protocols.specs.Multipart.{NoMultipartDisposition}
 use Rattle.bytes_utils_protocols.proofs.HeadLines.{next_given, none_given}
 use Rattle.bytes_utils_protocols.proofs.MultipartLemmas.{first_of}
 use Rattle.bytes_utils_protocols.proofs.multipart.head.disposition_of_head.Goals as goal
@@ -15,7 +15,7 @@ loop-line-init c = record {
   left = lines c.args.head.now;
   coming = rw c.into_iter-line-iterator.ensures.into_iter_gives (YieldsList-from_lines c.args.head.now c.lines-line-items.ensures.rest);
   parts = refl;
-  none = All-nil NoDisposition;
+  none = All-nil NoMultipartDisposition;
 }
 
 pub returns-in-Some-disposition_in_head : goal.returns-in-Some-disposition_in_head
@@ -36,11 +36,11 @@ loop-line-preserved c =
       left = next.0;
       coming = next.2;
       parts = now.parts ∙ ap (λ l. now.before ++ l) next.1 ∙ sym (append_assoc now.before (c.in-Some.line.now ∷ []) next.0);
-      none = All-push NoDisposition now.before c.in-Some.line.now now.none c.in_default.ensures.none;
+      none = All-push NoMultipartDisposition now.before c.in-Some.line.now now.none c.in_default.ensures.none;
     }
 
 pub returns : goal.returns
 returns c =
     let now = c.loop-line.invariant in
     let none = none_given _ _ _ _ now.left now.coming c.in-None.ensures.steps in
-    subst (All NoDisposition) (sym (now.parts ∙ ap (λ l. now.before ++ l) none ∙ append-nil now.before)) now.none
+    subst (All NoMultipartDisposition) (sym (now.parts ∙ ap (λ l. now.before ++ l) none ∙ append-nil now.before)) now.none

@@ -1,7 +1,7 @@
 use Rattle.std.proofs.Common.{◌≡◌, List, ℕ, ◌++◌, All}
 use Rattle.std.specs.Str.Lines.{lines}
 use Rattle.std.proofs.lemmas.Iterator.{YieldsList}
-use Rattle.bytes_utils_protocols.specs.Multipart.{NoDisposition}
+use Rattle.bytes_utils_protocols.specs.Multipart.{NoMultipartDisposition}
 use Rattle.bytes_utils_protocols.proofs.multipart.head.disposition_of_head.Given as goal
 
 -- these lines are left, and none of those before them is the header
@@ -13,5 +13,5 @@ invariant-loop-line l = record {
   left : List (List ℕ);
   coming : YieldsList (goal.iterator-loop-line).next_gives (λ line. line.now) l.line-iterator left;
   parts : lines l.fn.head ≡ before ++ left;
-  none : All NoDisposition before;
+  none : All NoMultipartDisposition before;
 }

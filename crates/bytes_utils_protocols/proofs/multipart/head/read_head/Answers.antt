@@ -1,7 +1,7 @@
 use Rattle.std.proofs.Common.{rules, arith, ◌+◌, take, drop, length}
 use Rattle.std.specs.List.{concat}
 use Rattle.bytes_utils_codec.specs.Frames.{TakesFrame}
-use Rattle.bytes_utils_protocols.specs.Multipart.{multipart_head_end, part_bytes}
+use Rattle.bytes_utils_protocols.specs.Multipart.{multipart_head_end, multipart_bytes}
 use Rattle.bytes_utils_protocols.proofs.MultipartLemmas.{is_part, no_head, no_head_end}
 use Rattle.bytes_utils_protocols.proofs.multipart.head.read_head.Goals as goal
 
@@ -24,7 +24,7 @@ returns-clause-not_utf8 c _ =
     let cut : TakesFrame multipart_head_end raw (take len raw) (drop (len + length multipart_head_end) raw) = rw c.in-Some.is at c.in_ok-len.ensures.frame in
     let head = rw c.in_ok-peek_bytes.ensures.value at c.in-Some-head_in.ensures.some in
     let within = rw c.in-Some.is at c.in_ok-len.ensures.within in (
-      part_bytes c.in-Some-head_in.head (drop (len + length multipart_head_end) raw),
+      multipart_bytes c.in-Some-head_in.head (drop (len + length multipart_head_end) raw),
       is_part c.args.limits raw len c.in-Some-head_in.head cut head within (omega (arith, c.if-start-limits.false)) (omega (arith, c.if-remaining-start.false, c.remaining.ensures)),
       λ utf8. search (rules, utf8),
     )

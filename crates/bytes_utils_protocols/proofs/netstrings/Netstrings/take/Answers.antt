@@ -12,6 +12,14 @@ returns-in_default-number-clause-err c =
     let front : TakesFrame (colon ∷ []) held c.in-Some.digits (unread c.take_until_within.new.self) = search rules in
     (no_number held c.in-Some.digits (unread c.take_until_within.new.self) front (λ n. search (rules, c.in_default-number.ensures n)), refl)
 
+pub returns-then-remaining-len-clause-none : goal.returns-then-remaining-len-clause-none
+returns-then-remaining-len-clause-none c =
+    let held = concat c.args.held.now.held.segments in
+    let after = unread c.take_until_within.new.self in
+    let front : TakesFrame (colon ∷ []) held c.in-Some.digits after = search rules in
+    let number : WriteNumber c.in-Some.digits c.in-Some-number.len = search rules in
+    (too_few held c.in-Some.digits after front c.in-Some-number.len number (omega (arith, c.remaining.ensures, c.if-remaining-len.true)), refl)
+
 pub returns-in_default-2-clause-none : goal.returns-in_default-2-clause-none
 returns-in_default-2-clause-none c =
     let held = concat c.args.held.now.held.segments in

@@ -1,6 +1,6 @@
 use Rattle.std.proofs.Common.{◌≡◌, ◌<◌, subst, arith, length}
-use Rattle.bytes_utils_protocols.specs.Redis.{TakesReply}
-use Rattle.bytes_utils_protocols.specs.RedisPending.{held_by, unread_by}
+use Rattle.bytes_utils_protocols.specs.Redis.{TakesRedisReply}
+use Rattle.bytes_utils_protocols.specs.RedisPending.{held_by_pending, unread_by_pending}
 use Rattle.bytes_utils_protocols.proofs.RedisLemmas.{reply_takes}
 use Rattle.bytes_utils_protocols.proofs.PendingReplies.{reply_read}
 use Rattle.bytes_utils_protocols.proofs.redis.ReplyReader.next_reply.Goals as goal
@@ -14,7 +14,7 @@ returns-clause-reply c =
     let read = c.read.new.self in
     let none : read.due ≡ 0 = rw c.if-not-branch.false at c.in_ok-read.ensures.whole in
     let takes = reply_read limits read c.read.ensures.pending (omega (arith, c.if-self-eq0.false)) none in
-    rw (← c.self.view_is, c.take.ensures.items, c.take.ensures.held) (subst (λ held. TakesReply limits held read.items.items (unread_by read)) c.read.ensures.held takes)
+    rw (← c.self.view_is, c.take.ensures.items, c.take.ensures.held) (subst (λ held. TakesRedisReply limits held read.items.items (unread_by_pending read)) c.read.ensures.held takes)
 
 pub returns-clause-fewer : goal.returns-clause-fewer
 returns-clause-fewer c =
@@ -23,4 +23,4 @@ returns-clause-fewer c =
     let none : read.due ≡ 0 = rw c.if-not-branch.false at c.in_ok-read.ensures.whole in
     let takes = reply_read limits read c.read.ensures.pending (omega (arith, c.if-self-eq0.false)) none in
     rw (← c.self.view_is, c.take.ensures.held)
-    (subst (λ held. length (unread_by read) < length held) c.read.ensures.held (reply_takes limits (held_by read) read.items.items (unread_by read) takes))
+    (subst (λ held. length (unread_by_pending read) < length held) c.read.ensures.held (reply_takes limits (held_by_pending read) read.items.items (unread_by_pending read) takes))

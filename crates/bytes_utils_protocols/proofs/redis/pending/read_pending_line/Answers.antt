@@ -1,7 +1,7 @@
 use Rattle.std.proofs.Common.{arith, ◌≡◌, ◌≤◌, ◌++◌, ◌∙◌, List, ℕ, [], true, false, sym, subst}
 use Rattle.std.specs.List.{concat}
 use Rattle.std.proofs.lemmas.Result.{err_from_is_err_and}
-use Rattle.bytes_utils_protocols.specs.RedisLine.{EndsAt, NoLineEnds}
+use Rattle.bytes_utils_protocols.specs.RedisLine.{RedisLineEndsAt, NoLineEnds}
 use Rattle.bytes_utils_protocols.specs.declared.redis.pending.LineEnd.{LineEnd}
 use Rattle.bytes_utils_protocols.specs.declared.redis.pending.LineEnd.TheVariants.{Missing, Half, Here}
 use Rattle.bytes_utils_protocols.proofs.LineSteps.{read_no_return}
@@ -41,8 +41,8 @@ module _ (c : In_ok-begun) where
   short : len ≤ c.args.limits.line
   short = omega (arith, len_is, c.if-len-limits.false)
 
-  ends : (end : LineEnd) → c.end_of_pending_line-len.result.1 ≡ end → EndsAt end len bytes
-  ends end is = subst (λ n. EndsAt end n bytes) len_is (subst (λ end. EndsAt end c.end_of_pending_line-len.result.0 bytes) is c.end_of_pending_line-len.ensures.end)
+  ends : (end : LineEnd) → c.end_of_pending_line-len.result.1 ≡ end → RedisLineEndsAt end len bytes
+  ends end is = subst (λ n. RedisLineEndsAt end n bytes) len_is (subst (λ end. RedisLineEndsAt end c.end_of_pending_line-len.result.0 bytes) is c.end_of_pending_line-len.ensures.end)
 
 pub returns-in_err-check-in-Missing-clause-head : goal.returns-in_err-check-in-Missing-clause-head
 returns-in_err-check-in-Missing-clause-head c =

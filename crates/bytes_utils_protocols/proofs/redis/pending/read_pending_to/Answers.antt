@@ -1,7 +1,7 @@
 use Rattle.std.proofs.Common.{◌≡◌, ◌++◌, ◌∙◌, refl, ap, subst, take, append_assoc, sym}
 use Rattle.std.specs.List.{concat, slice_range}
-use Rattle.bytes_utils_protocols.specs.Redis.{IsLineOf}
-use Rattle.bytes_utils_protocols.specs.RedisLine.{IsReadAs}
+use Rattle.bytes_utils_protocols.specs.Redis.{IsRedisLineOf}
+use Rattle.bytes_utils_protocols.specs.RedisLine.{IsRedisLineReadAs}
 use Rattle.bytes_utils_protocols.proofs.ReplyEnds.{read_on}
 use Rattle.bytes_utils_protocols.proofs.redis.pending.read_pending_to.Goals as goal
 
@@ -12,7 +12,7 @@ returns-in-Some-clause-read c =
     let front : take begun.len u ++ c.deref.result.now ≡ take c.args.len u =
     ap (λ l. take begun.len u ++ l) (c.deref.ensures.value ∙ c.in_ok-bytes.ensures.value ∙ ap (λ held. slice_range (concat held.segments) begun.len c.args.len) c.as_segmented.ensures)
     ∙ read_on u begun.len c.args.len c.requires.further in
-    (refl, (c.requires.within, subst (IsReadAs c.in-Some.line) front (c.in-Some.ensures (take begun.len u) c.requires.begun.1)))
+    (refl, (c.requires.within, subst (IsRedisLineReadAs c.in-Some.line) front (c.in-Some.ensures (take begun.len u) c.requires.begun.1)))
 
 pub returns-clause-malformed : goal.returns-clause-malformed
 returns-clause-malformed c _ item more line =
@@ -22,4 +22,4 @@ returns-clause-malformed c _ item more line =
     ap (λ l. take begun.len u ++ l) (c.deref.ensures.value ∙ c.in_ok-bytes.ensures.value ∙ ap (λ held. slice_range (concat held.segments) begun.len c.args.len) c.as_segmented.ensures)
     ∙ read_on u begun.len c.args.len c.requires.further in
     c.in-None.ensures (take begun.len u) c.requires.begun.1 item more
-    (subst (IsLineOf item) (ap (λ l. l ++ more) (sym front) ∙ append_assoc (take begun.len u) c.deref.result.now more) line)
+    (subst (IsRedisLineOf item) (ap (λ l. l ++ more) (sym front) ∙ append_assoc (take begun.len u) c.deref.result.now more) line)

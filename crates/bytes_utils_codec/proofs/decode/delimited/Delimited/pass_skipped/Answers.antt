@@ -2,8 +2,8 @@ use Rattle.std.proofs.Common.{◌≡◌, ◌∙◌, ap, sym, arith, ℕ, ◌≤�
 use Rattle.std.specs.List.{concat}
 use Rattle.bytes_utils_buf.specs.Packing.{Packing}
 use Rattle.bytes_utils_codec.specs.Decoding.{Decoding, decoding}
-use Rattle.bytes_utils_codec.specs.Delimited.{Delimiting, ready}
-use Rattle.bytes_utils_codec.specs.Search.{Searching, from_front}
+use Rattle.bytes_utils_codec.specs.Delimited.{Delimiting, ready_delimited}
+use Rattle.bytes_utils_codec.specs.Search.{Searching, search_from_front}
 use Rattle.bytes_utils_codec.proofs.DelimitedLemmas.{passed_found, lacks_missed, same_missed, drops_missed}
 use Rattle.bytes_utils_codec.proofs.decode.delimited.Delimited.pass_skipped.Goals as goal
 use Rattle.bytes_utils_codec.proofs.decode.delimited.Delimited.pass_skipped.Goals.{then-begun-remaining, else-begun-remaining}
@@ -22,7 +22,7 @@ returns-in-Some-clause-skipped c =
     let after = rw f.some at passed.ensures in
     let bytes : concat c.advance.new.self.held.segments ≡ drop c.in-Some.len (concat held.held.segments) = c.advance.ensures.bytes in
     let is = after ∙ (λ i. record {
-      decoder = ready d;
+      decoder = ready_delimited d;
       held = drop (length q.search.needle) (bytes i);
       threshold = c.advance.ensures.threshold i;
     }) in
@@ -50,7 +50,7 @@ returns-clause-skipped c =
             let fits : begun ≤ length held = omega (arith, w.if-begun-remaining.true, c.remaining.ensures) in
             let dropped = w.advance-then-begun-remaining.ensures in
             let rest = ap (λ (p : Packing). concat p.held.segments) w.held-is ∙ dropped.bytes in
-            let begins = w.self-is ∙ ap viewed (w.restart.ensures ∙ ap from_front none) in
+            let begins = w.self-is ∙ ap viewed (w.restart.ensures ∙ ap search_from_front none) in
             let threshold = ap (λ (p : Packing). p.threshold) w.held-is ∙ dropped.threshold in
             inl (drops_missed s f.needle missed begun is new fits skipping rest
             (λ i. record { decoder = begins i; held = new.held; threshold = threshold i }))

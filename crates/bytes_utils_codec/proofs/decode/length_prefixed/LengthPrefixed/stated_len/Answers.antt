@@ -1,7 +1,7 @@
 use Rattle.std.proofs.Common.{◌≡◌, ◌-◌, ◌++◌, ◌≤◌, length, take, drop, ap, ◌∙◌, sym, arith}
 use Rattle.std.specs.List.{concat}
 use Rattle.std.proofs.lemmas.List.{drop-append-le, take-append-drop, take-append-le, length-drop}
-use Rattle.bytes_utils_codec.specs.Prefixed.{number_of}
+use Rattle.bytes_utils_codec.specs.Prefixed.{prefixed_number_of}
 use Rattle.bytes_utils_codec.proofs.decode.length_prefixed.LengthPrefixed.stated_len.Goals as goal
 
 -- the first segment has the whole head
@@ -18,4 +18,4 @@ returns-then-head-front c =
     let field : take d.width (drop d.offset all) ≡ take d.width (drop d.offset front) =
     ap (λ l. take d.width (drop d.offset l)) split ∙ ap (take d.width) (drop-append-le d.offset front rest within)
     ∙ take-append-le d.width (drop d.offset front) rest (omega (arith, c.requires.head, length-drop d.offset front)) in
-    c.number_of.ensures ∙ (λ i. number_of d.is_little_endian (take (len i) (drop (from i) front))) ∙ ap (number_of d.is_little_endian) (sym field)
+    c.number_of.ensures ∙ (λ i. prefixed_number_of d.is_little_endian (take (len i) (drop (from i) front))) ∙ ap (prefixed_number_of d.is_little_endian) (sym field)

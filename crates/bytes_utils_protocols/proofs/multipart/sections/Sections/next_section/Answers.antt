@@ -2,30 +2,30 @@ use Rattle.std.proofs.Common.{◌≡◌, ◌+◌, length, take, drop, ap, ◌∙
 use Rattle.std.proofs.lemmas.List.{drop-drop}
 use Rattle.std.specs.List.{concat}
 use Rattle.bytes_utils_codec.specs.Frames.{TakesFrame}
-use Rattle.bytes_utils_codec.specs.Search.{NoneBegins, Searching}
-use Rattle.bytes_utils_codec.proofs.SearchLemmas.{NoneBegins-missed, frame_of_all, nowhere_left}
-use Rattle.bytes_utils_protocols.specs.Multipart.{waiting_in}
+use Rattle.bytes_utils_codec.specs.Search.{NoneBeginsInSearch, Searching}
+use Rattle.bytes_utils_codec.proofs.SearchLemmas.{NoneBeginsInSearch-missed, frame_of_all, nowhere_left}
+use Rattle.bytes_utils_protocols.specs.Multipart.{waiting_in_multipart}
 use Rattle.bytes_utils_protocols.proofs.multipart.sections.Sections.next_section.Goals as goal
 
 pub returns-in_default-clause-lacks : goal.returns-in_default-clause-lacks
 returns-in_default-clause-lacks c =
     let s = c.args.self.now in
     let missed = rw (c.in_default.is, c.as_segmented.ensures) at c.find.ensures.found in
-    nowhere_left s.delimiter.needle (waiting_in s) s.delimiter.searched c.find.ensures.needle c.requires missed
+    nowhere_left s.delimiter.needle (waiting_in_multipart s) s.delimiter.searched c.find.ensures.needle c.requires missed
 
 pub returns-in_default-clause-passed : goal.returns-in_default-clause-passed
 returns-in_default-clause-passed c =
     let s = c.args.self.now in
     let missed = rw (c.in_default.is, c.as_segmented.ensures) at c.find.ensures.found in
     let same = rw (c.in_default.is, c.as_segmented.ensures) at c.find.ensures.none in
-    subst (λ (search : Searching). NoneBegins search.needle (waiting_in s) search.searched) (sym same)
-    (NoneBegins-missed s.delimiter.needle (waiting_in s) s.delimiter.searched c.find.ensures.needle c.requires missed)
+    subst (λ (search : Searching). NoneBeginsInSearch search.needle (waiting_in_multipart s) search.searched) (sym same)
+    (NoneBeginsInSearch-missed s.delimiter.needle (waiting_in_multipart s) s.delimiter.searched c.find.ensures.needle c.requires missed)
 
 pub returns-clause-section : goal.returns-clause-section
 returns-clause-section c =
     let s = c.args.self.now in
     let d = s.delimiter.needle in
-    let w = waiting_in s in
+    let w = waiting_in_multipart s in
     let len = c.in-Some.len in
     let found = rw c.as_segmented.ensures at c.in-Some.ensures.found in
     let size : length c.needle.result.now ≡ length d = ap length c.needle.ensures.value ∙ ap (λ (search : Searching). length search.needle) c.in-Some.ensures.some in

@@ -1,7 +1,7 @@
 use Rattle.std.proofs.Common.{[], ◌++◌, ◌-◌, ◌∙◌, sym, subst, arith, append-nil}
 use Rattle.std.proofs.lemmas.Result.{err_from_is_err_and}
-use Rattle.bytes_utils_protocols.specs.Redis.{BeginsReply, NoItem, NoReply}
-use Rattle.bytes_utils_protocols.specs.RedisPending.{held_by, unread_by}
+use Rattle.bytes_utils_protocols.specs.Redis.{BeginsRedisReply, NoRedisItem, NoRedisReply}
+use Rattle.bytes_utils_protocols.specs.RedisPending.{held_by_pending, unread_by_pending}
 use Rattle.bytes_utils_protocols.proofs.RedisLemmas.{no_next, no_room}
 use Rattle.bytes_utils_protocols.proofs.ReplyBeginnings.{begins_reply}
 use Rattle.bytes_utils_protocols.proofs.PendingReplies.{one_kept}
@@ -12,8 +12,8 @@ returns-in_err-item-clause-malformed c =
     let p = c.loop-self.self in
     let now = c.loop-self.invariant in
     let out = err_from_is_err_and c.from_residual.result c.from_residual.ensures.1 in
-    rw out.1 (λ is any more. subst (λ held. NoReply any (held ++ more)) now.same
-    (no_next c.args.limits any more (held_by p) p.items.items (unread_by p) p.due now.pending.are now.pending.due (omega (arith, c.loop-self-test.true))
+    rw out.1 (λ is any more. subst (λ held. NoRedisReply any (held ++ more)) now.same
+    (no_next c.args.limits any more (held_by_pending p) p.items.items (unread_by_pending p) p.due now.pending.are now.pending.due (omega (arith, c.loop-self-test.true))
     (c.in_err-item.ensures.found.malformed (sym out.2 ∙ is) any more)))
 
 pub returns-in_err-item-clause-too_large : goal.returns-in_err-item-clause-too_large
@@ -21,8 +21,8 @@ returns-in_err-item-clause-too_large c =
     let p = c.loop-self.self in
     let now = c.loop-self.invariant in
     let out = err_from_is_err_and c.from_residual.result c.from_residual.ensures.1 in
-    rw out.1 (λ is more. subst (λ held. NoReply c.args.limits (held ++ more)) now.same
-    (no_room c.args.limits c.args.limits more (held_by p) p.items.items (unread_by p) p.due now.pending.are now.pending.due
+    rw out.1 (λ is more. subst (λ held. NoRedisReply c.args.limits (held ++ more)) now.same
+    (no_room c.args.limits c.args.limits more (held_by_pending p) p.items.items (unread_by_pending p) p.due now.pending.are now.pending.due
     (c.args.limits.items - c.len.result - p.due) (omega (arith, c.loop-self-test.true)) (omega (arith, now.pending.within c.requires.some, c.len.ensures))
     (c.in_err-item.ensures.found.too_large (sym out.2 ∙ is) more)))
 
@@ -31,17 +31,17 @@ returns-in_default-clause-waits c =
     let p = c.loop-self.self in
     let now = c.loop-self.invariant in
     let waits = rw c.in_default.is at c.in_ok-item.ensures.found in
-    subst (NoReply c.args.limits) (append-nil (held_by p) ∙ now.same)
-    (no_next c.args.limits c.args.limits [] (held_by p) p.items.items (unread_by p) p.due now.pending.are now.pending.due (omega (arith, c.loop-self-test.true))
-    (subst (NoItem c.args.limits) (sym (append-nil (unread_by p))) waits.none))
+    subst (NoRedisReply c.args.limits) (append-nil (held_by_pending p) ∙ now.same)
+    (no_next c.args.limits c.args.limits [] (held_by_pending p) p.items.items (unread_by_pending p) p.due now.pending.are now.pending.due (omega (arith, c.loop-self-test.true))
+    (subst (NoRedisItem c.args.limits) (sym (append-nil (unread_by_pending p))) waits.none))
 
 pub returns-in_default-clause-begins : goal.returns-in_default-clause-begins
 returns-in_default-clause-begins c =
     let p = c.loop-self.self in
     let now = c.loop-self.invariant in
     let waits = rw c.in_default.is at c.in_ok-item.ensures.found in
-    subst (BeginsReply c.args.limits) now.same
-    (begins_reply c.args.limits (held_by p) p.items.items (unread_by p) p.due now.pending.are now.pending.due
+    subst (BeginsRedisReply c.args.limits) now.same
+    (begins_reply c.args.limits (held_by_pending p) p.items.items (unread_by_pending p) p.due now.pending.are now.pending.due
     (c.args.limits.items - c.len.result - p.due) (omega (arith, c.loop-self-test.true)) (omega (arith, now.pending.within c.requires.some, c.len.ensures)) waits.begins)
 
 pub loop-self-preserved : goal.loop-self-preserved

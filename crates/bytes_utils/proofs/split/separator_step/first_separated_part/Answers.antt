@@ -1,6 +1,6 @@
 use Rattle.bytes_utils.proofs.SearchLemmas.{chars-some}
 use Rattle.bytes_utils.proofs.PartCut.{gives_first, gives_whole}
-use Rattle.bytes_utils.proofs.split.separated.first_separated_part.Goals as goal
+use Rattle.bytes_utils.proofs.split.separator_step.first_separated_part.Goals as goal
 
 pub search_by-requires : goal.search_by-requires
 search_by-requires g c = record { some = rw c.requires.needle c.requires.some; utf8 = rw c.requires.needle c.utf8.separator }

@@ -1,6 +1,6 @@
 use Rattle.std.proofs.Common.{rules, ◌≢◌, Some}
 use Rattle.bytes_utils.proofs.NextPart.{at_limit}
-use Rattle.bytes_utils.proofs.split.separated.next_separated_part.Goals as goal
+use Rattle.bytes_utils.proofs.split.separator_step.next_separated_part.Goals as goal
 
 pub returns-clause-gives : goal.returns-clause-gives
 returns-clause-gives g c =

@@ -3,7 +3,7 @@ use Rattle.std.proofs.lemmas.Result.{on_err_weaker}
 use Rattle.std.specs.declared.io.Error.{Error}
 use Rattle.bytes_utils_buf.proofs.ReadingLemmas.{packed_read, paid_read}
 use Rattle.bytes_utils_buf.proofs.Results.{at_some}
-use Rattle.bytes_utils_buf.proofs.segmented.packed.PackedBuf.read_with_room.Goals as goal
+use Rattle.bytes_utils_buf.proofs.segmented.packed.PackedBuf.read_from.Goals as goal
 
 pub invariant_of-self-in-Some : goal.invariant_of-self-in-Some
 invariant_of-self-in-Some g c =

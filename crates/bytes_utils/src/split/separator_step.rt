@@ -5,7 +5,7 @@ ghost use Rattle.std.specs.Option.{option_map_or};
 ghost use Rattle.std.specs.Str.{chars};
 ghost use Rattle.bytes_utils.specs.Occurrence.{Occurs};
 ghost use Rattle.bytes_utils.specs.SeparatorSearch.{end_of, needle_of};
-ghost use Rattle.bytes_utils.specs.Splitting.{ArePartsToCome, AreForwardPartsToCome, AreBackwardPartsToCome, CutsNext, LeavesMoreToSplit, limit_after_split, most_parts, splitting, all_of};
+ghost use Rattle.bytes_utils.specs.Splitting.{ArePartsToCome, AreForwardPartsToCome, AreBackwardPartsToCome, SplitsNext, LeavesMoreToSplit, limit_after_split, most_parts, splitting, all_of};
 ghost use Rattle.bytes_utils.specs.Step.{StepGivesFirst, IsStep};
 
 use super::cut::{Cut, cut_at_separator, yield_part};
@@ -205,7 +205,7 @@ impl<'s, S: Storage> SeparatedText<'s, S> {
     /// Returns the next part from its end.
     #[inline(always)]
     pub(super) fn next(&mut self) -> Option<Result<StrInner<S>, Reason>>
-        ensures step { IsStep (ArePartsToCome self.old.end) CutsNext S.refuses
+        ensures step { IsStep (ArePartsToCome self.old.end) SplitsNext S.refuses
             self.old.state result self.new.state }
         ensures none { result ≡ None → self.new.state ≡ self.old.state }
         ensures separator { self.new.state.separator ≡ self.old.state.separator }

@@ -1,6 +1,6 @@
 use Rattle.bytes_utils.proofs.SearchLemmas.{chars-some}
 use Rattle.bytes_utils.proofs.PartCut.{gives_last, gives_whole_back}
-use Rattle.bytes_utils.proofs.split.separated.last_separated_part.Goals as goal
+use Rattle.bytes_utils.proofs.split.separator_step.last_separated_part.Goals as goal
 
 pub rsearch_by-requires : goal.rsearch_by-requires
 rsearch_by-requires g c = record { some = rw c.requires.needle c.requires.some; utf8 = rw c.requires.needle c.utf8.separator }
