@@ -1,5 +1,5 @@
 -- Reading on in held bytes.
-use Rattle.std.proofs.Common.{◌≡◌, ℕ, ◌+◌, ◌-◌, ◌<◌, ◌≤◌, List, [], ◌∷◌, ◌++◌, length, take, drop, slice_get, slice_range, Option, None, Some, leb, ap, ◌∙◌, sym, refl, subst, arith, append_assoc, append-nil, length-append, length-drop, take-append-drop, take_all, drop-drop, ⊎_elim}
+use Rattle.std.proofs.Common.{◌≡◌, ℕ, ◌+◌, ◌-◌, ◌<◌, ◌≤◌, List, [], ◌∷◌, ◌++◌, length, take, drop, slice_get, Option, None, Some, leb, ap, ◌∙◌, sym, refl, subst, arith, append_assoc, append-nil, length-append, length-drop, take-append-drop, take_all, drop-drop, ⊎_elim}
 use Rattle.std.proofs.lemmas.Bool.{cases_lt, le-leb, lt-leb}
 use Rattle.std.proofs.lemmas.List.{append_cancel_left, drop-append-le, length-take-le}
 use Rattle.std.proofs.lemmas.Option.{get_or_from_slice_get, slice_get_within}
@@ -74,21 +74,6 @@ module _ (p old : List ℕ) where
     -- not all of them have come
     pub lacks_within : length old < most + length p → ¬ Occurs p old
     lacks_within few occurs = omega (arith, few, none occurs.0 occurs.1, OccursAt-fits p old occurs.0 some occurs.1)
-
--- the bytes at a place after the cursor are the needle
-module _ (p all : List ℕ) (at n : ℕ) where
-  pub here_from_held : slice_range all (at + n) ((at + n) + length p) ≡ p → OccursAt p (drop at all) n
-  here_from_held held =
-      let size : length p ≡ ((at + n) + length p) - (at + n) = omega arith in
-      ap (take (length p)) (drop-drop n at all) ∙ ap (λ k. take k (drop (at + n) all)) size ∙ held
-
-  pub held_from_here : 0 < length p → at ≤ length all → OccursAt p (drop at all) n
-      → ((at + n) + length p ≤ length all) × (slice_range all (at + n) ((at + n) + length p) ≡ p)
-  held_from_here some within here =
-      let size : ((at + n) + length p) - (at + n) ≡ length p = omega arith in (
-        omega (arith, OccursAt-fits p (drop at all) n some here, length-drop at all, within),
-        ap (λ k. take k (drop (at + n) all)) size ∙ ap (take (length p)) (sym (drop-drop n at all)) ∙ here,
-      )
 
 -- the first place of the needle, within the limit
 module _ (p old : List ℕ) (most place : ℕ) where

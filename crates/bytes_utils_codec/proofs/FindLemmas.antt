@@ -1,12 +1,13 @@
 -- The first place of a needle in segments, from the needles that begin in each segment.
 use Rattle.std.proofs.Common.{◌≡◌, ℕ, zero, suc, ◌+◌, ◌-◌, ◌<◌, ◌≤◌, max, min, List, [], ◌∷◌, ◌++◌, length, take, drop, get_or, slice_get, Option, Some, None, ap, ◌∙◌, sym, refl, arith, length-append, length-drop, length-take, append_assoc, append-nil, take-append-drop, drop_at, ⊎_elim}
 use Rattle.std.proofs.lemmas.Bool.{cases_lt}
-use Rattle.std.proofs.lemmas.List.{drop-append-le, drop_more}
+use Rattle.std.proofs.lemmas.List.{drop-append-le, drop_more, get_or-take}
 use Rattle.std.proofs.lemmas.Option.{get_or_from_slice_get, slice_get_within}
 use Rattle.std.proofs.Math.Seq.{take-append-add}
-use Rattle.std.specs.List.{concat}
+use Rattle.std.specs.List.{concat, slice_range}
 use Rattle.memchr.specs.Find.{FindsNeedle, IsFirst, Nowhere, OccursAt}
-use Rattle.memchr.proofs.lemmas.FindLemmas.{Nowhere-then}
+use Rattle.memchr.proofs.lemmas.FindLemmas.{Nowhere-then, Nowhere-more}
+use Rattle.memchr.proofs.lemmas.MatchLemmas.{OccursAt-from_part, OccursAt-part}
 use Rattle.bytes_utils_buf.proofs.Lists.{concat_split, length-concat-take_more}
 use Rattle.bytes_utils.proofs.NeedleLemmas.{missed_in_part, occurs_in_all, occurs_in_part}
 
@@ -201,3 +202,40 @@ found_later all p start from (Some at) low none found = (
   record { low = omega (arith, low, found.0.low); high = found.0.high; before = Nowhere-then none found.0.before },
   found.1,
 )
+
+-- ---- a needle that is looked for by its first bytes
+
+module _ (all p : List ℕ) (n : ℕ) where
+  -- where the needle occurs, its first bytes do
+  OccursAt-first_bytes : (k : ℕ) → OccursAt all p k → OccursAt all (take n p) k
+  OccursAt-first_bytes k here = record {
+    fits = omega (arith, here.fits, length-take n p);
+    reads = λ j below. here.reads j (omega (arith, below, length-take n p)) ∙ sym (get_or-take n p j 0 (omega (arith, below, length-take n p)));
+  }
+
+  none_up_to : (start from at : ℕ) → Nowhere (OccursAt all p) start from → FindsNeedle all (take n p) from (Some at) → Nowhere (OccursAt all p) start at
+  none_up_to start from at none found = Nowhere-then none (λ k on below here. found.0.before k on below (OccursAt-first_bytes k here))
+
+  pub found_by_first_bytes : (start from at : ℕ) → start ≤ from → Nowhere (OccursAt all p) start from → FindsNeedle all (take n p) from (Some at) → OccursAt all p at
+      → FindsNeedle all p start (Some at)
+  found_by_first_bytes start from at low none found here =
+      (record { low = omega (arith, low, found.0.low); high = found.0.high; before = none_up_to start from at none found }, here)
+
+  pub passed_by_first_bytes : (start from at : ℕ) → Nowhere (OccursAt all p) start from → FindsNeedle all (take n p) from (Some at) → ¬ OccursAt all p at
+      → Nowhere (OccursAt all p) start (at + 1)
+  passed_by_first_bytes start from at none found lacks = Nowhere-more (none_up_to start from at none found) lacks
+
+  pub missed_by_first_bytes : (start from : ℕ) → Nowhere (OccursAt all p) start from → FindsNeedle all (take n p) from None → FindsNeedle all p start None
+  missed_by_first_bytes start from none missed = Nowhere-then none (λ k on below here. missed k on below (OccursAt-first_bytes k here))
+
+-- what `holds_at` says of a needle
+module _ (all p : List ℕ) (at : ℕ) where
+  pub occurs_from_held : (at + length p ≤ length all) × (slice_range all at (at + length p) ≡ p) → OccursAt all p at
+  occurs_from_held held =
+      let size : length p ≡ (at + length p) - at = omega arith in
+      OccursAt-from_part all p at held.0 (ap (λ k. take k (drop at all)) size ∙ held.1)
+
+  pub held_from_occurs : OccursAt all p at → (at + length p ≤ length all) × (slice_range all at (at + length p) ≡ p)
+  held_from_occurs here =
+      let size : (at + length p) - at ≡ length p = omega arith in
+      (here.fits, ap (λ k. take k (drop at all)) size ∙ OccursAt-part all p at here)

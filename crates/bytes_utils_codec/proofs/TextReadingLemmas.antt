@@ -1,6 +1,5 @@
 -- What a reader of texts holds, and its runs.
-use Rattle.std.proofs.Common.{◌≡◌, ◌⊎◌, ℕ, ◌<◌, ◌≤◌, Bool, true, false, List, [], ◌∷◌, ◌++◌, length, map, take, drop, Option, None, Some, Result, Ok, Err, IsUtf8, inl, inr, ⊎_elim, arith, ap, ◌∙◌, sym, refl, subst, true≢false, append_assoc, append-nil, take_at, drop_at, length-take, take-append-drop}
-use Rattle.std.proofs.Math.ListN.{drop_of_length-le}
+use Rattle.std.proofs.Common.{◌≡◌, ℕ, ◌<◌, ◌≤◌, Bool, true, false, List, [], ◌∷◌, ◌++◌, length, map, take, drop, Option, None, Some, Ok, Err, IsUtf8, inl, inr, ⊎_elim, arith, ap, ◌∙◌, sym, refl, subst, true≢false, append_assoc, append-nil, take_at, drop_at, length-take, take-append-drop}
 use Rattle.std.proofs.lemmas.Bool.{cases_lt}
 use Rattle.std.proofs.lemmas.List.{take-take}
 use Rattle.std.proofs.lemmas.Str.{IsUtf8-append, IsUtf8-nil, utf8_lossy_empty}
@@ -9,7 +8,7 @@ use Rattle.std.specs.Str.Lossy.{replacement_bytes, utf8_lossy, utf8_valid_len, u
 use Rattle.bytes_utils_codec.specs.declared.texts.Front.{Front}
 use Rattle.bytes_utils_codec.specs.declared.texts.Front.TheVariants.{Text, Fault, Unfinished}
 use Rattle.bytes_utils_codec.specs.StreamRuns.{StreamEvent, AreFirstOfRun, pushed_in_stream, given_in_stream}
-use Rattle.bytes_utils_codec.specs.TextReading.{AreTextItems, IsTextFaultItem, IsFaultyText, IsTextFront, IsTextRun, IsUnfinishedText, LossyTextLaw, TakesTextFault, TakesTextItem, TakesLastText, TakesText, TextFaultLaw, TextFrontLaw, TextItem, TextItemsLaw, TextReading, WholeLossyTextLaw, asks_for_text_at_end, asks_for_text, bytes_of_text_item, text_fed, text_of, text_reading}
+use Rattle.bytes_utils_codec.specs.TextReading.{IsTextFaultItem, IsTextFront, IsTextRun, IsUnfinishedText, LossyTextLaw, TakesTextItem, TakesLastText, TakesText, TextFaultLaw, TextFrontLaw, TextItem, TextItemsLaw, TextReading, WholeLossyTextLaw, asks_for_text_at_end, asks_for_text, bytes_of_text_item, text_fed, text_of, text_reading}
 use Rattle.bytes_utils_codec.proofs.CharacterBegins.{faulty}
 use Rattle.bytes_utils_codec.proofs.CharacterCompletes.{may_end}
 use Rattle.bytes_utils_codec.proofs.CharacterEnds.{few}

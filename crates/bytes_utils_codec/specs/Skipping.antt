@@ -2,7 +2,7 @@
 -- state is at that front, and `From` what comes next there. While the end of that rest has not come (`Skips`) no item is there, and at the end of
 -- the stream nothing is left. `Delimited` and `UniversalLines` are such decoders.
 use Rattle.std.specs.Prelude.{◌≡◌, ◌⊎◌, ℕ, List, [], None}
-use Rattle.std.proofs.Common.{inl, inr, ap, ◌∙◌, sym, subst}
+use Rattle.std.proofs.Common.{inl, inr, ◌∙◌, sym, subst}
 use Rattle.bytes_utils_codec.specs.Decoding.{Decoding, Gives, Next, Item, Last, fed, HasSameNext, IsStable, IsSingle, WaitsForItem}
 
 -- of what is skipped up to the end of the stream nothing is left

@@ -144,22 +144,15 @@ impl<'a, B: ContiguousBuf + Drop> Cursor<'a, B> {
     }
 
     /// Returns how many bytes after the cursor `needle` occurs first, or `None` if it doesn't. The
-    /// cursor stays. Fails with `OutOfMemory` if memory is refused, never for a needle of at most
-    /// 16 bytes.
-    pub fn find(&self, needle: &[u8]) -> Result<Option<usize>, Reason>
-        ensures found { IfOk result (λ place. IfSome place (λ n.
-            OccursFirstAt needle.now (unread self.now) n)) }
-        ensures within { IfOk result (λ place. IfSome place (λ n.
-            n + length needle.now ≤ length (unread self.now))) }
-        ensures missed { IfOk result (λ place. IfNone place
-            (¬ Occurs needle.now (unread self.now))) }
-        ensures reason { IfErr result (λ reason. reason ≡ Reason.OutOfMemory) }
-        ensures short { length needle.now ≤ 16 → IsOk result }
+    /// cursor stays.
+    pub fn find(&self, needle: &[u8]) -> Option<usize>
+        ensures found { IfSome result (λ n. OccursFirstAt needle.now (unread self.now) n) }
+        ensures within { IfSome result
+            (λ n. n + length needle.now ≤ length (unread self.now)) }
+        ensures missed { IfNone result (¬ Occurs needle.now (unread self.now)) }
     {
-        let Some(place) = find_from(self.buf, self.alloc, self.at, needle)? else {
-            return Ok(None);
-        };
-        Ok(Some(place - self.at))
+        let place = find_from(self.buf, self.at, needle)?;
+        Some(place - self.at)
     }
 
     /// Passes `len` bytes and returns them, or returns `None` if fewer are there. They are shared
@@ -196,16 +189,16 @@ impl<'a, B: ContiguousBuf + Drop> Cursor<'a, B> {
 
     /// Returns the bytes before the next `needle`, as `take` does, and passes them and the needle.
     /// Returns `None` if it has not come yet. Requires that `needle` is not empty (test:
-    /// `is_empty`). Fails with `OutOfMemory` if memory is refused; with a needle of at most 16 bytes
-    /// it is asked for only for the bytes before it. The cursor then stays, as with `None`.
+    /// `is_empty`). Fails with `OutOfMemory` if memory for the bytes before the needle is refused,
+    /// never if there are none. The cursor then stays, as with `None`.
     pub fn take_until(&mut self, needle: &[u8]) -> Result<Option<Bytes>, Reason>
         requires { 0 < length needle.now }
         ensures gives { CursorReadsPart (λ part old new. TakesFrame needle.now old part new)
             (λ bytes. ¬ Occurs needle.now bytes) self.old self.new result }
         ensures reason { IfErr result (λ reason. reason ≡ Reason.OutOfMemory) }
-        ensures due { length needle.now ≤ 16 → OnErr result (HasFrame needle.now (unread self.old)) }
+        ensures due { OnErr result (HasFrame needle.now (unread self.old)) }
     {
-        let Some(len) = self.find(needle)? else {
+        let Some(len) = self.find(needle) else {
             return Ok(None);
         };
         Ok(Some(self.take_found(len, needle)?))
@@ -216,9 +209,6 @@ impl<'a, B: ContiguousBuf + Drop> Cursor<'a, B> {
     /// needle isn't among them. Fails with `OutOfMemory` if memory is refused for bytes within the
     /// limit that have come, never if none are before the needle. The cursor then stays, as with
     /// `None`.
-    ///
-    /// If the memory that `find` asks for is refused, the search asks for none and looks at each
-    /// place within the limit.
     pub fn take_until_within(&mut self, needle: &[u8], most: usize) -> Result<Option<Bytes>, Reason>
         requires { 0 < length needle.now }
         ensures gives { CursorReadsPart (λ part old new. TakesFrame needle.now old part new)
@@ -272,37 +262,8 @@ impl<'a, B: ContiguousBuf + Drop> Cursor<'a, B> {
         requires { 0 < length needle.now }
         ensures { CursorFindsWithin most needle.now (unread self.now) result }
     {
-        match self.find(needle) {
-            Ok(Some(place)) => (place <= most).then_some(place),
-            Ok(None) => None,
-            Err(_) => self.look_within(needle, most),
-        }
-    }
-
-    /// As `first_within`, without memory: it looks at each place.
-    fn look_within(&self, needle: &[u8], most: usize) -> Option<usize>
-        requires { 0 < length needle.now }
-        ensures { CursorFindsWithin most needle.now (unread self.now) result }
-    {
-        for place in 0..self.remaining() {
-            if place > most {
-                return None;
-            }
-            if self.begins_at(needle, place) {
-                return Some(place);
-            }
-        }
-        None
-    }
-
-    /// Whether `needle` begins `place` bytes after the cursor.
-    fn begins_at(&self, needle: &[u8], place: usize) -> bool
-        requires some { 0 < length needle.now }
-        requires within { place ≤ length (unread self.now) }
-        ensures { IsTrue result ↔ OccursAt needle.now (unread self.now) place }
-    {
-        prove!(place <= self.len - self.at);
-        self.buf.holds_at(self.at + place, needle)
+        let place = self.find(needle)?;
+        (place <= most).then_some(place)
     }
 
     /// As `take_until`, but the needle isn't passed: the cursor is at its first byte then.
@@ -311,9 +272,9 @@ impl<'a, B: ContiguousBuf + Drop> Cursor<'a, B> {
         ensures gives { CursorReadsPart (λ part old new. CursorTakesUpTo needle.now old part new)
             (λ bytes. ¬ Occurs needle.now bytes) self.old self.new result }
         ensures reason { IfErr result (λ reason. reason ≡ Reason.OutOfMemory) }
-        ensures due { length needle.now ≤ 16 → OnErr result (HasFrame needle.now (unread self.old)) }
+        ensures due { OnErr result (HasFrame needle.now (unread self.old)) }
     {
-        let Some(place) = self.find(needle)? else {
+        let Some(place) = self.find(needle) else {
             return Ok(None);
         };
         Ok(Some(self.take_bytes(place)?))

@@ -16,81 +16,43 @@ use bytes_utils_buf::segmented::SegmentedBuf;
 use memchr::memmem::Finder;
 use std::alloc::Global;
 
-/// A needle of at most this many bytes asks for no memory.
+/// A longer needle is looked for by this number of its first bytes.
 const SHORT: usize = 16;
 
 /// Returns the byte place of the first occurrence of `needle`, also across segments, as
-/// `memmem::find` of the joined bytes. Fails with `OutOfMemory` if memory is refused, never for a
-/// needle of at most 16 bytes.
+/// `memmem::find` of the joined bytes. It asks for no memory.
 ///
 /// ```text
-/// body.push(first)?;                        // a `Bytes` of `GET / HTTP/1.1\r`
-/// body.push(second)?;                       // one of `\nHost`
-/// find(&body, alloc, b"\r\n")?              // `Some(14)`
-/// find_from(&body, alloc, 15, b"\r\n")?     // `None`
+/// body.push(first)?;                // a `Bytes` of `GET / HTTP/1.1\r`
+/// body.push(second)?;               // one of `\nHost`
+/// find(&body, b"\r\n")              // `Some(14)`
+/// find_from(&body, 15, b"\r\n")     // `None`
 /// ```
-pub fn find<B: ContiguousBuf + Drop>(
-    buf: &SegmentedBuf<B>,
-    alloc: Global,
-    needle: &[u8],
-) -> Result<Option<usize>, Reason>
-    ensures found { IfOk result (λ at. FindsNeedle (concat buf.now.segments) needle.now 0 at) }
-    ensures frame { IfOk result (λ found. IfSome found (λ at. TakesFrame needle.now
+pub fn find<B: ContiguousBuf + Drop>(buf: &SegmentedBuf<B>, needle: &[u8]) -> Option<usize>
+    ensures found { FindsNeedle (concat buf.now.segments) needle.now 0 result }
+    ensures frame { IfSome result (λ at. TakesFrame needle.now
         (concat buf.now.segments) (take at (concat buf.now.segments))
-        (drop (at + length needle.now) (concat buf.now.segments)))) }
-    ensures within { IfOk result (λ found. IfSome found
-        (λ at. at + length needle.now ≤ length (concat buf.now.segments))) }
-    ensures none { IfOk result
-        (λ found. IfNone found (¬ Occurs needle.now (concat buf.now.segments))) }
-    ensures reason { IfErr result (λ reason. reason ≡ Reason.OutOfMemory) }
-    ensures short { length needle.now ≤ 16 → IsOk result }
+        (drop (at + length needle.now) (concat buf.now.segments))) }
+    ensures within { IfSome result
+        (λ at. at + length needle.now ≤ length (concat buf.now.segments)) }
+    ensures none { IfNone result (¬ Occurs needle.now (concat buf.now.segments)) }
 {
-    find_from(buf, alloc, 0, needle)
+    find_from(buf, 0, needle)
 }
 
 /// As `find`, from place `start` on. An empty needle is found at `start`, unless that is past the
-/// end of the bytes. A needle of more than 16 bytes asks for a block of twice its length. Segments
-/// before `start` are skipped.
+/// end of the bytes. Segments before `start` are skipped. A needle of more than 16 bytes is compared
+/// at each place where its first 16 are.
 #[tactic(auto, using(crate::proofs::FoundLemmas::start_found, crate::proofs::FoundLemmas::within_found, crate::proofs::FoundLemmas::frame_found, crate::proofs::FoundLemmas::none_found))]
 pub fn find_from<B: ContiguousBuf + Drop>(
-    buf: &SegmentedBuf<B>,
-    alloc: Global,
-    start: usize,
-    needle: &[u8],
-) -> Result<Option<usize>, Reason>
-    ensures found { IfOk result (λ at. FindsNeedle (concat buf.now.segments) needle.now start at) }
-    ensures start { IfOk result (λ found. IfSome found (λ at. start ≤ at)) }
-
-    // What is before the needle, from `start` on, and what is after it.
-    ensures frame { IfOk result (λ found. IfSome found (λ at. TakesFrame needle.now
-        (drop start (concat buf.now.segments))
-        (take (at - start) (drop start (concat buf.now.segments)))
-        (drop (at + length needle.now) (concat buf.now.segments)))) }
-    ensures within { IfOk result (λ found. IfSome found
-        (λ at. at + length needle.now ≤ length (concat buf.now.segments))) }
-    ensures none { IfOk result (λ found. IfNone found (start ≤ length (concat buf.now.segments)
-        → ¬ Occurs needle.now (drop start (concat buf.now.segments)))) }
-    ensures reason { IfErr result (λ reason. reason ≡ Reason.OutOfMemory) }
-    ensures short { length needle.now ≤ 16 → IsOk result }
-{
-    if needle.len() <= SHORT {
-        return Ok(find_short(buf, start, needle));
-    }
-    let mut window = vec![in alloc; 0; 2 * needle.len()]?;
-    Ok(find_by(buf, start, needle, &mut window))
-}
-
-/// As `find_from`, without memory. Requires that `needle` has at most 16 bytes (test:
-/// `needle.len()`).
-#[tactic(auto, using(crate::proofs::FoundLemmas::start_found, crate::proofs::FoundLemmas::within_found, crate::proofs::FoundLemmas::frame_found, crate::proofs::FoundLemmas::none_found))]
-pub fn find_short<B: ContiguousBuf + Drop>(
     buf: &SegmentedBuf<B>,
     start: usize,
     needle: &[u8],
 ) -> Option<usize>
-    requires { length needle.now ≤ 16 }
     ensures found { FindsNeedle (concat buf.now.segments) needle.now start result }
     ensures start { IfSome result (λ at. start ≤ at) }
+
+    // What is before the needle, from `start` on, and what is after it.
     ensures frame { IfSome result (λ at. TakesFrame needle.now
         (drop start (concat buf.now.segments))
         (take (at - start) (drop start (concat buf.now.segments)))
@@ -102,7 +64,7 @@ pub fn find_short<B: ContiguousBuf + Drop>(
 {
     match find_near(buf, start, needle) {
         Ok(at) => Some(at),
-        Err(from) => find_by(buf, from, needle, &mut [0; 2 * SHORT]),
+        Err(from) => find_far(buf, from, needle),
     }
 }
 
@@ -138,7 +100,7 @@ pub fn take_until<B: ContiguousBuf + Drop>(
         (λ taken. IfSome taken (λ front. CountsPass 1 buf.old buf.new)) }
     ensures paid { IsPaid buf.old buf.new }
 {
-    let Some(at) = find(buf, alloc, needle)? else {
+    let Some(at) = find(buf, needle) else {
         return Ok(None);
     };
     let front = buf.peek_bytes(alloc, at)?;
@@ -169,21 +131,49 @@ pub(crate) fn find_prepared<B: ContiguousBuf + Drop>(
     find_from_segment(buf, from, finder, buf.segment_of(from)?, window)
 }
 
-/// As `find_prepared`, for a needle that is not prepared and may be empty.
-fn find_by<B: ContiguousBuf + Drop>(
+/// The first place of the needle from `start` on.
+fn find_far<B: ContiguousBuf + Drop>(
     buf: &SegmentedBuf<B>,
     start: usize,
     needle: &[u8],
-    window: &mut [u8],
 ) -> Option<usize>
-    requires room { 2 * (length needle.now - 1) ≤ length window.old }
     ensures { FindsNeedle (concat buf.now.segments) needle.now start result }
+{
+    if needle.len() <= SHORT {
+        return find_short(buf, start, needle);
+    }
+    let front = &needle[..SHORT];
+    let mut from = start;
+    while let Some(at) = find_short(buf, from, front) {
+        if buf.holds_at(at, needle) {
+            return Some(at);
+        }
+        from = at + 1;
+    }
+    None
+}
+
+/// The same of a needle that is not long.
+fn find_short<B: ContiguousBuf + Drop>(
+    buf: &SegmentedBuf<B>,
+    start: usize,
+    needle: &[u8],
+) -> Option<usize>
+    requires { length needle.now ≤ 16 }
+    ensures found { FindsNeedle (concat buf.now.segments) needle.now start result }
+    ensures fits { length (concat buf.now.segments) < 2 ^ 64 }
 {
     if needle.is_empty() {
         return (start <= buf.remaining()).then_some(start);
     }
     let finder = Finder::new(needle);
-    find_from_segment(buf, start, &finder, buf.segment_of(start)?, window)
+    find_from_segment(
+        buf,
+        start,
+        &finder,
+        buf.segment_of(start)?,
+        &mut [0; 2 * SHORT],
+    )
 }
 
 /// The first place of the needle from `start` on, if it is in the first segment and

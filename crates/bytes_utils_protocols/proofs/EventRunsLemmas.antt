@@ -9,10 +9,9 @@ use Rattle.bytes_utils_codec.specs.Decoding.{Item, fed}
 use Rattle.bytes_utils_codec.specs.StreamRuns.{AreFirstOfRun}
 use Rattle.bytes_utils_codec.specs.UniversalReading.{AwaitsUniversal, gives_universal}
 use Rattle.bytes_utils_codec.specs.UniversalReadingLaws.{universal_single, universal_stable, universal_waits}
-use Rattle.bytes_utils_codec.specs.declared.decode.lines.LineFault.{LineFault}
 use Rattle.bytes_utils_codec.proofs.DecodingLemmas.{SameNext-fed, SameNext-now, SameNext-refl, SameNext-trans, fed-joined}
 use Rattle.bytes_utils_codec.proofs.StreamRunsLemmas.{AreFirstOfRun-more, AreFirstOfRun-next, run_keeps, same_first_law}
-use Rattle.bytes_utils_protocols.specs.Events.{AwaitsEventLine, DoesEventLine, EndsEvent, Eventing, GivesEventItem, IsEventTooLarge, KeepsEvents, LosesNoEvent, ReadsEventLines, ReadsEventLine, ReadsNoEventLine, TakesEventFault, TakesNextEventLine, WaitsWithEventTooLarge, after_event_line, event_content, event_error_of, pushed_to_events, event_text_len, EventRunLaw, EventGiven, LargeEventLaw, NoEventLaw, ReturnsEvent, SameEventLaw, no_event_bytes_held}
+use Rattle.bytes_utils_protocols.specs.Events.{DoesEventLine, EndsEvent, Eventing, GivesEventItem, IsEventTooLarge, KeepsEvents, LosesNoEvent, ReadsEventLines, ReadsEventLine, ReadsNoEventLine, TakesEventFault, TakesNextEventLine, WaitsWithEventTooLarge, after_event_line, event_content, event_error_of, pushed_to_events, event_text_len, EventRunLaw, EventGiven, LargeEventLaw, NoEventLaw, ReturnsEvent, SameEventLaw, no_event_bytes_held}
 use Rattle.bytes_utils_protocols.specs.declared.events.Event.{Event}
 use Rattle.bytes_utils_protocols.specs.declared.events.EventError.{EventError}
 use Rattle.bytes_utils_protocols.specs.declared.events.Limits.{Limits}

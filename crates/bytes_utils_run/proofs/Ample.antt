@@ -11,7 +11,7 @@ use Rattle.bytes_utils_buf.specs.Copies.{CountsCopy}
 use Rattle.bytes_utils_buf.specs.Tally.{lined_up}
 use Rattle.bytes_utils_buf.proofs.Lists.{SkipsSegments-from_count, count_unread_segments-SkipsSegments, length-SkipsSegments}
 use Rattle.bytes_utils_run.proofs.Fitting.{Fits, fits-accepting, fits-call, fits-skip}
-use Rattle.bytes_utils_run.specs.Calls.{AreCallSlices, IsCall, IsRunOfCalls, reply_lacks_memory}
+use Rattle.bytes_utils_run.specs.Calls.{AreCallSlices, IsCallOnBytes, IsRunOfCalls, reply_lacks_memory}
 use Rattle.bytes_utils_run.specs.declared.calls.call.Call.{Call}
 use Rattle.bytes_utils_run.specs.declared.calls.call.Call.TheVariants.{Push, Segments, Read}
 use Rattle.bytes_utils_run.specs.declared.calls.call.ReadCall.TheVariants.{Remaining, Chunk, Advance, CopyOut, Chunks}
@@ -87,7 +87,7 @@ IsWhole reply = reply_lacks_memory reply ≡ false
 record Ample (call : Call (List ℕ)) (old : HeldSegments) : Type 0 where
   reply : Reply
   next : HeldSegments
-  is : IsCall (λ bytes. bytes) call old reply next
+  is : IsCallOnBytes call old reply next
   whole : IsWhole reply
   fits : Fits next.segments
 
@@ -187,7 +187,7 @@ module _ {Y : Type 0} (like : Vec Y) where
 
   -- a run of calls whose replies are all right, and none says that memory was refused
   ample-run : (calls : List (Call (List ℕ))) (old : HeldSegments) → Fits old.segments
-      → (replies : List Reply) × (left : HeldSegments) × IsRunOfCalls (IsCall (λ bytes. bytes)) calls old replies left × All IsWhole replies × (length replies ≡ length calls)
+      → (replies : List Reply) × (left : HeldSegments) × IsRunOfCalls IsCallOnBytes calls old replies left × All IsWhole replies × (length replies ≡ length calls)
   ample-run [] old fits = ([], old, refl, All-nil IsWhole, refl)
   ample-run (call ∷ calls) old fits =
       let one = ample call old fits in
@@ -196,9 +196,9 @@ module _ {Y : Type 0} (like : Vec Y) where
 
   -- If the first `count` replies of a run don't say that memory was refused, a whole run without such a reply begins
   -- with them.
-  pub stopped : (calls : List (Call (List ℕ))) (old : HeldSegments) (replies : List Reply) (left : HeldSegments) → IsRunOfCalls (IsCall (λ bytes. bytes)) calls old replies left
+  pub stopped : (calls : List (Call (List ℕ))) (old : HeldSegments) (replies : List Reply) (left : HeldSegments) → IsRunOfCalls IsCallOnBytes calls old replies left
       → Fits old.segments → (count : ℕ) → count < length replies → All IsWhole (take count replies)
-      → (others : List Reply) × (0 < length others) × (end : HeldSegments) × IsRunOfCalls (IsCall (λ bytes. bytes)) calls old (take count replies ++ others) end
+      → (others : List Reply) × (0 < length others) × (end : HeldSegments) × IsRunOfCalls IsCallOnBytes calls old (take count replies ++ others) end
       × All IsWhole (take count replies ++ others)
   stopped [] old [] left run fits count within whole = absurd (omega (arith, within))
   stopped [] old (reply ∷ replies) left run fits count within whole = absurd run

@@ -3,7 +3,7 @@ use Rattle.std.proofs.Common.{◌≡◌, ap, ℕ, ◌+◌, ◌<◌, ◌^◌, Lis
 use Rattle.std.specs.List.{concat}
 use Rattle.bytes_utils_buf.specs.Segments.{HeldSegments, SkipsSegments, after_accepting}
 use Rattle.bytes_utils_buf.proofs.Lists.{length-concat-accepted}
-use Rattle.bytes_utils_run.specs.Calls.{IsCall, CallSkipsOrKeeps, skipped_by_read}
+use Rattle.bytes_utils_run.specs.Calls.{IsCallOnBytes, CallSkipsOrKeeps, skipped_by_read}
 use Rattle.bytes_utils_run.specs.declared.calls.call.Call.{Call}
 use Rattle.bytes_utils_run.specs.declared.calls.call.Call.TheVariants.{Push, Segments, Read}
 use Rattle.bytes_utils_run.specs.declared.calls.call.Reply.{Reply}
@@ -26,7 +26,7 @@ fits-left None old new same = fits-same old new same
 pub fits-accepting : (old : HeldSegments) (bytes : List ℕ) → length (concat old.segments) + length bytes < 2 ^ 64 → Fits (after_accepting old (bytes ∷ [])).segments
 fits-accepting old bytes room = omega (arith, room, length-concat-accepted old.segments (bytes ∷ []), ap length (append-nil bytes))
 
-pub fits-call : (call : Call (List ℕ)) (old : HeldSegments) (reply : Reply) (new : HeldSegments) → IsCall (λ bytes. bytes) call old reply new → Fits old.segments → Fits new.segments
+pub fits-call : (call : Call (List ℕ)) (old : HeldSegments) (reply : Reply) (new : HeldSegments) → IsCallOnBytes call old reply new → Fits old.segments → Fits new.segments
 fits-call (Push bytes) old Done new is = λ fits. fits-same _ _ (ap (λ held. held.segments) is.1) (fits-accepting old bytes is.0)
 fits-call (Push bytes) old TooLong new is = fits-same _ _ (ap (λ held. held.segments) is.1)
 fits-call (Push bytes) old NoMemory new is = fits-same _ _ (ap (λ held. held.segments) is.2)

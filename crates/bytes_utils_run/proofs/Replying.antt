@@ -10,7 +10,7 @@ use Rattle.std.proofs.lemmas.List.Sums.{fails_before_first}
 use Rattle.bytes_utils.specs.Outcome.{Outcome}
 use Rattle.bytes_utils_buf.specs.Segments.{HeldSegments, nothing_held}
 use Rattle.bytes_utils_run.proofs.Ample.{stopped}
-use Rattle.bytes_utils_run.specs.Calls.{IsCall, IsRunOfCalls, reply_lacks_memory}
+use Rattle.bytes_utils_run.specs.Calls.{IsCallOnBytes, IsRunOfCalls, reply_lacks_memory}
 use Rattle.bytes_utils_run.specs.Request.{AreFirstRequestedReplies, AreRequestedReplies}
 use Rattle.bytes_utils_buf.specs.declared.refused.Reason.{Reason}
 use Rattle.bytes_utils_buf.specs.declared.refused.Reason.TheVariants.{OutOfMemory}
@@ -27,7 +27,7 @@ past_all : (replies : List Reply) → position reply_lacks_memory replies ≡ No
 past_all replies none = grind (arith, common_steps)
 
 -- if memory was refused for no reply, all are right
-replies-all : (calls : List (Call (List ℕ))) (replies : List Reply) (left : HeldSegments) → IsRunOfCalls (IsCall (λ bytes. bytes)) calls nothing_held replies left
+replies-all : (calls : List (Call (List ℕ))) (replies : List Reply) (left : HeldSegments) → IsRunOfCalls IsCallOnBytes calls nothing_held replies left
     → position reply_lacks_memory replies ≡ None → AreRequestedReplies calls replies
 replies-all calls replies left run none =
     let whole = whole-before replies (length replies) (λ k l. fails_before_first reply_lacks_memory replies k Done (omega (arith, l, past_all replies none))) in
@@ -35,7 +35,7 @@ replies-all calls replies left run none =
 
 -- the replies before the first one that memory was refused for are the first of right replies
 replies-before : {Y : Type 0} (like : Vec Y) (calls : List (Call (List ℕ))) (replies : List Reply) (left : HeldSegments) (count : ℕ)
-    → IsRunOfCalls (IsCall (λ bytes. bytes)) calls nothing_held replies left → position reply_lacks_memory replies ≡ Some count
+    → IsRunOfCalls IsCallOnBytes calls nothing_held replies left → position reply_lacks_memory replies ≡ Some count
     → (others : List Reply) × (0 < length others) × AreRequestedReplies calls (take count replies ++ others)
 replies-before like calls replies left count run found =
     let first = position-Some reply_lacks_memory replies count Done found in

@@ -1,7 +1,7 @@
 -- Lists of calls on a buffer, and the replies to them. The lists of bytes below are the unread bytes of each segment of
 -- a `SegmentedBuf`, first segment first. For `read_calls` every buffer, segmented or not, is one list, or none if it is
 -- empty.
-use Rattle.std.specs.Prelude.{◌≡◌, ℕ, ◌+◌, ◌^◌, ◌<◌, ◌≤◌, List, [], ◌∷◌, Option, None, Some, Bool, true, false, length, map, take, ⊤}
+use Rattle.std.specs.Prelude.{◌≡◌, ◌⊎◌, ℕ, ◌+◌, ◌^◌, ◌<◌, ◌≤◌, List, [], ◌∷◌, Option, None, Some, Bool, true, false, length, map, take, ⊤}
 use Rattle.std.specs.List.{concat}
 use Rattle.bytes.specs.Unread.{IsChunkOf}
 use Rattle.bytes_utils_buf.specs.Copies.{CountsCopy}
@@ -25,19 +25,23 @@ pub record AreCallSlices (n : ℕ) (slices : List (List ℕ)) (unread : List ℕ
   pub front : concat slices ≡ take (length (concat slices)) unread
   pub whole : length slices < n → concat slices ≡ unread
 
--- the reply to a read of these unread bytes
-abbrev pub IsReply : ReadCall → List ℕ → Reply → Type 0
-IsReply Remaining unread (Number n) = n ≡ length unread
-IsReply Chunk unread (Shown chunk) = IsChunkOf chunk.items unread
-IsReply Chunk unread NoMemory = ⊤
-IsReply (Advance n) unread Done = n ≤ length unread
-IsReply (Advance n) unread PastEnd = length unread < n
-IsReply (CopyOut n) unread (Piece piece) = (n ≤ length unread) × (piece ≡ take n unread)
-IsReply (CopyOut n) unread (CopyStopped taken) = (n ≤ length unread) × (taken ≤ n)
-IsReply (CopyOut n) unread PastEnd = length unread < n
-IsReply (Chunks n) unread (Slices slices) = AreCallSlices n (map (λ s. s.items) slices.items) unread
-IsReply (Chunks n) unread NoMemory = ⊤
-IsReply call unread reply = ⊥
+-- how many bytes a refused copy of n bytes out of many buffers may have taken: none, all, or as many as one buffer's own
+abbrev pub lost_of_segments : (ℕ → ℕ → Type 0) → ℕ → ℕ → Type 0
+lost_of_segments loses n taken = (taken ≡ 0) ⊎ (taken ≡ n) ⊎ loses n taken
+
+-- the reply to a read of these unread bytes; `loses` says how many bytes a refused copy may have taken
+abbrev pub IsReply : (ℕ → ℕ → Type 0) → ReadCall → List ℕ → Reply → Type 0
+IsReply loses Remaining unread (Number n) = n ≡ length unread
+IsReply loses Chunk unread (Shown chunk) = IsChunkOf chunk.items unread
+IsReply loses Chunk unread NoMemory = ⊤
+IsReply loses (Advance n) unread Done = n ≤ length unread
+IsReply loses (Advance n) unread PastEnd = length unread < n
+IsReply loses (CopyOut n) unread (Piece piece) = (n ≤ length unread) × (piece ≡ take n unread)
+IsReply loses (CopyOut n) unread (CopyStopped taken) = (n ≤ length unread) × (taken ≤ n) × loses n taken
+IsReply loses (CopyOut n) unread PastEnd = length unread < n
+IsReply loses (Chunks n) unread (Slices slices) = AreCallSlices n (map (λ s. s.items) slices.items) unread
+IsReply loses (Chunks n) unread NoMemory = ⊤
+IsReply loses call unread reply = ⊥
 
 -- how many bytes a read with this reply skipped, or `None` if it left the buffer as it was
 abbrev pub skipped_by_read : ReadCall → Reply → Option ℕ
@@ -52,8 +56,8 @@ CallSkipsOrKeeps (Some n) old new = SkipsSegments n old new
 CallSkipsOrKeeps None old new = new ≡ old
 
 -- the reply to a read of these lists, and the lists after it
-abbrev pub IsRead : ReadCall → List (List ℕ) → Reply → List (List ℕ) → Type 0
-IsRead call old reply new = IsReply call (concat old) reply × CallSkipsOrKeeps (skipped_by_read call reply) old new
+abbrev pub IsRead : (ℕ → ℕ → Type 0) → ReadCall → List (List ℕ) → Reply → List (List ℕ) → Type 0
+IsRead loses call old reply new = IsReply loses call (concat old) reply × CallSkipsOrKeeps (skipped_by_read call reply) old new
 
 -- What a read adds to the tally. An advance that was done counts as a call, with one turn for each segment that it
 -- passed. A copy that was made or stopped counts as `CountsCopy` says. Nothing else counts.
@@ -64,15 +68,19 @@ CountsRead (CopyOut n) old (CopyStopped taken) new = CountsCopy n taken old new
 CountsRead call old reply new = new.tally ≡ old.tally
 
 -- the reply to a call on a `SegmentedBuf`, and the buffer after it
-abbrev pub IsCall : {B : Type 0} → (B → List ℕ) → Call B → HeldSegments → Reply → HeldSegments → Type 0
-IsCall unread (Push buf) old Done new =
+abbrev pub IsCall : {B : Type 0} → (B → List ℕ) → (ℕ → ℕ → Type 0) → Call B → HeldSegments → Reply → HeldSegments → Type 0
+IsCall unread loses (Push buf) old Done new =
     (length (concat old.segments) + length (unread buf) < 2 ^ 64) × (new ≡ after_accepting old (unread buf ∷ []))
-IsCall unread (Push buf) old TooLong new = (2 ^ 64 ≤ length (concat old.segments) + length (unread buf)) × (new ≡ old)
-IsCall unread (Push buf) old NoMemory new =
+IsCall unread loses (Push buf) old TooLong new = (2 ^ 64 ≤ length (concat old.segments) + length (unread buf)) × (new ≡ old)
+IsCall unread loses (Push buf) old NoMemory new =
     (length (concat old.segments) + length (unread buf) < 2 ^ 64) × (0 < length (unread buf)) × (new ≡ old)
-IsCall unread Segments old (Number n) new = (n ≡ length old.segments) × (new ≡ old)
-IsCall unread (Read call) old reply new = IsRead call old.segments reply new.segments × CountsRead call old reply new
-IsCall unread call old reply new = ⊥
+IsCall unread loses Segments old (Number n) new = (n ≡ length old.segments) × (new ≡ old)
+IsCall unread loses (Read call) old reply new = IsRead (lost_of_segments loses) call old.segments reply new.segments × CountsRead call old reply new
+IsCall unread loses call old reply new = ⊥
+
+-- the same of buffers whose bytes are contiguous: a refused copy out of one takes none
+abbrev pub IsCallOnBytes : Call (List ℕ) → HeldSegments → Reply → HeldSegments → Type 0
+IsCallOnBytes call old reply new = IsCall (λ bytes. bytes) (λ n taken. taken ≡ 0) call old reply new
 
 -- a run of calls, one after another, each with its reply, from the first state to the last
 abbrev pub IsRunOfCalls : {C S : Type 0} → (C → S → Reply → S → Type 0) → List C → S → List Reply → S → Type 0

@@ -4,7 +4,7 @@ use Rattle.std.specs.List.{position}
 use Rattle.bytes_utils.specs.Lines.{lines}
 use Rattle.bytes_utils_buf.specs.Segments.{HeldSegments, nothing_held}
 use Rattle.bytes_utils_run.specs.CallLine.{AreCallLines}
-use Rattle.bytes_utils_run.specs.Calls.{IsCall, IsRunOfCalls, reply_lacks_memory}
+use Rattle.bytes_utils_run.specs.Calls.{IsCallOnBytes, IsRunOfCalls, reply_lacks_memory}
 use Rattle.bytes_utils_run.specs.Command.{IsCommand}
 use Rattle.bytes_utils_run.specs.Cutting.{Cutting, ArePartsBy}
 use Rattle.bytes_utils_run.specs.Printed.{printed_part, printed_reply}
@@ -26,7 +26,7 @@ IsRequest (ForReplies calls) line text = (line ≡ codes "buf") × AreCallLines 
 -- the replies are right for these calls on a new buffer, and none says that memory was refused
 pub record AreRequestedReplies (calls : List (Call (List ℕ))) (replies : List Reply) : Type 0 where
   pub left : HeldSegments
-  pub run : IsRunOfCalls (IsCall (λ bytes. bytes)) calls nothing_held replies left
+  pub run : IsRunOfCalls IsCallOnBytes calls nothing_held replies left
   pub whole : All (λ reply. reply_lacks_memory reply ≡ false) replies
 
 -- The replies that are given for these calls on a new buffer, and why if there are more. `all` are right replies, one for
@@ -34,7 +34,7 @@ pub record AreRequestedReplies (calls : List (Call (List ℕ))) (replies : List 
 pub record AreFirstRequestedReplies (calls : List (Call (List ℕ))) (given : List Reply) (refused : Option Reason) : Type 0 where
   pub all : List Reply
   pub left : HeldSegments
-  pub run : IsRunOfCalls (IsCall (λ bytes. bytes)) calls nothing_held all left
+  pub run : IsRunOfCalls IsCallOnBytes calls nothing_held all left
   pub first : MatchOption (position reply_lacks_memory all) ((given ≡ all) × (refused ≡ None)) (λ count. (given ≡ take count all) × (refused ≡ Some OutOfMemory))
 
 -- these entries, parts or replies as they are printed, are right for this request on this text

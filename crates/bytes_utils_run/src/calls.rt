@@ -49,7 +49,7 @@ pub fn drive<B: BufParts + Drop>(
     calls: Vec<Call<B>>,
 ) -> Replies
     ensures run { IfNone result.refused
-        (IsRunOfCalls (IsCall B.unread) calls.items buf.old result.given.items buf.new) }
+        (IsRunOfCalls (IsCall B.unread B.loses) calls.items buf.old result.given.items buf.new) }
     ensures refused { IfSome result.refused (λ reason. reason ≡ WhyRefused.OutOfMemory) }
     ensures none { OnSome result.refused (result.given.items ≡ []) }
     ensures same { OnSome result.refused (buf.new ≡ buf.old) }
@@ -78,7 +78,7 @@ pub fn drive<B: BufParts + Drop>(
 
 /// Makes these calls on any buffer, one after another, as `drive` does on a `SegmentedBuf`.
 pub fn read_calls<B: BufParts>(alloc: Global, buf: &mut B, calls: Vec<ReadCall>) -> Replies
-    ensures run { IfNone result.refused (IsRunOfCalls IsRead calls.items (lists_for_calls (B.unread buf.old))
+    ensures run { IfNone result.refused (IsRunOfCalls (IsRead B.loses) calls.items (lists_for_calls (B.unread buf.old))
         result.given.items (lists_for_calls (B.unread buf.new))) }
     ensures refused { IfSome result.refused (λ reason. reason ≡ WhyRefused.OutOfMemory) }
     ensures none { OnSome result.refused (result.given.items ≡ []) }

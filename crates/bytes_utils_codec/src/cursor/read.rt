@@ -32,9 +32,9 @@ impl<'a, B: ContiguousBuf + Drop> Cursor<'a, B> {
         ensures gives { CursorReadsPart (λ part old new. TakesFrame needle.now old (cow_slice_items part) new)
             (λ bytes. ¬ Occurs needle.now bytes) self.old self.new result }
         ensures reason { IfErr result (λ reason. reason ≡ Reason.OutOfMemory) }
-        ensures due { length needle.now ≤ 16 → OnErr result (HasFrame needle.now (unread self.old)) }
+        ensures due { OnErr result (HasFrame needle.now (unread self.old)) }
     {
-        let Some(len) = self.find(needle)? else {
+        let Some(len) = self.find(needle) else {
             return Ok(None);
         };
         Ok(Some(self.read_found(len, needle)?))

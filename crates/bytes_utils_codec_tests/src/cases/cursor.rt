@@ -103,10 +103,7 @@ impl<B: ContiguousBuf + Drop> CursorRun<'_, B> {
             return Ok(false);
         }
         match name {
-            "find" => Ok(is_place_of_signs(
-                named_row_call("Cursor::", "find", cursor.find(needle))?,
-                want,
-            )),
+            "find" => Ok(is_place_of_signs(cursor.find(needle), want)),
             "take_until" => is_taken_by_cursor(("take_until", cursor.take_until(needle)), want),
             "take_to" => is_taken_by_cursor(("take_to", cursor.take_to(needle)), want),
             "read_until" => is_read_by_cursor(("read_until", cursor.read_until(needle)), want),

@@ -4,7 +4,7 @@
 //! |---|---|
 //! | `+ab` | pushes a copy of these bytes as a segment of its own |
 //! | `find 2`, `find none` | the place of the needle |
-//! | `find_from 1 2`, `find_short 1 2` | its place from the first byte on |
+//! | `find_from 1 2` | its place from the first byte on |
 //! | `take_until ab`, `take_until none` | what is before the needle is taken off |
 //! | `=ab` | these bytes are left |
 //! | `new` | a new search for the needle |
@@ -22,7 +22,7 @@ use crate::cases::fixtures::signs::{
 use crate::cases::fixtures::{assert_row, assert_that, in_segments};
 use bytes::{Buf, Bytes};
 use bytes_utils::{Reason, SegmentedBuf};
-use bytes_utils_codec::find::{find, find_from, find_short, take_until};
+use bytes_utils_codec::find::{find, find_from, take_until};
 use bytes_utils_codec::search::Search;
 use std::alloc::Global;
 use std::io::Print;
@@ -65,18 +65,11 @@ impl FindRun<'_> {
         }
     }
 
-    /// Looks for the needle from a place on. A needle of at most 16 bytes is looked for without memory, too.
-    fn find_from(&self, name: &str, rest: &str) -> Result<bool, Refusal> {
+    /// Looks for the needle from a place on.
+    fn find_from(&self, rest: &str) -> bool {
         let (start, want) = rest.split_once(' ').unwrap_or(("", rest));
         let start = start.parse().unwrap_or(0);
-        if name == "find_short" {
-            let is_short = self.needle.len() <= 16;
-            return Ok(
-                is_short && is_place_of_signs(find_short(&self.buf, start, self.needle), want),
-            );
-        }
-        let place = find_from(&self.buf, self.alloc, start, self.needle);
-        Ok(is_place_of_signs(named_row_call("find_from", "", place)?, want))
+        is_place_of_signs(find_from(&self.buf, start, self.needle), want)
     }
 
     /// Takes what is before the needle.
@@ -112,11 +105,8 @@ impl CalledByRow for FindRun<'_> {
         }
         let (name, rest) = call.split_once(' ').unwrap_or((call, ""));
         match name {
-            "find" => {
-                let place = find(&self.buf, self.alloc, self.needle);
-                Ok(is_place_of_signs(named_row_call("find", "", place)?, rest))
-            }
-            "find_from" | "find_short" => self.find_from(name, rest),
+            "find" => Ok(is_place_of_signs(find(&self.buf, self.needle), rest)),
+            "find_from" => Ok(self.find_from(rest)),
             "take_until" => self.take_until(rest),
             "new" => self.renew(),
             _ => Ok(self.search(name, rest)),

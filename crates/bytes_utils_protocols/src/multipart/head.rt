@@ -34,7 +34,7 @@ pub(super) fn read_head(
     ensures reason { IfErr result (λ e. (reason : _) → e ≡ PartError.Refused reason
         → reason ≡ Reason.OutOfMemory) }
 {
-    let Some(len) = find(raw, alloc, HEAD_END)? else {
+    let Some(len) = find(raw, HEAD_END) else {
         return Err(PartError::Malformed);
     };
     let Some(head) = head_in(raw.peek_bytes(alloc, len)?) else {

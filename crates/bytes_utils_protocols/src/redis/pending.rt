@@ -17,7 +17,7 @@ use bytes_utils::contiguous::ContiguousBuf;
 use bytes_utils::segmented::PackedBuf;
 use bytes_utils::{Reason, Refused};
 use bytes_utils_codec::cursor::{Cursor, Mismatch};
-use bytes_utils_codec::find::find_short;
+use bytes_utils_codec::find::find_from;
 use std::alloc::Global;
 use std::mem::replace;
 
@@ -288,7 +288,7 @@ fn end_of_pending_line(pieces: &PackedBuf, read: usize) -> (usize, LineEnd)
     ensures none { (more : List ℕ) → NoLineEnds result.0 (concat pieces.now.held.segments ++ more) }
     ensures end { RedisLineEndsAt result.1 result.0 (concat pieces.now.held.segments) }
 {
-    if let Some(len) = find_short(pieces.as_segmented(), read, LINE_END) {
+    if let Some(len) = find_from(pieces.as_segmented(), read, LINE_END) {
         return (len, LineEnd::Here);
     }
     let all = pieces.remaining();

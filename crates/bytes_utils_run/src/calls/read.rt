@@ -10,7 +10,7 @@ use std::alloc::Global;
 
 /// Makes this call and returns its reply.
 pub(super) fn make_read<B: BufParts>(alloc: Global, buf: &mut B, call: ReadCall) -> Reply
-    ensures reply { IsRead call (lists_for_calls (B.unread buf.old)) result (lists_for_calls (B.unread buf.new)) }
+    ensures reply { IsRead B.loses call (lists_for_calls (B.unread buf.old)) result (lists_for_calls (B.unread buf.new)) }
     ensures kept { B.kept buf.new ≡ B.kept buf.old }
 {
     match call {
@@ -23,8 +23,8 @@ pub(super) fn make_read<B: BufParts>(alloc: Global, buf: &mut B, call: ReadCall)
 }
 
 #[tactic(auto, using(crate::proofs::CallsLemmas::concat_lists_of, crate::proofs::CallsLemmas::skips_lists_of))]
-fn read_advance<B: Buf>(buf: &mut B, cnt: usize) -> Reply
-    ensures reply { IsRead (ReadCall.Advance cnt)
+fn read_advance<B: BufParts>(buf: &mut B, cnt: usize) -> Reply
+    ensures reply { IsRead B.loses (ReadCall.Advance cnt)
         (lists_for_calls (B.unread buf.old)) result (lists_for_calls (B.unread buf.new)) }
     ensures kept { B.kept buf.new ≡ B.kept buf.old }
 {
@@ -37,7 +37,7 @@ fn read_advance<B: Buf>(buf: &mut B, cnt: usize) -> Reply
 
 #[tactic(auto, using(crate::proofs::CallsLemmas::concat_lists_of, crate::proofs::CallsLemmas::skips_lists_of))]
 fn read_copy<B: BufParts>(alloc: Global, buf: &mut B, len: usize) -> Reply
-    ensures reply { IsRead (ReadCall.CopyOut len)
+    ensures reply { IsRead B.loses (ReadCall.CopyOut len)
         (lists_for_calls (B.unread buf.old)) result (lists_for_calls (B.unread buf.new)) }
     ensures kept { B.kept buf.new ≡ B.kept buf.old }
 {

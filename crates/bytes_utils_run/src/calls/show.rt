@@ -9,8 +9,8 @@ use bytes_utils::parts::BufParts;
 use std::alloc::{AllocError, Global};
 
 /// Copies the first chunk.
-pub(super) fn show_chunk<B: Buf>(alloc: Global, buf: &B) -> Reply
-    ensures { IsReply Reading.Chunk (B.unread buf.now) result }
+pub(super) fn show_chunk<B: BufParts>(alloc: Global, buf: &B) -> Reply
+    ensures { IsReply B.loses Reading.Chunk (B.unread buf.now) result }
 {
     match buf.chunk().to_vec(alloc) {
         Ok(copy) => Reply::Shown(copy),
@@ -20,7 +20,7 @@ pub(super) fn show_chunk<B: Buf>(alloc: Global, buf: &B) -> Reply
 
 /// Copies the slices that a table of `places` places is filled with.
 pub(super) fn show_slices<B: BufParts>(alloc: Global, buf: &B, places: usize) -> Reply
-    ensures { IsReply (Reading.Chunks places) (B.unread buf.now) result }
+    ensures { IsReply B.loses (Reading.Chunks places) (B.unread buf.now) result }
 {
     match shown_slices(alloc, buf, places) {
         Ok(slices) => Reply::Slices(slices),

@@ -30,7 +30,7 @@ fn cursor_calls_if_memory_is_refused(rt: HostRuntime) {
     }
 }
 
-/// A search within a limit asks for no memory if that is refused: none of these calls fails for memory.
+/// No search asks for memory, and no bytes are before these needles: none of these calls fails.
 const LIMITED: &str = "take_until_within 12345678901234567 0 long, \
     take_until_within 678901234567890.abc 100 none, take_until_within 12345678901234567 1 0, at 18";
 

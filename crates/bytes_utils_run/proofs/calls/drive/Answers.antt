@@ -15,7 +15,7 @@ pub loop-call-preserved : goal.loop-call-preserved
 loop-call-preserved g c = record {
   room = HasRoom-push c.args.calls c.loop-call.yielded _ _ _ _ c.loop-call.given c.push_reserved.new.self c.in-Some.call c.loop-call.invariant.room
       c.in-Some.ensures.steps c.push_reserved.ensures.len c.push_reserved.ensures.capacity;
-  run = IsRunOfCalls-push (IsCall g.B.Buf.unread) c.loop-call.yielded c.args.buf.now c.loop-call.given.items c.loop-call.buf c.in-Some.call c.make_segmented.result
+  run = IsRunOfCalls-push (IsCall g.B.Buf.unread g.B.BufParts.loses) c.loop-call.yielded c.args.buf.now c.loop-call.given.items c.loop-call.buf c.in-Some.call c.make_segmented.result
       c.make_segmented.new.buf _ c.push_reserved.ensures.items c.loop-call.invariant.run c.make_segmented.ensures.reply;
   paid = omega (arith, c.loop-call.invariant.paid, c.make_segmented.ensures.paid);
 }

@@ -7,23 +7,23 @@ use Rattle.bytes_utils_protocols.proofs.multipart.head.read_head.Goals as goal
 
 pub returns-in_default-clause-malformed : goal.returns-in_default-clause-malformed
 returns-in_default-clause-malformed c _ any part =
-    let none = rw c.in_default.is at c.in_ok-len.ensures.none in
+    let none = c.in_default.ensures.none in
     no_head_end any (concat c.args.raw.now.segments) part none
 
 pub returns-in_default-head_in-clause-malformed : goal.returns-in_default-head_in-clause-malformed
 returns-in_default-head_in-clause-malformed c _ any part =
     let raw = concat c.args.raw.now.segments in
     let len = c.in-Some.len in
-    let cut : TakesFrame multipart_head_end raw (take len raw) (drop (len + length multipart_head_end) raw) = rw c.in-Some.is at c.in_ok-len.ensures.frame in
+    let cut : TakesFrame multipart_head_end raw (take len raw) (drop (len + length multipart_head_end) raw) = c.in-Some.ensures.frame in
     no_head any raw (take len raw) (drop (len + length multipart_head_end) raw) part cut (rw c.in_ok-peek_bytes.ensures.value at c.in_default-head_in.ensures.none)
 
 pub returns-clause-not_utf8 : goal.returns-clause-not_utf8
 returns-clause-not_utf8 c _ =
     let raw = concat c.args.raw.now.segments in
     let len = c.in-Some.len in
-    let cut : TakesFrame multipart_head_end raw (take len raw) (drop (len + length multipart_head_end) raw) = rw c.in-Some.is at c.in_ok-len.ensures.frame in
+    let cut : TakesFrame multipart_head_end raw (take len raw) (drop (len + length multipart_head_end) raw) = c.in-Some.ensures.frame in
     let head = rw c.in_ok-peek_bytes.ensures.value at c.in-Some-head_in.ensures.some in
-    let within = rw c.in-Some.is at c.in_ok-len.ensures.within in (
+    let within = c.in-Some.ensures.within in (
       multipart_bytes c.in-Some-head_in.head (drop (len + length multipart_head_end) raw),
       is_part c.args.limits raw len c.in-Some-head_in.head cut head within (omega (arith, c.if-start-limits.false)) (omega (arith, c.if-remaining-start.false, c.remaining.ensures)),
       λ utf8. search (rules, utf8),

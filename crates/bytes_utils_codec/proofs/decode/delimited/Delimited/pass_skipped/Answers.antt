@@ -1,7 +1,7 @@
 use Rattle.std.proofs.Common.{◌≡◌, ◌∙◌, ap, sym, arith, ℕ, ◌≤◌, ◌<◌, ◌-◌, Bool, length, drop, max, inl, inr}
 use Rattle.std.specs.List.{concat}
 use Rattle.bytes_utils_buf.specs.Packing.{Packing}
-use Rattle.bytes_utils_codec.specs.Decoding.{Decoding, decoding}
+use Rattle.bytes_utils_codec.specs.Decoding.{decoding}
 use Rattle.bytes_utils_codec.specs.Delimited.{Delimiting, ready_delimited}
 use Rattle.bytes_utils_codec.specs.Search.{Searching, search_from_front}
 use Rattle.bytes_utils_codec.proofs.DelimitedLemmas.{passed_found, lacks_missed, same_missed, drops_missed}
