@@ -40,7 +40,7 @@ reaches_then s fed is mid passes =
     passes_then s.decoder.max_length s.threshold s.decoder.searched s.decoder.lossy s.decoder.place s.held mid
     (subst (λ t. PassesLongUniversal t mid) is passes)
 
--- a line is dropped_universal, and then its end
+-- a line is dropped, and then its end
 pub after_end_is : (s : UniversalState) (len : ℕ) → after_universal_end 0 (record s { held = drop len s.held }) ≡ after_universal_end len s
 after_end_is s len =
     let next : suc len ≡ len + 1 = omega arith in
@@ -190,7 +190,7 @@ module _ (lossy : Bool) (limit threshold : ℕ) where
       one_line (InLong bytes many none) (after_line len bytes) [] (take len bytes) (Err TooLong) (first_line bytes len from_front)
       (record { within = λ few. absurd (omega (arith, few, length-take len bytes, found.0.low, found.0.high)); over = λ long. refl }) refl
 
-  -- the universal_state after these items
+  -- the state after these items
   record Ends (front : Front) (items : List LineItem) (end : UniversalState) : Type 0 where
     last : Front
     is : end ≡ state_at last
@@ -212,7 +212,7 @@ module _ (lossy : Bool) (limit threshold : ℕ) where
       let end = InLong (universal_feed_passed place held).1 over.many over.none in
       record { last = end; is = is; reports = record { given = []; lines = []; are = tt; are_lines = refl; all = ap (λ i. i ∷ []) long } }
 
-  -- the front that a universal_state reaches
+  -- the front that a state reaches
   record Reached (front : Front) (mid : UniversalState) : Type 0 where
     place : Place
     passed : IsUniversalPassed place

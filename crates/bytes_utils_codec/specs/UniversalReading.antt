@@ -91,7 +91,7 @@ pub record ReachesUniversal (old new : Decoding UniversalReading) : Type 0 where
 abbrev pub SkipsUniversal : Decoding UniversalReading → Type 0
 SkipsUniversal s = (s.decoder.place ≡ LongLine) × LacksUniversalEnd s
 
--- its bytes that have come are dropped_universal
+-- its bytes that have come are dropped
 abbrev pub dropped_universal : Decoding UniversalReading → Decoding UniversalReading
 dropped_universal s = record s { decoder = record s.decoder { searched = s.decoder.searched - length s.held }; held = [] }
 
@@ -143,7 +143,7 @@ fails_universal s reason = (reason ≡ OutOfMemory) × (HasUniversalLine s ⊎ H
 abbrev pub all_universal_searched : Decoding UniversalReading → Decoding UniversalReading
 all_universal_searched s = record s { decoder = record s.decoder { searched = max s.decoder.searched (length s.held) } }
 
--- More bytes have to come. Those of a line that is skipped are dropped_universal; those of the next line are all searched.
+-- More bytes have to come. Those of a line that is skipped are dropped; those of the next line are all searched.
 abbrev pub StopsUniversal : Decoding UniversalReading → Decoding UniversalReading → Type 0
 StopsUniversal old new = (SkipsUniversal old × (new ≡ dropped_universal old))
     ⊎ ((mid : Decoding UniversalReading) × ReachesUniversal old mid × AwaitsUniversalEnd mid × (new ≡ all_universal_searched mid))

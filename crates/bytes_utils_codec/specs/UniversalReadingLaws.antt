@@ -302,7 +302,7 @@ same_reached s mid reaches =
       ReachesUniversal-feed (fed mid more) (ReachesUniversal-passed s mid reaches),
     ))
 
--- the bytes of a line that is skipped are dropped_universal, and no end that is looked for is among them
+-- the bytes of a line that is skipped are dropped, and no end that is looked for is among them
 module _ (limit threshold from : ℕ) (lossy : Bool) (held : List ℕ) (lacks : FindsUniversalEnd held from None) (more : List ℕ) where
   abbrev whole : UniversalState
   whole = universal_state limit threshold from lossy LongLine (held ++ more)

@@ -82,7 +82,7 @@ impl<'a, B: ContiguousBuf + Drop> Model for Cursor<'a, B> {
 }
 
 impl<'a, B: ContiguousBuf + Drop> Cursor<'a, B> {
-    /// Makes a cursor at the first byte of `buf`.
+    /// Makes a cursor at the first byte of `buf`. Requests for memory are made from `alloc`.
     pub fn new(alloc: Global, buf: &'a SegmentedBuf<B>) -> Cursor<'a, B>
         ensures { result ≡ record { all = concat buf.now.segments; at = 0 } }
     {

@@ -1,5 +1,5 @@
 //! A search for a needle in the bytes of many segments.
-ghost use Rattle.std.specs.Prelude.{◌≡◌, ◌+◌, ◌-◌, ◌*◌, ◌^◌, ◌<◌, ◌≤◌, ◌++◌, length, min, take, drop, Some, IsOk, IfOk, IfErr, IfSome, IfNone, OnErr};
+ghost use Rattle.std.specs.Prelude.{◌≡◌, ◌+◌, ◌-◌, ◌*◌, ◌^◌, ◌<◌, ◌≤◌, ◌++◌, length, min, take, drop, Some, IfOk, IfErr, IfSome, IfNone, OnErr};
 ghost use Rattle.std.specs.List.{concat};
 ghost use Rattle.memchr.specs.Find.{FindsNeedle, IsFirst, Nowhere, OccursAt};
 ghost use Rattle.bytes_utils_buf.specs.Segments.{CountsPass, IsPaid, IsPlace, SkipsSegments};
@@ -19,8 +19,8 @@ use std::alloc::Global;
 /// A longer needle is looked for by this number of its first bytes.
 const SHORT: usize = 16;
 
-/// Returns the byte place of the first occurrence of `needle`, also across segments, as
-/// `memmem::find` of the joined bytes. It asks for no memory.
+/// Returns the byte place of the first occurrence of `needle`, also across segments, or `None` if
+/// there is none, as `memmem::find` of the joined bytes. It asks for no memory.
 ///
 /// ```text
 /// body.push(first)?;                // a `Bytes` of `GET / HTTP/1.1\r`
@@ -42,7 +42,7 @@ pub fn find<B: ContiguousBuf + Drop>(buf: &SegmentedBuf<B>, needle: &[u8]) -> Op
 
 /// As `find`, from place `start` on. An empty needle is found at `start`, unless that is past the
 /// end of the bytes. Segments before `start` are skipped. A needle of more than 16 bytes is compared
-/// at each place where its first 16 are.
+/// at each place where its first 16 are: if a peer can repeat these, a `Search` takes less time.
 #[tactic(auto, using(crate::proofs::FoundLemmas::start_found, crate::proofs::FoundLemmas::within_found, crate::proofs::FoundLemmas::frame_found, crate::proofs::FoundLemmas::none_found))]
 pub fn find_from<B: ContiguousBuf + Drop>(
     buf: &SegmentedBuf<B>,
@@ -131,7 +131,8 @@ pub(crate) fn find_prepared<B: ContiguousBuf + Drop>(
     find_from_segment(buf, from, finder, buf.segment_of(from)?, window)
 }
 
-/// The first place of the needle from `start` on.
+/// The first place of the needle from `start` on. A needle of more than 16 bytes is compared at each
+/// place where its first 16 are.
 fn find_far<B: ContiguousBuf + Drop>(
     buf: &SegmentedBuf<B>,
     start: usize,
@@ -139,12 +140,16 @@ fn find_far<B: ContiguousBuf + Drop>(
 ) -> Option<usize>
     ensures { FindsNeedle (concat buf.now.segments) needle.now start result }
 {
-    if needle.len() <= SHORT {
-        return find_short(buf, start, needle);
+    if needle.is_empty() {
+        return (start <= buf.remaining()).then_some(start);
     }
-    let front = &needle[..SHORT];
+    if needle.len() <= SHORT {
+        let finder = Finder::new(needle);
+        return find_front(buf, start, &finder);
+    }
+    let finder = Finder::new(&needle[..SHORT]);
     let mut from = start;
-    while let Some(at) = find_short(buf, from, front) {
+    while let Some(at) = find_front(buf, from, &finder) {
         if buf.holds_at(at, needle) {
             return Some(at);
         }
@@ -153,27 +158,19 @@ fn find_far<B: ContiguousBuf + Drop>(
     None
 }
 
-/// The same of a needle that is not long.
-fn find_short<B: ContiguousBuf + Drop>(
+/// The first place from `start` on of a needle of at most 16 bytes.
+fn find_front<B: ContiguousBuf + Drop>(
     buf: &SegmentedBuf<B>,
     start: usize,
-    needle: &[u8],
+    finder: &Finder,
 ) -> Option<usize>
-    requires { length needle.now ≤ 16 }
-    ensures found { FindsNeedle (concat buf.now.segments) needle.now start result }
+    requires some { 0 < length finder.now }
+    requires short { length finder.now ≤ 16 }
+    ensures found { FindsNeedle (concat buf.now.segments) finder.now start result }
     ensures fits { length (concat buf.now.segments) < 2 ^ 64 }
 {
-    if needle.is_empty() {
-        return (start <= buf.remaining()).then_some(start);
-    }
-    let finder = Finder::new(needle);
-    find_from_segment(
-        buf,
-        start,
-        &finder,
-        buf.segment_of(start)?,
-        &mut [0; 2 * SHORT],
-    )
+    let first = buf.segment_of(start)?;
+    find_from_segment(buf, start, finder, first, &mut [0; 2 * SHORT])
 }
 
 /// The first place of the needle from `start` on, if it is in the first segment and

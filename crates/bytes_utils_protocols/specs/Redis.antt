@@ -42,7 +42,7 @@ abbrev pub redis_first_byte : Item → ℕ
 redis_first_byte (Simple text) = 43
 redis_first_byte (Error text) = 45
 redis_first_byte (Integer n) = 58
-redis_first_byte (Bulk redis_body) = 36
+redis_first_byte (Bulk body) = 36
 redis_first_byte (Array count) = 42
 
 -- the first byte of the line of a text or of an error
@@ -54,7 +54,7 @@ abbrev pub IsRedisLineRest : Item → List ℕ → Type 0
 IsRedisLineRest (Simple text) said = (text ≡ said) × IsRedisPlain said
 IsRedisLineRest (Error text) said = (text ≡ said) × IsRedisPlain said
 IsRedisLineRest (Integer n) said = WriteRedisInteger said n
-IsRedisLineRest (Bulk redis_body) said = WriteRedisLength said (option_map length redis_body)
+IsRedisLineRest (Bulk body) said = WriteRedisLength said (option_map length body)
 IsRedisLineRest (Array count) said = WriteRedisLength said count
 
 abbrev pub IsRedisLineOf : Item → List ℕ → Type 0
@@ -83,7 +83,7 @@ abbrev pub redis_items_in : Item → ℕ
 redis_items_in (Simple text) = 0
 redis_items_in (Error text) = 0
 redis_items_in (Integer n) = 0
-redis_items_in (Bulk redis_body) = 0
+redis_items_in (Bulk body) = 0
 redis_items_in (Array None) = 0
 redis_items_in (Array (Some count)) = count
 

@@ -95,8 +95,9 @@ impl<D: Decoder> Framed<D> {
         self.held.push_slice(self.alloc, bytes)
     }
 
-    /// Sets the room that a read has, at least: `room` bytes, or 1 for 0. It is 512 before. A caller
-    /// who expects a long item sets more.
+    /// Sets the room that a read of `read_from` or `read_item` has, at least: `room` bytes, or 1 for
+    /// 0. Before, it is 512, or that of the `PackedBuf` that `from_parts` took. A caller who expects
+    /// a long item sets more.
     pub fn set_read_room(&mut self, room: usize)
         ensures { self.new ≡ self.old }
     {

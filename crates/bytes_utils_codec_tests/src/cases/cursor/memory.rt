@@ -30,12 +30,12 @@ fn cursor_calls_if_memory_is_refused(rt: HostRuntime) {
     }
 }
 
-/// No search asks for memory, and no bytes are before these needles: none of these calls fails.
+/// A search asks for no memory, and what is before these needles is shared: no call is refused memory.
 const LIMITED: &str = "take_until_within 12345678901234567 0 long, \
     take_until_within 678901234567890.abc 100 none, take_until_within 12345678901234567 1 0, at 18";
 
 #[test]
-fn cursor_within_a_limit_if_memory_is_refused(rt: HostRuntime) {
+fn cursor_searches_need_no_memory(rt: HostRuntime) {
     if let Some(buf) = in_segments(rt.alloc(), PIECES) {
         let mut run = CursorRun {
             cursor: Cursor::new(rt.alloc(), &buf),

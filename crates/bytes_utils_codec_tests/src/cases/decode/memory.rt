@@ -4,7 +4,7 @@ use super::rows::{assert_decode_row_reads, assert_decode_rows};
 use crate::cases::fixtures::readers::SlowReader;
 use bytes_utils_codec::decode::{Delimited, LengthPrefixed, Lines, UniversalLines};
 
-/// A separator for which a search that keeps no window asks for memory.
+/// A separator of 17 bytes, which the pieces cut, as they cut the frame before it.
 const FRAMES: &str =
     "any 0123456789abcdef-: &, +a0123456, +789abcdef-0123456789abcdef-, a#601, $empty";
 
