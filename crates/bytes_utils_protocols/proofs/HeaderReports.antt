@@ -8,24 +8,25 @@ use Rattle.std.proofs.lemmas.List.Elements.{All-head, All-tail}
 use Rattle.bytes_utils_protocols.specs.declared.requests.LengthError.{LengthError}
 use Rattle.bytes_utils_protocols.specs.declared.requests.LengthError.TheVariants.{NotAHeader, NotANumber, Unequal, UnknownFraming}
 use Rattle.bytes_utils_protocols.specs.Digits.{colon}
-use Rattle.bytes_utils_protocols.specs.Requests.{RequestHeaderReports, IsRequestHeader, RequestLineReports, content_length, is_request_name_byte, transfer_encoding}
+use Rattle.bytes_utils_protocols.specs.Headers.{IsHeader, is_header_name_byte}
+use Rattle.bytes_utils_protocols.specs.Requests.{RequestHeaderReports, RequestLineReports, content_length, transfer_encoding}
 
 -- a name ends at the colon
-name_len : (name value : List ℕ) → AllPass is_request_name_byte name → prefix_len is_request_name_byte (name ++ colon ∷ value) ≡ length name
+name_len : (name value : List ℕ) → AllPass is_header_name_byte name → prefix_len is_header_name_byte (name ++ colon ∷ value) ≡ length name
 name_len [] value visible = refl
 name_len (b ∷ name) value visible =
-    let here : is_request_name_byte b ≡ true = All-head (λ x. is_request_name_byte x ≡ true) b name visible in
-    let others = name_len name value (All-tail (λ x. is_request_name_byte x ≡ true) b name visible) in
+    let here : is_header_name_byte b ≡ true = All-head (λ x. is_header_name_byte x ≡ true) b name visible in
+    let others = name_len name value (All-tail (λ x. is_header_name_byte x ≡ true) b name visible) in
     rw here (omega (arith, others))
 
 -- the line is cut after the bytes at its front that a name may have
 pub record IsCutAfterName (line name rest : List ℕ) : Type 0 where
   pub len : ℕ
-  pub len_is : len ≡ prefix_len is_request_name_byte line
+  pub len_is : len ≡ prefix_len is_header_name_byte line
   pub name_is : name ≡ take len line
   pub rest_is : rest ≡ drop len line
 
-pub cut_after_name : (line : List ℕ) {name rest : List ℕ} (len : ℕ) → len ≡ prefix_len is_request_name_byte line → name ≡ take len line → rest ≡ drop len line
+pub cut_after_name : (line : List ℕ) {name rest : List ℕ} (len : ℕ) → len ≡ prefix_len is_header_name_byte line → name ≡ take len line → rest ≡ drop len line
     → IsCutAfterName line name rest
 cut_after_name line len len_is name_is rest_is = record { len = len; len_is = len_is; name_is = name_is; rest_is = rest_is }
 
@@ -36,23 +37,23 @@ one_cut {line} a b =
     (a.name_is ∙ ap (λ n. take n line) same ∙ sym b.name_is, a.rest_is ∙ ap (λ n. drop n line) same ∙ sym b.rest_is)
 
 -- a header is cut between its name and its colon
-pub cut_of_header : (line name value : List ℕ) → IsRequestHeader line name value → IsCutAfterName line name (colon ∷ value)
+pub cut_of_header : (line name value : List ℕ) → IsHeader line name value → IsCutAfterName line name (colon ∷ value)
 cut_of_header line name value is = record {
   len = length name;
-  len_is = sym (ap (prefix_len is_request_name_byte) is.parts ∙ name_len name value is.visible);
+  len_is = sym (ap (prefix_len is_header_name_byte) is.parts ∙ name_len name value is.visible);
   name_is = sym (ap (take (length name)) is.parts ∙ take-append_seam name (colon ∷ value));
   rest_is = sym (ap (drop (length name)) is.parts ∙ drop-append_seam name (colon ∷ value));
 }
 
 -- a line that is cut between a name and a colon is a header
-pub header_of_cut : {line name rest : List ℕ} (value : List ℕ) → IsCutAfterName line name rest → 0 < length name → rest ≡ colon ∷ value → IsRequestHeader line name value
+pub header_of_cut : {line name rest : List ℕ} (value : List ℕ) → IsCutAfterName line name rest → 0 < length name → rest ≡ colon ∷ value → IsHeader line name value
 header_of_cut {line} {name} value cut some rest_is = record {
   parts = sym (take-append-drop cut.len line) ∙ (λ i. sym cut.name_is i ++ sym cut.rest_is i) ∙ ap (λ rest. name ++ rest) rest_is;
   some = some;
   visible = λ k d below.
       let short : k < cut.len = let e = ap length cut.name_is in omega (arith, length-take cut.len line) in
-      let passes = prefix_len_passes is_request_name_byte line k d (omega (arith, cut.len_is)) in
-      subst (λ b. is_request_name_byte b ≡ true) (sym (ap (λ l. get_or l k d) cut.name_is ∙ get_or-take cut.len line k d short)) passes;
+      let passes = prefix_len_passes is_header_name_byte line k d (omega (arith, cut.len_is)) in
+      subst (λ b. is_header_name_byte b ≡ true) (sym (ap (λ l. get_or l k d) cut.name_is ∙ get_or-take cut.len line k d short)) passes;
 }
 
 other_names : content_length ≡ transfer_encoding → ⊥

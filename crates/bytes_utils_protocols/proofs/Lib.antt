@@ -7,6 +7,8 @@ pub mod ReplyBeginnings
 pub mod LineSteps
 pub mod ReplyEnds
 pub mod PendingReplies
+pub mod DispositionLemmas
+pub mod UnescapedLemmas
 pub mod MultipartLemmas
 pub mod NetstringsLemmas
 pub mod MultipartLaws

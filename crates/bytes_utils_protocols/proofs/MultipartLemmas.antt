@@ -1,10 +1,13 @@
 -- Parts between boundaries.
-use Rattle.std.proofs.Common.{◌≡◌, ◌≢◌, ℕ, ◌+◌, ◌<◌, ◌≤◌, List, [], ◌∷◌, ◌++◌, length, take, drop, get_or, ap, ◌∙◌, sym, refl, subst, arith, length-append, length-drop, ◌-◌, append_assoc, take-append-drop, ⊎_elim, inl, inr, true, false, ◌⊎◌, All, Bor, Option, None, Some, MatchOption, Result, Ok, Err, OnOk, OnErr}
-use Rattle.std.proofs.lemmas.Bool.{cases_lt}
+use Rattle.std.proofs.Common.{IfSome, IfNone, option_map, IsTrue, ◌↔◌, not, Bool, ◌≡◌, ◌≢◌, ℕ, ◌+◌, ◌<◌, ◌≤◌, List, [], ◌∷◌, ◌++◌, length, take, drop, get_or, ap, ◌∙◌, sym, refl, subst, arith, length-append, length-drop, ◌-◌, append_assoc, take-append-drop, append-nil, ⊎_elim, inl, inr, true, false, ◌⊎◌, All, Bor, Option, None, Some, MatchOption, Result, Ok, Err, OnOk, OnErr}
+use Rattle.std.proofs.lemmas.Bool.{cases_lt, false≢true}
+use Rattle.std.proofs.lemmas.List.Elements.{All-nil, All-push}
 use Rattle.std.proofs.lemmas.List.{append_cancel_left, length-take-le}
 use Rattle.std.proofs.lemmas.Str.Pattern.{split_text_parts}
 use Rattle.std.specs.Bool.{MatchBool}
 use Rattle.std.specs.List.{concat}
+use Rattle.std.specs.Str.Lines.{lines}
+use Rattle.std.proofs.lemmas.List.Folds.{concat-append}
 use Rattle.std.specs.Str.Pattern.{FindsText, SplitsAroundMatch}
 use Rattle.bytes_utils_codec.specs.Frames.{TakesFrame}
 use Rattle.bytes_utils.specs.Occurrence.{Occurs, OccursAt}
@@ -15,7 +18,7 @@ use Rattle.bytes_utils_buf.specs.declared.refused.Refused.{Refused}
 use Rattle.bytes_utils_codec.proofs.FramesLemmas.{TakesFrame-more, TakesFrame-same}
 use Rattle.bytes_utils_codec.proofs.SearchLemmas.{NoneBeginsInSearch-more}
 use Rattle.bytes_utils.proofs.OccurrenceLemmas.{OccursAt-between, OccursAt-front, cut_whole}
-use Rattle.bytes_utils_protocols.specs.Multipart.{FewWaitInMultipart, IsMultipartIdle, MultipartReading, multipart_appended, multipart_closed, multipart_line_end, multipart_dashes, multipart_head_end, MultipartBytes, multipart_bytes, IsMultipartHead, IsMultipartPart, TakesMultipart, IsMultipartDue, NoMultipart, ClosesMultipart, LacksNextInMultipart, held_in_multipart_sections, AreMultipartSectionsApart, multipart_sections_have_ended, multipart_quote, IsQuotedInMultipart, IsMultipartDisposition, NoMultipartDisposition, IsFirstMultipartDisposition, held_by_multipart, waiting_in_multipart, IsMultipartDivided, SameMultipartSections, AfterMultipartSearch}
+use Rattle.bytes_utils_protocols.specs.Multipart.{AreMultipartFields, IsMultipartFieldLine, FewWaitInMultipart, IsMultipartIdle, MultipartReading, multipart_appended, multipart_closed, multipart_line_end, multipart_dashes, multipart_head_end, MultipartBytes, multipart_bytes, IsMultipartHead, IsMultipartPart, TakesMultipart, IsMultipartDue, EachMultipart, NoMultipart, ClosesMultipart, LacksNextInMultipart, held_in_multipart_sections, AreMultipartSectionsApart, multipart_sections_have_ended, held_by_multipart, waiting_in_multipart, IsMultipartDivided, SameMultipartSections, AfterMultipartSearch, HasMultipartDisposition, IsFirstMultipartDisposition, IsMultipartDisposition, IsMultipartFolded, NoMultipartDisposition, ReadsMultipartDisposition}
 use Rattle.bytes_utils_protocols.specs.declared.multipart.limits.Limits.{Limits}
 use Rattle.bytes_utils_protocols.specs.declared.multipart.sections.Sections.{Sections}
 use Rattle.bytes_utils_protocols.specs.declared.multipart.sections.Stage.{Stage}
@@ -100,13 +103,13 @@ module _ (d : List ℕ) (limits : Limits) where
       left = refl;
     }
 
-    -- what was found is no part
-    pub no_found : ((part : MultipartBytes) → ¬ IsMultipartPart limits f part) → (more : List ℕ) → NoMultipart d limits ((p ++ (d ++ (f ++ (d ++ v)))) ++ more)
-    no_found none more part rest takes =
+    -- what is true of each part that was found is true of each that is there
+    pub each_found : (P : MultipartBytes → Type 0) → ((part : MultipartBytes) → IsMultipartPart limits f part → P part) → (more : List ℕ) → EachMultipart P d limits ((p ++ (d ++ (f ++ (d ++ v)))) ++ more)
+    each_found P each more part rest takes =
         let same = around p (f ++ (d ++ v)) begins more part rest takes in
         let next = subst (λ l. TakesFrame d l takes.raw takes.next) (sym same.1) takes.ends in
         let raw = TakesFrame-same d ((f ++ (d ++ v)) ++ more) f takes.raw (v ++ more) takes.next (TakesFrame-more d (f ++ (d ++ v)) f v more ends) next in
-        none part (subst (λ l. IsMultipartPart limits l part) (sym raw.0) takes.is)
+        each part (subst (λ l. IsMultipartPart limits l part) (sym raw.0) takes.is)
 
 -- ---- what is found
 
@@ -161,15 +164,16 @@ module _ (s : Sections) (is_found : s.stage ≡ Found) (divided : IsMultipartDiv
         subst (λ stage. IsMultipartDue d limits (held_in_multipart_sections stage d p f v)) (sym is_found)
         (record { preamble = p; after = f ++ (d ++ v); begins = both.0; raw = f; next = v; ends = both.1; few = few })
 
-    -- what was found is no part
-    pub none_in_found : ((part : MultipartBytes) → ¬ IsMultipartPart limits (concat s.found.segments) part) → (more : List ℕ) → NoMultipart s.delimiter.needle limits (held_by_multipart s ++ more)
-    none_in_found none more =
+    -- what is true of each part that was found is true of each that is there
+    pub each_in_found : (P : MultipartBytes → Type 0) → ((part : MultipartBytes) → IsMultipartPart limits (concat s.found.segments) part → P part) → (more : List ℕ)
+        → EachMultipart P s.delimiter.needle limits (held_by_multipart s ++ more)
+    each_in_found P each more =
         let d = s.delimiter.needle in
         let p = s.preamble in
         let f = concat s.found.segments in
         let v = waiting_in_multipart s in
         let both : AreMultipartSectionsApart Found d p f v = subst (λ stage. AreMultipartSectionsApart stage d p f v) is_found divided.0 in
-        subst (λ stage. NoMultipart d limits (held_in_multipart_sections stage d p f v ++ more)) (sym is_found) (no_found d limits p f v both.0 both.1 none more)
+        subst (λ stage. EachMultipart P d limits (held_in_multipart_sections stage d p f v ++ more)) (sym is_found) (each_found d limits p f v both.0 both.1 P each more)
 
 -- ---- a piece is pushed
 
@@ -296,10 +300,10 @@ module _ (d : List ℕ) (limits : Limits) where
       no_dashes limits takes.raw part (d ++ takes.next) takes.is (whole ∙ ap (λ l. multipart_dashes ++ l) (sym (ap (drop 2) whole)))
 
 -- the bytes that are held now are those from before
-pub none_of_same : (old new : Sections) → SameMultipartSections old new → (limits : Limits) (more : List ℕ) → NoMultipart new.delimiter.needle limits (held_by_multipart new ++ more)
-    → NoMultipart old.delimiter.needle limits (held_by_multipart old ++ more)
-none_of_same old new same limits more none =
-    subst (λ l. NoMultipart l limits (held_by_multipart old ++ more)) same.delimiter (subst (λ l. NoMultipart new.delimiter.needle limits (l ++ more)) same.held none)
+pub each_of_same : (P : MultipartBytes → Type 0) (old new : Sections) → SameMultipartSections old new → (limits : Limits) (more : List ℕ) → EachMultipart P new.delimiter.needle limits (held_by_multipart new ++ more)
+    → EachMultipart P old.delimiter.needle limits (held_by_multipart old ++ more)
+each_of_same P old new same limits more each =
+    subst (λ l. EachMultipart P l limits (held_by_multipart old ++ more)) same.delimiter (subst (λ l. EachMultipart P new.delimiter.needle limits (l ++ more)) same.held each)
 
 -- ---- few bytes wait
 
@@ -379,7 +383,7 @@ module _ (limits : Limits) (old s : Sections) where
     same_none : (stage : Stage) → s.stage ≡ stage → SameMultipartSections old s
         → NoMultipart s.delimiter.needle limits (held_in_multipart_sections stage s.delimiter.needle s.preamble (concat s.found.segments) (waiting_in_multipart s) ++ more) → NoMultipart old.delimiter.needle limits (held_by_multipart old ++ more)
     same_none stage is same none =
-        none_of_same old s same limits more
+        each_of_same (λ _. ⊥) old s same limits more
         (subst (λ stage. NoMultipart s.delimiter.needle limits (held_in_multipart_sections stage s.delimiter.needle s.preamble (concat s.found.segments) (waiting_in_multipart s) ++ more)) (sym is) none)
 
     pub over_limits : (stage : Stage) → s.stage ≡ stage → AfterMultipartSearch stage old s → AreMultipartSectionsApart stage s.delimiter.needle s.preamble (concat s.found.segments) (waiting_in_multipart s)
@@ -399,41 +403,6 @@ module _ (limits : Limits) (old s : Sections) where
     over_limits Found is after parts (inr waits) = absurd (waits.0 is)
     over_limits Ended is after parts (inl much) = absurd (omega (arith, much, ap length parts.0))
     over_limits Ended is after parts (inr waits) = absurd (omega (arith, waits.1, ap length parts.1))
-
--- ---- the name
-
--- what `split_once` gives at a text, or that the text occurs nowhere
-pub split_at_text : (p text : List ℕ) (r : Option (Bor (List ℕ) × Bor (List ℕ))) → MatchOption r (FindsText p text None) (λ x. SplitsAroundMatch (FindsText p) text x.0.now x.1.now)
-    → MatchOption r (¬ Occurs p text) (λ x. TakesFrame p text x.0.now x.1.now)
-split_at_text p text None lacks = λ occurs.
-    split_text_parts p text None lacks (take occurs.0 text) (drop (occurs.0 + length p) text) (sym (cut_whole p text occurs.0 occurs.1))
-split_at_text p text (Some x) splits =
-    let whole = split_text_parts p text (Some x) splits in
-    record {
-      bytes = whole;
-      first = record {
-        here = subst (λ l. OccursAt p l (length x.0.now)) (sym whole) (OccursAt-between x.0.now p x.1.now);
-        none_before = λ j there.
-            let rest = drop (length p) (drop j text) in
-            let not_before : j < length x.0.now → ⊥ = λ below.
-            splits.2.0 j (omega (arith, below, splits.6)) rest (sym (take-append-drop (length p) (drop j text)) ∙ ap (λ l. l ++ rest) there) in
-            omega (arith, not_before);
-      };
-    }
-
-module _ (key text before after : List ℕ) (begins : TakesFrame key text before after) where
-  pub quoted_to : (value rest : List ℕ) → TakesFrame multipart_quote after value rest → IsQuotedInMultipart key text value
-  quoted_to value rest ends = record { before = before; after = after; begins = begins; rest = rest; ends = ends }
-
-  pub no_quote : (¬ Occurs multipart_quote after) → (other : List ℕ) → ¬ IsQuotedInMultipart key text other
-  no_quote none other is =
-      let same = TakesFrame-same key text before is.before after is.after begins is.begins in
-      none (length other, subst (λ l. OccursAt multipart_quote l (length other)) (sym same.1) is.ends.first.here)
-
--- the lines before these are no such header, and this one is
-pub first_of : (all before : List (List ℕ)) (line : List ℕ) (others : List (List ℕ)) (value : List ℕ) → all ≡ before ++ line ∷ others → All NoMultipartDisposition before → IsMultipartDisposition line value
-    → IsFirstMultipartDisposition all value
-first_of all before line others value parts none is = record { before = before; line = line; others = others; parts = parts; none = none; is = is }
 
 -- ---- what is in a raw part
 
@@ -458,3 +427,74 @@ is_part limits raw len head cut is within small short = record {
   small = omega (arith, small, length-take-le len raw (omega (arith, within)));
   short = omega (arith, short, length-drop (len + length multipart_head_end) raw);
 }
+
+-- ---- the disposition
+
+-- these lines are left: the disposition is in none before them, or it is in some of them, and has this value so far
+pub record BeforeDispositionLines (all left : List (List ℕ)) : Type 0 where
+  pub before : List (List ℕ)
+  pub parts : all ≡ before ++ left
+  pub none : All NoMultipartDisposition before
+
+abbrev pub ReadsDispositionLines : List (List ℕ) → Option (List ℕ) → List (List ℕ) → Type 0
+ReadsDispositionLines all r left = MatchOption r (BeforeDispositionLines all left) (λ value. ReadsMultipartDisposition all value left)
+
+no_disposition_line : (all : List (List ℕ)) (line : List ℕ) (left : List (List ℕ)) → BeforeDispositionLines all (line ∷ left) → NoMultipartDisposition line → BeforeDispositionLines all left
+no_disposition_line all line left h none = record {
+  before = h.before ++ line ∷ [];
+  parts = h.parts ∙ sym (append_assoc h.before (line ∷ []) left);
+  none = All-push NoMultipartDisposition h.before line h.none none;
+}
+
+first_disposition_line : (all : List (List ℕ)) (line value : List ℕ) (left : List (List ℕ)) → BeforeDispositionLines all (line ∷ left) → IsMultipartDisposition line value
+    → ReadsMultipartDisposition all value left
+first_disposition_line all line value left h is = record {
+  before = h.before;
+  line = line;
+  folded = [];
+  parts = h.parts;
+  none = h.none;
+  begins = value;
+  is = is;
+  goes_on = All-nil IsMultipartFolded;
+  value_is = sym (append-nil value);
+}
+
+pub begun_disposition_line : {S : Type 0} (bytes : S → List ℕ) (all : List (List ℕ)) (line : List ℕ) (left : List (List ℕ)) (r : Option S) → BeforeDispositionLines all (line ∷ left)
+    → IfSome r (λ value. IsMultipartDisposition line (bytes value)) → IfNone r (NoMultipartDisposition line) → ReadsDispositionLines all (option_map bytes r) left
+begun_disposition_line bytes all line left None h is none = no_disposition_line all line left h none
+begun_disposition_line bytes all line left (Some value) h is none = first_disposition_line all line (bytes value) left h is
+
+pub folded_disposition_line : (all : List (List ℕ)) (line value : List ℕ) (left : List (List ℕ)) → ReadsMultipartDisposition all value (line ∷ left) → IsMultipartFolded line
+    → ReadsMultipartDisposition all (value ++ line) left
+folded_disposition_line all line value left h is = record {
+  before = h.before;
+  line = h.line;
+  folded = h.folded ++ line ∷ [];
+  parts = h.parts ∙ ap (λ l. h.before ++ h.line ∷ l) (sym (append_assoc h.folded (line ∷ []) left));
+  none = h.none;
+  begins = h.begins;
+  is = h.is;
+  goes_on = All-push IsMultipartFolded h.folded line h.goes_on is;
+  value_is = ap (λ l. l ++ line) h.value_is ∙ append_assoc h.begins (concat h.folded) line ∙ ap (λ l. h.begins ++ l) (sym (concat-append h.folded (line ∷ []) ∙ ap (λ l. concat h.folded ++ l) (append-nil line)));
+}
+
+-- no line is left, or one that isn't folded
+pub last_disposition_line : (all left : List (List ℕ)) (r : Option (List ℕ)) → ReadsDispositionLines all r left → left ≡ [] → HasMultipartDisposition all r
+last_disposition_line all left None h none = subst (All NoMultipartDisposition) (sym (h.parts ∙ ap (λ l. h.before ++ l) none ∙ append-nil h.before)) h.none
+last_disposition_line all left (Some value) h none = record { left = left; reads = h; ends = λ line others is. let e = ap length (sym none ∙ is) in absurd (omega (arith, e)) }
+
+pub other_disposition_line : (all : List (List ℕ)) (line value : List ℕ) (left : List (List ℕ)) → ReadsMultipartDisposition all value (line ∷ left) → (¬ IsMultipartFolded line)
+    → IsFirstMultipartDisposition all value
+other_disposition_line all line value left h other = record {
+  left = line ∷ left;
+  reads = h;
+  ends = λ next others is. subst (λ l. ¬ IsMultipartFolded l) (ap (λ l. get_or l 0 line) is) other;
+}
+
+-- ---- header fields
+
+-- each line is one of a field, and the first line begins one
+pub fields_are : (head : List ℕ) (folded : Bool) → (IsTrue folded ↔ IsMultipartFolded head) → All IsMultipartFieldLine (lines head) → IsTrue (not folded) ↔ AreMultipartFields head
+fields_are head true is each = (λ f. absurd (false≢true f), λ are. absurd (are.first (is.0 refl)))
+fields_are head false is each = (λ _. record { first = λ folded. false≢true (is.1 folded); each = each }, λ _. refl)

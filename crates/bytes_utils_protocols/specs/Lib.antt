@@ -1,10 +1,12 @@
 pub mod Digits
 pub mod Records
+pub mod Headers
 pub mod Requests
 pub mod Redis
 pub mod RedisPassed
 pub mod RedisLine
 pub mod RedisPending
+pub mod Disposition
 pub mod Multipart
 pub mod Netstrings
 pub mod NetstringsLaws

@@ -1,7 +1,7 @@
 -- Parts between boundaries: multipart/form-data (RFC 2046, 5.1.1; RFC 7578).
-use Rattle.std.specs.Prelude.{◌≡◌, ◌⊎◌, ℕ, ◌+◌, ◌<◌, ◌≤◌, ◌==◌, ◌||◌, Bool, true, false, List, [], ◌∷◌, ◌++◌, length, drop, codes, Option, None, Some, MatchOption, All, if◌then◌else◌}
+use Rattle.std.specs.Prelude.{◌≡◌, ◌⊎◌, ℕ, ◌+◌, ◌<◌, ◌≤◌, ◌==◌, ◌||◌, not, Bool, true, false, List, [], ◌∷◌, ◌++◌, length, drop, codes, Option, None, Some, MatchOption, All, if◌then◌else◌}
 use Rattle.std.specs.Bool.{MatchBool}
-use Rattle.std.specs.List.{concat, prefix_len, position_or_len, before_first, after_first, flat_map}
+use Rattle.std.specs.List.{AllPass, concat, prefix_len, position_or_len, before_first, after_first, flat_map}
 use Rattle.std.specs.Option.{option_to_list}
 use Rattle.std.specs.Str.{str_to_ascii_lowercase}
 use Rattle.std.specs.Str.Lines.{lines}
@@ -11,6 +11,8 @@ use Rattle.bytes_utils.specs.Lines.{carriage_return, line_feed}
 use Rattle.bytes_utils_codec.specs.Search.{NoneBeginsInSearch}
 use Rattle.bytes_utils_codec.specs.StreamRuns.{StreamEvent, IsRunOver, AreFirstOfRun, SameFirstOfRunLaw, pushed_in_stream, given_in_stream}
 use Rattle.bytes_utils_protocols.specs.Digits.{colon}
+use Rattle.bytes_utils_protocols.specs.Disposition.{ReadsDispositionParameter}
+use Rattle.bytes_utils_protocols.specs.Headers.{IsHeader, is_header_blank, without_header_blanks}
 use Rattle.bytes_utils_protocols.specs.declared.multipart.limits.Limits.{Limits}
 use Rattle.bytes_utils_protocols.specs.declared.multipart.Part.{Part}
 use Rattle.bytes_utils_protocols.specs.declared.multipart.sections.Sections.{Sections}
@@ -52,17 +54,9 @@ multipart_bytes head body = record { head = head; body = body }
 abbrev pub bytes_of_multipart : Part → MultipartBytes
 bytes_of_multipart part = multipart_bytes part.head (concat part.body.segments)
 
--- a space or a tab
-abbrev pub is_multipart_head_padding : ℕ → Bool
-is_multipart_head_padding b = b == 32 || b == 9
-
--- what follows the spaces and tabs after a delimiter
-abbrev pub without_multipart_padding : List ℕ → List ℕ
-without_multipart_padding front = drop (prefix_len is_multipart_head_padding front) front
-
 -- between a delimiter and the end of the head: padding, a line end and the head, or padding alone, if there is no header
 abbrev pub IsMultipartHead : List ℕ → List ℕ → Type 0
-IsMultipartHead front head = ((without_multipart_padding front ≡ []) × (head ≡ [])) ⊎ (without_multipart_padding front ≡ multipart_line_end ++ head)
+IsMultipartHead front head = ((without_header_blanks front ≡ []) × (head ≡ [])) ⊎ (without_header_blanks front ≡ multipart_line_end ++ head)
 
 -- what is between two delimiters: up to the first empty line the head, and after it the body
 pub record IsMultipartPart (limits : Limits) (raw : List ℕ) (part : MultipartBytes) : Type 0 where
@@ -94,9 +88,13 @@ pub record IsMultipartDue (delimiter : List ℕ) (limits : Limits) (bytes : List
   pub ends : TakesFrame delimiter after raw next
   pub few : length preamble ≤ limits.head + limits.body
 
+-- this is true of each part that is in the bytes
+abbrev pub EachMultipart : (MultipartBytes → Type 0) → List ℕ → Limits → List ℕ → Type 0
+EachMultipart P delimiter limits bytes = (part : MultipartBytes) (rest : List ℕ) → TakesMultipart delimiter limits bytes part rest → P part
+
 -- no part is in the bytes
 abbrev pub NoMultipart : List ℕ → Limits → List ℕ → Type 0
-NoMultipart delimiter limits bytes = (part : MultipartBytes) (rest : List ℕ) → ¬ TakesMultipart delimiter limits bytes part rest
+NoMultipart = EachMultipart (λ _. ⊥)
 
 -- the first delimiter is a close delimiter: two dashes follow it
 abbrev pub ClosesMultipart : List ℕ → List ℕ → Type 0
@@ -112,12 +110,36 @@ pub record FewWaitInMultipart (delimiter : List ℕ) (limits : Limits) (bytes : 
   pub before : (preamble after : List ℕ) → TakesFrame delimiter bytes preamble after → length preamble ≤ limits.head + limits.body
   pub for_next : (preamble after : List ℕ) → TakesFrame delimiter bytes preamble after → length after ≤ limits.head + limits.body + length delimiter
 
+-- ---- the header fields
+
+-- the line goes on with the one before it: it begins with a space or a tab (RFC 5322, 2.2.3)
+abbrev pub IsMultipartFolded : List ℕ → Type 0
+IsMultipartFolded line = 0 < prefix_len is_header_blank line
+
+-- neither a carriage return nor a NUL is in a field (RFC 9110, 5.5), nor is a line feed, since a line has none
+abbrev pub is_multipart_field_byte : ℕ → Bool
+is_multipart_field_byte b = not (b == carriage_return || b == 0)
+
+-- the line begins a header field, or goes on with one
+pub record IsMultipartFieldLine (line : List ℕ) : Type 0 where
+  pub bytes : AllPass is_multipart_field_byte line
+  pub is : IsMultipartFolded line ⊎ ((name : List ℕ) × (value : List ℕ) × IsHeader line name value)
+
+-- The lines of a head are header fields, and the first one goes on with none.
+pub record AreMultipartFields (head : List ℕ) : Type 0 where
+  pub first : ¬ IsMultipartFolded head
+  pub each : All IsMultipartFieldLine (lines head)
+
+-- no part whose head is header fields is in the bytes
+abbrev pub NoMultipartWithFields : List ℕ → Limits → List ℕ → Type 0
+NoMultipartWithFields = EachMultipart (λ part. ¬ AreMultipartFields part.head)
+
 -- ---- the name
 
 abbrev pub content_disposition : List ℕ
 content_disposition = codes "content-disposition"
 
--- the line is this header, whatever the case of its name (RFC 9110, 5.1), with this value
+-- the line is this header, whatever the case of its name (RFC 5322, 1.2.2), with this value
 pub record IsMultipartDisposition (line value : List ℕ) : Type 0 where
   pub colon_is : position_or_len (λ b. b == colon) line < length line
   pub name : str_to_ascii_lowercase (before_first (λ b. b == colon) line) ≡ content_disposition
@@ -126,44 +148,37 @@ pub record IsMultipartDisposition (line value : List ℕ) : Type 0 where
 abbrev pub NoMultipartDisposition : List ℕ → Type 0
 NoMultipartDisposition line = (value : List ℕ) → ¬ IsMultipartDisposition line value
 
--- the first of the lines that is this header has this value
-pub record IsFirstMultipartDisposition (all : List (List ℕ)) (value : List ℕ) : Type 0 where
+-- the first of the lines that is this header, and the folded lines after it, have this value; these lines are left
+pub record ReadsMultipartDisposition (all : List (List ℕ)) (value : List ℕ) (left : List (List ℕ)) : Type 0 where
   pub before : List (List ℕ)
   pub line : List ℕ
-  pub others : List (List ℕ)
-  pub parts : all ≡ before ++ line ∷ others
+  pub folded : List (List ℕ)
+  pub parts : all ≡ before ++ line ∷ (folded ++ left)
   pub none : All NoMultipartDisposition before
-  pub is : IsMultipartDisposition line value
+  pub begins : List ℕ
+  pub is : IsMultipartDisposition line begins
+  pub goes_on : All IsMultipartFolded folded
+  pub value_is : value ≡ begins ++ concat folded
 
--- the value of that header, or `None` if no line is this header
+-- the same, and no folded line comes after these
+pub record IsFirstMultipartDisposition (all : List (List ℕ)) (value : List ℕ) : Type 0 where
+  pub left : List (List ℕ)
+  pub reads : ReadsMultipartDisposition all value left
+  pub ends : (line : List ℕ) (others : List (List ℕ)) → left ≡ line ∷ others → ¬ IsMultipartFolded line
+
+-- the unfolded value of that header, or `None` if no line is this header
 abbrev pub HasMultipartDisposition : List (List ℕ) → Option (List ℕ) → Type 0
 HasMultipartDisposition all r = MatchOption r (All NoMultipartDisposition all) (λ value. IsFirstMultipartDisposition all value)
 
-abbrev pub multipart_quote : List ℕ
-multipart_quote = 34 ∷ []
-
--- the value is what is between the first key and the next quote after it
-pub record IsQuotedInMultipart (key text value : List ℕ) : Type 0 where
-  pub before : List ℕ
-  pub after : List ℕ
-  pub begins : TakesFrame key text before after
-  pub rest : List ℕ
-  pub ends : TakesFrame multipart_quote after value rest
-
--- that value, or `None` if there is none
-abbrev pub QuotesInMultipart : List ℕ → Option (List ℕ) → Option (List ℕ) → Type 0
-QuotesInMultipart key None r = r ≡ None
-QuotesInMultipart key (Some text) r = MatchOption r ((value : List ℕ) → ¬ IsQuotedInMultipart key text value) (λ value. IsQuotedInMultipart key text value)
-
--- what follows the key in the disposition of a head
+-- what the disposition of a head has as the parameter of a name
 abbrev pub HasMultipartParameter : List ℕ → List ℕ → Option (List ℕ) → Type 0
-HasMultipartParameter key head r = (disposition : Option (List ℕ)) × HasMultipartDisposition (lines head) disposition × QuotesInMultipart key disposition r
+HasMultipartParameter name head r = (disposition : Option (List ℕ)) × HasMultipartDisposition (lines head) disposition × ReadsDispositionParameter name disposition r
 
-abbrev pub multipart_name_key : List ℕ
-multipart_name_key = codes "; name=\""
+abbrev pub multipart_name : List ℕ
+multipart_name = codes "name"
 
-abbrev pub multipart_file_name_key : List ℕ
-multipart_file_name_key = codes "; filename=\""
+abbrev pub multipart_file_name : List ℕ
+multipart_file_name = codes "filename"
 
 -- ---- what the reader holds
 

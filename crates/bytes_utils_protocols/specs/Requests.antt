@@ -4,7 +4,8 @@ use Rattle.std.specs.Char.{is_ascii_graphic}
 use Rattle.std.specs.List.{AllPass, prefix_len, slice_split, suffix_len}
 use Rattle.std.specs.Str.{str_to_ascii_lowercase}
 use Rattle.bytes_utils.specs.Lines.{carriage_return, line_feed}
-use Rattle.bytes_utils_protocols.specs.Digits.{WriteNumber, colon}
+use Rattle.bytes_utils_protocols.specs.Digits.{WriteNumber}
+use Rattle.bytes_utils_protocols.specs.Headers.{IsHeader}
 use Rattle.bytes_utils_protocols.specs.declared.requests.LengthError.{LengthError}
 use Rattle.bytes_utils_protocols.specs.declared.requests.LengthError.TheVariants.{NotAHeader, NotANumber, Unequal, UnknownFraming}
 
@@ -15,16 +16,6 @@ request_head_end = codes "\r\n\r\n"
 -- the lines of a head after its first: a line ends at each line feed (RFC 9112, 2.2)
 abbrev pub request_header_lines : List ℕ → List (List ℕ)
 request_header_lines head = drop 1 (slice_split (λ b. b == line_feed) head)
-
--- what a name is made of: visible ASCII without the colon
-abbrev pub is_request_name_byte : ℕ → Bool
-is_request_name_byte b = is_ascii_graphic b && not (b == colon)
-
--- the line is a name, a colon and a value (RFC 9112, 5)
-pub record IsRequestHeader (line name value : List ℕ) : Type 0 where
-  pub parts : line ≡ name ++ colon ∷ value
-  pub some : 0 < length name
-  pub visible : AllPass is_request_name_byte name
 
 -- the name is this one, given in lower case, whatever its own case is (RFC 9110, 5.1)
 abbrev pub IsRequestNamed : List ℕ → List ℕ → Type 0
@@ -61,8 +52,8 @@ RequestHeaderReports name value (Err UnknownFraming) = IsRequestNamed transfer_e
 
 -- what a line reports: what it reports as a header, or that it is no header
 abbrev pub RequestLineReports : List ℕ → Result (Option ℕ) LengthError → Type 0
-RequestLineReports line report = ((name : List ℕ) × (value : List ℕ) × IsRequestHeader line name value × RequestHeaderReports name value report)
-    ⊎ ((report ≡ Err NotAHeader) × ((name value : List ℕ) → ¬ IsRequestHeader line name value))
+RequestLineReports line report = ((name : List ℕ) × (value : List ℕ) × IsHeader line name value × RequestHeaderReports name value report)
+    ⊎ ((report ≡ Err NotAHeader) × ((name value : List ℕ) → ¬ IsHeader line name value))
 
 -- the lines report this length: each line reports this one or nothing, and the length is 0 if all report nothing
 pub record ReportRequestLength (lines : List (List ℕ)) (len : ℕ) : Type 0 where

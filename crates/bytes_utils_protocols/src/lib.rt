@@ -1,8 +1,9 @@
 //! Messages of protocols, read off streams that come in pieces. Each public module is one protocol,
-//! and needs no other one; some share `number`.
+//! and needs no other one; some share `header` and `number`.
 #![tactic(auto)]
 
 pub mod events;
+mod header;
 pub mod multipart;
 pub mod netstrings;
 mod number;

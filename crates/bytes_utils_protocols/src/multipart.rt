@@ -2,8 +2,10 @@
 //! (RFC 2046, section 5.1.1; RFC 7578).
 ghost use Rattle.std.specs.Prelude.{◌≡◌, ◌+◌, ◌-◌, ◌^◌, ◌<◌, ◌≤◌, ◌↔◌, ℕ, List, [], ◌++◌, length, min, false, true, IsUtf8, IsOk, IsTrue, IfOk, IfErr, IfSome, IfNone, OnOk, OnErr};
 ghost use Rattle.bytes_utils_codec.specs.Pushing.{IsPush};
-ghost use Rattle.bytes_utils_protocols.specs.Multipart.{FewWaitInMultipart, HasMultipartParameter, IsMultipartDivided, IsMultipartIdle, IsMultipartDue, NoMultipart, MultipartBytes, MultipartLaw, SameMultipartLaw, TakesMultipart, multipart_appended, bytes_of_multipart, multipart_delimiter, multipart_file_name_key, held_by_multipart, multipart_line_end, multipart_name_key};
+ghost use Rattle.bytes_utils_protocols.specs.Disposition.{SameDispositionParameterLaw};
+ghost use Rattle.bytes_utils_protocols.specs.Multipart.{AreMultipartFields, FewWaitInMultipart, HasMultipartParameter, IsMultipartDivided, IsMultipartIdle, IsMultipartDue, NoMultipart, NoMultipartWithFields, MultipartBytes, MultipartLaw, SameMultipartLaw, TakesMultipart, multipart_appended, bytes_of_multipart, multipart_delimiter, multipart_file_name, held_by_multipart, multipart_line_end, multipart_name};
 
+mod disposition;
 mod head;
 mod limits;
 mod preamble;
@@ -20,13 +22,16 @@ use std::marker::Model;
 /// A part.
 #[derive(Debug, Drop)]
 pub struct Part {
-    /// The header lines, without the line end after the last one.
+    /// The header fields as they came, without the line end after the last one.
     pub head: Str,
-    /// What follows `; name="` in the value of the first `Content-Disposition` header, up to the
-    /// next quote. It is as the peer wrote it: browsers write a quote in a name as `%22`. A quote
-    /// after a backslash ends it, too.
+    /// The parameter `name` of the first `Content-Disposition` field, whose folded lines are joined
+    /// (RFC 7578, section 4.2; RFC 5322, section 2.2.3). In quotes, a backslash before a quote or a
+    /// backslash is left out, as Go and curl write them; another backslash stays. A `%22`, which
+    /// browsers write for a quote, stays too. `None` if there is no such field, if its value isn't
+    /// as RFC 2183, section 2, has it, or if it has no parameter of this name or more than one.
     pub name: Option<Str>,
-    /// What follows `; filename="` there, in the same way.
+    /// The parameter `filename` there, in the same way. `filename*` is another parameter, which
+    /// RFC 7578 forbids: it is in the head alone.
     pub file_name: Option<Str>,
     pub body: SegmentedBuf<Bytes>,
 }
@@ -140,20 +145,21 @@ impl PartReader {
 
     /// Returns the next part, or `None` while some of it or of the delimiter after it is to come,
     /// and after the close delimiter; then no more bytes wait than the limits and a delimiter have.
-    /// Fails with `Malformed` if the held bytes begin with no part, whatever comes after them, with
-    /// `TooLarge` if they begin with none within the limits, with `NotUtf8` if the head isn't UTF-8,
-    /// and with `Refused` if memory is refused; then nothing has changed. `Malformed` comes only
-    /// after the delimiter at the end of the part; before that, and where too many bytes are before
-    /// the first delimiter, the error is `TooLarge`.
+    /// Fails with `Malformed` if the held bytes begin with no part whose head is header fields,
+    /// whatever comes after them, with `TooLarge` if they begin with none within the limits, with
+    /// `NotUtf8` if the head isn't UTF-8, and with `Refused` if memory is refused; then nothing has
+    /// changed. `Malformed` comes only after the delimiter at the end of the part; before that, and
+    /// where too many bytes are before the first delimiter, the error is `TooLarge`.
     pub fn next_part(&mut self) -> Result<Option<Part>, PartError>
         ensures part { IfOk result (λ next. IfSome next (λ part. TakesMultipart self.old.delimiter
             self.old.limits self.old.held (bytes_of_multipart part) self.new.held)) }
         ensures fewer { IfOk result (λ next. IfSome next
             (λ _. length self.new.held < length self.old.held)) }
+        ensures fields { IfOk result (λ next. IfSome next (λ part. AreMultipartFields part.head)) }
         ensures name { IfOk result (λ next. IfSome next
-            (λ part. HasMultipartParameter multipart_name_key part.head part.name)) }
+            (λ part. HasMultipartParameter multipart_name part.head part.name)) }
         ensures file_name { IfOk result (λ next. IfSome next
-            (λ part. HasMultipartParameter multipart_file_name_key part.head part.file_name)) }
+            (λ part. HasMultipartParameter multipart_file_name part.head part.file_name)) }
         ensures goes_on { IfOk result (λ next. IfSome next
             (λ _. (self.old.ended ≡ false)
             × (self.new ≡ record self.old { held = self.new.held }))) }
@@ -165,7 +171,7 @@ impl PartReader {
         ensures err { OnErr result (self.new ≡ self.old) }
         ensures malformed { IfErr result (λ e. e ≡ PartError.Malformed
             → (limits : Limits) (more : List ℕ)
-            → NoMultipart self.old.delimiter limits (self.old.held ++ more)) }
+            → NoMultipartWithFields self.old.delimiter limits (self.old.held ++ more)) }
         ensures due { IfErr result (λ e. e ≡ PartError.Malformed
             → IsMultipartDue self.old.delimiter self.old.limits self.old.held) }
         ensures too_large { IfErr result (λ e. e ≡ PartError.TooLarge → (more : List ℕ)
@@ -194,6 +200,7 @@ impl PartReader {
 pub fn part_laws()
     ensures run { MultipartLaw }
     ensures same { SameMultipartLaw }
+    ensures parameter { SameDispositionParameterLaw }
 {}
 
 /// The most bytes between two delimiters.
@@ -211,14 +218,15 @@ fn take_part(sections: &mut Sections, alloc: Global, limits: Limits) -> Result<P
     ensures divided { IsMultipartDivided sections.new }
     ensures part { IfOk result (λ part. TakesMultipart sections.old.delimiter.needle limits
         (held_by_multipart sections.old) (bytes_of_multipart part) (held_by_multipart sections.new)) }
-    ensures name { IfOk result (λ part. HasMultipartParameter multipart_name_key part.head part.name) }
-    ensures file_name { IfOk result (λ part. HasMultipartParameter multipart_file_name_key part.head part.file_name) }
+    ensures fields { IfOk result (λ part. AreMultipartFields part.head) }
+    ensures name { IfOk result (λ part. HasMultipartParameter multipart_name part.head part.name) }
+    ensures file_name { IfOk result (λ part. HasMultipartParameter multipart_file_name part.head part.file_name) }
     ensures goes_on { OnOk result (sections.new.stage ≡ Stage.Waiting) }
     ensures delimiter { sections.new.delimiter.needle ≡ sections.old.delimiter.needle }
     ensures err { OnErr result (sections.new ≡ sections.old) }
     ensures malformed { IfErr result (λ e. e ≡ PartError.Malformed
         → (any : Limits) (more : List ℕ)
-        → NoMultipart sections.old.delimiter.needle any (held_by_multipart sections.old ++ more)) }
+        → NoMultipartWithFields sections.old.delimiter.needle any (held_by_multipart sections.old ++ more)) }
     ensures due { IfErr result (λ e. e ≡ PartError.Malformed
         → IsMultipartDue sections.old.delimiter.needle limits (held_by_multipart sections.old)) }
     ensures too_large { IfErr result (λ e. e ≡ PartError.TooLarge → (more : List ℕ)
@@ -231,9 +239,9 @@ fn take_part(sections: &mut Sections, alloc: Global, limits: Limits) -> Result<P
         → reason ≡ Reason.OutOfMemory) }
 {
     let (head, start) = read_head(&sections.found, alloc, limits)?;
-    let disposition = disposition_of_head(head.as_str());
-    let name = head_parameter(alloc, disposition, "; name=\"")?;
-    let file_name = head_parameter(alloc, disposition, "; filename=\"")?;
+    let disposition = disposition_of_head(alloc, head.as_str())?;
+    let name = head_parameter(alloc, &disposition, "name")?;
+    let file_name = head_parameter(alloc, &disposition, "filename")?;
     let mut body = sections.take(alloc);
     body.advance(start);
     Ok(Part {

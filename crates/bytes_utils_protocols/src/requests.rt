@@ -8,8 +8,9 @@ ghost use Rattle.bytes_utils_codec.specs.Decoding.{Decodes, fed, passed, startin
 ghost use Rattle.bytes_utils_codec.specs.Delimited.{AwaitsDelimitedFrame, delimiting, fails_delimited, gives_delimited, keeps_delimited, ready_delimited};
 ghost use Rattle.bytes_utils_codec.specs.Pushing.{IsPush};
 ghost use Rattle.bytes_utils_protocols.specs.Digits.{WriteNumber};
-ghost use Rattle.bytes_utils_protocols.specs.Requests.{IsRequestHeader, ReportRequestError, ReportRequestLength, RequestLineReports, request_head_end, request_header_lines, is_request_blank, is_request_name_byte, trimmed_request_value};
+ghost use Rattle.bytes_utils_protocols.specs.Requests.{ReportRequestError, ReportRequestLength, RequestLineReports, request_head_end, request_header_lines, is_request_blank, trimmed_request_value};
 
+use crate::header::header_of;
 use crate::number::number;
 use bytes::Bytes;
 use bytes_utils::{Reason, Refused, SegmentedBuf};
@@ -147,7 +148,7 @@ fn agreed_request_len(
 fn reported_request_len(line: &[u8]) -> Result<Option<usize>, LengthError>
     ensures { RequestLineReports line.now result }
 {
-    let (name, value) = request_header_of(line).ok_or(LengthError::NotAHeader)?;
+    let (name, value) = header_of(line).ok_or(LengthError::NotAHeader)?;
     if name.eq_ignore_ascii_case(b"Transfer-Encoding") {
         return Err(LengthError::UnknownFraming);
     }
@@ -156,36 +157,6 @@ fn reported_request_len(line: &[u8]) -> Result<Option<usize>, LengthError>
     }
     let len = number(trimmed_request_value(value)).ok_or(LengthError::NotANumber)?;
     Ok(Some(len))
-}
-
-/// The name and the value of a header, or `None` if the line isn't a header.
-fn request_header_of(line: &[u8]) -> Option<(&[u8], &[u8])>
-    ensures some { IfSome result (λ parts. IsRequestHeader line.now parts.0.now parts.1.now) }
-    ensures none { IfNone result ((name value : List ℕ) → ¬ IsRequestHeader line.now name value) }
-{
-    let (name, rest) = line.split_at(request_name_len(line));
-    let (colon, value) = rest.split_first()?;
-    if name.is_empty() || *colon != b':' {
-        return None;
-    }
-    Some((name, value))
-}
-
-/// The number of bytes at the beginning that a name may have.
-fn request_name_len(line: &[u8]) -> usize
-    ensures bound { result ≤ length line.now }
-    ensures count { result ≡ prefix_len is_request_name_byte line.now }
-{
-    line.iter()
-        .take_while(|byte| is_request_name_byte(**byte))
-        .count()
-}
-
-/// Whether a name may have the byte.
-fn is_request_name_byte(byte: u8) -> bool
-    ensures { result ≡ is_request_name_byte byte }
-{
-    byte.is_ascii_graphic() && byte != b':'
 }
 
 /// Whether the byte is a space, a tab or a carriage return.

@@ -1,5 +1,7 @@
-//! The tests, a file for each protocol; `long`, `memory` and `shared` span several. Most are tables of
-//! rows (`rows`, `notation`), along which `walks` takes the reader of any protocol (`readers`).
+//! The tests, a file for each protocol, and `dispositions` for the names in parts of forms; `long`,
+//! `memory` and `shared` span several. Most are tables of rows (`rows`, `notation`), along which
+//! `walks` takes the reader of any protocol (`readers`).
+mod dispositions;
 mod events;
 mod long;
 mod memory;

@@ -5,6 +5,7 @@
 //! | `<600 ab>` | `ab`, 600 times |
 //! | `\r`, `\n`, `\t`, `\f`, `\0` | a carriage return, a line feed, a tab, a form feed, a zero |
 //! | `\M` | a byte order mark |
+//! | `\\` | a backslash |
 //! | `\F` | the byte 0xFF, which is in no text |
 use std::alloc::Global;
 
@@ -43,6 +44,7 @@ fn escaped_notation(letter: u8) -> &'static [u8] {
         b't' => b"\t",
         b'f' => b"\x0C",
         b'0' => b"\0",
+        b'\\' => b"\\",
         b'M' => b"\xEF\xBB\xBF",
         _ => b"\xFF",
     }

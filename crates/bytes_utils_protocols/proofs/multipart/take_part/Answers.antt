@@ -1,17 +1,18 @@
 use Rattle.std.proofs.Common.{◌∙◌, sym}
 use Rattle.std.proofs.lemmas.Result.{err_from_is_err_and}
-use Rattle.bytes_utils_protocols.proofs.MultipartLemmas.{due_in_found, none_in_found, part_in_found}
+use Rattle.bytes_utils_protocols.specs.Multipart.{AreMultipartFields}
+use Rattle.bytes_utils_protocols.proofs.MultipartLemmas.{due_in_found, each_in_found, part_in_found}
 use Rattle.bytes_utils_protocols.proofs.multipart.take_part.Goals as goal
 
 pub returns-in_err-head-clause-malformed : goal.returns-in_err-head-clause-malformed
 returns-in_err-head-clause-malformed c =
     let out = err_from_is_err_and c.from_residual.result c.from_residual.ensures.1 in
-    rw out.1 (λ is any more. none_in_found c.args.sections.now c.requires.found c.requires.divided any (c.in_err-head.ensures.malformed (sym out.2 ∙ is) any) more)
+    rw out.1 (λ is any more. each_in_found c.args.sections.now c.requires.found c.requires.divided any (λ part. ¬ AreMultipartFields part.head) (c.in_err-head.ensures.malformed (sym out.2 ∙ is) any) more)
 
 pub returns-in_err-head-clause-too_large : goal.returns-in_err-head-clause-too_large
 returns-in_err-head-clause-too_large c =
     let out = err_from_is_err_and c.from_residual.result c.from_residual.ensures.1 in
-    rw out.1 (λ is more. none_in_found c.args.sections.now c.requires.found c.requires.divided c.args.limits (c.in_err-head.ensures.too_large (sym out.2 ∙ is)) more)
+    rw out.1 (λ is more. each_in_found c.args.sections.now c.requires.found c.requires.divided c.args.limits (λ _. ⊥) (c.in_err-head.ensures.too_large (sym out.2 ∙ is)) more)
 
 pub returns-in_err-head-clause-due : goal.returns-in_err-head-clause-due
 returns-in_err-head-clause-due c =
@@ -31,13 +32,13 @@ returns-in_err-head-clause-not_utf8 c =
 pub returns-clause-name : goal.returns-clause-name
 returns-clause-name c = (
   _,
-  rw c.as_str.ensures.value at c.disposition_of_head-disposition.ensures,
+  rw c.as_str.ensures.value at c.in_ok-disposition.ensures.ok,
   c.in_ok-name.ensures.ok,
 )
 
 pub returns-clause-file_name : goal.returns-clause-file_name
 returns-clause-file_name c = (
   _,
-  rw c.as_str.ensures.value at c.disposition_of_head-disposition.ensures,
+  rw c.as_str.ensures.value at c.in_ok-disposition.ensures.ok,
   c.in_ok-file_name.ensures.ok,
 )

@@ -1,9 +1,9 @@
 use Rattle.std.proofs.Common.{arith, ◌≡◌, ◌≢◌, ◌⊎◌, ◌<◌, ◌≤◌, ◌+◌, ◌∙◌, inl, inr, sym, refl, subst, length, true}
 use Rattle.std.proofs.lemmas.Bool.{false≢true}
 use Rattle.std.proofs.lemmas.Result.{err_from_is_err_and}
-use Rattle.bytes_utils_protocols.specs.Multipart.{AfterMultipartSearch, waiting_in_multipart}
+use Rattle.bytes_utils_protocols.specs.Multipart.{AfterMultipartSearch, AreMultipartFields, waiting_in_multipart}
 use Rattle.bytes_utils_protocols.specs.declared.multipart.sections.Stage.TheVariants.{Found}
-use Rattle.bytes_utils_protocols.proofs.MultipartLemmas.{few_wait, idle_after, none_after, none_of_same, over_limits}
+use Rattle.bytes_utils_protocols.proofs.MultipartLemmas.{few_wait, idle_after, none_after, each_of_same, over_limits}
 use Rattle.bytes_utils_protocols.proofs.multipart.PartReader.next_part.Goals as goal
 
 pub returns-then-is_over-clause-too_large : goal.returns-then-is_over-clause-too_large
@@ -22,14 +22,14 @@ returns-in_err-take_part-in-Found-clause-malformed c =
     let same = subst (λ stage. AfterMultipartSearch stage c.self.inside.sections c.search.new.self) c.in-Found.is c.in_ok-search.ensures.ok in
     let out = err_from_is_err_and c.from_residual-in_err-take_part-in-Found.result c.from_residual-in_err-take_part-in-Found.ensures.1 in
     rw (← c.self.view_is) (rw out.1 (λ is any more.
-    none_of_same c.self.inside.sections c.search.new.self same any more (c.in_err-take_part-in-Found.ensures.malformed (sym out.2 ∙ is) any more)))
+    each_of_same (λ part. ¬ AreMultipartFields part.head) c.self.inside.sections c.search.new.self same any more (c.in_err-take_part-in-Found.ensures.malformed (sym out.2 ∙ is) any more)))
 
 pub returns-in_err-take_part-in-Found-clause-too_large : goal.returns-in_err-take_part-in-Found-clause-too_large
 returns-in_err-take_part-in-Found-clause-too_large c =
     let same = subst (λ stage. AfterMultipartSearch stage c.self.inside.sections c.search.new.self) c.in-Found.is c.in_ok-search.ensures.ok in
     let out = err_from_is_err_and c.from_residual-in_err-take_part-in-Found.result c.from_residual-in_err-take_part-in-Found.ensures.1 in
     rw (← c.self.view_is) (rw out.1 (λ is more.
-    none_of_same c.self.inside.sections c.search.new.self same c.self.inside.limits more (c.in_err-take_part-in-Found.ensures.too_large (sym out.2 ∙ is) more)))
+    each_of_same (λ _. ⊥) c.self.inside.sections c.search.new.self same c.self.inside.limits more (c.in_err-take_part-in-Found.ensures.too_large (sym out.2 ∙ is) more)))
 
 pub returns-in_default-clause-waits : goal.returns-in_default-clause-waits
 returns-in_default-clause-waits c =

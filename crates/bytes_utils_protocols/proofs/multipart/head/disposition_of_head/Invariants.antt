@@ -1,17 +1,15 @@
-use Rattle.std.proofs.Common.{◌≡◌, List, ℕ, ◌++◌, All}
+use Rattle.std.proofs.Common.{List, ℕ, option_map, string_bytes}
 use Rattle.std.specs.Str.Lines.{lines}
 use Rattle.std.proofs.lemmas.Iterator.{YieldsList}
-use Rattle.bytes_utils_protocols.specs.Multipart.{NoMultipartDisposition}
+use Rattle.bytes_utils_protocols.proofs.MultipartLemmas.{ReadsDispositionLines}
 use Rattle.bytes_utils_protocols.proofs.multipart.head.disposition_of_head.Given as goal
 
--- these lines are left, and none of those before them is the header
+-- these lines are left
 abbrev pub invariant-loop-line : goal.invariant-loop-line
 invariant-loop-line l = record {
   can_next : (goal.iterator-loop-line).can_next l.line-iterator;
   is_finite : (goal.iterator-loop-line).is_finite l.line-iterator;
-  before : List (List ℕ);
   left : List (List ℕ);
   coming : YieldsList (goal.iterator-loop-line).next_gives (λ line. line.now) l.line-iterator left;
-  parts : lines l.fn.head ≡ before ++ left;
-  none : All NoMultipartDisposition before;
+  so_far : ReadsDispositionLines (lines l.fn.head) (option_map string_bytes l.found) left;
 }
