@@ -9,6 +9,8 @@ pub mod ReplyEnds
 pub mod PendingReplies
 pub mod DispositionLemmas
 pub mod UnescapedLemmas
+pub mod DigitsLemmas
+pub mod RedisCommandLemmas
 pub mod MultipartLemmas
 pub mod NetstringsLemmas
 pub mod MultipartLaws

@@ -1,12 +1,13 @@
 -- Netstrings, read part by part.
-use Rattle.std.proofs.Common.{◌≡◌, ℕ, ◌+◌, ◌<◌, List, [], ◌∷◌, ◌++◌, length, ap, ◌∙◌, sym, subst, arith, append_assoc, append-nil, length-append}
+use Rattle.std.proofs.Common.{◌≡◌, ℕ, ◌+◌, ◌<◌, List, [], ◌∷◌, ◌++◌, length, decimal, ◌^◌, ap, ◌∙◌, sym, refl, subst, arith, append_assoc, append-nil, length-append}
 use Rattle.std.specs.Str.Parse.{digits_value}
 use Rattle.bytes_utils_codec.specs.Cursor.{IsBegunAtCursor, NeverBeginsAtCursor, CursorTakesFirst}
 use Rattle.bytes_utils_codec.specs.Frames.{TakesFrame}
 use Rattle.bytes_utils_codec.proofs.FramesLemmas.{TakesFrame-more, TakesFrame-same}
 use Rattle.bytes_utils.proofs.Joins.{append_same}
-use Rattle.bytes_utils_protocols.specs.Netstrings.{NoNetstring, TakesNetstring, netstring_comma}
+use Rattle.bytes_utils_protocols.specs.Netstrings.{NoNetstring, TakesNetstring, netstring_bytes, netstring_comma}
 use Rattle.bytes_utils_protocols.specs.Digits.{WriteNumber, colon}
+use Rattle.bytes_utils_protocols.proofs.DigitsLemmas.{WriteNumber-decimal, framed_digits}
 
 -- the bytes up to the first colon, and those after it
 module _ (bytes digits after : List ℕ) (front : TakesFrame (colon ∷ []) bytes digits after) where
@@ -42,3 +43,19 @@ module _ (bytes digits after : List ℕ) (front : TakesFrame (colon ∷ []) byte
           let joined : text ++ (left ++ more) ≡ other ++ (netstring_comma ∷ rest) =
           sym (append_assoc text left more) ∙ ap (λ l. l ++ more) (sym first.bytes) ∙ whole more other rest takes in
           never more rest (append_same text other (left ++ more) (netstring_comma ∷ rest) (first.size ∙ size more other rest takes) joined).1
+
+-- what is written is read again
+pub takes_written : (text rest : List ℕ) → length text < 2 ^ 64 → TakesNetstring (netstring_bytes text ++ rest) text rest
+takes_written text rest fits =
+    let digits = decimal (length text) in
+    let after = text ++ (netstring_comma ∷ rest) in
+    let writes = WriteNumber-decimal (length text) fits in
+    let same : netstring_bytes text ++ rest ≡ digits ++ (colon ∷ after) =
+    append_assoc (digits ++ colon ∷ text) (netstring_comma ∷ []) rest ∙ append_assoc digits (colon ∷ text) (netstring_comma ∷ rest) in
+    record {
+      digits = digits;
+      after = after;
+      front = subst (λ l. TakesFrame (colon ∷ []) l digits after) (sym same) (framed_digits digits after writes.0.1);
+      len = writes;
+      bytes = refl;
+    }

@@ -7,6 +7,7 @@ pub mod RedisPassed
 pub mod RedisLine
 pub mod RedisPending
 pub mod Disposition
+pub mod RedisCommand
 pub mod Multipart
 pub mod Netstrings
 pub mod NetstringsLaws

@@ -1,5 +1,5 @@
 -- Netstrings (http://cr.yp.to/proto/netstrings.txt): a length in decimal digits, a colon, as many bytes, and a comma.
-use Rattle.std.specs.Prelude.{◌≡◌, ℕ, List, [], ◌∷◌, ◌++◌, length}
+use Rattle.std.specs.Prelude.{◌≡◌, ℕ, List, [], ◌∷◌, ◌++◌, length, decimal}
 use Rattle.bytes_utils_codec.specs.Frames.{TakesFrame}
 use Rattle.bytes_utils_codec.specs.Decoding.{Decoding, Gives}
 use Rattle.bytes_utils_codec.specs.Taking.{Taking, gives_by}
@@ -18,6 +18,10 @@ pub record TakesNetstring (old text rest : List ℕ) : Type 0 where
   pub front : TakesFrame (colon ∷ []) old digits after
   pub len : WriteNumber digits (length text)
   pub bytes : after ≡ text ++ netstring_comma ∷ rest
+
+-- The netstring of this text. Its length has no zeros in front, which the definition of netstrings forbids and `TakesNetstring` allows.
+abbrev pub netstring_bytes : List ℕ → List ℕ
+netstring_bytes text = decimal (length text) ++ colon ∷ text ++ netstring_comma ∷ []
 
 -- the bytes begin with no whole netstring
 abbrev pub NoNetstring : List ℕ → Type 0

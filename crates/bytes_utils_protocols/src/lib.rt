@@ -1,5 +1,5 @@
-//! Messages of protocols, read off streams that come in pieces. Each public module is one protocol,
-//! and needs no other one; some share `header` and `number`.
+//! Messages of protocols, read off streams that come in pieces, and some that are written. Each
+//! public module is one protocol, and needs no other one; some share `header` and `number`.
 #![tactic(auto)]
 
 pub mod events;

@@ -1,16 +1,19 @@
-//! A decoder of netstrings: `5:hello,` is `hello` (http://cr.yp.to/proto/netstrings.txt).
-ghost use Rattle.std.specs.Prelude.{◌≡◌, IfOk, IfErr, IfSome, IfNone};
+//! Netstrings, and a decoder of them: `5:hello,` is `hello` (http://cr.yp.to/proto/netstrings.txt).
+ghost use Rattle.std.specs.Prelude.{◌≡◌, ℕ, ◌≤◌, List, [], ◌∷◌, ◌++◌, length, decimal, IfOk, IfErr, IfSome, IfNone};
+ghost use Rattle.std.specs.List.{concat};
 ghost use Rattle.bytes_utils_codec.specs.Decoding.{decoding};
 ghost use Rattle.bytes_utils_codec.specs.Taking.{keeps_same, taken_same, taken_single, taken_stable, taken_waits};
-ghost use Rattle.bytes_utils_protocols.specs.Netstrings.{awaits_netstring, fails_netstring, gives_netstring, takes_netstring};
+ghost use Rattle.bytes_utils_protocols.specs.Digits.{colon};
+ghost use Rattle.bytes_utils_protocols.specs.Netstrings.{TakesNetstring, awaits_netstring, fails_netstring, gives_netstring, netstring_bytes, takes_netstring};
 ghost use Rattle.bytes_utils_protocols.specs.NetstringsLaws.{netstring_facts};
 
 use crate::number::number;
-use bytes::{Buf, Bytes};
+use bytes::{Buf, Bytes, BytesMut};
 use bytes_utils::Reason;
-use bytes_utils::segmented::PackedBuf;
+use bytes_utils::segmented::{PackedBuf, SegmentedBuf};
 use bytes_utils_codec::cursor::Cursor;
 use bytes_utils_codec::decode::Decoder;
+use itoa::Buffer;
 use std::alloc::Global;
 
 /// Why there is no text.
@@ -115,4 +118,34 @@ impl Decoder for Netstrings {
     ghost awaits = { taken_waits netstring_facts };
 
     ghost same = { taken_same netstring_facts };
+}
+
+/// Returns the bytes of a netstring: the length of `text` in decimal digits, a colon, `text`, whose
+/// block is shared and not copied, and a comma (http://cr.yp.to/proto/netstrings.txt).
+/// `write_all_of` writes them. Fails with `OutOfMemory` if memory is refused.
+pub fn netstring(alloc: Global, text: Bytes) -> Result<SegmentedBuf<Bytes>, Reason>
+    ensures bytes { IfOk result (λ whole. concat whole.segments ≡ netstring_bytes text) }
+    ensures reads { IfOk result (λ whole. (rest : List ℕ)
+        → TakesNetstring (concat whole.segments ++ rest) text rest) }
+    ensures reason { IfErr result (λ reason. reason ≡ Reason.OutOfMemory) }
+{
+    let front = netstring_front(alloc, text.len())?;
+    let mut whole = SegmentedBuf::new(alloc);
+    whole.push(front)?;
+    whole.push(text)?;
+    whole.push(Bytes::from_static(b","))?;
+    Ok(whole)
+}
+
+/// Returns what comes before a text of this length.
+fn netstring_front(alloc: Global, len: usize) -> Result<Bytes, Reason>
+    ensures bytes { IfOk result (λ front. front ≡ decimal len ++ colon ∷ []) }
+    ensures few { IfOk result (λ front. length front ≤ 41) }
+    ensures reason { IfErr result (λ reason. reason ≡ Reason.OutOfMemory) }
+{
+    let mut digits = Buffer::new();
+    let mut front = BytesMut::with_capacity(alloc, 21)?;
+    front.extend_from_slice(digits.format(len).as_bytes())?;
+    front.extend_from_slice(b":")?;
+    Ok(front.freeze()?)
 }

@@ -1,8 +1,10 @@
-//! Replies of the Redis protocol, version 2, with nested arrays, of a stream that comes in pieces.
+//! The Redis protocol, version 2: replies of a stream that comes in pieces, with nested arrays, and
+//! commands.
 ghost use Rattle.std.specs.Prelude.{◌≡◌, ℕ, ◌+◌, ◌^◌, ◌<◌, ◌≤◌, ◌↔◌, List, [], ◌++◌, length, IfOk, IfErr, IfSome, IfNone, IsOk, OnOk, OnErr};
 ghost use Rattle.bytes_utils_codec.specs.Pushing.{IsPush};
 ghost use Rattle.bytes_utils_protocols.specs.Redis.{BeginsRedisReply, NoRedisReply, TakesRedisReply};
 
+mod commands;
 mod item;
 mod limits;
 mod line;
@@ -11,6 +13,7 @@ mod pending;
 
 use bytes::Bytes;
 use bytes_utils::{Reason, Refused};
+pub use commands::command;
 pub use item::Item;
 pub use limits::{Limits, ReplyError};
 use pending::Pending;

@@ -1,6 +1,6 @@
 //! The tests, a file for each protocol, and `dispositions` for the names in parts of forms; `long`,
-//! `memory` and `shared` span several. Most are tables of rows (`rows`, `notation`), along which
-//! `walks` takes the reader of any protocol (`readers`).
+//! `memory`, `shared` and `written` span several. Most are tables of rows (`rows`, `notation`), along
+//! which `walks` takes the reader of any protocol (`readers`).
 mod dispositions;
 mod events;
 mod long;
@@ -15,3 +15,4 @@ mod requests;
 mod rows;
 mod shared;
 mod walks;
+mod written;

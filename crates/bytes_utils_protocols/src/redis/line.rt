@@ -9,6 +9,9 @@ ghost use Rattle.bytes_utils_protocols.specs.Digits.{WriteNumber};
 use super::item::{Item, redis_items_in};
 use super::limits::{Limits, ReplyError};
 
+/// What ends each line.
+pub(super) const LINE_END: &[u8] = b"\r\n";
+
 /// The sign of an integer.
 #[derive(Clone, Copy, Debug)]
 pub(super) enum Sign {

@@ -10,7 +10,7 @@ ghost use Rattle.bytes_utils_protocols.specs.RedisPending.{AwaitsPendingBody, Fi
 
 use super::item::{Item, redis_items_in};
 use super::limits::{Limits, ReplyError};
-use super::line::{BegunLine, Line, LineHead};
+use super::line::{BegunLine, LINE_END, Line, LineHead};
 use super::passed::Passed;
 use bytes::{Buf, Bytes};
 use bytes_utils::contiguous::ContiguousBuf;
@@ -20,9 +20,6 @@ use bytes_utils_codec::cursor::{Cursor, Mismatch};
 use bytes_utils_codec::find::find_from;
 use std::alloc::Global;
 use std::mem::replace;
-
-/// What ends each line.
-const LINE_END: &[u8] = b"\r\n";
 
 /// Pieces of at most this many bytes are copied together.
 const SMALL: usize = 512;

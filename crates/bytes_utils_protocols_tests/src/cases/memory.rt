@@ -2,8 +2,12 @@
 //! prints a line for it. The same call is then made again, and all comes as if none had been refused.
 use super::readers::Protocol;
 use super::walks::{Way, assert_walk_of_row};
-use bytes_utils_protocols::redis::ReplyReader;
+use bytes::{Buf, Bytes};
+use bytes_utils::{Reason, SegmentedBuf};
+use bytes_utils_protocols::netstrings::netstring;
+use bytes_utils_protocols::redis::{ReplyReader, command};
 use bytes_utils_protocols::{events, multipart, redis};
+use std::alloc::Global;
 
 const LIMITS: redis::Limits = redis::Limits {
     line: 9,
@@ -98,4 +102,45 @@ fn waits_for_bulk_end(replies: &mut ReplyReader) -> bool {
 #[test]
 fn redis_bulk_without_its_end_needs_no_memory(rt: HostRuntime) {
     assert!(rt; waits_for_bulk_end(&mut ReplyReader::new(rt.alloc(), LIMITS)));
+}
+
+/// Whether a message has so many bytes and begins with these, or `None` if memory was refused.
+fn begins_written(
+    written: Result<SegmentedBuf<Bytes>, Reason>,
+    front: &[u8],
+    len: usize,
+) -> Option<bool> {
+    match written {
+        Ok(whole) => {
+            let is_so = whole.starts_with(front) & (whole.remaining() == len);
+            drop(whole);
+            Some(is_so)
+        }
+        Err(Reason::OutOfMemory) => None,
+        Err(Reason::TooLong) => Some(false),
+    }
+}
+
+const LONG: &[u8] = &[b'v'; 513];
+
+/// The same of a long message.
+fn is_long_written(alloc: Global, call: &str) -> Option<bool> {
+    if call == "netstring" {
+        return begins_written(netstring(alloc, Bytes::from_static(LONG)), b"513:vv", 518);
+    }
+    let words = [Bytes::from_static(b"SET"), Bytes::from_static(LONG)];
+    let front = b"*2\r\n$3\r\nSET\r\n$513\r\nvv";
+    begins_written(command(alloc, &words), front, 534)
+}
+
+#[test]
+fn written_messages_if_memory_is_refused(rt: HostRuntime) {
+    for call in ["netstring", "command"] {
+        let mut holds = is_long_written(rt.alloc(), call);
+        if holds.is_none() {
+            assert!(rt; println!(rt; "refused {call}").is_ok());
+            holds = is_long_written(rt.alloc(), call);
+        }
+        assert!(rt; holds == Some(true), "{call}");
+    }
 }

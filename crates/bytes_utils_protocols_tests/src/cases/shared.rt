@@ -43,7 +43,7 @@ fn push_shared_lines(alloc: Global, reader: &mut Reader, lines: &str) -> Option<
 }
 
 /// The number of pieces that have no other owner.
-fn number_not_shared(pieces: &[Bytes]) -> usize {
+pub(super) fn number_not_shared(pieces: &[Bytes]) -> usize {
     let mut count = 0_usize;
     for piece in pieces {
         if piece.is_unique() {
