@@ -6,6 +6,7 @@ ghost use Rattle.bytes_utils_protocols.specs.Disposition.{SameDispositionParamet
 ghost use Rattle.bytes_utils_protocols.specs.Multipart.{AreMultipartFields, FewWaitInMultipart, HasMultipartParameter, IsMultipartDivided, IsMultipartIdle, IsMultipartDue, NoMultipart, NoMultipartWithFields, MultipartBytes, MultipartLaw, SameMultipartLaw, TakesMultipart, multipart_appended, bytes_of_multipart, multipart_delimiter, multipart_file_name, held_by_multipart, multipart_line_end, multipart_name};
 
 mod disposition;
+mod fields;
 mod head;
 mod limits;
 mod preamble;
@@ -13,7 +14,8 @@ mod sections;
 
 use bytes::{Buf, Bytes};
 use bytes_utils::{Reason, Refused, SegmentedBuf, Str};
-use head::{disposition_of_head, head_parameter, read_head};
+use fields::{disposition_of_head, head_parameter};
+use head::read_head;
 pub use limits::{Limits, PartError};
 use sections::{Sections, Stage};
 use std::alloc::Global;

@@ -7,7 +7,7 @@ use Rattle.bytes_utils_protocols.specs.Multipart.{IsMultipartFieldLine}
 use Rattle.bytes_utils_protocols.proofs.DispositionLemmas.{All-middle}
 use Rattle.bytes_utils_protocols.proofs.HeadLines.{next_given, none_given}
 use Rattle.bytes_utils_protocols.proofs.MultipartLemmas.{fields_are}
-use Rattle.bytes_utils_protocols.proofs.multipart.head.has_fields.Goals as goal
+use Rattle.bytes_utils_protocols.proofs.multipart.fields.has_fields.Goals as goal
 
 pub loop-line-init : goal.loop-line-init
 loop-line-init c = record {

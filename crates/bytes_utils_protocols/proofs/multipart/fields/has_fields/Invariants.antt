@@ -2,7 +2,7 @@ use Rattle.std.proofs.Common.{◌≡◌, List, ℕ, ◌++◌, All}
 use Rattle.std.specs.Str.Lines.{lines}
 use Rattle.std.proofs.lemmas.Iterator.{YieldsList}
 use Rattle.bytes_utils_protocols.specs.Multipart.{IsMultipartFieldLine}
-use Rattle.bytes_utils_protocols.proofs.multipart.head.has_fields.Given as goal
+use Rattle.bytes_utils_protocols.proofs.multipart.fields.has_fields.Given as goal
 
 -- these lines are left, and each of those before them is right
 abbrev pub invariant-loop-line : goal.invariant-loop-line

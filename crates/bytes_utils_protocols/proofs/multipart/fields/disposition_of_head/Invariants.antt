@@ -2,7 +2,7 @@ use Rattle.std.proofs.Common.{List, ℕ, option_map, string_bytes}
 use Rattle.std.specs.Str.Lines.{lines}
 use Rattle.std.proofs.lemmas.Iterator.{YieldsList}
 use Rattle.bytes_utils_protocols.proofs.MultipartLemmas.{ReadsDispositionLines}
-use Rattle.bytes_utils_protocols.proofs.multipart.head.disposition_of_head.Given as goal
+use Rattle.bytes_utils_protocols.proofs.multipart.fields.disposition_of_head.Given as goal
 
 -- these lines are left
 abbrev pub invariant-loop-line : goal.invariant-loop-line

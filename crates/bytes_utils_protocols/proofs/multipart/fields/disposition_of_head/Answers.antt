@@ -6,7 +6,7 @@ use Rattle.std.proofs.lemmas.List.Elements.{All-nil}
 use Rattle.bytes_utils_protocols.specs.Multipart.{NoMultipartDisposition, ReadsMultipartDisposition}
 use Rattle.bytes_utils_protocols.proofs.HeadLines.{next_given, none_given}
 use Rattle.bytes_utils_protocols.proofs.MultipartLemmas.{BeforeDispositionLines, begun_disposition_line, folded_disposition_line, last_disposition_line, other_disposition_line}
-use Rattle.bytes_utils_protocols.proofs.multipart.head.disposition_of_head.Goals as goal
+use Rattle.bytes_utils_protocols.proofs.multipart.fields.disposition_of_head.Goals as goal
 
 pub loop-line-init : goal.loop-line-init
 loop-line-init c = record {
