@@ -1,5 +1,5 @@
 -- A disposition is read in one way.
-use Rattle.std.proofs.Common.{Bor, IfNone, IfSome, option_map, length-append, length-drop, codes, ◌≡◌, ◌≢◌, ◌∙◌, ◌⊎◌, sym, refl, ap, subst, rules, arith, ℕ, ◌+◌, ◌<◌, ◌==◌, ◌||◌, ◌&&◌, not, Bool, true, false, IsUtf8, List, [], ◌∷◌, ◌++◌, length, take, drop, get_or, Option, None, Some, MatchOption, ⊎_elim, inl, inr, All, append_assoc, append-nil, take-append-drop}
+use Rattle.std.proofs.Common.{Bor, IfNone, IfSome, option_map, length-append, length-drop, codes, ◌≡◌, ◌≢◌, ◌∙◌, ◌⊎◌, sym, refl, ap, subst, rules, arith, ℕ, ◌+◌, ◌<◌, ◌==◌, ◌&&◌, not, Bool, true, false, IsUtf8, List, [], ◌∷◌, ◌++◌, length, take, drop, get_or, Option, None, Some, MatchOption, inl, inr, All, append_assoc, append-nil, take-append-drop}
 use Rattle.std.proofs.Math.Seq.{take-append_seam, drop-append_seam}
 use Rattle.std.proofs.lemmas.Bool.{and_parts, false≢true}
 use Rattle.std.proofs.lemmas.Bool.Decides.{nat_tests}

@@ -1,23 +1,21 @@
 -- Parts between boundaries.
-use Rattle.std.proofs.Common.{IfSome, IfNone, option_map, IsTrue, ◌↔◌, not, Bool, ◌≡◌, ◌≢◌, ℕ, ◌+◌, ◌<◌, ◌≤◌, List, [], ◌∷◌, ◌++◌, length, take, drop, get_or, ap, ◌∙◌, sym, refl, subst, arith, length-append, length-drop, ◌-◌, append_assoc, take-append-drop, append-nil, ⊎_elim, inl, inr, true, false, ◌⊎◌, All, Bor, Option, None, Some, MatchOption, Result, Ok, Err, OnOk, OnErr}
+use Rattle.std.proofs.Common.{IfSome, IfNone, option_map, IsTrue, ◌↔◌, not, Bool, ◌≡◌, ◌≢◌, ℕ, ◌+◌, ◌<◌, ◌≤◌, List, [], ◌∷◌, ◌++◌, length, take, drop, get_or, ap, ◌∙◌, sym, refl, subst, arith, length-append, length-drop, ◌-◌, append_assoc, append-nil, ⊎_elim, inl, inr, true, false, ◌⊎◌, All, Option, None, Some, MatchOption, Result, Ok, Err, OnOk, OnErr}
 use Rattle.std.proofs.lemmas.Bool.{cases_lt, false≢true}
 use Rattle.std.proofs.lemmas.List.Elements.{All-nil, All-push}
 use Rattle.std.proofs.lemmas.List.{append_cancel_left, length-take-le}
-use Rattle.std.proofs.lemmas.Str.Pattern.{split_text_parts}
 use Rattle.std.specs.Bool.{MatchBool}
 use Rattle.std.specs.List.{concat}
 use Rattle.std.specs.Str.Lines.{lines}
 use Rattle.std.proofs.lemmas.List.Folds.{concat-append}
-use Rattle.std.specs.Str.Pattern.{FindsText, SplitsAroundMatch}
 use Rattle.bytes_utils_codec.specs.Frames.{TakesFrame}
-use Rattle.bytes_utils.specs.Occurrence.{Occurs, OccursAt}
+use Rattle.bytes_utils.specs.Occurrence.{Occurs}
 use Rattle.bytes_utils_codec.specs.Pushing.{IsPush}
 use Rattle.bytes_utils_codec.specs.Search.{NoneBeginsInSearch, searched_all}
 use Rattle.bytes_utils_buf.specs.Packing.{Packing}
 use Rattle.bytes_utils_buf.specs.declared.refused.Refused.{Refused}
 use Rattle.bytes_utils_codec.proofs.FramesLemmas.{TakesFrame-more, TakesFrame-same}
 use Rattle.bytes_utils_codec.proofs.SearchLemmas.{NoneBeginsInSearch-more}
-use Rattle.bytes_utils.proofs.OccurrenceLemmas.{OccursAt-between, OccursAt-front, cut_whole}
+use Rattle.bytes_utils.proofs.OccurrenceLemmas.{OccursAt-front}
 use Rattle.bytes_utils_protocols.specs.Multipart.{AreMultipartFields, IsMultipartFieldLine, FewWaitInMultipart, IsMultipartIdle, MultipartReading, multipart_appended, multipart_closed, multipart_line_end, multipart_dashes, multipart_head_end, MultipartBytes, multipart_bytes, IsMultipartHead, IsMultipartPart, TakesMultipart, IsMultipartDue, EachMultipart, NoMultipart, ClosesMultipart, LacksNextInMultipart, held_in_multipart_sections, AreMultipartSectionsApart, multipart_sections_have_ended, held_by_multipart, waiting_in_multipart, IsMultipartDivided, SameMultipartSections, AfterMultipartSearch, HasMultipartDisposition, IsFirstMultipartDisposition, IsMultipartDisposition, IsMultipartFolded, NoMultipartDisposition, ReadsMultipartDisposition}
 use Rattle.bytes_utils_protocols.specs.declared.multipart.limits.Limits.{Limits}
 use Rattle.bytes_utils_protocols.specs.declared.multipart.sections.Sections.{Sections}

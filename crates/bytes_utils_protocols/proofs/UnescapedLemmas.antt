@@ -1,5 +1,5 @@
 -- A value of a disposition is a text, whatever escapes are in it.
-use Rattle.std.proofs.Common.{◌≡◌, sym, ap, subst, ℕ, suc, ◌<◌, ◌≤◌, ◌==◌, ◌||◌, ◌&&◌, Bool, true, false, List, [], ◌∷◌, ◌++◌, length, get_or, arith, refl, ◌∙◌, encode_utf8 as encode, encode_utf8_all as encodes, IsUtf8, inl, inr, ◌⊎◌, append-nil}
+use Rattle.std.proofs.Common.{◌≡◌, sym, ap, subst, ℕ, suc, ◌<◌, ◌≤◌, ◌==◌, ◌||◌, ◌&&◌, Bool, true, false, List, [], ◌∷◌, ◌++◌, length, get_or, arith, refl, encode_utf8 as encode, encode_utf8_all as encodes, IsUtf8, inl, inr, ◌⊎◌, append-nil}
 use Rattle.std.specs.Str.{all_scalars as scalars}
 use Rattle.std.proofs.lemmas.Bool.{cases_lt, and_parts}
 use Rattle.std.proofs.lemmas.Bool.Decides.{nat_tests}
@@ -46,8 +46,7 @@ one_more true c rest is (inr large) all =
     (ascii_utf8 disposition_backslash _ (omega arith) (IsUtf8-append (encode c) _ (c ∷ [], (is, append-nil (encode c))) (all false)))
 
 every : (cs : List ℕ) → scalars cs ≡ true → (escaped : Bool) → IsUtf8 (unescaped_disposition escaped (encodes cs))
-every [] is false = IsUtf8-nil
-every [] is true = ascii_utf8 disposition_backslash [] (omega arith) IsUtf8-nil
+every [] is escaped = IsUtf8-nil
 every (c ∷ cs) is escaped =
     let are = and_parts _ _ is in one_more escaped c (encodes cs) (ap (λ t. t && true) are.0) (cases_lt c 128) (every cs are.1)
 

@@ -1,5 +1,5 @@
 -- The value of a Content-Disposition: a type, and parameters (RFC 2183, 2; RFC 2045, 5.1).
-use Rattle.std.specs.Prelude.{◌≡◌, ◌≢◌, ◌⊎◌, ℕ, ◌+◌, ◌<◌, ◌==◌, ◌||◌, ◌&&◌, not, Bool, true, false, List, [], ◌∷◌, ◌++◌, length, take, drop, codes, Option, None, Some, MatchOption, All, if◌then◌else◌}
+use Rattle.std.specs.Prelude.{◌≡◌, ◌⊎◌, ℕ, ◌+◌, ◌<◌, ◌==◌, ◌||◌, ◌&&◌, not, Bool, true, false, List, [], ◌∷◌, ◌++◌, length, take, drop, codes, Option, None, Some, MatchOption, All, if◌then◌else◌}
 use Rattle.std.specs.Char.{is_ascii_graphic}
 use Rattle.std.specs.List.{list_any, prefix_len}
 use Rattle.std.specs.Str.{str_to_ascii_lowercase}
@@ -7,7 +7,7 @@ use Rattle.bytes_utils_protocols.specs.Headers.{is_header_blank, without_header_
 
 -- ---- tokens and strings
 
--- what a token is made of: visible ASCII without the characters of the grammar
+-- what a token is made of: visible ASCII without the `tspecials` (RFC 2045, 5.1)
 abbrev pub is_disposition_token_byte : ℕ → Bool
 is_disposition_token_byte b = is_ascii_graphic b && not (list_any (λ c. c == b) (codes "()<>@,;:\\\"/[]?="))
 
@@ -34,11 +34,10 @@ pub record TakesDispositionString (text inner rest : List ℕ) : Type 0 where
   pub parts : text ≡ disposition_quote ∷ (inner ++ disposition_quote ∷ rest)
   pub fit : fit_between_disposition_quotes false inner ≡ true
 
--- What the bytes of a token or between two quotes stand for: a backslash before a quote or a backslash is left out, as Go and curl write them. Another
--- backslash stands for itself, as in the paths that browsers write. A token has none.
+-- What the bytes of a token or between two quotes stand for: a backslash before a quote or a backslash is left out, as Go writes them, and curl with
+-- `--form-escape`. Another backslash stands for itself, as in the paths that browsers write. A token has none.
 abbrev pub unescaped_disposition : Bool → List ℕ → List ℕ
-unescaped_disposition false [] = []
-unescaped_disposition true [] = disposition_backslash ∷ []
+unescaped_disposition escaped [] = []
 unescaped_disposition false (b ∷ rest) = if b == disposition_backslash then unescaped_disposition true rest else b ∷ unescaped_disposition false rest
 unescaped_disposition true (b ∷ rest) =
     if b == disposition_quote || b == disposition_backslash
@@ -52,7 +51,7 @@ pub record IsDispositionStringEnd (text : List ℕ) (place : ℕ) : Type 0 where
 
 -- ---- parameters
 
--- blanks, an equals sign and blanks are at the beginning of the text, and the rest comes after them
+-- the text begins with an equals sign and blanks around it (RFC 822, 3.1.4; RFC 9110, 5.6.6, allows none there), and the rest comes after them
 pub record TakesDispositionSign (text rest : List ℕ) : Type 0 where
   pub after : List ℕ
   pub sign_is : without_header_blanks text ≡ 61 ∷ after
@@ -75,7 +74,7 @@ pub record TakesDispositionParameter (text : List ℕ) (parameter : DispositionP
   pub sign : TakesDispositionSign after_name after_sign
   pub value : TakesDispositionValue after_sign parameter.value rest
 
--- what is between parameters: blanks, and semicolons
+-- the separators, which are between parameters: blanks and semicolons
 abbrev pub is_disposition_separator : ℕ → Bool
 is_disposition_separator b = is_header_blank b || b == 59
 
@@ -86,7 +85,7 @@ without_disposition_separators text = drop (prefix_len is_disposition_separator 
 abbrev pub BeginsWithSemicolon : List ℕ → Type 0
 BeginsWithSemicolon text = (after : List ℕ) × (without_header_blanks text ≡ 59 ∷ after)
 
--- The text is these parameters, each after a semicolon or more, and what may be between parameters (RFC 9110, 5.6.6).
+-- The text is these parameters. One or more semicolons are before each, and separators may come after the last one (RFC 9110, 5.6.6).
 abbrev pub AreDispositionParameters : List DispositionParameter → List ℕ → Type 0
 AreDispositionParameters [] text = without_disposition_separators text ≡ []
 AreDispositionParameters (parameter ∷ others) text =

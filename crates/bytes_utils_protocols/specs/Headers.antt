@@ -1,4 +1,4 @@
--- A line of a head as a header, and the blanks in it.
+-- A line of a head as a header; and the blanks at the beginning of a text.
 use Rattle.std.specs.Prelude.{◌≡◌, ℕ, ◌<◌, ◌==◌, ◌||◌, ◌&&◌, not, Bool, List, ◌∷◌, ◌++◌, length, drop}
 use Rattle.std.specs.Char.{is_ascii_graphic}
 use Rattle.std.specs.List.{AllPass, prefix_len}

@@ -1,5 +1,5 @@
 -- Parts between boundaries: multipart/form-data (RFC 2046, 5.1.1; RFC 7578).
-use Rattle.std.specs.Prelude.{◌≡◌, ◌⊎◌, ℕ, ◌+◌, ◌<◌, ◌≤◌, ◌==◌, ◌||◌, not, Bool, true, false, List, [], ◌∷◌, ◌++◌, length, drop, codes, Option, None, Some, MatchOption, All, if◌then◌else◌}
+use Rattle.std.specs.Prelude.{◌≡◌, ◌⊎◌, ℕ, ◌+◌, ◌<◌, ◌≤◌, ◌==◌, ◌||◌, not, Bool, true, false, List, [], ◌∷◌, ◌++◌, length, codes, Option, None, Some, MatchOption, All, if◌then◌else◌}
 use Rattle.std.specs.Bool.{MatchBool}
 use Rattle.std.specs.List.{AllPass, concat, prefix_len, position_or_len, before_first, after_first, flat_map}
 use Rattle.std.specs.Option.{option_to_list}
@@ -88,7 +88,7 @@ pub record IsMultipartDue (delimiter : List ℕ) (limits : Limits) (bytes : List
   pub ends : TakesFrame delimiter after raw next
   pub few : length preamble ≤ limits.head + limits.body
 
--- this is true of each part that is in the bytes
+-- `P` is true of each part that is in the bytes
 abbrev pub EachMultipart : (MultipartBytes → Type 0) → List ℕ → Limits → List ℕ → Type 0
 EachMultipart P delimiter limits bytes = (part : MultipartBytes) (rest : List ℕ) → TakesMultipart delimiter limits bytes part rest → P part
 
@@ -125,7 +125,7 @@ pub record IsMultipartFieldLine (line : List ℕ) : Type 0 where
   pub bytes : AllPass is_multipart_field_byte line
   pub is : IsMultipartFolded line ⊎ ((name : List ℕ) × (value : List ℕ) × IsHeader line name value)
 
--- The lines of a head are header fields, and the first one goes on with none.
+-- Each line of the head begins a header field or is folded, and the first one isn't folded.
 pub record AreMultipartFields (head : List ℕ) : Type 0 where
   pub first : ¬ IsMultipartFolded head
   pub each : All IsMultipartFieldLine (lines head)

@@ -19,7 +19,7 @@ pub record TakesNetstring (old text rest : List ℕ) : Type 0 where
   pub len : WriteNumber digits (length text)
   pub bytes : after ≡ text ++ netstring_comma ∷ rest
 
--- The netstring of this text. Its length has no zeros in front, which the definition of netstrings forbids and `TakesNetstring` allows.
+-- The netstring of this text. No zeros are before its length: the definition of netstrings forbids them, though `TakesNetstring` allows them.
 abbrev pub netstring_bytes : List ℕ → List ℕ
 netstring_bytes text = decimal (length text) ++ colon ∷ text ++ netstring_comma ∷ []
 

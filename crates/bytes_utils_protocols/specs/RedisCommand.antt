@@ -27,7 +27,7 @@ redis_bulk_item word = Bulk (Some word)
 abbrev pub redis_command_items : List (List ℕ) → List Item
 redis_command_items words = Array (Some (length words)) ∷ map redis_bulk_item words
 
--- The command is within the limits of a reader: any line that writes a `usize`, each word, and the number of all items.
+-- The limits of a reader allow the command: a line with any `usize`, each word, and one item more than the words.
 pub record IsRedisCommandWithin (limits : Limits) (words : List (List ℕ)) : Type 0 where
   pub lines : 21 ≤ limits.line
   pub bulk : All (λ word. length word ≤ limits.bulk) words

@@ -1,7 +1,6 @@
 -- Requests of a stream: a head before an empty line, and a body as long as the head reports.
-use Rattle.std.specs.Prelude.{◌≡◌, ◌≢◌, ◌⊎◌, ℕ, ◌-◌, ◌<◌, ◌==◌, ◌||◌, ◌&&◌, not, Bool, List, ◌∷◌, ◌++◌, length, take, drop, codes, Option, None, Some, Result, Ok, Err, All, Any}
-use Rattle.std.specs.Char.{is_ascii_graphic}
-use Rattle.std.specs.List.{AllPass, prefix_len, slice_split, suffix_len}
+use Rattle.std.specs.Prelude.{◌≡◌, ◌≢◌, ◌⊎◌, ℕ, ◌-◌, ◌==◌, ◌||◌, Bool, List, ◌∷◌, ◌++◌, length, take, drop, codes, Option, None, Some, Result, Ok, Err, All, Any}
+use Rattle.std.specs.List.{prefix_len, slice_split, suffix_len}
 use Rattle.std.specs.Str.{str_to_ascii_lowercase}
 use Rattle.bytes_utils.specs.Lines.{carriage_return, line_feed}
 use Rattle.bytes_utils_protocols.specs.Digits.{WriteNumber}

@@ -1,4 +1,5 @@
-//! A line of a head as a header, which is a name, a colon and a value, and the blanks in it.
+//! A line of a head as a header, which is a name, a colon and a value; and the blanks at the
+//! beginning of a text.
 ghost use Rattle.std.specs.Prelude.{◌≡◌, ℕ, ◌≤◌, List, length, IfSome, IfNone};
 ghost use Rattle.std.specs.List.{prefix_len};
 ghost use Rattle.bytes_utils_protocols.specs.Headers.{IsHeader, is_header_blank, is_header_name_byte};
@@ -34,12 +35,11 @@ fn is_header_name_byte(byte: u8) -> bool
 }
 
 /// The number of spaces and tabs at the beginning.
-pub(crate) fn header_blanks_len(front: &[u8]) -> usize
-    ensures bound { result ≤ length front.now }
-    ensures count { result ≡ prefix_len is_header_blank front.now }
+pub(crate) fn header_blanks_len(text: &[u8]) -> usize
+    ensures bound { result ≤ length text.now }
+    ensures count { result ≡ prefix_len is_header_blank text.now }
 {
-    front
-        .iter()
+    text.iter()
         .take_while(|byte| is_header_blank(**byte))
         .count()
 }

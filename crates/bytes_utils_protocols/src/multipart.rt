@@ -14,7 +14,8 @@ mod sections;
 
 use bytes::{Buf, Bytes};
 use bytes_utils::{Reason, Refused, SegmentedBuf, Str};
-use fields::{disposition_of_head, head_parameter};
+use disposition::read_parameter;
+use fields::disposition_of_head;
 use head::read_head;
 pub use limits::{Limits, PartError};
 use sections::{Sections, Stage};
@@ -28,9 +29,10 @@ pub struct Part {
     pub head: Str,
     /// The parameter `name` of the first `Content-Disposition` field, whose folded lines are joined
     /// (RFC 7578, section 4.2; RFC 5322, section 2.2.3). In quotes, a backslash before a quote or a
-    /// backslash is left out, as Go and curl write them; another backslash stays. A `%22`, which
-    /// browsers write for a quote, stays too. `None` if there is no such field, if its value isn't
-    /// as RFC 2183, section 2, has it, or if it has no parameter of this name or more than one.
+    /// backslash is left out, as Go writes them, and curl with `--form-escape`; another one stays, and
+    /// so does a `%22`. Browsers and curl write no escapes: a name of theirs that ends in a backslash
+    /// is a string without an end. `None` if there is no such field, if its value isn't a type and
+    /// parameters (`IsDisposition`), or if it has no parameter of this name or more than one.
     pub name: Option<Str>,
     /// The parameter `filename` there, in the same way. `filename*` is another parameter, which
     /// RFC 7578 forbids: it is in the head alone.
@@ -196,8 +198,9 @@ impl PartReader {
     }
 }
 
-/// The laws of a run of calls. The parts, and what is left, depend on the joined pieces alone, not
-/// on where these are cut or when parts are asked for.
+/// The laws of a run of calls: the parts, and what is left, depend on the joined pieces alone, not on
+/// where these are cut or when parts are asked for. And the law of a disposition: it has at most one
+/// value of a name.
 #[tactic(auto, using(crate::proofs::MultipartLaws::part_laws))]
 pub fn part_laws()
     ensures run { MultipartLaw }
@@ -242,8 +245,8 @@ fn take_part(sections: &mut Sections, alloc: Global, limits: Limits) -> Result<P
 {
     let (head, start) = read_head(&sections.found, alloc, limits)?;
     let disposition = disposition_of_head(alloc, head.as_str())?;
-    let name = head_parameter(alloc, &disposition, "name")?;
-    let file_name = head_parameter(alloc, &disposition, "filename")?;
+    let name = read_parameter(alloc, &disposition, "name")?;
+    let file_name = read_parameter(alloc, &disposition, "filename")?;
     let mut body = sections.take(alloc);
     body.advance(start);
     Ok(Part {

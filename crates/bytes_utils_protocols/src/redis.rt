@@ -1,5 +1,5 @@
-//! The Redis protocol, version 2: replies of a stream that comes in pieces, with nested arrays, and
-//! commands.
+//! The Redis protocol, version 2: commands to a server, and replies, with nested arrays, of a stream
+//! that comes in pieces.
 ghost use Rattle.std.specs.Prelude.{◌≡◌, ℕ, ◌+◌, ◌^◌, ◌<◌, ◌≤◌, ◌↔◌, List, [], ◌++◌, length, IfOk, IfErr, IfSome, IfNone, IsOk, OnOk, OnErr};
 ghost use Rattle.bytes_utils_codec.specs.Pushing.{IsPush};
 ghost use Rattle.bytes_utils_protocols.specs.Redis.{BeginsRedisReply, NoRedisReply, TakesRedisReply};

@@ -1,7 +1,7 @@
 //! The parameters of a `Content-Disposition` (RFC 2183, section 2; RFC 2045, section 5.1).
-ghost use Rattle.std.specs.Prelude.{◌≡◌, ◌<◌, ◌≤◌, ℕ, List, [], ◌∷◌, length, false, ◌↔◌, IsTrue, IfOk, IfErr, IfSome, IfNone};
+ghost use Rattle.std.specs.Prelude.{◌≡◌, ◌<◌, ◌≤◌, ℕ, List, [], ◌∷◌, length, false, ◌↔◌, IsTrue, IfOk, IfErr, IfSome, IfNone, option_map, string_bytes};
 ghost use Rattle.std.specs.List.{prefix_len};
-ghost use Rattle.bytes_utils_protocols.specs.Disposition.{BeginsWithSemicolon, DispositionParameter, HasDispositionParameter, IsDispositionStringEnd, TakesDispositionParameter, TakesDispositionSign, TakesDispositionString, TakesDispositionToken, TakesDispositionValue, disposition_quote, is_disposition_separator, is_disposition_token_byte, unescaped_disposition, without_disposition_separators};
+ghost use Rattle.bytes_utils_protocols.specs.Disposition.{BeginsWithSemicolon, DispositionParameter, HasDispositionParameter, IsDispositionStringEnd, ReadsDispositionParameter, TakesDispositionParameter, TakesDispositionSign, TakesDispositionString, TakesDispositionToken, TakesDispositionValue, disposition_quote, is_disposition_separator, is_disposition_token_byte, unescaped_disposition, without_disposition_separators};
 ghost use Rattle.bytes_utils_protocols.specs.Headers.{without_header_blanks};
 
 use crate::header::header_blanks_len;
@@ -16,16 +16,35 @@ struct Parameter<'t> {
     value: &'t str,
 }
 
+/// What the parameter of this name in a disposition stands for.
+pub(super) fn read_parameter(
+    alloc: Global,
+    disposition: &Option<String>,
+    name: &str,
+) -> Result<Option<Str>, Reason>
+    ensures ok { IfOk result (λ value. ReadsDispositionParameter name.now
+        (option_map string_bytes disposition.now) value) }
+    ensures reason { IfErr result (λ reason. reason ≡ Reason.OutOfMemory) }
+{
+    let Some(text) = disposition else {
+        return Ok(None);
+    };
+    match parameter_of(text.as_str(), name) {
+        Some(written) => Ok(Some(unescaped(alloc, written)?)),
+        None => Ok(None),
+    }
+}
+
 /// The value, as it is written, of the parameter of this name, whatever the case of its letters, or
 /// `None` if the text is no disposition, or has no such parameter or more than one.
-pub(super) fn parameter_of<'t>(text: &'t str, name: &str) -> Option<&'t str>
+fn parameter_of<'t>(text: &'t str, name: &str) -> Option<&'t str>
     ensures some { IfSome result (λ value. HasDispositionParameter name.now text.now value.now) }
     ensures none { IfNone result
         ((value : List ℕ) → ¬ HasDispositionParameter name.now text.now value) }
 {
     let (_, mut rest) = split_token(after_blanks(text))?;
     let mut found = None;
-    while !is_whole(rest) {
+    while !has_only_separators(rest) {
         if !begins_with_semicolon(rest) {
             return None;
         }
@@ -129,7 +148,7 @@ fn after_blanks(text: &str) -> &str
     rest
 }
 
-/// The text without what may be between parameters at its beginning.
+/// The text without the separators at its beginning.
 fn after_separators(text: &str) -> &str
     ensures value { result.now ≡ without_disposition_separators text.now }
     ensures fewer { length result.now ≤ length text.now }
@@ -138,8 +157,8 @@ fn after_separators(text: &str) -> &str
     rest
 }
 
-/// Whether no parameter comes.
-fn is_whole(text: &str) -> bool
+/// Whether only separators are left.
+fn has_only_separators(text: &str) -> bool
     ensures { IsTrue result ↔ (without_disposition_separators text.now ≡ []) }
 {
     after_separators(text).is_empty()
@@ -152,7 +171,7 @@ fn begins_with_semicolon(text: &str) -> bool
     after_blanks(text).strip_prefix(';').is_some()
 }
 
-/// The number of bytes at the beginning that may be between parameters.
+/// The number of separators at the beginning.
 fn separators_len(text: &[u8]) -> usize
     ensures bound { result ≤ length text.now }
     ensures count { result ≡ prefix_len is_disposition_separator text.now }
@@ -160,7 +179,7 @@ fn separators_len(text: &[u8]) -> usize
     text.iter().take_while(|byte| is_separator(**byte)).count()
 }
 
-/// Whether the byte may be between parameters.
+/// Whether the byte is a separator, which may be between parameters.
 fn is_separator(byte: u8) -> bool
     ensures { result ≡ is_disposition_separator byte }
 {
@@ -183,7 +202,7 @@ fn is_token_byte(byte: u8) -> bool
 }
 
 /// What a value stands for that is written so.
-pub(super) fn unescaped(alloc: Global, written: &str) -> Result<Str, Reason>
+fn unescaped(alloc: Global, written: &str) -> Result<Str, Reason>
     ensures ok { IfOk result (λ value. value ≡ unescaped_disposition false written.now) }
     ensures reason { IfErr result (λ reason. reason ≡ Reason.OutOfMemory) }
 {
@@ -206,9 +225,6 @@ fn unescaped_bytes(alloc: Global, written: &[u8]) -> Result<Vec<u8>, Reason>
         if !escaped {
             bytes.push(*byte)?;
         }
-    }
-    if escaped {
-        bytes.push(b'\\')?;
     }
     Ok(bytes)
 }

@@ -1,12 +1,10 @@
-//! The header fields in the head of a part, and the names in its `Content-Disposition`.
+//! The header fields in the head of a part, of which one is its `Content-Disposition`.
 ghost use Rattle.std.specs.Prelude.{◌≡◌, ◌↔◌, ◌++◌, IsTrue, IfOk, IfErr, IfSome, IfNone, option_map, string_bytes};
 ghost use Rattle.std.specs.Str.Lines.{lines};
-ghost use Rattle.bytes_utils_protocols.specs.Disposition.{ReadsDispositionParameter};
 ghost use Rattle.bytes_utils_protocols.specs.Multipart.{AreMultipartFields, HasMultipartDisposition, IsMultipartDisposition, IsMultipartFieldLine, IsMultipartFolded, NoMultipartDisposition};
 
-use super::disposition::{parameter_of, unescaped};
 use crate::header::{header_blanks_len, header_of};
-use bytes_utils::{Reason, Str};
+use bytes_utils::Reason;
 use memchr::memchr2;
 use std::alloc::Global;
 
@@ -71,14 +69,14 @@ fn begun_disposition(alloc: Global, line: &str) -> Result<Option<String>, Reason
     ensures none { IfOk result (λ found. IfNone found (NoMultipartDisposition line.now)) }
     ensures reason { IfErr result (λ reason. reason ≡ Reason.OutOfMemory) }
 {
-    match disposition_in_head(line) {
+    match disposition_in_line(line) {
         Some(value) => Ok(Some(String::from_str(alloc, value)?)),
         None => Ok(None),
     }
 }
 
 /// The value in a line, if that is a `Content-Disposition` header.
-fn disposition_in_head(line: &str) -> Option<&str>
+fn disposition_in_line(line: &str) -> Option<&str>
     ensures some { IfSome result (λ value. IsMultipartDisposition line.now value.now) }
     ensures none { IfNone result (NoMultipartDisposition line.now) }
 {
@@ -87,23 +85,4 @@ fn disposition_in_head(line: &str) -> Option<&str>
         return None;
     }
     Some(value)
-}
-
-/// What the parameter of this name in a disposition stands for.
-pub(super) fn head_parameter(
-    alloc: Global,
-    disposition: &Option<String>,
-    name: &str,
-) -> Result<Option<Str>, Reason>
-    ensures ok { IfOk result (λ value. ReadsDispositionParameter name.now
-        (option_map string_bytes disposition.now) value) }
-    ensures reason { IfErr result (λ reason. reason ≡ Reason.OutOfMemory) }
-{
-    let Some(text) = disposition else {
-        return Ok(None);
-    };
-    match parameter_of(text.as_str(), name) {
-        Some(written) => Ok(Some(unescaped(alloc, written)?)),
-        None => Ok(None),
-    }
 }

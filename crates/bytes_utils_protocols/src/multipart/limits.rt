@@ -18,7 +18,7 @@ pub struct Limits {
 pub enum PartError {
     /// A call was refused for this reason, which is `OutOfMemory`.
     Refused(Reason),
-    /// What came is no part, whatever comes after it.
+    /// What came is no part whose head is header fields, whatever comes after it.
     Malformed,
     /// The head of the next part isn't UTF-8.
     NotUtf8,

@@ -6,18 +6,16 @@ ghost use Rattle.bytes_utils_protocols.specs.RedisCommand.{IsRedisCommandWithin,
 ghost use Rattle.bytes_utils_protocols.specs.declared.redis.limits.Limits.{Limits};
 
 use super::line::LINE_END;
+use super::pending::SMALL;
 use bytes::Bytes;
 use bytes_utils::Reason;
 use bytes_utils::segmented::{PackedBuf, SegmentedBuf};
 use itoa::Buffer;
 use std::alloc::Global;
 
-/// The most bytes of a word that is copied.
-const MOST_COPIED: usize = 512;
-
 /// Returns the bytes of a command to a server: an array with a bulk string for each word
 /// (https://redis.io/docs/latest/develop/reference/protocol-spec/). Those of the words `GET` and `a`
-/// are `*2\r\n$3\r\nGET\r\n$1\r\na\r\n`.
+/// are `*2\r\n$3\r\nGET\r\n$1\r\na\r\n`. No words give `*0\r\n`, after which a server sends no reply.
 ///
 /// A word of more than 512 bytes is shared, not copied. The others are copied together with the
 /// lines, so that a small command is one segment. `write_all_of` writes them.
@@ -32,7 +30,7 @@ pub fn command(alloc: Global, words: &[Bytes]) -> Result<SegmentedBuf<Bytes>, Re
     ensures too_long { IfErr result (λ reason. reason ≡ Reason.TooLong
         → 2 ^ 64 ≤ length (redis_command_bytes words.now)) }
 {
-    let mut whole = PackedBuf::new(alloc, MOST_COPIED);
+    let mut whole = PackedBuf::new(alloc, SMALL);
     push_command_length(&mut whole, alloc, b'*', words.len())?;
     for word in words {
         push_command_word(&mut whole, alloc, word)?;
@@ -60,7 +58,8 @@ fn push_command_bytes(whole: &mut PackedBuf, alloc: Global, word: &Bytes) -> Res
     ensures too_long { IfErr result (λ reason. reason ≡ Reason.TooLong
         → 2 ^ 64 ≤ length (concat whole.old.held.segments) + length word.now) }
 {
-    if word.len() <= MOST_COPIED {
+    // A clone of a short word would be dropped at once.
+    if word.len() <= SMALL {
         return whole.push_slice(alloc, word.as_slice());
     }
     Ok(whole.push(alloc, word.clone()?)?)

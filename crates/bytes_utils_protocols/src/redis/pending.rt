@@ -22,7 +22,7 @@ use std::alloc::Global;
 use std::mem::replace;
 
 /// Pieces of at most this many bytes are copied together.
-const SMALL: usize = 512;
+pub(super) const SMALL: usize = 512;
 
 /// What was read of the next item. Its bytes are held until all have come.
 #[derive(Clone, Copy, Debug)]

@@ -35,21 +35,22 @@ form-data; name="back\\\\slash" => Some("back\\slash") None
 form-data; name="a\\\\"; filename="\\\\\\"" => Some("a\\") Some("\\\"")
 form-data; name="C:\\dir\\a.txt" => Some("C:\\dir\\a.txt") None
 form-data; name="a%22b" => Some("a%22b") None
-# Neither another name is read, nor one that comes twice.
+# Another name is not read. A name that comes twice is `None`.
 form-data; filename*=UTF-8''x.txt; name="a" => Some("a") None
 form-data; name="a"; name="b"; filename=f => None Some("f")
-# No type, no value, no end of a string, no semicolon, and a token that is none.
+# No parameter, no type, no value, no end of a string, no semicolon, and bytes that no token has.
 form-data => None None
 ; name="a" => None None
 form-data; name => None None
 form-data; name= => None None
 form-data; name="a => None None
 form-data; name="a\\" => None None
+form-data; name="f"; filename="x\\" => None None
 form-data name="a" => None None
 form-data; name="a"x => None None
 form-data; name=a b => None None
 form-data; name=é => None None
-# The first field of its name alone is read, and no other one is.
+# Of two such fields the first one alone is read.
 form-data; name=a\r\ncontent-disposition: form-data; name=b => Some("a") None
 form-data\r\nContent-Disposition: form-data; name=b => None None
 # Lines that are no header fields.
@@ -84,8 +85,9 @@ fn is_disposition_row_right(alloc: Global, row: &str) -> Option<bool> {
     Some(names_text(alloc, &parts.next_part())?.as_str() == wanted)
 }
 
-// As Python's `email` and `werkzeug` read them, but for a name that comes twice, which these and Go
-// read in three ways, and for what isn't in the grammar of RFC 2183, which Go refuses.
+// Python's `email` and `werkzeug` read most rows in the same way. They differ where a name comes
+// twice, where the value isn't in the grammar, and in `filename*`; `werkzeug` also reads `%22` as a
+// quote, and allows no blanks at an equals sign.
 #[test]
 fn names_in_dispositions(rt: HostRuntime) {
     for row in HEADS.lines() {

@@ -123,7 +123,8 @@ fn begins_written(
 
 const LONG: &[u8] = &[b'v'; 513];
 
-/// The same of a long message.
+/// Whether the netstring or the command of a long text has its length and begins right, or `None` if
+/// memory was refused.
 fn is_long_written(alloc: Global, call: &str) -> Option<bool> {
     if call == "netstring" {
         return begins_written(netstring(alloc, Bytes::from_static(LONG)), b"513:vv", 518);

@@ -120,6 +120,13 @@ end: not ended
 --b\r\n--b => always Malformed
 --
 
+# a head that begins with a folded line, and one with a folded line of another field
+--b\r\n X: y\r\n\r\n\r\n--b => always Malformed
+--
+
+--b\r\nX: y\r\n z\r\nContent-Disposition: form-data; name=a\r\n\r\n\r\n--b =>
+    "X: y\r\n z\r\nContent-Disposition: form-data; name=a" Some("a") None b""
+
 # a head that is not UTF-8
 --b\r\n\F\r\n\r\n\r\n--b => always NotUtf8
 

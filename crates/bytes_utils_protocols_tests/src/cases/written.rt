@@ -1,7 +1,7 @@
 //! Messages that are written: netstrings, and commands for Redis.
 //!
-//! A text or words are written as `notation` says, with a bar after each word. The bytes are worked by
-//! hand, and are the stream of a row along which a reader is taken.
+//! A text or words are written as `notation` says, with a bar after each. The bytes were worked out by
+//! hand; a reader is taken along them as along any row.
 use super::notation::bytes_of_notation;
 use super::readers::Protocol;
 use super::rows::Row;
@@ -69,7 +69,7 @@ fn are_written_as(alloc: Global, protocol: Protocol, written: &str, row: &str) -
 
 const NETSTRINGS: Protocol = Protocol::Netstrings(1_000);
 
-/// The least limits of the commands below.
+/// The least limits at which `command` says that the commands below are read again.
 const REDIS: Protocol = Protocol::Redis(Limits {
     line: 21,
     bulk: 513,

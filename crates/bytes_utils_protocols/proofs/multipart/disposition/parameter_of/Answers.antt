@@ -1,4 +1,4 @@
-use Rattle.std.proofs.Common.{rules, ◌≡◌, ◌≢◌, ◌∙◌, sym, subst, inl, inr, [], ◌∷◌, ◌++◌, List, ℕ, arith, option_map}
+use Rattle.std.proofs.Common.{rules, ◌≢◌, ◌∙◌, sym, subst, inl, inr, [], ◌∷◌, ◌++◌, List, ℕ, arith, option_map}
 use Rattle.std.proofs.lemmas.Bool.{false≢true}
 use Rattle.std.proofs.lemmas.List.Elements.{All-nil}
 use Rattle.bytes_utils_protocols.specs.Disposition.{DispositionParameter, IsDispositionNamed, TakesDispositionParameter, TakesDispositionToken, without_disposition_separators}
@@ -21,13 +21,13 @@ loop-rest-init c = record {
 pub returns-then-not-begins_with_semicolon-clause-none : goal.returns-then-not-begins_with_semicolon-clause-none
 returns-then-not-begins_with_semicolon-clause-none c value has =
     let now = c.loop-rest.invariant in
-    let some : without_disposition_separators c.loop-rest.rest.now ≢ [] = λ e. false≢true (sym c.loop-rest-test.true ∙ c.is_whole.ensures.1 e) in
+    let some : without_disposition_separators c.loop-rest.rest.now ≢ [] = λ e. false≢true (sym c.loop-rest-test.true ∙ c.has_only_separators.ensures.1 e) in
     lacks_next now.seen now.so_far some (inl (λ begins. false≢true (sym c.if-not-begins_with_semicolon.true ∙ c.begins_with_semicolon.ensures.1 begins))) has.parameters has.is
 
 pub returns-in_err-parameter-clause-none : goal.returns-in_err-parameter-clause-none
 returns-in_err-parameter-clause-none c =
     let now = c.loop-rest.invariant in
-    let some : without_disposition_separators c.loop-rest.rest.now ≢ [] = λ e. false≢true (sym c.loop-rest-test.true ∙ c.is_whole.ensures.1 e) in
+    let some : without_disposition_separators c.loop-rest.rest.now ≢ [] = λ e. false≢true (sym c.loop-rest-test.true ∙ c.has_only_separators.ensures.1 e) in
     let none : (parameter : DispositionParameter) (more : List ℕ) → ¬ TakesDispositionParameter (without_disposition_separators c.loop-rest.rest.now) parameter more =
     λ parameter more is. c.in_err-parameter.ensures.none parameter more (subst (λ l. TakesDispositionParameter l parameter more) (sym c.after_separators.ensures.value) is) in
     rw c.from_residual-in_err-parameter.ensures (λ value has. lacks_next now.seen now.so_far some (inr none) has.parameters has.is)
@@ -35,7 +35,7 @@ returns-in_err-parameter-clause-none c =
 pub returns-then-is_some-clause-none : goal.returns-then-is_some-clause-none
 returns-then-is_some-clause-none c value has =
     let now = c.loop-rest.invariant in
-    let some : without_disposition_separators c.loop-rest.rest.now ≢ [] = λ e. false≢true (sym c.loop-rest-test.true ∙ c.is_whole.ensures.1 e) in
+    let some : without_disposition_separators c.loop-rest.rest.now ≢ [] = λ e. false≢true (sym c.loop-rest-test.true ∙ c.has_only_separators.ensures.1 e) in
     let begins = c.begins_with_semicolon.ensures.0 c.if-not-begins_with_semicolon.false in
     let parameter : DispositionParameter = record { name = c.in_ok-parameter.parameter.name.now; value = c.in_ok-parameter.parameter.value.now } in
     let is = subst (λ l. TakesDispositionParameter l parameter c.in_ok-parameter.after.now) c.after_separators.ensures.value c.in_ok-parameter.ensures.some in
@@ -51,7 +51,7 @@ loop-rest-smaller c = omega (arith, c.in_ok-parameter.ensures.fewer, c.after_sep
 pub loop-rest-preserved-else-is_some : goal.loop-rest-preserved-else-is_some
 loop-rest-preserved-else-is_some c =
     let now = c.loop-rest.invariant in
-    let some : without_disposition_separators c.loop-rest.rest.now ≢ [] = λ e. false≢true (sym c.loop-rest-test.true ∙ c.is_whole.ensures.1 e) in
+    let some : without_disposition_separators c.loop-rest.rest.now ≢ [] = λ e. false≢true (sym c.loop-rest-test.true ∙ c.has_only_separators.ensures.1 e) in
     let begins = c.begins_with_semicolon.ensures.0 c.if-not-begins_with_semicolon.false in
     let parameter : DispositionParameter = record { name = c.in_ok-parameter.parameter.name.now; value = c.in_ok-parameter.parameter.value.now } in
     let is = subst (λ l. TakesDispositionParameter l parameter c.in_ok-parameter.after.now) c.after_separators.ensures.value c.in_ok-parameter.ensures.some in
@@ -66,7 +66,7 @@ loop-rest-preserved-else-is_some c =
 pub loop-rest-preserved : goal.loop-rest-preserved
 loop-rest-preserved c =
     let now = c.loop-rest.invariant in
-    let some : without_disposition_separators c.loop-rest.rest.now ≢ [] = λ e. false≢true (sym c.loop-rest-test.true ∙ c.is_whole.ensures.1 e) in
+    let some : without_disposition_separators c.loop-rest.rest.now ≢ [] = λ e. false≢true (sym c.loop-rest-test.true ∙ c.has_only_separators.ensures.1 e) in
     let begins = c.begins_with_semicolon.ensures.0 c.if-not-begins_with_semicolon.false in
     let parameter : DispositionParameter = record { name = c.in_ok-parameter.parameter.name.now; value = c.in_ok-parameter.parameter.value.now } in
     let is = subst (λ l. TakesDispositionParameter l parameter c.in_ok-parameter.after.now) c.after_separators.ensures.value c.in_ok-parameter.ensures.some in
@@ -80,11 +80,11 @@ loop-rest-preserved c =
 pub returns-clause-some : goal.returns-clause-some
 returns-clause-some c =
     let now = c.loop-rest.invariant in
-    let none = c.is_whole.ensures.0 c.loop-rest-test.false in
+    let none = c.has_only_separators.ensures.0 c.loop-rest-test.false in
     found_named c.args.name.now c.args.text.now now.seen c.loop-rest.found (read_whole now.seen now.so_far none) now.found
 
 pub returns-clause-none : goal.returns-clause-none
 returns-clause-none c =
     let now = c.loop-rest.invariant in
-    let none = c.is_whole.ensures.0 c.loop-rest-test.false in
+    let none = c.has_only_separators.ensures.0 c.loop-rest-test.false in
     found_none c.args.name.now c.args.text.now now.seen c.loop-rest.found (whole_is now.seen now.so_far none) now.found

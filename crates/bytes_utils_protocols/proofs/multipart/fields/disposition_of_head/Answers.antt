@@ -1,4 +1,4 @@
-use Rattle.std.proofs.Common.{[], ◌∷◌, ◌++◌, ◌∙◌, sym, refl, subst, ap, option_map, string_bytes, Some}
+use Rattle.std.proofs.Common.{[], ◌∷◌, ◌∙◌, sym, refl, subst, option_map, string_bytes}
 use Rattle.std.specs.Str.Lines.{lines}
 use Rattle.std.proofs.lemmas.Iterator.Splits.{YieldsList-from_lines}
 use Rattle.std.proofs.lemmas.Bool.{false≢true}

@@ -1,4 +1,4 @@
-use Rattle.std.proofs.Common.{false, true, [], ◌∷◌, ◌++◌, ◌∙◌, sym, refl, subst, ap, All, append_assoc, append-nil}
+use Rattle.std.proofs.Common.{[], ◌∷◌, ◌++◌, ◌∙◌, sym, refl, subst, ap, All, append_assoc, append-nil}
 use Rattle.std.specs.Str.Lines.{lines}
 use Rattle.std.proofs.lemmas.Iterator.Splits.{YieldsList-from_lines}
 use Rattle.std.proofs.lemmas.List.Elements.{All-nil, All-push}
