@@ -110,12 +110,12 @@ def lost(judge, command, said, reply, _):
 
 
 def ask_all(judge, room, command, ask, *talk):
-    """Starts a program for each of these, and judges its replies."""
+    """Starts a program for each of these, and judges its replies; the last two only if there is something to say."""
     # each of the clients takes a descriptor
     soft, hard = resource.getrlimit(resource.RLIMIT_NOFILE)
     resource.setrlimit(resource.RLIMIT_NOFILE, (max(soft, min(hard, 2 * MOST_CALLERS)), hard))
     with started(command) as (running, at):
         ask(judge, room, at, running)
         judge("the program still runs", running.poll() is None)
-    refused(judge, command, *talk)
-    lost(judge, command, *talk)
+    for ask_of_another in (refused, lost) if talk else ():
+        ask_of_another(judge, command, *talk)

@@ -2,11 +2,13 @@
 import contextlib, csv, io, os, re, resource, socket, subprocess, time
 from concurrent.futures import ThreadPoolExecutor
 
-from asks import processor_time
+from asks import is_soon, processor_time
 
 BODY = 50_000_000
 # what the service may have held after all these requests: its longest body, and this much more
 LIMIT, BESIDE = 64 << 20, 128 << 20
+# a line of the text form of Prometheus, as far as the service uses that: of a type, or of a number
+LINE = re.compile(rb'# TYPE [a-z_]+ (counter|gauge)|[a-z_]+(\{[a-z]+="[^"\\\n]*"\})? \d+')
 
 
 class Client:
@@ -228,13 +230,87 @@ def memory(client, service, most):
     client.judge(f"resident memory of {held >> 20} MiB, within {most >> 20}", held <= most)
 
 
+def figures(client):
+    """The service's figures, by their names."""
+    page = client.curl("/metrics", "-X", "GET")[0].decode()
+    return {name: int(number) for name, number in re.findall(r"^(service_\S+) (\d+)$", page, re.M)}
+
+
+def operator(client):
+    """The pages for the operator."""
+    client.expect("the service runs", "/health", b"ok\n\n200", "-X", "GET")
+    client.expect("that page by POST", "/health", b"\n404", "--data-binary", "")
+    page, said = client.curl("/metrics", "-X", "GET")
+    is_form = b"content-type: text/plain; version=0.0.4" in said.lower()
+    lines = page.removesuffix(b"\n200").splitlines()
+    client.judge("figures in Prometheus' form", is_form and lines and all(map(LINE.fullmatch, lines)))
+    before = figures(client)
+    longest = bytes(LIMIT + 1)
+    for path, given in ("/echo", b"1"), ("/lines", b"2"), ("/words", b"\xff"), ("/other", b""), ("/echo", longest):
+        client.curl(path, "-T", "-", "-H", "Expect:", given=given)
+    with called(client) as it:
+        it.sendall(b"POST /echo HTTP/1.1\r\nHost: h\r\nTransfer-Encoding: gzip, chunked\r\n\r\n")
+        it.recv(100)
+    after = figures(client)
+    # the figures were asked for twice, and the first of these responses isn't among the first figures
+    wanted = {"200": 3, "400": 1, "404": 1, "413": 1, "501": 1, "503": 0}
+    grown = {it: after[name] - before[name] for it in wanted for name in [f'service_responses_total{{status="{it}"}}']}
+    opened = after["service_connections_total"] - before["service_connections_total"]
+    client.judge(f"{opened} connections and responses by status {grown}", opened == 7 and grown == wanted)
+    held = lambda: (figures(client)["service_held_bytes"], figures(client)["service_connections"])
+    with called(client) as one, called(client) as two:
+        one.sendall(HALF)
+        two.sendall(HALF)
+        client.judge("16,000 bytes held over two connections", is_soon(lambda: held() == (16_000, 3)))
+    client.judge("they are given back", is_soon(lambda: held() == (0, 1)))
+
+
+def called(client):
+    host, _, port = client.at.rpartition(":")
+    return socket.create_connection((host, int(port)), 10)
+
+
+def bounded(judge, room, at, service):
+    """The bounds that the operator sets."""
+    client, chunked = Client(judge, room, at), ["-T", "-", "-H", "Expect:"]
+    judge("it prints its bounds", service.stdout.readline() == "held=1000000 connections=20 head=1\n")
+    refused = subprocess.run([service.args[0], "other=1"], capture_output=True, timeout=10)
+    judge("a bound that there isn't", refused.returncode == 1 and b"no bound is named other" in refused.stderr)
+    most = bytes(1_000_000)
+    client.expect("as many bytes as may be held", "/echo", most + b"\n200", *chunked, given=most)
+    client.expect("one byte more", "/echo", b"\n503", *chunked, given=most + b"1")
+    with contextlib.ExitStack() as stack:
+        lines = [stack.enter_context(called(client)) for _ in range(19)]
+        for it in lines:
+            it.sendall(POST % (100_000, bytes(50_000)))
+        judge("950,000 bytes of 19 bodies", is_soon(lambda: figures(client)["service_held_bytes"] == 950_000))
+        client.expect("a body for which there is room", "/words", b"0\n\n200", *chunked, given=b" " * 50_000)
+        client.expect("a body for which there isn't", "/words", b"\n503", *chunked, given=b" " * 50_001)
+        last, more = (stack.enter_context(called(client)) for _ in range(2))
+        last.sendall(HALF)
+        time.sleep(0.2)
+        more.sendall(ONE)
+        more.settimeout(0.5)
+        with contextlib.suppress(TimeoutError):
+            judge(f"one connection more is served: {more.recv(100)}", False)
+        last.close()
+        more.settimeout(10)
+        judge("one connection more waits for the end of another", more.recv(1 << 16).endswith(b"one"))
+    began = time.monotonic()
+    with called(client) as it:
+        closed = it.recv(100)
+    took = time.monotonic() - began
+    judge(f"without a head the connection ends after {took:.1f} s: {closed}", 0.9 < took < 3)
+    client.expect("all bytes may be held again", "/echo", most + b"\n200", *chunked, given=most)
+
+
 def ask(judge, room, at, service):
     """Asks the service at an address, with files of the asker's in a folder."""
     client = Client(judge, room, at)
     drips(client, service)
     parts(client)
     memory(client, service, BESIDE)
-    for part in echoes, early, counts, heads, connections, half_closed, crowd:
+    for part in operator, echoes, early, counts, heads, connections, half_closed, crowd:
         part(client)
     descriptors(client, service)
     memory(client, service, LIMIT + BESIDE)
@@ -244,6 +320,9 @@ def ask(judge, room, at, service):
 POST = b"POST /echo HTTP/1.1\r\nHost: h\r\nContent-Length: %d\r\n\r\n%s"
 ONE, HALF = POST % (3, b"one"), POST % (16_000, b"a" * 8_000)
 
-# of each run: the program's arguments, the function that asks it, a request and the end of its reply, and half of a
-# request
-RUNS = [([], ask, ONE, b"\r\n\r\none", HALF)]
+# of each run: the program's arguments, the function that asks it, and maybe a request and the end of its reply, and
+# half of a request
+RUNS = [
+    ([], ask, ONE, b"\r\n\r\none", HALF),
+    (["held=1000000", "connections=20", "head=1"], bounded),
+]
