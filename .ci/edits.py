@@ -1,6 +1,6 @@
 """Wrong bodies: how an edit, whose form CONTRIBUTING.md has, is read and applied, and what the check of a copy says of
 it."""
-import re
+import functools, re
 from collections import namedtuple
 from pathlib import Path
 
@@ -10,13 +10,13 @@ from uses import below
 # what is said of a goal that stays open. Else a term of a proof file no longer fits, as it also may for a right body
 OPEN = re.compile(r"src/|\./proofs/.*(does not follow|allow values at which|(found )?no proof\b)")
 BY_PROOF = "by the proof file alone"
-# a function of a file, and one whose body is one line
-FUNCTION = re.compile(
-    r"^( *)(pub(?:\([^)]*\))? )?(?:const |unsafe )*fn (\w+)((?:(?!^ *(?:pub(?:\([^)]*\))? )?fn ).)*?)^\1(?:\{\}|\})\n",
-    re.M | re.S,
-)
+# a function of a file, its body, the macros of a file, and the head of an impl or a trait with its trait and its type
+START = r"(?:pub(?:\([^)]*\))? )?(?:const |unsafe |final )*fn "
+FUNCTION = re.compile(rf"^( *){START}(\w+)((?:(?!^ *{START}).)*?)^\1(?:{{}}|}})\n", re.M | re.S)
 ONE_LINE = re.compile(r"\{\n.*\n *\}\n\Z|\{\}\n\Z")
-HEAD = re.compile(r"^(?:unsafe )?(?:impl\b|pub trait\b)[^{]*", re.M)
+MACRO = re.compile(r"^macro_rules! (\w+) \{.*?^\}", re.M | re.S)
+HEAD = re.compile(r"^(?:(?:unsafe )?impl\b|(?:pub(?:\([^)]*\))? )?trait\b)[^{]*", re.M)
+OWNER = re.compile(r".*?(?:trait|impl(?:<(?:->|[^<>]|<[^<>]*>)*>)?) (?:(.*) for )?(.*?)(?:: |\s+where\b|\s*\Z)", re.S)
 # it only takes a value apart, so that no wrong body can be written
 ONLY_TAKES_APART = [("bytes_utils", "into_inner")]
 # a program's files are texts by their paths, and its folder is that of its edits; a pair is an old text and a new one
@@ -60,34 +60,62 @@ def test_of(edit):
     return path, it.read_text("utf-8") if it.is_file() else ""
 
 
+def owner_of(head):
+    """The prover's name for an impl or a trait: that of `impl<'a> From<&'a [u8]> for Text<Bytes>` is
+    `TextBytesFromRefSliceU8`."""
+    trait, own = OWNER.match(head).groups("")
+    words = re.findall(r"&|\[|(?<!')\b\w\w+", own + " " + re.sub(r"^(\w+::)*", "", trait))
+    return "".join({"&": "Ref", "[": "Slice"}.get(it, it[0].upper() + it[1:]) for it in words)
+
+
+@functools.cache
+def functions_of(path, text):
+    """The functions of a file: where each is, the head of its impl or trait, and its last two names for the prover."""
+    found = []
+    for it in FUNCTION.finditer(text) if path.startswith("src/") else ():
+        head = "".join(HEAD.findall(text[: it.start()])[-1:]) if it[1] else ""
+        owner = owner_of(head) if head else Path(path).stem.replace("main", "lib")
+        found.append((it, head, f"{owner}::{it[2]}".removeprefix("lib::")))
+    return found
+
+
+def changed_by(edit):
+    """The last two names of each function that an edit changes."""
+    found, files, text = set(), edit.program.files, edit.program.files[edit.file]
+    for old, new in edit.pairs:
+        has_it = lambda it: it.start() <= text.find(old) and text.find(old) + len(old) <= it.end()
+        inside = {name for it, _, name in functions_of(edit.file, text) if has_it(it)}
+        macro = next((f"{it[1]}!" for it in MACRO.finditer(text) if has_it(it)), None)
+        users = {name for at in files.items() if macro for it, _, name in functions_of(*at) if macro in it[0]}
+        # outside of functions it changes a macro, and so each function that uses it, or puts a function there
+        found |= inside or users or {f"{Path(edit.file).stem}::{it}" for it in re.findall(r"\bfn (\w+)", new)}
+    return found
+
+
 def fault_of(edit):
     """What is wrong with an edit, as far as its text shows, or nothing."""
-    files = files_with([edit])
-    if not files or not edit.pairs or any(old == new for old, new in edit.pairs):
+    if not files_with([edit]) or not edit.pairs or any(old == new for old, new in edit.pairs):
         return f"an old text isn't in {edit.file} once, or is the new one"
-    # an edit of a macro changes functions of any file
-    paths = files if "macro_rules!" in files[edit.file] else [edit.file]
-    text = test_of(edit)[1] if edit.test else "".join(files[it] for it in paths)
-    names = [it.split("::")[-1] for it in (*edit.functions, edit.test) if it]
-    lost = [it for it in names if not re.search(rf"\bfn {it}\b", text)]
-    return f"there is no function {lost[0]}" if lost else "" if names else "it names no function and no test"
+    if edit.test:
+        return "" if re.search(rf"\bfn {edit.test.split('::')[-1]}\b", test_of(edit)[1]) else "there is no such test"
+    named, changed = {"::".join(it.replace("+", "").split("::")[-2:]) for it in edit.functions}, changed_by(edit)
+    said = lambda names: ", ".join(sorted(names)) or "no function"
+    return "" if named == changed != set() else f"it names {said(named)}, and changes {said(changed)}"
 
 
 def unchanged(program):
     """The public functions of a crate, of more than one line, in which no wrong body is, nor in a private function by
     which they work."""
     edits, found, calls, changed = edits_of(program), [], {}, set()
-    for path, text in program.files.items():
-        places = [text.find(old) for it in edits if it.file == path for old, _ in it.pairs]
-        for it in FUNCTION.finditer(text) if path.startswith("src/") else ():
-            head = "".join(HEAD.findall(text[: it.start()])[-1:]) if it[1] else ""
-            is_public = it[2] == "pub " or " for " in head or head.startswith("pub trait")
-            name = (path, it[3], it.start()) if is_public else it[3]
-            calls[name] = re.findall(r"\b(\w+)\(", it[4])
-            if any(it.start() <= at < it.end() for at in places):
-                changed |= set() if is_public else {name}
-            elif is_public and not ONE_LINE.search(it[0]) and (program.name, it[3]) not in ONLY_TAKES_APART:
-                found.append(name)
+    places = [(it.file, program.files[it.file].find(old)) for it in edits for old, _ in it.pairs]
+    for path, it, head in ((path, *it[:2]) for path, text in program.files.items() for it in functions_of(path, text)):
+        is_public = it[0].lstrip().startswith("pub ") or " for " in head or head.startswith("pub trait")
+        name = (path, it[2], it.start()) if is_public else it[2]
+        calls[name] = re.findall(r"\b(\w+)\(", it[3])
+        if any(file == path and it.start() <= at < it.end() for file, at in places):
+            changed |= set() if is_public else {name}
+        elif is_public and not ONE_LINE.search(it[0]) and (program.name, it[2]) not in ONLY_TAKES_APART:
+            found.append(name)
     return [f"{program.name}/{it[0]}, {it[1]}" for it in found if not below(it, calls) & changed]
 
 
