@@ -4,16 +4,18 @@ import functools, re
 from collections import namedtuple
 from pathlib import Path
 
-from kit import CRATES, EXAMPLES, ROOT, files_of
+from kit import CRATES, EXAMPLES, FOLDERS, ROOT, files_of
 from uses import below
 
 # what is said of a goal that stays open. Else a term of a proof file no longer fits, as it also may for a right body
 OPEN = re.compile(r"src/|\./proofs/.*(does not follow|allow values at which|(found )?no proof\b)")
 BY_PROOF = "by the proof file alone"
-# a function of a file, its body, the macros of a file, and the head of an impl or a trait with its trait and its type
+# a function of a file, which may have no body; one that has at most one line of it; a macro; the head of an impl or a
+# trait; and in it the trait and the type
 START = r"(?:pub(?:\([^)]*\))? )?(?:const |unsafe |final )*fn "
-FUNCTION = re.compile(rf"^( *){START}(\w+)((?:(?!^ *{START}).)*?)^\1(?:{{}}|}})\n", re.M | re.S)
-ONE_LINE = re.compile(r"\{\n.*\n *\}\n\Z|\{\}\n\Z")
+NO_BODY, BODY = rf"[^\n]*{{}}|(?:(?!{{\n|^ *{START}).)*?;", rf"(?:(?!^ *{START}).)*?^\1(?:{{}}|}})"
+FUNCTION = re.compile(rf"^( *){START}(\w+)({NO_BODY}|{BODY})\n", re.M | re.S)
+ONE_LINE = re.compile(r"(?:\{\n.*\n *\}|\{\}|;)\n\Z")
 MACRO = re.compile(r"^macro_rules! (\w+) \{.*?^\}", re.M | re.S)
 HEAD = re.compile(r"^(?:(?:unsafe )?impl\b|(?:pub(?:\([^)]*\))? )?trait\b)[^{]*", re.M)
 OWNER = re.compile(r".*?(?:trait|impl(?:<(?:->|[^<>]|<[^<>]*>)*>)?) (?:(.*) for )?(.*?)(?:: |\s+where\b|\s*\Z)", re.S)
@@ -26,8 +28,7 @@ Edit = namedtuple("Edit", "program name file functions test breaks pairs")
 
 def program_of(name):
     """A crate or an example."""
-    folder = f"crates/{name}" if name in CRATES else f"examples/{name}"
-    return Program(name, (CRATES | EXAMPLES)[name], files_of(folder), folder)
+    return Program(name, (CRATES | EXAMPLES)[name], files_of(FOLDERS[name]), FOLDERS[name])
 
 
 def edits_of(program, part=""):
@@ -66,6 +67,11 @@ def owner_of(head):
     trait, own = OWNER.match(head).groups("")
     words = re.findall(r"&|\[|(?<!')\b\w\w+", own + " " + re.sub(r"^(\w+::)*", "", trait))
     return "".join({"&": "Ref", "[": "Slice"}.get(it, it[0].upper() + it[1:]) for it in words)
+
+
+def is_public(function, head):
+    """Whether callers see a function, by its first line and by the head of its impl or trait."""
+    return function.lstrip().startswith("pub ") or " for " in head or head.startswith("pub trait")
 
 
 @functools.cache
@@ -107,14 +113,14 @@ def unchanged(program):
     """The public functions of a crate, of more than one line, in which no wrong body is, nor in a private function by
     which they work."""
     edits, found, calls, changed = edits_of(program), [], {}, set()
-    places = [(it.file, program.files[it.file].find(old)) for it in edits for old, _ in it.pairs]
+    places = [(it.file, program.files.get(it.file, "").find(old)) for it in edits for old, _ in it.pairs]
     for path, it, head in ((path, *it[:2]) for path, text in program.files.items() for it in functions_of(path, text)):
-        is_public = it[0].lstrip().startswith("pub ") or " for " in head or head.startswith("pub trait")
-        name = (path, it[2], it.start()) if is_public else it[2]
+        is_seen = is_public(it[0], head)
+        name = (path, it[2], it.start()) if is_seen else it[2]
         calls[name] = re.findall(r"\b(\w+)\(", it[3])
         if any(file == path and it.start() <= at < it.end() for file, at in places):
-            changed |= set() if is_public else {name}
-        elif is_public and not ONE_LINE.search(it[0]) and (program.name, it[2]) not in ONLY_TAKES_APART:
+            changed |= set() if is_seen else {name}
+        elif is_seen and not ONE_LINE.search(it[0]) and (program.name, it[2]) not in ONLY_TAKES_APART:
             found.append(name)
     return [f"{program.name}/{it[0]}, {it[1]}" for it in found if not below(it, calls) & changed]
 

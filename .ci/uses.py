@@ -1,7 +1,7 @@
 """What modules use: the paths in the lines `use` of their files, and the modules to which they lead."""
 import re, sys
 
-from kit import files_of
+from kit import code_of, files_of
 
 USE = re.compile(r"^ *(pub(?:\([^)]*\))? )?use ([^;]+);", re.M)
 ITEM = r"\b(?:fn|struct|enum|trait|type|const|static|macro_rules!) {}\b"
@@ -13,10 +13,9 @@ def modules_of(folder):
     return {() if it in [("lib",), ("main",)] else it: text for it, text in files.items()}
 
 
-def constants_of(folder):
-    """The numbers that are constants of a crate, by their names."""
-    found = re.findall(r"^const (\w+): \w+ = ([\d_< ]+);", "\n".join(files_of(folder).values()), re.M)
-    return {name: eval(it) for name, it in found}
+def constants_of(name):
+    """The numbers that are constants of a crate or an example, by their names."""
+    return {name: eval(it) for name, it in re.findall(r"^const (\w+): \w+ = ([\d_< ]+);", code_of(name), re.M)}
 
 
 def paths_of(names):
