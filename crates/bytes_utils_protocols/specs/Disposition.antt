@@ -34,8 +34,9 @@ pub record TakesDispositionString (text inner rest : List ℕ) : Type 0 where
   pub parts : text ≡ disposition_quote ∷ (inner ++ disposition_quote ∷ rest)
   pub fit : fit_between_disposition_quotes false inner ≡ true
 
--- What the bytes of a token or between two quotes stand for: a backslash before a quote or a backslash is left out, as Go writes them, and curl with
--- `--form-escape`. Another backslash stands for itself, as in the paths that browsers write. A token has none.
+-- The bytes of a token or between two quotes without their escapes: a backslash before a quote or a backslash is left out, as Go writes them, and
+-- curl with `--form-escape`. Another backslash stays, as in the paths that browsers write. A token has none. `escaped` is whether a backslash that
+-- may be left out is before the bytes.
 abbrev pub unescaped_disposition : Bool → List ℕ → List ℕ
 unescaped_disposition escaped [] = []
 unescaped_disposition false (b ∷ rest) = if b == disposition_backslash then unescaped_disposition true rest else b ∷ unescaped_disposition false rest
@@ -119,7 +120,7 @@ pub record HasDispositionParameter (name text value : List ℕ) : Type 0 where
   pub is : IsDisposition text parameters
   pub one : HasOneDispositionNamed name parameters value
 
--- what that value stands for, or `None` if the text is no disposition in which one parameter has the name
+-- that value without its escapes, or `None` if the text is no disposition in which one parameter has the name
 abbrev pub ReadsDispositionParameter : List ℕ → Option (List ℕ) → Option (List ℕ) → Type 0
 ReadsDispositionParameter name None r = r ≡ None
 ReadsDispositionParameter name (Some text) r =

@@ -16,7 +16,7 @@ struct Parameter<'t> {
     value: &'t str,
 }
 
-/// What the parameter of this name in a disposition stands for.
+/// The value of the parameter of this name in a disposition, without its escapes.
 pub(super) fn read_parameter(
     alloc: Global,
     disposition: &Option<String>,
@@ -201,7 +201,7 @@ fn is_token_byte(byte: u8) -> bool
     byte.is_ascii_graphic() && !b"()<>@,;:\\\"/[]?=".contains(&byte)
 }
 
-/// What a value stands for that is written so.
+/// A value without the backslashes of its escapes.
 fn unescaped(alloc: Global, written: &str) -> Result<Str, Reason>
     ensures ok { IfOk result (λ value. value ≡ unescaped_disposition false written.now) }
     ensures reason { IfErr result (λ reason. reason ≡ Reason.OutOfMemory) }

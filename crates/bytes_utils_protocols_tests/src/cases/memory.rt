@@ -104,7 +104,7 @@ fn redis_bulk_without_its_end_needs_no_memory(rt: HostRuntime) {
     assert!(rt; waits_for_bulk_end(&mut ReplyReader::new(rt.alloc(), LIMITS)));
 }
 
-/// Whether a message has so many bytes and begins with these, or `None` if memory was refused.
+/// Whether a message has this number of bytes and begins with these, or `None` if memory was refused.
 fn begins_written(
     written: Result<SegmentedBuf<Bytes>, Reason>,
     front: &[u8],
