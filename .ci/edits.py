@@ -10,6 +10,7 @@ from uses import below
 # what is said of a goal that stays open. Else a term of a proof file no longer fits, as it also may for a right body
 OPEN = re.compile(r"src/|\./proofs/.*(does not follow|allow values at which|(found )?no proof\b)")
 BY_PROOF = "by the proof file alone"
+UNREAD = "the prover can't read the copy"
 # a function of a file, which may have no body; one that has at most one line of it; a macro; the head of an impl or a
 # trait; and in it the trait and the type
 START = r"(?:pub(?:\([^)]*\))? )?(?:const |unsafe |final )*fn "
@@ -146,7 +147,7 @@ def judged(edit, said):
     goals = goals_in(said)
     if not re.search(r"^(logic|only)=", said, re.M):
         errors = [it for it in said.split("\n") if "error" in it] or [said[-200:]]
-        return f"the prover can't read the copy: {errors[0][:200]}"
+        return f"{UNREAD}: {errors[0][:200]}"
     if lost := [it for it in edit.functions if it not in goals]:
         return f"the prover sees no function {lost[0]}"
     closures = [it for it in goals if any(it.replace("fn::", "", 1).startswith(f"{of}::") for of in edit.functions)]
