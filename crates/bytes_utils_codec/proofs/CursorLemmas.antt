@@ -122,7 +122,7 @@ module _ (wanted bytes : List ℕ) (n : ℕ) where
 
 module _ (r : CursorReading) (n : ℕ) where
   around : unread r ≡ take n (unread r) ++ unread (passed_on n r)
-  around = sym (take-append-drop n (unread r)) ∙ ap (λ l. take n (unread r) ++ l) (drop-drop n r.at r.all)
+  around = sym (take-append-drop n (unread r)) ∙ ap (λ l. take n (unread r) ++ l) (drop-drop n r.at (concat r.segments))
 
   pub CursorTakesFirst-passed : n ≤ length (unread r) → CursorTakesFirst n (unread r) (take n (unread r)) (unread (passed_on n r))
   CursorTakesFirst-passed some = record { bytes = around; size = length-take-le n (unread r) some }
@@ -134,7 +134,7 @@ module _ (r : CursorReading) (n : ℕ) where
       → TakesFrame p (unread r) (take n (unread r)) (unread (passed_on (length p) (passed_on n r)))
   TakesFrame-passed p some first =
       let rest : drop (n + length p) (unread r) ≡ unread (passed_on (length p) (passed_on n r))
-      = drop-drop (n + length p) r.at r.all ∙ ap (λ k. drop k r.all) (omega arith) in
+      = drop-drop (n + length p) r.at (concat r.segments) ∙ ap (λ k. drop k (concat r.segments)) (omega arith) in
       record {
         bytes = sym (cut_whole p (unread r) n first.here) ∙ ap (λ l. take n (unread r) ++ (p ++ l)) rest;
         first = subst (OccursFirstAt p (unread r)) (sym (length-take-le n (unread r) some)) first;

@@ -1,10 +1,11 @@
 -- What a reader of texts holds, and its runs.
-use Rattle.std.proofs.Common.{◌≡◌, ℕ, ◌<◌, ◌≤◌, Bool, true, false, List, [], ◌∷◌, ◌++◌, length, map, take, drop, Option, None, Some, Ok, Err, IsUtf8, inl, inr, ⊎_elim, arith, ap, ◌∙◌, sym, refl, subst, true≢false, append_assoc, append-nil, take_at, drop_at, length-take, take-append-drop}
+use Rattle.std.proofs.Common.{◌≡◌, ℕ, ◌<◌, ◌≤◌, Bool, true, false, List, [], ◌∷◌, ◌++◌, length, map, take, drop, Option, None, Some, Ok, Err, IsUtf8, inl, inr, ⊎_elim, arith, ap, ◌∙◌, sym, refl, subst, true≢false, append_assoc, append-nil, take_at, drop_at, length-append, length-take, take-append-drop, IfOk}
 use Rattle.std.proofs.lemmas.Bool.{cases_lt}
-use Rattle.std.proofs.lemmas.List.{take-take}
-use Rattle.std.proofs.lemmas.Str.{IsUtf8-append, IsUtf8-nil, utf8_lossy_empty}
+use Rattle.std.proofs.lemmas.List.{take-append-le, take-take}
+use Rattle.std.proofs.lemmas.Str.{IsUtf8-append, IsUtf8-nil, utf8_lossy_empty, utf8_valid_len_le}
 use Rattle.std.specs.List.{concat}
 use Rattle.std.specs.Str.Lossy.{replacement_bytes, utf8_lossy, utf8_valid_len, utf8_error_len}
+use Rattle.bytes_utils_buf.specs.Segments.{front_segment}
 use Rattle.bytes_utils_codec.specs.declared.texts.Front.{Front}
 use Rattle.bytes_utils_codec.specs.declared.texts.Front.TheVariants.{Text, Fault, Unfinished}
 use Rattle.bytes_utils_codec.specs.StreamRuns.{StreamEvent, AreFirstOfRun, pushed_in_stream, given_in_stream}
@@ -15,9 +16,21 @@ use Rattle.bytes_utils_codec.proofs.CharacterEnds.{few}
 use Rattle.bytes_utils_codec.proofs.FaultLen.{error_len_of_four, fault_more, fault_of_four, fault_some, fault_within}
 use Rattle.bytes_utils_codec.proofs.LossyFronts.{lossy_fault, lossy_text, lossy_unfinished, none_more}
 use Rattle.bytes_utils_codec.proofs.StreamRunsLemmas.{run_law}
-use Rattle.bytes_utils_codec.proofs.ValidLen.{behind_text, no_front, none_of_four, valid_len_at}
+use Rattle.bytes_utils_codec.proofs.ValidLen.{behind_text, front, no_front, none_of_four, valid_len_at}
 
 -- ---- what the held bytes begin with
+
+-- if the pieces begin with no text, the first one doesn't either
+pub none_in_front : (pieces : List (List ℕ)) → utf8_valid_len (concat pieces) ≡ 0 → utf8_valid_len (front_segment pieces) ≡ 0
+none_in_front [] none = none
+none_in_front (piece ∷ pieces) none =
+    let len = utf8_valid_len piece in
+    let within : len ≤ length piece = utf8_valid_len_le piece in
+    ⊎_elim
+    (λ some. absurd (no_front (piece ++ concat pieces) none len some (omega (arith, within, length-append piece (concat pieces)))
+    (subst IsUtf8 (sym (take-append-le len piece (concat pieces) within)) (front piece))))
+    (λ few. omega (arith, few))
+    (cases_lt 0 len)
 
 -- four bytes show what all begin with
 pub front_of_four : (bytes : List ℕ) (front : Front) → IsTextFront (take 4 bytes) front → IsTextFront bytes front
@@ -27,6 +40,12 @@ front_of_four bytes (Text len) is =
     (is.0, omega (arith, within, size), subst IsUtf8 (take-take len 4 bytes (omega (arith, within, size))) is.2)
 front_of_four bytes (Fault len) is = (none_of_four bytes is.0, sym (error_len_of_four bytes) ∙ is.1)
 front_of_four bytes Unfinished is = (none_of_four bytes is.0, sym (error_len_of_four bytes) ∙ is.1)
+
+-- of what stands for bytes that are no text, the text of the first piece, which is none, is no longer than it
+pub fault_longest : (pieces : List (List ℕ)) (item : TextItem) → utf8_valid_len (concat pieces) ≡ 0
+    → IfOk item (λ text. utf8_valid_len (front_segment pieces) ≤ length text)
+fault_longest pieces (Ok text) none = omega (arith, none_in_front pieces none)
+fault_longest pieces (Err fault) none = tt
 
 pub is_unfinished : (bytes : List ℕ) → IsTextFront bytes Unfinished → IsUnfinishedText bytes
 is_unfinished bytes is = record { none = is.0; may_end = may_end bytes is.0 is.1; few = few bytes is.1 }

@@ -1,21 +1,29 @@
 -- Reading on in held bytes, which stay held.
 use Rattle.std.specs.Prelude.{◌≡◌, ◌≢◌, ℕ, ◌+◌, ◌<◌, ◌≤◌, List, [], ◌∷◌, ◌++◌, length, take, drop, Option, None, Some, Result, IfOk, IfSome, IfNone, OnErr}
+use Rattle.std.specs.List.{concat}
+use Rattle.bytes_utils_buf.specs.Segments.{HeldSegments, SkipsSegments, newly_held, take_from_segments}
 use Rattle.bytes_utils.specs.Occurrence.{OccursAt, OccursFirstAt}
 use Rattle.bytes_utils_codec.specs.Frames.{TakesFrame}
 use Rattle.bytes_utils_codec.specs.StreamLines.{TakesStreamLine}
 
--- what clauses see of a `Cursor`: all bytes of the buffer, joined, and the number of those that were passed
+-- what clauses see of a `Cursor`: the segments of the buffer, and the number of bytes that were passed
 pub record CursorReading : Type 0 where
-  pub all : List ℕ
+  pub segments : List (List ℕ)
   pub at : ℕ
 
 -- the bytes that were not passed
 abbrev pub unread : CursorReading → List ℕ
-unread reading = drop reading.at reading.all
+unread reading = drop reading.at (concat reading.segments)
 
 -- n more bytes are passed
 abbrev pub passed_on : ℕ → CursorReading → CursorReading
-passed_on n reading = record { all = reading.all; at = reading.at + n }
+passed_on n reading = record { segments = reading.segments; at = reading.at + n }
+
+-- these are the next bytes, this number of them, in the segments that have them
+pub record AreNextSegments (len : ℕ) (reading : CursorReading) (part : HeldSegments) : Type 0 where
+  pub rest : List (List ℕ)
+  pub skips : SkipsSegments reading.at reading.segments rest
+  pub are : part ≡ newly_held (take_from_segments len rest)
 
 -- the old bytes are a front of this length, and the rest
 pub record CursorTakesFirst (len : ℕ) (old front rest : List ℕ) : Type 0 where
@@ -48,7 +56,7 @@ CursorFindsWithin most needle bytes None = (place : ℕ) → OccursAt needle byt
 pub record CursorReadsPart {A E : Type 0} (IsPart : A → List ℕ → List ℕ → Type 0) (Lack : List ℕ → Type 0) (old new : CursorReading) (result : Result (Option A) E) : Type 0 where
   pub bytes : IfOk result (λ next. IfSome next (λ part. IsPart part (unread old) (unread new)))
   pub waits : IfOk result (λ next. IfNone next ((new ≡ old) × Lack (unread old)))
-  pub all : new.all ≡ old.all
+  pub segments : new.segments ≡ old.segments
   pub err : OnErr result (new ≡ old)
 
 -- what a call that reads the value of the next bytes returns: it, and then the cursor is after them; none, if fewer are unread, and then it stays
@@ -56,7 +64,7 @@ pub record CursorReadsValue {A : Type 0} (len : ℕ) (value_of : List ℕ → A)
   pub value : IfSome result (λ value. value ≡ value_of (take len (unread old)))
   pub bytes : IfSome result (λ _. CursorTakesFirst len (unread old) (take len (unread old)) (unread new))
   pub waits : IfNone result ((new ≡ old) × (length (unread old) < len))
-  pub all : new.all ≡ old.all
+  pub segments : new.segments ≡ old.segments
 
 -- what a caller asks a cursor for
 pub data CursorWanted : Type 0 where

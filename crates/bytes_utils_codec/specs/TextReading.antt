@@ -8,10 +8,18 @@ use Rattle.bytes_utils_codec.specs.StreamRuns.{StreamEvent, IsRunOver, AreFirstO
 use Rattle.bytes_utils_codec.specs.declared.texts.Front.{Front}
 use Rattle.bytes_utils_codec.specs.declared.texts.Front.TheVariants.{Text, Fault, Unfinished}
 
--- What clauses see of a `Texts`: the bytes that were pushed and not yet taken, and whether bytes that are no text become U+FFFD.
+-- What clauses see of a `Texts`: the pieces that were pushed and not yet taken, and whether bytes that are no text become U+FFFD.
+pub record TextPieces : Type 0 where
+  pub pieces : List (List ℕ)
+  pub lossy : Bool
+
+-- the same, wherever the pieces are cut
 pub record TextReading : Type 0 where
   pub held : List ℕ
   pub lossy : Bool
+
+abbrev pub reading_of_pieces : TextPieces → TextReading
+reading_of_pieces r = record { held = concat r.pieces; lossy = r.lossy }
 
 -- a reader that holds no bytes
 abbrev pub text_reading : Bool → TextReading

@@ -1,7 +1,7 @@
 //! Reading on in a buffer that is only borrowed.
 ghost use Rattle.std.specs.Prelude.{◌≡◌, ◌≢◌, ℕ, ◌+◌, ◌<◌, ◌≤◌, ◌↔◌, List, ◌++◌, [], ◌∷◌, length, take, drop, false, IsTrue, IsOk, IfOk, IfErr, IfSome, IfNone, OnErr};
 ghost use Rattle.std.specs.List.{concat, slice_get};
-ghost use Rattle.bytes_utils_codec.specs.Cursor.{IsBegunAtCursor, CursorFindsWithin, NeverBeginsAtCursor, CursorHasNoFrameWithin, OneCursorReplyLaw, CursorReadsPart, SameCursorLaw, CursorStaysLaw, CursorStaysWrongLaw, CursorTakesFirst, CursorTakesUpTo, passed_on, unread};
+ghost use Rattle.bytes_utils_codec.specs.Cursor.{AreNextSegments, IsBegunAtCursor, CursorFindsWithin, NeverBeginsAtCursor, CursorHasNoFrameWithin, OneCursorReplyLaw, CursorReadsPart, SameCursorLaw, CursorStaysLaw, CursorStaysWrongLaw, CursorTakesFirst, CursorTakesUpTo, passed_on, unread};
 ghost use Rattle.bytes_utils_codec.specs.Frames.{HasFrame, HasFrameWithin, TakesFrame};
 ghost use Rattle.bytes_utils.specs.Lines.{line_feed};
 ghost use Rattle.bytes_utils.specs.Occurrence.{Occurs, OccursAt, OccursFirstAt};
@@ -76,7 +76,7 @@ impl<'a, B: ContiguousBuf + Drop> Model for Cursor<'a, B> {
 
     ghost Value = { CursorReading };
 
-    ghost view = { λ c. record { all = concat c.buf.now.segments; at = c.at } };
+    ghost view = { λ c. record { segments = c.buf.now.segments; at = c.at } };
 
     ghost invariant = { λ c. (c.len ≡ length (concat c.buf.now.segments)) × (c.at ≤ c.len) };
 }
@@ -84,7 +84,7 @@ impl<'a, B: ContiguousBuf + Drop> Model for Cursor<'a, B> {
 impl<'a, B: ContiguousBuf + Drop> Cursor<'a, B> {
     /// Makes a cursor at the first byte of `buf`. Requests for memory are made from `alloc`.
     pub fn new(alloc: Global, buf: &'a SegmentedBuf<B>) -> Cursor<'a, B>
-        ensures { result ≡ record { all = concat buf.now.segments; at = 0 } }
+        ensures { result ≡ record { segments = buf.now.segments; at = 0 } }
     {
         Cursor {
             alloc,
@@ -98,7 +98,7 @@ impl<'a, B: ContiguousBuf + Drop> Cursor<'a, B> {
     /// them.
     pub fn at(&self) -> usize
         ensures value { result ≡ self.now.at }
-        ensures within { result ≤ length self.now.all }
+        ensures within { result ≤ length (concat self.now.segments) }
     {
         self.at
     }
@@ -137,6 +137,7 @@ impl<'a, B: ContiguousBuf + Drop> Cursor<'a, B> {
     /// cursor stays. Fails with `OutOfMemory` if memory is refused, never if no byte is left.
     pub fn rest(&self) -> Result<SegmentedBuf<Bytes>, Reason>
         ensures bytes { IfOk result (λ rest. concat rest.segments ≡ unread self.now) }
+        ensures pieces { IfOk result (AreNextSegments (length (unread self.now)) self.now) }
         ensures reason { IfErr result (λ reason. reason ≡ Reason.OutOfMemory) }
         ensures none { unread self.now ≡ [] → IsOk result }
     {
@@ -176,6 +177,7 @@ impl<'a, B: ContiguousBuf + Drop> Cursor<'a, B> {
     pub fn take_segments(&mut self, len: usize) -> Result<Option<SegmentedBuf<Bytes>>, Reason>
         ensures gives { CursorReadsPart (λ part old new. CursorTakesFirst len old (concat part.segments) new)
             (λ bytes. length bytes < len) self.old self.new result }
+        ensures pieces { IfOk result (λ next. IfSome next (AreNextSegments len self.old)) }
         ensures reason { IfErr result (λ reason. reason ≡ Reason.OutOfMemory) }
         ensures none { len ≡ 0 → IsOk result }
     {
@@ -289,7 +291,7 @@ impl<'a, B: ContiguousBuf + Drop> Cursor<'a, B> {
         ensures waits { IfOk result (λ next. IfNone next
             ((self.new ≡ self.old) × IsBegunAtCursor bytes.now (unread self.old))) }
         ensures wrong { IfErr result (λ _. NeverBeginsAtCursor bytes.now (unread self.old)) }
-        ensures all { self.new.all ≡ self.old.all }
+        ensures segments { self.new.segments ≡ self.old.segments }
         ensures err { OnErr result (self.new ≡ self.old) }
     {
         let most = bytes.len().min(self.remaining());
@@ -328,7 +330,7 @@ impl<'a, B: ContiguousBuf + Drop> Cursor<'a, B> {
         ensures bytes { IfOk result (λ front.
             TakesFrame needle.now (unread self.old) front (unread self.new)) }
         ensures front { IfOk result (λ front. front ≡ take len (unread self.old)) }
-        ensures all { self.new.all ≡ self.old.all }
+        ensures segments { self.new.segments ≡ self.old.segments }
         ensures err { OnErr result (self.new ≡ self.old) }
         ensures reason { IfErr result (λ reason. reason ≡ Reason.OutOfMemory) }
         ensures some { OnErr result (0 < len) }

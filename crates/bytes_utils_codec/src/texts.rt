@@ -1,9 +1,10 @@
 //! Texts of a stream that comes in pieces.
-ghost use Rattle.std.specs.Prelude.{◌≡◌, ◌<◌, ◌≤◌, [], length, take, drop, false, true, IsUtf8, IfOk, IfErr, IfSome, IfNone, OnOk, OnErr};
+ghost use Rattle.std.specs.Prelude.{◌≡◌, ℕ, ◌<◌, ◌≤◌, [], ◌∷◌, ◌++◌, length, take, drop, false, true, IsUtf8, IfOk, IfErr, IfSome, IfNone, OnOk, OnErr};
 ghost use Rattle.std.specs.List.{concat};
 ghost use Rattle.std.specs.Str.Lossy.{utf8_valid_len, utf8_error_len};
+ghost use Rattle.bytes_utils_buf.specs.Segments.{front_segment, unread_segments};
 ghost use Rattle.bytes_utils_codec.specs.Pushing.{IsPush};
-ghost use Rattle.bytes_utils_codec.specs.TextReading.{IsTextFaultItem, IsTextFront, IsUnfinishedText, LossyTextLaw, TakesTextItem, TakesLastText, TextFaultLaw, TextFrontLaw, TextItemsLaw, WholeLossyTextLaw, asks_for_text_at_end, asks_for_text, text_fed, text_reading};
+ghost use Rattle.bytes_utils_codec.specs.TextReading.{IsTextFaultItem, IsTextFront, IsUnfinishedText, LossyTextLaw, TakesTextItem, TakesLastText, TextFaultLaw, TextFrontLaw, TextItemsLaw, WholeLossyTextLaw, asks_for_text_at_end, asks_for_text, reading_of_pieces, text_fed};
 
 use bytes::{Buf, Bytes};
 use bytes_utils::split::character::first_end;
@@ -57,18 +58,17 @@ pub struct Texts {
 }
 
 impl Model for Texts {
-    ghost use Rattle.std.specs.List.{concat};
-    ghost use Rattle.bytes_utils_codec.specs.TextReading.{TextReading};
+    ghost use Rattle.bytes_utils_codec.specs.TextReading.{TextPieces};
 
-    ghost Value = { TextReading };
+    ghost Value = { TextPieces };
 
-    ghost view = { λ t. record { held = concat t.pieces.segments; lossy = t.lossy } };
+    ghost view = { λ t. record { pieces = t.pieces.segments; lossy = t.lossy } };
 }
 
 impl Texts {
     /// Makes a reader that holds no bytes.
     pub fn new(alloc: Global) -> Texts
-        ensures { result ≡ text_reading false }
+        ensures { result ≡ record { pieces = []; lossy = false } }
     {
         Texts {
             alloc,
@@ -93,8 +93,11 @@ impl Texts {
     /// `usize::MAX`, and with `OutOfMemory` if memory is refused; then nothing has changed and
     /// `piece` comes back.
     pub fn push(&mut self, piece: Bytes) -> Result<(), Refused<Bytes>>
-        ensures pushed { IsPush self.old.held piece result
-            (self.new ≡ text_fed self.old piece) (self.new ≡ self.old) }
+        ensures pushed { IsPush (concat self.old.pieces) piece result
+            (reading_of_pieces self.new ≡ text_fed (reading_of_pieces self.old) piece)
+            (self.new ≡ self.old) }
+        ensures pieces { OnOk result
+            (self.new.pieces ≡ self.old.pieces ++ unread_segments (piece ∷ [])) }
     {
         self.pieces.try_push(piece)
     }
@@ -105,12 +108,14 @@ impl Texts {
     /// `OutOfMemory` if memory is refused; it is asked for only if an item has come. Then nothing has
     /// changed.
     pub fn next_item(&mut self) -> Result<Option<Item>, Reason>
-        ensures item { IfOk result
-            (λ next. IfSome next (λ item. TakesTextItem self.old item self.new)) }
+        ensures item { IfOk result (λ next. IfSome next (λ item. TakesTextItem
+            (reading_of_pieces self.old) item (reading_of_pieces self.new))) }
+        ensures longest { IfOk result (λ next. IfSome next (λ item. IfOk item
+            (λ text. utf8_valid_len (front_segment self.old.pieces) ≤ length text))) }
         ensures waits { IfOk result (λ next. IfNone next
-            ((self.new ≡ self.old) × IsUnfinishedText self.old.held)) }
+            ((self.new ≡ self.old) × IsUnfinishedText (concat self.old.pieces))) }
         ensures err { OnErr result (self.new ≡ self.old) }
-        ensures asks { OnErr result (asks_for_text self.old) }
+        ensures asks { OnErr result (asks_for_text (reading_of_pieces self.old)) }
         ensures reason { IfErr result (λ reason. reason ≡ Reason.OutOfMemory) }
     {
         match self.front() {
@@ -123,12 +128,14 @@ impl Texts {
     /// As `next_item`, at the end of the stream: the bytes of a character that isn't whole are no
     /// text, too. Returns `None` if no byte is held.
     pub fn last_item(&mut self) -> Result<Option<Item>, Reason>
-        ensures item { IfOk result
-            (λ next. IfSome next (λ item. TakesLastText self.old item self.new)) }
+        ensures item { IfOk result (λ next. IfSome next (λ item. TakesLastText
+            (reading_of_pieces self.old) item (reading_of_pieces self.new))) }
+        ensures longest { IfOk result (λ next. IfSome next (λ item. IfOk item
+            (λ text. utf8_valid_len (front_segment self.old.pieces) ≤ length text))) }
         ensures none { IfOk result
-            (λ next. IfNone next ((self.old.held ≡ []) × (self.new ≡ self.old))) }
+            (λ next. IfNone next ((concat self.old.pieces ≡ []) × (self.new ≡ self.old))) }
         ensures err { OnErr result (self.new ≡ self.old) }
-        ensures asks { OnErr result (asks_for_text_at_end self.old) }
+        ensures asks { OnErr result (asks_for_text_at_end (reading_of_pieces self.old)) }
         ensures reason { IfErr result (λ reason. reason ≡ Reason.OutOfMemory) }
     {
         if let Some(item) = self.next_item()? {
@@ -143,9 +150,14 @@ impl Texts {
 
     /// Returns what the held bytes begin with.
     fn front(&self) -> Front
-        ensures { IsTextFront self.now.held result }
+        ensures front { IsTextFront (concat self.now.pieces) result }
+        ensures longest { (len : ℕ) → result ≡ Front.Text len
+            → utf8_valid_len (front_segment self.now.pieces) ≤ len }
     {
-        let len = text_front_len(self.pieces.chunk());
+        let len = match self.pieces.segment(0) {
+            Some(piece) => text_front_len(piece),
+            None => 0,
+        };
         if len > 0 {
             return Front::Text(len);
         }
@@ -156,10 +168,11 @@ impl Texts {
 
     /// Takes the text of the first `len` bytes.
     fn take_text(&mut self, len: usize) -> Result<Str, Reason>
-        requires within { len ≤ length self.old.held }
-        requires utf8 { IsUtf8 (take len self.old.held) }
-        ensures ok { IfOk result (λ text. text ≡ take len self.old.held) }
-        ensures rest { OnOk result (self.new ≡ record self.old { held = drop len self.old.held }) }
+        requires within { len ≤ length (concat self.old.pieces) }
+        requires utf8 { IsUtf8 (take len (concat self.old.pieces)) }
+        ensures ok { IfOk result (λ text. text ≡ take len (concat self.old.pieces)) }
+        ensures rest { OnOk result (reading_of_pieces self.new
+            ≡ record (reading_of_pieces self.old) { held = drop len (concat self.old.pieces) }) }
         ensures err { OnErr result (self.new ≡ self.old) }
         ensures reason { IfErr result (λ reason. reason ≡ Reason.OutOfMemory) }
     {
@@ -170,11 +183,12 @@ impl Texts {
 
     /// Takes the first `len` bytes, which are no text, as they are or as U+FFFD.
     fn take_fault(&mut self, len: usize) -> Result<Item, Reason>
-        requires within { len ≤ length self.old.held }
-        requires no_text { ¬ IsUtf8 (take len self.old.held) }
+        requires within { len ≤ length (concat self.old.pieces) }
+        requires no_text { ¬ IsUtf8 (take len (concat self.old.pieces)) }
         ensures item { IfOk result
-            (λ item. IsTextFaultItem self.old.lossy item (take len self.old.held)) }
-        ensures rest { OnOk result (self.new ≡ record self.old { held = drop len self.old.held }) }
+            (λ item. IsTextFaultItem self.old.lossy item (take len (concat self.old.pieces))) }
+        ensures rest { OnOk result (reading_of_pieces self.new
+            ≡ record (reading_of_pieces self.old) { held = drop len (concat self.old.pieces) }) }
         ensures err { OnErr result (self.new ≡ self.old) }
         ensures strict { OnErr result (self.old.lossy ≡ false) }
         ensures reason { IfErr result (λ reason. reason ≡ Reason.OutOfMemory) }
@@ -190,7 +204,7 @@ impl Texts {
 
     /// Returns the number of held bytes: those pushed and not yet taken.
     pub fn remaining(&self) -> usize
-        ensures { result ≡ length self.now.held }
+        ensures { result ≡ length (concat self.now.pieces) }
     {
         self.pieces.remaining()
     }
@@ -198,7 +212,7 @@ impl Texts {
     /// Returns the held bytes. After `next_item` has returned `None` they are the beginning of a
     /// character, or none.
     pub fn finish(self) -> SegmentedBuf<Bytes>
-        ensures { concat result.segments ≡ self.held }
+        ensures { result.segments ≡ self.pieces }
     {
         let Texts { pieces, .. } = self;
         pieces

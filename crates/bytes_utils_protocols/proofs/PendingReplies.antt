@@ -108,10 +108,10 @@ module _ (u : List ℕ) (len : ℕ) (line : IsRedisTextLine (take len u)) where
 
 -- ---- a bulk item
 
-pub cursor_at : (u : List ℕ) (start : ℕ) (first next : CursorReading) → first ≡ record { all = u; at = 0 } → next ≡ passed_on start first → unread next ≡ drop start u
-cursor_at u start first next is passed =
+pub cursor_at : (segments : List (List ℕ)) (start : ℕ) (first next : CursorReading) → first ≡ record { segments = segments; at = 0 } → next ≡ passed_on start first → unread next ≡ drop start (concat segments)
+cursor_at segments start first next is passed =
     let same : 0 + start ≡ start = omega arith in
-    ap unread passed ∙ ap (λ r. unread (passed_on start r)) is ∙ ap (λ n. drop n u) same
+    ap unread passed ∙ ap (λ r. unread (passed_on start r)) is ∙ ap (λ n. drop n (concat segments)) same
 
 module _ (limits : Limits) (room : ℕ) (u : List ℕ) (start len : ℕ) (awaits : AwaitsPendingBody limits u start len) where
   pub no_bulk_item : (e : ReplyError) → (e ≡ Malformed → (more : List ℕ) → HasNoRedisBody len (drop start u ++ more)) → e ≢ TooLarge → ((reason : Reason) → e ≡ Refused reason → reason ≡ OutOfMemory)

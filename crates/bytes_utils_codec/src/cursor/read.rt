@@ -71,7 +71,7 @@ impl<'a, B: ContiguousBuf + Drop> Cursor<'a, B> {
         ensures bytes { IfOk result (λ front.
             TakesFrame needle.now (unread self.old) (cow_slice_items front) (unread self.new)) }
         ensures front { IfOk result (λ front. cow_slice_items front ≡ take len (unread self.old)) }
-        ensures all { self.new.all ≡ self.old.all }
+        ensures segments { self.new.segments ≡ self.old.segments }
         ensures err { OnErr result (self.new ≡ self.old) }
         ensures reason { IfErr result (λ reason. reason ≡ Reason.OutOfMemory) }
         ensures some { OnErr result (0 < len) }

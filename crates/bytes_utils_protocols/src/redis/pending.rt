@@ -339,7 +339,7 @@ fn next_pending_body<B: ContiguousBuf + Drop>(
     ensures body { IfOk result (λ next. IfSome next (λ bytes.
         unread cursor.old ≡ bytes ++ (redis_line_end ++ unread cursor.new))) }
     ensures len { IfOk result (λ next. IfSome next (λ bytes. length bytes ≡ len)) }
-    ensures all { cursor.new.all ≡ cursor.old.all }
+    ensures segments { cursor.new.segments ≡ cursor.old.segments }
     ensures waits { IfOk result (λ next. IfNone next (HasNoRedisBody len (unread cursor.old))) }
     ensures begins { IfOk result (λ next. IfNone next (BeginsRedisBody len (unread cursor.old))) }
     ensures malformed { IfErr result (λ e. e ≡ ReplyError.Malformed

@@ -9,6 +9,6 @@ returns-clause-gives g c =
     record {
       bytes = (line, TakesStreamLine-framed (unread c.args.self.now) c.in-Some.line line (unread c.take_until.new.self) framed c.drop_return.ensures, c.text_of_line.ensures);
       waits = tt;
-      all = c.in_ok-line.ensures.gives.all;
+      segments = c.in_ok-line.ensures.gives.segments;
       err = tt;
     }

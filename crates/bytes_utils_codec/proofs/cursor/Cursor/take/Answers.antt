@@ -9,6 +9,6 @@ returns-clause-gives g c =
     record {
       bytes = rw (took.bytes, took.passed) (CursorTakesFirst-passed c.args.self.now c.args.len (omega arith));
       waits = tt;
-      all = ap (λ (r : CursorReading). r.all) took.passed;
+      segments = ap (λ (r : CursorReading). r.segments) took.passed;
       err = tt;
     }

@@ -1,17 +1,17 @@
 use Rattle.std.proofs.Common.{◌≡◌, length, min, take, ap, ◌∙◌, subst, arith, take_at, length-take}
 use Rattle.std.proofs.lemmas.List.{take_min}
 use Rattle.std.specs.List.{concat}
-use Rattle.bytes_utils_codec.specs.TextReading.{IsTextFront, TextReading}
+use Rattle.bytes_utils_codec.specs.TextReading.{IsTextFront, TextPieces}
 use Rattle.bytes_utils_codec.proofs.TextReadingLemmas.{front_of_four}
 use Rattle.bytes_utils_codec.proofs.texts.Texts.front.Goals as goal
 
 -- the bytes that were looked at are the first four
-pub returns : goal.returns
-returns c =
+pub returns-clause-front : goal.returns-clause-front
+returns-clause-front c =
     let all = concat c.self.inside.pieces.segments in
     let size : c.peek-count.result ≡ min 4 (length all) = c.peek-count.ensures.count in
-    let seen : take c.peek-count.result c.peek-count.new.dst ≡ take 4 c.args.self.now.held
+    let seen : take c.peek-count.result c.peek-count.new.dst ≡ take 4 (concat c.args.self.now.pieces)
     = ap (take c.peek-count.result) c.peek-count.ensures.bytes
     ∙ take_at (take c.peek-count.result all) _ c.peek-count.result (length-take c.peek-count.result all ∙ omega (arith, size))
-    ∙ ap (λ n. take n all) size ∙ take_min 4 all ∙ ap (λ (r : TextReading). take 4 r.held) c.self.view_is in
-    front_of_four c.args.self.now.held _ (subst (λ l. IsTextFront l c.text_front_of_few.result) seen c.text_front_of_few.ensures)
+    ∙ ap (λ n. take n all) size ∙ take_min 4 all ∙ ap (λ (r : TextPieces). take 4 (concat r.pieces)) c.self.view_is in
+    front_of_four (concat c.args.self.now.pieces) _ (subst (λ l. IsTextFront l c.text_front_of_few.result) seen c.text_front_of_few.ensures)

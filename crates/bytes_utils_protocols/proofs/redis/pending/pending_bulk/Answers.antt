@@ -11,7 +11,7 @@ returns-in_err-bytes c = record {
   found = λ limits room awaits.
       let u = concat c.args.pieces.now.held.segments in
       let len = c.args.len in
-      let same : unread c.advance.new.self ≡ drop c.args.start u = cursor_at u c.args.start c.new-cursor.result c.advance.new.self (rw c.as_segmented.ensures at c.new-cursor.ensures) c.advance.ensures in
+      let same : unread c.advance.new.self ≡ drop c.args.start u = cursor_at c.args.pieces.now.held.segments c.args.start c.new-cursor.result c.advance.new.self (rw c.as_segmented.ensures at c.new-cursor.ensures) c.advance.ensures in
       let out = err_from_is_err_and c.from_residual.result c.from_residual.ensures.1 in
       rw out.1 (no_bulk_item limits room u c.args.start len awaits out.0
       (λ is more. subst (λ l. HasNoRedisBody len (l ++ more)) same (c.in_err-bytes.ensures.malformed (sym out.2 ∙ is) more))
@@ -24,7 +24,7 @@ returns-in_default c = record {
   found = λ limits room awaits.
       let u = concat c.args.pieces.now.held.segments in
       let len = c.args.len in
-      let same : unread c.advance.new.self ≡ drop c.args.start u = cursor_at u c.args.start c.new-cursor.result c.advance.new.self (rw c.as_segmented.ensures at c.new-cursor.ensures) c.advance.ensures in
+      let same : unread c.advance.new.self ≡ drop c.args.start u = cursor_at c.args.pieces.now.held.segments c.args.start c.new-cursor.result c.advance.new.self (rw c.as_segmented.ensures at c.new-cursor.ensures) c.advance.ensures in
       let waits = rw c.in_default.is at c.in_ok-bytes.ensures.waits in
       let begins = rw c.in_default.is at c.in_ok-bytes.ensures.begins in
       awaits_bulk limits room u c.args.start len awaits (subst (HasNoRedisBody len) same waits) (subst (BeginsRedisBody len) same begins);
