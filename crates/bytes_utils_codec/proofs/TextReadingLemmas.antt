@@ -20,6 +20,13 @@ use Rattle.bytes_utils_codec.proofs.ValidLen.{behind_text, front, no_front, none
 
 -- ---- what the held bytes begin with
 
+-- a text at the start of the first piece is one at the start of all
+pub text_in_front : (pieces : List (List ℕ)) (len : ℕ) → 0 < len → len ≤ length (front_segment pieces) → IsUtf8 (take len (front_segment pieces))
+    → IsTextFront (concat pieces) (Text len)
+text_in_front [] len some within utf8 = (some, within, utf8)
+text_in_front (piece ∷ pieces) len some within utf8 =
+    (some, omega (arith, within, length-append piece (concat pieces)), subst IsUtf8 (sym (take-append-le len piece (concat pieces) within)) utf8)
+
 -- if the pieces begin with no text, the first one doesn't either
 pub none_in_front : (pieces : List (List ℕ)) → utf8_valid_len (concat pieces) ≡ 0 → utf8_valid_len (front_segment pieces) ≡ 0
 none_in_front [] none = none

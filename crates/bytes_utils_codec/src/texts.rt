@@ -154,16 +154,23 @@ impl Texts {
         ensures longest { (len : ℕ) → result ≡ Front.Text len
             → utf8_valid_len (front_segment self.now.pieces) ≤ len }
     {
-        let len = match self.pieces.segment(0) {
-            Some(piece) => text_front_len(piece),
-            None => 0,
-        };
+        let len = text_front_len(self.first_piece());
         if len > 0 {
             return Front::Text(len);
         }
         let mut place = [0; 4];
         let count = self.pieces.peek(&mut place);
         text_front_of_few(&place[..count])
+    }
+
+    /// Returns the first held piece, or no bytes if none is held.
+    fn first_piece(&self) -> &[u8]
+        ensures { result.now ≡ front_segment self.now.pieces }
+    {
+        match self.pieces.segment(0) {
+            Some(piece) => piece,
+            None => &[],
+        }
     }
 
     /// Takes the text of the first `len` bytes.

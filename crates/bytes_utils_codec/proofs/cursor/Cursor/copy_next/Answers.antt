@@ -1,6 +1,7 @@
 use Rattle.std.proofs.Common.{◌≡◌, ◌≤◌, ◌++◌, rules, sym, ap, ◌∙◌, take, drop, length, take-add, take-take, drop-drop, arith}
 use Rattle.std.proofs.lemmas.List.{places}
 use Rattle.std.proofs.lemmas.Slice.{overwrites}
+use Rattle.std.specs.List.{concat}
 use Rattle.bytes_utils_codec.specs.Cursor.{unread, passed_on}
 use Rattle.bytes_utils_codec.proofs.cursor.Cursor.copy_next.Goals as goal
 

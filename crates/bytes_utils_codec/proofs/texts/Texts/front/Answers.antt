@@ -2,8 +2,14 @@ use Rattle.std.proofs.Common.{◌≡◌, length, min, take, ap, ◌∙◌, subst
 use Rattle.std.proofs.lemmas.List.{take_min}
 use Rattle.std.specs.List.{concat}
 use Rattle.bytes_utils_codec.specs.TextReading.{IsTextFront, TextPieces}
-use Rattle.bytes_utils_codec.proofs.TextReadingLemmas.{front_of_four}
+use Rattle.bytes_utils_codec.proofs.TextReadingLemmas.{front_of_four, text_in_front}
 use Rattle.bytes_utils_codec.proofs.texts.Texts.front.Goals as goal
+
+pub returns-then-len-gt0-clause-front : goal.returns-then-len-gt0-clause-front
+returns-then-len-gt0-clause-front c =
+    let first = c.first_piece.ensures in
+    text_in_front c.args.self.now.pieces c.text_front_len-len.result (omega arith)
+    (omega (arith, c.text_front_len-len.ensures.within, ap length first)) (rw first at c.text_front_len-len.ensures.utf8)
 
 -- the bytes that were looked at are the first four
 pub returns-clause-front : goal.returns-clause-front
