@@ -12,7 +12,9 @@ pub mod UnescapedLemmas
 pub mod DigitsLemmas
 pub mod RedisCommandLemmas
 pub mod MultipartLemmas
+pub mod MultipartStreamLemmas
 pub mod NetstringsLemmas
 pub mod MultipartLaws
+pub mod MultipartStreamLaws
 pub mod EventsLemmas
 pub mod EventRunsLemmas

@@ -15,7 +15,7 @@ use Rattle.bytes_utils_protocols.proofs.MultipartLemmas.{IsMultipartPart-same}
 
 module _ (d : List ℕ) (limits : Limits) where
   -- with more bytes it is the same part
-  TakesMultipart-more : (old : List ℕ) (part : MultipartBytes) (rest piece : List ℕ) → TakesMultipart d limits old part rest → TakesMultipart d limits (old ++ piece) part (rest ++ piece)
+  pub TakesMultipart-more : (old : List ℕ) (part : MultipartBytes) (rest piece : List ℕ) → TakesMultipart d limits old part rest → TakesMultipart d limits (old ++ piece) part (rest ++ piece)
   TakesMultipart-more old part rest piece takes = record {
     preamble = takes.preamble;
     after = takes.after ++ piece;
@@ -37,7 +37,7 @@ module _ (d : List ℕ) (limits : Limits) where
         p.left ∙ ap (λ l. d ++ l) raw.1 ∙ sym q.left,
       )
 
-  ClosesMultipart-more : (bytes piece : List ℕ) → ClosesMultipart d bytes → ClosesMultipart d (bytes ++ piece)
+  pub ClosesMultipart-more : (bytes piece : List ℕ) → ClosesMultipart d bytes → ClosesMultipart d (bytes ++ piece)
   ClosesMultipart-more bytes piece closing = (closing.0, closing.1 ++ piece, TakesFrame-more d bytes closing.0 (multipart_dashes ++ closing.1) piece closing.2)
 
   -- what is known after some calls

@@ -44,7 +44,8 @@ long_frame d bytes more frame rest none takes =
 
 -- ---- one part
 
-one_head : (front a b : List ℕ) → IsMultipartHead front a → IsMultipartHead front b → a ≡ b
+-- before the end of a head is one head
+pub one_head : (front a b : List ℕ) → IsMultipartHead front a → IsMultipartHead front b → a ≡ b
 one_head front a b (inl p) (inl q) = p.1 ∙ sym q.1
 one_head front a b (inl p) (inr q) = absurd (omega (arith, ap length (sym p.0 ∙ q), length-append multipart_line_end b))
 one_head front a b (inr p) (inl q) = absurd (omega (arith, ap length (sym q.0 ∙ p), length-append multipart_line_end a))
@@ -408,9 +409,9 @@ module _ (limits : Limits) (old s : Sections) where
 pub no_head_end : (limits : Limits) (raw : List ℕ) (part : MultipartBytes) → (¬ Occurs multipart_head_end raw) → ¬ IsMultipartPart limits raw part
 no_head_end limits raw part none is = none (length is.front, is.cut.first.here)
 
--- what is before the end of the head is no head
-pub no_head : (limits : Limits) (raw front body : List ℕ) (part : MultipartBytes) → TakesFrame multipart_head_end raw front body → ((head : List ℕ) → ¬ IsMultipartHead front head) → ¬ IsMultipartPart limits raw part
-no_head limits raw front body part cut none is =
+-- what is before the end of the head is no head of header fields
+pub no_head_fields : (limits : Limits) (raw front body : List ℕ) (part : MultipartBytes) → TakesFrame multipart_head_end raw front body → ((head : List ℕ) → IsMultipartHead front head → ¬ AreMultipartFields head) → IsMultipartPart limits raw part → ¬ AreMultipartFields part.head
+no_head_fields limits raw front body part cut none is =
     let same = TakesFrame-same multipart_head_end raw front is.front body part.body cut is.cut in
     none part.head (subst (λ l. IsMultipartHead l part.head) (sym same.0) is.head)
 

@@ -9,6 +9,8 @@ pub mod RedisPending
 pub mod Disposition
 pub mod RedisCommand
 pub mod Multipart
+pub mod MultipartWaiting
+pub mod MultipartStream
 pub mod Netstrings
 pub mod NetstringsLaws
 pub mod EventData

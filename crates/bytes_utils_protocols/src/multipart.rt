@@ -1,26 +1,34 @@
 //! The parts of a body of `multipart/form-data`, or of another multipart type, that comes in pieces
 //! (RFC 2046, section 5.1.1; RFC 7578).
-ghost use Rattle.std.specs.Prelude.{◌≡◌, ◌+◌, ◌-◌, ◌^◌, ◌<◌, ◌≤◌, ◌↔◌, ℕ, List, [], ◌++◌, length, min, false, true, IsUtf8, IsOk, IsTrue, IfOk, IfErr, IfSome, IfNone, OnOk, OnErr};
+ghost use Rattle.std.specs.Prelude.{◌≡◌, ◌+◌, ◌-◌, ◌^◌, ◌<◌, ◌≤◌, ◌↔◌, ℕ, List, [], ◌++◌, length, false, true, IsUtf8, IsOk, IsTrue, IfOk, IfErr, IfSome, IfNone, OnOk, OnErr};
 ghost use Rattle.bytes_utils_codec.specs.Pushing.{IsPush};
 ghost use Rattle.bytes_utils_protocols.specs.Disposition.{SameDispositionParameterLaw};
 ghost use Rattle.bytes_utils_protocols.specs.Multipart.{AreMultipartFields, FewWaitInMultipart, HasMultipartParameter, IsMultipartDivided, IsMultipartIdle, IsMultipartDue, NoMultipart, NoMultipartWithFields, MultipartBytes, MultipartLaw, SameMultipartLaw, TakesMultipart, multipart_appended, bytes_of_multipart, multipart_delimiter, multipart_file_name, held_by_multipart, multipart_line_end, multipart_name};
 
+mod delimiter;
 mod disposition;
+mod event;
 mod fields;
 mod head;
 mod limits;
 mod preamble;
+mod progress;
 mod sections;
+mod streamed;
+mod waiting;
 
 use bytes::{Buf, Bytes};
 use bytes_utils::{Reason, Refused, SegmentedBuf, Str};
-use disposition::read_parameter;
-use fields::disposition_of_head;
+use delimiter::delimiter_of;
+pub use event::PartEvent;
+pub use head::PartHead;
 use head::read_head;
+use limits::most_multipart_bytes;
 pub use limits::{Limits, PartError};
 use sections::{Sections, Stage};
 use std::alloc::Global;
 use std::marker::Model;
+pub use streamed::{PartStream, part_stream_laws};
 
 /// A part.
 #[derive(Debug, Drop)]
@@ -92,9 +100,7 @@ impl PartReader {
         }) }
         ensures reason { IfErr result (λ reason. reason ≡ Reason.OutOfMemory) }
     {
-        let mut delimiter = Vec::from_slice(alloc, b"\r\n--")?;
-        delimiter.extend_from_slice(boundary)?;
-        let mut sections = Sections::new(alloc, &delimiter)?;
+        let mut sections = Sections::new(alloc, &delimiter_of(alloc, boundary)?)?;
         sections.push_slice(alloc, b"\r\n")?;
         Ok(PartReader {
             alloc,
@@ -208,13 +214,6 @@ pub fn part_laws()
     ensures parameter { SameDispositionParameterLaw }
 {}
 
-/// The most bytes between two delimiters.
-fn most_multipart_bytes(limits: Limits) -> usize
-    ensures { result ≡ min (limits.head + limits.body) (2 ^ 64 - 1) }
-{
-    limits.head.saturating_add(limits.body)
-}
-
 /// Takes the part that was found.
 fn take_part(sections: &mut Sections, alloc: Global, limits: Limits) -> Result<Part, PartError>
     requires divided { IsMultipartDivided sections.old }
@@ -244,13 +243,15 @@ fn take_part(sections: &mut Sections, alloc: Global, limits: Limits) -> Result<P
         → reason ≡ Reason.OutOfMemory) }
 {
     let (head, start) = read_head(&sections.found, alloc, limits)?;
-    let disposition = disposition_of_head(alloc, head.as_str())?;
-    let name = read_parameter(alloc, &disposition, "name")?;
-    let file_name = read_parameter(alloc, &disposition, "filename")?;
+    let PartHead {
+        text,
+        name,
+        file_name,
+    } = head;
     let mut body = sections.take(alloc);
     body.advance(start);
     Ok(Part {
-        head,
+        head: text,
         name,
         file_name,
         body,

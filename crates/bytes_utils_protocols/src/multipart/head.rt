@@ -1,9 +1,10 @@
 //! The head of a part.
-ghost use Rattle.std.specs.Prelude.{◌≡◌, ◌≤◌, ℕ, List, length, drop, IsUtf8, IfOk, IfErr, IfSome, IfNone};
+ghost use Rattle.std.specs.Prelude.{◌≡◌, ◌≢◌, ◌≤◌, ℕ, List, length, drop, IsUtf8, IfOk, IfErr, IfSome, IfNone};
 ghost use Rattle.std.specs.List.{concat};
-ghost use Rattle.bytes_utils_protocols.specs.Multipart.{AreMultipartFields, IsMultipartHead, IsMultipartPart, MultipartBytes, multipart_bytes};
+ghost use Rattle.bytes_utils_protocols.specs.Multipart.{AreMultipartFields, HasMultipartParameter, IsMultipartHead, IsMultipartPart, MultipartBytes, multipart_bytes, multipart_file_name, multipart_name};
 
-use super::fields::has_fields;
+use super::disposition::read_parameter;
+use super::fields::{disposition_of_head, has_fields};
 use super::limits::{Limits, PartError};
 use crate::header::header_blanks_len;
 use bytes::{Buf, Bytes};
@@ -15,18 +16,33 @@ use std::alloc::Global;
 const LINE_END: &[u8] = b"\r\n";
 
 /// What ends a head.
-const HEAD_END: &[u8] = b"\r\n\r\n";
+pub(super) const HEAD_END: &[u8] = b"\r\n\r\n";
+
+/// The head of a part.
+#[derive(Debug, Drop)]
+pub struct PartHead {
+    /// The header fields as they came, without the line end after the last one.
+    pub text: Str,
+    /// The name, as that of a `Part`.
+    pub name: Option<Str>,
+    /// The file name, as that of a `Part`.
+    pub file_name: Option<Str>,
+}
 
 /// The head of a part, and the place of its body.
 pub(super) fn read_head(
     raw: &SegmentedBuf<Bytes>,
     alloc: Global,
     limits: Limits,
-) -> Result<(Str, usize), PartError>
+) -> Result<(PartHead, usize), PartError>
     ensures within { IfOk result (λ read. read.1 ≤ length (concat raw.now.segments)) }
     ensures part { IfOk result (λ read. IsMultipartPart limits (concat raw.now.segments)
-        (multipart_bytes read.0 (drop read.1 (concat raw.now.segments)))) }
-    ensures fields { IfOk result (λ read. AreMultipartFields read.0) }
+        (multipart_bytes read.0.text (drop read.1 (concat raw.now.segments)))) }
+    ensures fields { IfOk result (λ read. AreMultipartFields read.0.text) }
+    ensures name { IfOk result
+        (λ read. HasMultipartParameter multipart_name read.0.text read.0.name) }
+    ensures file_name { IfOk result
+        (λ read. HasMultipartParameter multipart_file_name read.0.text read.0.file_name) }
     ensures malformed { IfErr result (λ e. e ≡ PartError.Malformed
         → (any : Limits) (part : MultipartBytes)
         → IsMultipartPart any (concat raw.now.segments) part → ¬ AreMultipartFields part.head) }
@@ -37,23 +53,50 @@ pub(super) fn read_head(
     ensures reason { IfErr result (λ e. (reason : _) → e ≡ PartError.Refused reason
         → reason ≡ Reason.OutOfMemory) }
 {
+    let all = raw.remaining();
     let Some(len) = find(raw, HEAD_END) else {
         return Err(PartError::Malformed);
     };
-    let Some(head) = head_in(raw.peek_bytes(alloc, len)?) else {
-        return Err(PartError::Malformed);
-    };
     let start = len + HEAD_END.len();
-    if start > limits.head || raw.remaining() - start > limits.body {
+    if start > limits.head || all - start > limits.body {
         return Err(PartError::TooLarge);
     }
-    let Ok(head) = Str::from_inner(head) else {
+    let head = parse_head(alloc, raw.peek_bytes(alloc, len)?)?;
+    Ok((head, start))
+}
+
+/// The head in the bytes before its end, which begin after a delimiter.
+pub(super) fn parse_head(alloc: Global, front: Bytes) -> Result<PartHead, PartError>
+    ensures head { IfOk result (λ head. IsMultipartHead front head.text) }
+    ensures fields { IfOk result (λ head. AreMultipartFields head.text) }
+    ensures name { IfOk result (λ head. HasMultipartParameter multipart_name head.text head.name) }
+    ensures file_name { IfOk result
+        (λ head. HasMultipartParameter multipart_file_name head.text head.file_name) }
+    ensures malformed { IfErr result (λ e. e ≡ PartError.Malformed
+        → (head : List ℕ) → IsMultipartHead front head → ¬ AreMultipartFields head) }
+    ensures too_large { IfErr result (λ e. e ≢ PartError.TooLarge) }
+    ensures not_utf8 { IfErr result (λ e. e ≡ PartError.NotUtf8
+        → (head : List ℕ) × IsMultipartHead front head × (¬ IsUtf8 head)) }
+    ensures reason { IfErr result (λ e. (reason : _) → e ≡ PartError.Refused reason
+        → reason ≡ Reason.OutOfMemory) }
+{
+    let Some(head) = head_in(front) else {
+        return Err(PartError::Malformed);
+    };
+    let Ok(text) = Str::from_inner(head) else {
         return Err(PartError::NotUtf8);
     };
-    if !has_fields(head.as_str()) {
+    if !has_fields(text.as_str()) {
         return Err(PartError::Malformed);
     }
-    Ok((head, start))
+    let disposition = disposition_of_head(alloc, text.as_str())?;
+    let name = read_parameter(alloc, &disposition, "name")?;
+    let file_name = read_parameter(alloc, &disposition, "filename")?;
+    Ok(PartHead {
+        text,
+        name,
+        file_name,
+    })
 }
 
 /// The head in the bytes before an empty line, which begin after a delimiter.

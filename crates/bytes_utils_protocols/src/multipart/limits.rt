@@ -1,5 +1,5 @@
 //! What a peer may send of a part, and why there is none.
-ghost use Rattle.std.specs.Prelude.{◌≡◌};
+ghost use Rattle.std.specs.Prelude.{◌≡◌, ◌+◌, ◌-◌, ◌^◌, min};
 
 use bytes_utils::Reason;
 
@@ -34,4 +34,11 @@ impl From<Reason> for PartError {
     fn from(reason: Reason) -> PartError {
         PartError::Refused(reason)
     }
+}
+
+/// The most bytes between two delimiters, or before the first one.
+pub(super) fn most_multipart_bytes(limits: Limits) -> usize
+    ensures { result ≡ min (limits.head + limits.body) (2 ^ 64 - 1) }
+{
+    limits.head.saturating_add(limits.body)
 }

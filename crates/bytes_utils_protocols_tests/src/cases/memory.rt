@@ -27,6 +27,14 @@ const PARTS: Protocol = Protocol::Multipart(
     },
 );
 
+const PART_STREAM: Protocol = Protocol::PartStream(
+    b"b",
+    multipart::Limits {
+        head: 99,
+        body: 9_000,
+    },
+);
+
 const REPLY: &str = r#"*1\r\n$5\r\nHello\r\n => [Array(Some(1)), Bulk(Some(b"Hello"))]"#;
 
 const EVENT: &str = r#"
@@ -66,6 +74,7 @@ fn protocols_with_pieces_if_memory_is_refused(rt: HostRuntime) {
         (REDIS, REPLY),
         (EVENTS, EVENT),
         (PARTS, PART),
+        (PART_STREAM, PART),
         (Protocol::Records(9), RECORD),
         (Protocol::Requests(20), REQUEST),
     ] {
@@ -77,7 +86,9 @@ fn protocols_with_pieces_if_memory_is_refused(rt: HostRuntime) {
         is_late: true,
         ..way
     };
-    assert_walk_of_row(&rt, rt.alloc(), PARTS, LARGE_PART, way);
+    for protocol in [PARTS, PART_STREAM] {
+        assert_walk_of_row(&rt, rt.alloc(), protocol, LARGE_PART, way);
+    }
 }
 
 #[test]
@@ -88,7 +99,12 @@ fn protocols_with_slices_if_memory_is_refused(rt: HostRuntime) {
         by_slice: true,
         is_late: true,
     };
-    for (protocol, row) in [(REDIS, REPLY), (EVENTS, EVENT), (PARTS, LARGE_PART)] {
+    for (protocol, row) in [
+        (REDIS, REPLY),
+        (EVENTS, EVENT),
+        (PARTS, LARGE_PART),
+        (PART_STREAM, LARGE_PART),
+    ] {
         assert_walk_of_row(&rt, rt.alloc(), protocol, row, way);
     }
 }

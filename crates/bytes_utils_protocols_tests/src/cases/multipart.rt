@@ -4,14 +4,14 @@ use super::walks::{Way, assert_walk_of_row, assert_walks_of_rows};
 use bytes_utils_protocols::multipart::Limits;
 
 /// Limits that the good bodies below stay within.
-const LIMITS: Limits = Limits {
+pub(super) const LIMITS: Limits = Limits {
     head: 100,
     body: 90,
 };
 
 /// The example of RFC 2046, section 5.1.1: a preamble, a part without a header, one with a header,
 /// and an epilogue.
-const MAIL: &str = r#"
+pub(super) const MAIL: &str = r#"
 This is the preamble.  It is to be ignored, though it\r\n
 is a handy place for composition agents to include an\r\n
 explanatory note to non-MIME conformant readers.\r\n
@@ -38,7 +38,7 @@ end: ended
 
 /// A field as in RFC 7578, section 4.5, and a file. After a delimiter there are a space and a tab.
 /// The file has a line that begins as a delimiter. After the end there is one more part.
-const FORM: &str = r#"
+pub(super) const FORM: &str = r#"
 --AaB03x\r\n
 content-disposition: form-data; name="field1"\r\n
 content-type: text/plain;charset=UTF-8\r\n
@@ -84,8 +84,8 @@ fn multipart_bodies(rt: HostRuntime) {
     );
 }
 
-/// Bodies with the boundary `b`.
-const ODD: &str = r#"
+/// Bodies with the boundary `b`, which readers that wait for whole parts and others read alike.
+pub(super) const ODD: &str = r#"
 # no part at all, an empty part
 --b--
 end: ended
@@ -103,46 +103,61 @@ end: not ended
 --b-
 end: not ended
 
-# a boundary that only begins a line, other bytes after a delimiter, a line feed alone
---bc\r\n\r\na\r\n--b => always Malformed
---
+# bytes that begin as a delimiter does
+--b\r\n\r\n\r\n-\r\n--\r\r\n--a\r\n--b => "" None None b"\r\n-\r\n--\r\r\n--a"
 
---b -\r\n\r\na\r\n--b => always Malformed
---
-
+# line feeds alone after a delimiter
 --b\n\n\r\n--b => always Malformed
 --
 
-# a head without an empty line, of one line and of none
+# a head without an empty line, of one line and of none, and one with half of an empty line
 --b\r\nA: b\r\n--b => always Malformed
 --
 
 --b\r\n--b => always Malformed
 --
 
-# a head that begins with a folded line, and one with a folded line of another field
---b\r\n X: y\r\n\r\n\r\n--b => always Malformed
+--b\r\nA: b\r\n\r\n--b => always Malformed
 --
 
+# a folded line of another field
 --b\r\nX: y\r\n z\r\nContent-Disposition: form-data; name=a\r\n\r\n\r\n--b =>
     "X: y\r\n z\r\nContent-Disposition: form-data; name=a" Some("a") None b""
+
+# a head of 100 bytes with its line ends, a body of 90
+--b\r\nA: <91 1>\r\n\r\n\r\n--b => "A: <91 1>" None None b""
+
+--b\r\n\r\n<90 1>\r\n--b => "" None None b"<90 1>"
+"#;
+
+/// Bodies whose faults are seen when the part has come.
+const LATE: &str = r#"
+# a boundary that only begins a line, other bytes after a delimiter
+--bc\r\n\r\na\r\n--b => always Malformed
+--
+
+--b -\r\n\r\na\r\n--b => always Malformed
+--
+
+# a head that begins with a folded line
+--b\r\n X: y\r\n\r\n\r\n--b => always Malformed
+--
 
 # a head that is not UTF-8
 --b\r\n\F\r\n\r\n\r\n--b => always NotUtf8
 
-# a head of 100 and of 101 bytes with its line ends, a body of 90 and of 91
---b\r\nA: <91 1>\r\n\r\n\r\n--b => "A: <91 1>" None None b""
-
+# a head of 101 bytes with its line ends, a body of 91
 --b\r\nA: <92 1>\r\n\r\n\r\n--b => always TooLarge
-
---b\r\n\r\n<90 1>\r\n--b => "" None None b"<90 1>"
 
 --b\r\n\r\n<91 1>\r\n--b => always TooLarge
 "#;
 
 #[test]
 fn odd_multipart_bodies(rt: HostRuntime) {
-    assert_walks_of_rows(&rt, rt.alloc(), Protocol::Multipart(b"b", LIMITS), "", ODD);
+    let protocol = Protocol::Multipart(b"b", LIMITS);
+    for rows in [ODD, LATE] {
+        assert_walks_of_rows(&rt, rt.alloc(), protocol, "", rows);
+    }
 }
 
 /// Bytes that may wait for a delimiter. The limits allow 190, and five more while a delimiter may

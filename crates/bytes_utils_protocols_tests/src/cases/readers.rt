@@ -1,5 +1,6 @@
 //! The readers of all protocols as one type: it is made within limits, takes pieces, and is asked for
 //! the next message.
+use super::joined::JoinedParts;
 use bytes::{Buf, Bytes};
 use bytes_utils::{Reason, Refused, SegmentedBuf, Str};
 use bytes_utils_codec::decode::{FrameTooLong, Framed};
@@ -19,6 +20,8 @@ pub(super) enum Protocol {
     Events(events::Limits),
     /// With the boundary.
     Multipart(&'static [u8], multipart::Limits),
+    /// With the boundary. The parts are put together from events.
+    PartStream(&'static [u8], multipart::Limits),
     /// The most bytes of a record.
     Records(usize),
     /// The most bytes of a head.
@@ -34,6 +37,7 @@ impl Protocol {
             Protocol::Redis(_) => "ReplyReader",
             Protocol::Events(_) => "EventReader",
             Protocol::Multipart(_, _) => "PartReader",
+            Protocol::PartStream(_, _) => "PartStream",
             Protocol::Records(_) => "Records",
             Protocol::Requests(_) => "Requests",
             Protocol::Netstrings(_) => "Framed",
@@ -47,6 +51,7 @@ pub(super) enum Reader {
     Redis(ReplyReader),
     Events(EventReader),
     Multipart(PartReader),
+    PartStream(JoinedParts),
     Records(Records),
     Requests(RequestsReader),
     Netstrings(Framed<Netstrings>),
@@ -80,6 +85,9 @@ impl Reader {
             Protocol::Multipart(boundary, limits) => {
                 Reader::Multipart(PartReader::new(alloc, boundary, limits)?)
             }
+            Protocol::PartStream(boundary, limits) => {
+                Reader::PartStream(JoinedParts::new(alloc, boundary, limits)?)
+            }
             Protocol::Records(most) => Reader::Records(Records::new(alloc, most)?),
             Protocol::Requests(most) => Reader::Requests(RequestsReader {
                 requests: Requests::new(alloc, most)?,
@@ -96,6 +104,7 @@ impl Reader {
             Reader::Redis(replies) => replies.push(piece),
             Reader::Events(events) => events.push(piece),
             Reader::Multipart(parts) => parts.push(piece),
+            Reader::PartStream(joined) => joined.parts.push(piece),
             Reader::Records(records) => records.push(piece),
             Reader::Requests(whole) => whole.requests.push(piece),
             Reader::Netstrings(texts) => texts.push(piece),
@@ -108,6 +117,7 @@ impl Reader {
             Reader::Redis(replies) => replies.push_slice(piece),
             Reader::Events(events) => events.push_slice(piece),
             Reader::Multipart(parts) => parts.push_slice(piece),
+            Reader::PartStream(joined) => joined.parts.push_slice(piece),
             Reader::Netstrings(texts) => texts.push_slice(piece),
             _ => Ok(self.push(Bytes::copy_from_slice(alloc, piece)?)?),
         }
@@ -119,6 +129,9 @@ impl Reader {
             Reader::Redis(replies) => ("next_reply", ReturnedByReader::Reply(replies.next_reply())),
             Reader::Events(events) => ("next_event", ReturnedByReader::Event(events.next_event())),
             Reader::Multipart(parts) => ("next_part", ReturnedByReader::Part(parts.next_part())),
+            Reader::PartStream(joined) => {
+                ("next_event", ReturnedByReader::Part(joined.next_part()))
+            }
             Reader::Records(records) => {
                 (
                     "next_record",
@@ -137,14 +150,8 @@ impl Reader {
             Reader::Events(events) => (events.remaining(), events.retry()),
             Reader::Records(records) => (records.remaining(), None),
             Reader::Netstrings(texts) => (texts.remaining(), None),
-            Reader::Multipart(parts) => {
-                let said = if parts.has_ended() {
-                    "ended"
-                } else {
-                    "not ended"
-                };
-                return String::from_str(alloc, said).ok();
-            }
+            Reader::Multipart(parts) => return ended_text(alloc, parts.has_ended()),
+            Reader::PartStream(joined) => return ended_text(alloc, joined.parts.has_ended()),
             _ => return Some(String::new(alloc)),
         };
         match retry {
@@ -190,6 +197,10 @@ impl ReturnedByReader {
             ReturnedByReader::Text(text) => text_from_reader(alloc, text),
         }
     }
+}
+
+fn ended_text(alloc: Global, has_ended: bool) -> Option<String> {
+    String::from_str(alloc, if has_ended { "ended" } else { "not ended" }).ok()
 }
 
 fn text_from_reader<T: Debug, E: Debug>(

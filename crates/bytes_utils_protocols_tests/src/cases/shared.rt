@@ -153,6 +153,14 @@ const PARTS: Protocol = Protocol::Multipart(
     },
 );
 
+const PART_STREAM: Protocol = Protocol::PartStream(
+    b"b",
+    multipart::Limits {
+        head: 9,
+        body: 2_000,
+    },
+);
+
 #[test]
 fn shared_message_in_one_piece(rt: HostRuntime) {
     for (protocol, piece, wanted) in [
@@ -186,6 +194,7 @@ fn shared_message_in_two_pieces(rt: HostRuntime) {
     for (protocol, pieces, wanted) in [
         (Protocol::Requests(99), REQUEST, "b\"<1000 a>\""),
         (PARTS, PART, "\"\" None None b\"<1200 a>\""),
+        (PART_STREAM, PART, "\"\" None None b\"<1200 a>\""),
     ] {
         let holds = is_message_shared(rt.alloc(), protocol, pieces, wanted);
         assert!(rt; holds, "{pieces}");
@@ -198,6 +207,8 @@ fn shared_pieces_of_messages_are_let_go(rt: HostRuntime) {
     for (protocol, pieces, wanted) in [
         (PARTS, "<600 a>\n\\r\\n--b", "nothing"),
         (PARTS, "--b--\n<600 a>", "nothing"),
+        (PART_STREAM, "<600 a>\n\\r\\n--b", "nothing"),
+        (PART_STREAM, "--b--\n<600 a>", "nothing"),
         (
             EVENTS,
             r"data: <592 a>\ndata: b\n\n",

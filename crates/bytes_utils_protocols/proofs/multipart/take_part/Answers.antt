@@ -28,17 +28,3 @@ returns-in_err-head-clause-not_utf8 c =
     let found = c.in_err-head.ensures.not_utf8 (sym out.2 ∙ is) in
     let takes = part_in_found s c.requires.found c.requires.divided c.args.limits found.0 found.1 c.requires.few in
     (found.0, takes.0, takes.1, found.2))
-
-pub returns-clause-name : goal.returns-clause-name
-returns-clause-name c = (
-  _,
-  rw c.as_str.ensures.value at c.in_ok-disposition.ensures.ok,
-  c.in_ok-name.ensures.ok,
-)
-
-pub returns-clause-file_name : goal.returns-clause-file_name
-returns-clause-file_name c = (
-  _,
-  rw c.as_str.ensures.value at c.in_ok-disposition.ensures.ok,
-  c.in_ok-file_name.ensures.ok,
-)

@@ -1,0 +1,492 @@
+-- Bytes that wait for a delimiter, and what is given of a part.
+use Rattle.std.proofs.Common.{◌≡◌, ◌≢◌, ◌⊎◌, ◌↔◌, ℕ, ◌+◌, ◌-◌, ◌^◌, ◌<◌, ◌≤◌, max, IsOk, List, [], ◌++◌, length, take, drop, Option, None, Some, Result, Ok, Err, OnOk, OnErr, IfOk, IfErr, IfSome, IfNone, IsUtf8, Bool, not, true, false, ap, ◌∙◌, sym, refl, subst, arith, inl, inr, append_assoc, append-nil, length-append, length-drop, take-append-drop}
+use Rattle.std.proofs.lemmas.List.{drop-append-le, drop-drop, drop_at, take_at, length-take-le}
+use Rattle.std.proofs.lemmas.Bool.{false≢true}
+use Rattle.std.specs.List.{concat}
+use Rattle.memchr.specs.Find.{FindsNeedle}
+use Rattle.bytes_utils_buf.specs.Packing.{Packing}
+use Rattle.bytes_utils_buf.specs.declared.refused.Reason.{Reason}
+use Rattle.bytes_utils_buf.specs.declared.refused.Reason.TheVariants.{OutOfMemory, TooLong}
+use Rattle.bytes_utils_buf.specs.declared.refused.Refused.{Refused as RefusedBack}
+use Rattle.bytes_utils.specs.Occurrence.{Occurs, OccursAt, OccursFirstAt}
+use Rattle.bytes_utils.proofs.Boundaries.{OccursAt-fits}
+use Rattle.bytes_utils.proofs.OccurrenceLemmas.{OccursAt-append, OccursAt-front, OccursFirstAt-append}
+use Rattle.bytes_utils_codec.specs.Frames.{TakesFrame}
+use Rattle.bytes_utils_codec.specs.Pushing.{IsPush}
+use Rattle.bytes_utils_codec.specs.Search.{NoneBeginsInSearch, Searching, search_from_front, searched_all}
+use Rattle.bytes_utils_codec.proofs.FramesLemmas.{TakesFrame-more, TakesFrame-same}
+use Rattle.bytes_utils_codec.proofs.SearchLemmas.{NoneBeginsInSearch-more, NoneBeginsInSearch-missed, first_of_all, frame_of_all, nowhere_left}
+use Rattle.bytes_utils_protocols.specs.Multipart.{AreMultipartFields, HasMultipartParameter, IsMultipartHead, multipart_dashes, multipart_file_name, multipart_head_end, multipart_name}
+use Rattle.bytes_utils_protocols.specs.MultipartWaiting.{AreSearchesWithin, IsSearchWithin, MultipartWaiting}
+use Rattle.bytes_utils_protocols.specs.MultipartStream.{PartStreaming, DropsPreamble, PassesPreamble, AfterPreamble, TakesPartHead, NoPartFieldsCome, NoPartHeadComes, HasPartHeadNotUtf8, AwaitsPartHead, HasPartHeadEnd, IsAheadOfNeedle, GivesPartHead, GivesPartPiece, GivesPartEnd, GivesPartEvent, IsPartStreamCall, IsPartAwaited, IsPartStreamFault, IsPartStreamStep, IsPartStreamReturn, IsPartHeadFault, PassesPartRoom, has_part_stream_ended, part_stream_appended, part_streaming}
+use Rattle.bytes_utils_protocols.specs.declared.multipart.event.PartEvent.{PartEvent}
+use Rattle.bytes_utils_protocols.specs.declared.multipart.event.PartEvent.TheVariants.{Head, Body, End}
+use Rattle.bytes_utils_protocols.specs.declared.multipart.head.PartHead.{PartHead}
+use Rattle.bytes_utils_protocols.specs.declared.multipart.limits.Limits.{Limits}
+use Rattle.bytes_utils_protocols.specs.declared.multipart.limits.PartError.{PartError}
+use Rattle.bytes_utils_protocols.specs.declared.multipart.limits.PartError.TheVariants.{Malformed, NotUtf8, Refused, TooLarge}
+use Rattle.bytes_utils_protocols.specs.declared.multipart.progress.Place.{Place}
+use Rattle.bytes_utils_protocols.specs.declared.multipart.progress.Place.TheVariants.{Preamble, AtHead, InBody, Ended}
+use Rattle.bytes_utils_protocols.specs.declared.multipart.progress.Progress.{Progress}
+use Rattle.bytes_utils_protocols.specs.declared.multipart.waiting.Ahead.{Ahead}
+
+-- ---- bytes in which no delimiter begins
+
+module _ (d : List ℕ) where
+  occurs_later : (held more : List ℕ) (k i : ℕ) → k ≤ length held → OccursAt d (drop k held ++ more) i → OccursAt d (held ++ more) (k + i)
+  occurs_later held more k i within here =
+      ap (take (length d)) (sym (ap (drop i) (sym (drop-append-le k held more within)) ∙ drop-drop i k (held ++ more))) ∙ here
+
+  occurs_before : (gone t : List ℕ) (i : ℕ) → OccursAt d t i → OccursAt d (gone ++ t) (length gone + i)
+  occurs_before gone t i here =
+      ap (take (length d)) (sym (ap (drop i) (sym (drop_at gone t (length gone) refl)) ∙ drop-drop i (length gone) (gone ++ t))) ∙ here
+
+  occurs_after : (gone t : List ℕ) (j : ℕ) → length gone ≤ j → OccursAt d (gone ++ t) j → OccursAt d t (j - length gone)
+  occurs_after gone t j low here =
+      let g = length gone in
+      let sum : g + (j - g) ≡ j = omega (arith, low) in
+      ap (take (length d)) (ap (drop (j - g)) (sym (drop_at gone t g refl)) ∙ drop-drop (j - g) g (gone ++ t) ∙ ap (λ n. drop n (gone ++ t)) sum) ∙ here
+
+  -- none begins before the first place
+  pub NoneBegins-at_front : (bytes : List ℕ) → NoneBeginsInSearch d bytes 0
+  NoneBegins-at_front bytes more k here = omega arith
+
+  pub NoneBegins-fewer : (bytes : List ℕ) (n m : ℕ) → m ≤ n → NoneBeginsInSearch d bytes n → NoneBeginsInSearch d bytes m
+  NoneBegins-fewer bytes n m fewer none more k here = omega (arith, fewer, none more k here)
+
+  -- none begins before the first one
+  pub NoneBegins-before : (held : List ℕ) (at : ℕ) → 0 < length d → OccursFirstAt d held at → NoneBeginsInSearch d held at
+  NoneBegins-before held at some first more k here = (OccursFirstAt-append d held more at some first).none_before k here
+
+  -- some bytes are dropped
+  pub NoneBegins-drop : (held : List ℕ) (n k : ℕ) → k ≤ length held → NoneBeginsInSearch d held n → NoneBeginsInSearch d (drop k held) (n - k)
+  NoneBegins-drop held n k within none more i here = omega (arith, none more (k + i) (occurs_later held more k i within here))
+
+  -- none begins in these bytes, and then in more of them
+  pub NoneBegins-join : (gone held : List ℕ) (n : ℕ) → NoneBeginsInSearch d (gone ++ held) (length gone) → NoneBeginsInSearch d held n → NoneBeginsInSearch d (gone ++ held) (length gone + n)
+  NoneBegins-join gone held n before none more k here =
+      let low = before more k here in
+      let there = occurs_after gone (held ++ more) k low (subst (λ l. OccursAt d l k) (append_assoc gone held more) here) in
+      omega (arith, low, none more (k - length gone) there)
+
+  -- and then comes a delimiter
+  pub TakesFrame-join : (gone held frame rest : List ℕ) → NoneBeginsInSearch d (gone ++ held) (length gone) → TakesFrame d held frame rest → TakesFrame d (gone ++ held) (gone ++ frame) rest
+  TakesFrame-join gone held frame rest before takes = record {
+    bytes = ap (λ l. gone ++ l) takes.bytes ∙ sym (append_assoc gone frame (d ++ rest));
+    first = subst (OccursFirstAt d (gone ++ held)) (sym (length-append gone frame)) joined;
+  }
+    where
+      joined : OccursFirstAt d (gone ++ held) (length gone + length frame)
+      joined = record {
+        here = occurs_before gone held (length frame) takes.first.here;
+        none_before = λ j here.
+            let low = before [] j (subst (λ l. OccursAt d l j) (sym (append-nil (gone ++ held))) here) in
+            let there = takes.first.none_before (j - length gone) (occurs_after gone held j low here) in
+            omega (arith, low, there);
+      }
+
+  -- the bytes begin with a delimiter
+  pub TakesFrame-at_front : (rest : List ℕ) → TakesFrame d (d ++ rest) [] rest
+  TakesFrame-at_front rest = record { bytes = refl; first = record { here = take_at d rest (length d) refl; none_before = λ j there. omega arith } }
+
+  -- more bytes than there is room for are before the next delimiter
+  pub over_room : (held : List ℕ) (n room : ℕ) → NoneBeginsInSearch d held n → room < n → (more frame rest : List ℕ) → TakesFrame d (held ++ more) frame rest → room < length frame
+  over_room held n room none over more frame rest takes =
+      omega (arith, over, none more (length frame) takes.first.here)
+
+-- ---- bytes that wait
+
+-- nothing waits
+pub nothing_apart : (search : Searching) (pieces : Packing) → search.searched ≡ 0 → IsSearchWithin search pieces
+nothing_apart search pieces none = rw none (NoneBegins-at_front search.needle (concat pieces.held.segments), omega arith)
+
+-- a piece is pushed, or refused
+pub still_apart : {E : Type 0} (search : Searching) (old new : Packing) (piece : List ℕ) (result : Result (Unit {0}) E) → OnOk result (concat new.held.segments ≡ concat old.held.segments ++ piece)
+    → OnErr result (new ≡ old) → IsSearchWithin search old → IsSearchWithin search new
+still_apart search old new piece (Ok u) held same apart =
+    let bytes = concat old.held.segments in
+    let more : NoneBeginsInSearch search.needle (bytes ++ piece) search.searched × (search.searched ≤ length (bytes ++ piece)) =
+    (NoneBeginsInSearch-more search.needle bytes piece search.searched apart.0, omega (arith, apart.1, length-append bytes piece)) in
+    subst (λ l. NoneBeginsInSearch search.needle l search.searched × (search.searched ≤ length l)) (sym held) more
+still_apart search old new piece (Err e) held same apart = subst (IsSearchWithin search) (sym same) apart
+
+-- the same of both searches
+pub still_within : {E : Type 0} (delimiter head_end : Searching) (old new : Packing) (piece : List ℕ) (result : Result (Unit {0}) E) → OnOk result (concat new.held.segments ≡ concat old.held.segments ++ piece)
+    → OnErr result (new ≡ old) → AreSearchesWithin delimiter head_end old → AreSearchesWithin delimiter head_end new
+still_within delimiter head_end old new piece result held same within = record {
+  delimiter_is = still_apart delimiter old new piece result held same within.delimiter_is;
+  head_end_is = still_apart head_end old new piece result held same within.head_end_is;
+  needle = within.needle;
+}
+
+abbrev waits : List ℕ → List ℕ → MultipartWaiting
+waits d held = record { delimiter = d; held = held }
+
+pub pushed_waiting : (d : List ℕ) (old new : Packing) (piece : List ℕ) (result : Result (Unit {0}) (RefusedBack (List ℕ))) → OnOk result (concat new.held.segments ≡ concat old.held.segments ++ piece)
+    → OnErr result (new ≡ old) → IfErr result (λ e. e.back ≡ piece) → IfErr result (λ e. (e.reason ≡ TooLong) ↔ (2 ^ 64 ≤ length (concat old.held.segments) + length piece)) → (piece ≡ [] → IsOk result)
+    → IsPush (concat old.held.segments) piece result (waits d (concat new.held.segments) ≡ waits d (concat old.held.segments ++ piece)) (waits d (concat new.held.segments) ≡ waits d (concat old.held.segments))
+pushed_waiting d old new piece (Ok u) held same back too_long empty = record { ok = ap (waits d) held; err = tt; back = tt; too_long = tt; empty = empty }
+pushed_waiting d old new piece (Err e) held same back too_long empty =
+    record { ok = tt; err = ap (λ p. waits d (concat p.held.segments)) same; back = back; too_long = rw back too_long; empty = empty }
+
+-- bytes are taken off the front
+pub taken_apart : (old search : Searching) (before after : Packing) (len : ℕ) → len ≤ length (concat before.held.segments) → concat after.held.segments ≡ drop len (concat before.held.segments)
+    → search ≡ record old { searched = old.searched - len } → IsSearchWithin old before → IsSearchWithin search after
+taken_apart old search before after len within rest is apart =
+    let bytes = concat before.held.segments in
+    let known : NoneBeginsInSearch old.needle (drop len bytes) (old.searched - len) × (old.searched - len ≤ length (drop len bytes)) =
+    (NoneBegins-drop old.needle bytes old.searched len within apart.0, omega (arith, apart.1, within, length-drop len bytes)) in
+    subst (λ (s : Searching). IsSearchWithin s after) (sym is)
+    (subst (λ l. NoneBeginsInSearch old.needle l (old.searched - len) × (old.searched - len ≤ length l)) (sym rest) known)
+
+pub taken_within : (delimiter head_end new newer : Searching) (before after : Packing) (len : ℕ) → len ≤ length (concat before.held.segments) → concat after.held.segments ≡ drop len (concat before.held.segments)
+    → new ≡ record delimiter { searched = delimiter.searched - len } → newer ≡ search_from_front head_end → AreSearchesWithin delimiter head_end before → AreSearchesWithin new newer after
+taken_within delimiter head_end new newer before after len len_fits rest is is_too within = record {
+  delimiter_is = taken_apart delimiter new before after len len_fits rest is within.delimiter_is;
+  head_end_is = nothing_apart newer after (ap (λ (s : Searching). s.searched) is_too);
+  needle = ap (λ (s : Searching). s.needle) is_too ∙ within.needle;
+}
+
+-- nothing was searched
+pub front_within : (delimiter head_end : Searching) (pieces : Packing) → delimiter.searched ≡ 0 → head_end.searched ≡ 0 → head_end.needle ≡ multipart_head_end → AreSearchesWithin delimiter head_end pieces
+front_within delimiter head_end pieces none none_too needle = record { delimiter_is = nothing_apart delimiter pieces none; head_end_is = nothing_apart head_end pieces none_too; needle = needle }
+
+-- after a search
+pub search_found : (old new newer : Searching) (pieces : Packing) (at : ℕ) → FindsNeedle (concat pieces.held.segments) old.needle old.searched (Some at) → new ≡ old → newer ≡ record new { searched = at } → 0 < length old.needle
+    → IsSearchWithin old pieces → IsSearchWithin newer pieces
+search_found old new newer pieces at found same is some within =
+    let bytes = concat pieces.held.segments in
+    let fits = found.1.fits in
+    let known : NoneBeginsInSearch old.needle bytes at × (at ≤ length bytes) =
+    (NoneBegins-before old.needle bytes at some (first_of_all old.needle bytes old.searched some within.0 at found), omega (arith, fits)) in
+    subst (λ (s : Searching). IsSearchWithin s pieces) (sym (is ∙ ap (λ (s : Searching). record s { searched = at }) same)) known
+
+pub search_missed : (old new : Searching) (pieces : Packing) → FindsNeedle (concat pieces.held.segments) old.needle old.searched None → new ≡ searched_all old (concat pieces.held.segments) → 0 < length old.needle
+    → IsSearchWithin old pieces → IsSearchWithin new pieces
+search_missed old new pieces missed is some within =
+    let bytes = concat pieces.held.segments in
+    let known : NoneBeginsInSearch old.needle bytes (max old.searched (length bytes - (length old.needle - 1))) × (max old.searched (length bytes - (length old.needle - 1)) ≤ length bytes) =
+    (NoneBeginsInSearch-missed old.needle bytes old.searched some within.0 missed, omega (arith, within.1)) in
+    subst (λ (s : Searching). IsSearchWithin s pieces) (sym is) known
+
+module _ (d held : List ℕ) (from : ℕ) (some : 0 < length d) (none : NoneBeginsInSearch d held from) where
+  -- the next delimiter has come
+  pub ahead_found : (at : ℕ) → FindsNeedle held d from (Some at) → IsAheadOfNeedle d held (record { len = at; has_come = true })
+  ahead_found at found =
+      let fits = found.1.fits in
+      record {
+        within = omega (arith, fits);
+        apart = NoneBegins-before d held at some (first_of_all d held from some none at found);
+        here = λ _. frame_of_all d held from some none at found;
+        fits = λ _. fits;
+        lacks = λ e. absurd (false≢true (sym e));
+        few = λ e. absurd (false≢true (sym e));
+        some = some;
+      }
+
+  -- it has not
+  pub ahead_missed : (n : ℕ) → n ≡ max from (length held - (length d - 1)) → from ≤ length held → FindsNeedle held d from None → IsAheadOfNeedle d held (record { len = n; has_come = false })
+  ahead_missed n is within missed = record {
+    within = omega (arith, is, within);
+    apart = subst (NoneBeginsInSearch d held) (sym is) (NoneBeginsInSearch-missed d held from some none missed);
+    here = λ e. absurd (false≢true e);
+    fits = λ e. absurd (false≢true e);
+    lacks = λ _. nowhere_left d held from some none missed;
+    few = λ _. omega (arith, is, some);
+    some = some;
+  }
+
+-- ---- the end of a head
+
+module _ (d held : List ℕ) (some : 0 < length d) where
+  -- a delimiter begins before a head ends
+  no_head_after : (at : ℕ) → OccursAt d held at → ((k : ℕ) → OccursAt multipart_head_end held k → at < k + length multipart_head_end)
+      → (limits : Limits) (more head rest : List ℕ) → ¬ TakesPartHead d limits (held ++ more) head rest
+  no_head_after at here late limits more head rest takes =
+      let there = OccursAt-append d held more at some here in
+      let before : length takes.front + length multipart_head_end ≤ at = takes.apart [] at (subst (λ l. OccursAt d l at) (sym (append-nil (held ++ more))) there) in
+      let fits = OccursAt-fits d held at some here in
+      let inside = OccursAt-front multipart_head_end held more (length takes.front) takes.cut.first.here (omega (arith, before, fits)) in
+      let after = late (length takes.front) inside in
+      omega (arith, before, after)
+
+  -- no head ends within the limit
+  no_head_within : (limits : Limits) → limits.head ≤ length held → ((k : ℕ) → OccursAt multipart_head_end held k → limits.head < k + length multipart_head_end) → NoPartHeadComes d limits held
+  no_head_within limits long late more head rest takes =
+      let small = takes.small in
+      let inside = OccursAt-front multipart_head_end held more (length takes.front) takes.cut.first.here (omega (arith, small, long)) in
+      let after = late (length takes.front) inside in
+      omega (arith, small, after)
+
+  module _ (limits : Limits) (ahead : Ahead) (is : IsAheadOfNeedle d held ahead) where
+    come_at : ahead.has_come ≡ true → OccursAt d held ahead.len
+    come_at come = subst (OccursAt d held) (length-take-le ahead.len held is.within) (is.here come).first.here
+
+    -- no head ends
+    module _ (none : ¬ Occurs multipart_head_end held) where
+      pub malformed_without : ahead.has_come ≡ true → NoPartFieldsCome d held
+      malformed_without come any more head rest takes _ = no_head_after ahead.len (come_at come) (λ k here. absurd (none (k, here))) any more head rest takes
+
+      pub large_without : limits.head ≤ length held → NoPartHeadComes d limits held
+      large_without long = no_head_within limits long (λ k here. absurd (none (k, here)))
+
+      pub awaits_without : ahead.has_come ≡ false → length held < max limits.head 2 → AwaitsPartHead d limits held
+      awaits_without lacks few = record {
+        none = is.lacks lacks;
+        short = λ front rest takes. absurd (none (length front, takes.first.here));
+        few = omega (arith, few, some);
+      }
+
+    -- a head ends
+    module _ (len : ℕ) (cut : TakesFrame multipart_head_end held (take len held) (drop (len + length multipart_head_end) held)) (within : len + length multipart_head_end ≤ length held) where
+      size : length (take len held) ≡ len
+      size = length-take-le len held (omega (arith, within))
+
+      not_before : (k : ℕ) → OccursAt multipart_head_end held k → len ≤ k
+      not_before k here = let first = cut.first.none_before k here in omega (arith, first, size)
+
+      pub malformed_late : ahead.len < len + length multipart_head_end → ahead.has_come ≡ true → NoPartFieldsCome d held
+      malformed_late late come any more head rest takes _ =
+          no_head_after ahead.len (come_at come) (λ k here. let first = not_before k here in omega (arith, first, late)) any more head rest takes
+
+      pub large_late : limits.head < len + length multipart_head_end → NoPartHeadComes d limits held
+      large_late over = no_head_within limits (omega (arith, within, over)) (λ k here. let first = not_before k here in omega (arith, first, over))
+
+      pub awaits_late : ahead.len < len + length multipart_head_end → ahead.has_come ≡ false → len + length multipart_head_end ≤ limits.head → AwaitsPartHead d limits held
+      awaits_late late lacks small = record {
+        none = is.lacks lacks;
+        short = λ front rest takes.
+            let same = ap length (TakesFrame-same multipart_head_end held front (take len held) rest (drop (len + length multipart_head_end) held) takes cut).0 in
+            omega (arith, is.few lacks, late, same, size, ap length takes.bytes, length-append front (multipart_head_end ++ rest), length-append multipart_head_end rest);
+        few = omega (arith, is.few lacks, late, small);
+      }
+
+      pub head_end_found : len + length multipart_head_end ≤ ahead.len → len + length multipart_head_end ≤ limits.head → HasPartHeadEnd d limits held len
+      head_end_found early small = record {
+        within = within;
+        cut = cut;
+        apart = NoneBegins-fewer d held ahead.len (len + length multipart_head_end) early is.apart;
+        small = small;
+      }
+
+module _ (d : List ℕ) (limits : Limits) (held : List ℕ) (len : ℕ) (found : HasPartHeadEnd d limits held len) where
+  front_size : length (take len held) ≡ len
+  front_size = let within = found.within in length-take-le len held (omega (arith, within))
+
+  pub takes_head : (head : List ℕ) → IsMultipartHead (take len held) head → TakesPartHead d limits held head (drop (len + length multipart_head_end) held)
+  takes_head head is = record {
+    front = take len held;
+    cut = found.cut;
+    apart = rw front_size found.apart;
+    is = is;
+    small = rw front_size found.small;
+  }
+
+  pub no_fields_come : ((head : List ℕ) → IsMultipartHead (take len held) head → ¬ AreMultipartFields head) → NoPartFieldsCome d held
+  no_fields_come none any more head rest takes =
+      let rest_held = drop (len + length multipart_head_end) held in
+      let same = TakesFrame-same multipart_head_end (held ++ more) (take len held) takes.front (rest_held ++ more) rest (TakesFrame-more multipart_head_end held (take len held) rest_held more found.cut) takes.cut in
+      none head (subst (λ l. IsMultipartHead l head) (sym same.0) takes.is)
+
+  pub not_utf8_come : (head : List ℕ) × IsMultipartHead (take len held) head × (¬ IsUtf8 head) → HasPartHeadNotUtf8 d limits held
+  not_utf8_come not_text = (not_text.0, drop (len + length multipart_head_end) held, takes_head not_text.0 not_text.1, not_text.2)
+
+-- ---- steps
+
+pub unset : (b : Bool) → not b ≡ true → b ≡ false
+unset true e = absurd (false≢true e)
+unset false e = refl
+
+pub is_set : (b : Bool) → not b ≡ false → b ≡ true
+is_set true e = refl
+is_set false e = absurd (false≢true (sym e))
+
+-- the state with these bytes that wait
+abbrev at_waiting : Limits → Place → ℕ → MultipartWaiting → PartStreaming
+at_waiting limits place room w = record { delimiter = w.delimiter; limits = limits; place = place; room = room; held = w.held }
+
+abbrev without_front : ℕ → MultipartWaiting → MultipartWaiting
+without_front n w = record w { held = drop n w.held }
+
+module _ (old : Progress) (ahead : Ahead) (is : IsAheadOfNeedle old.waiting.delimiter old.waiting.held ahead) (fits : ahead.len ≤ old.room) where
+  front_len : length (take ahead.len old.waiting.held) ≡ ahead.len
+  front_len = length-take-le ahead.len old.waiting.held is.within
+
+  -- bytes of the preamble are dropped
+  drops : old.place ≡ Preamble → DropsPreamble (part_streaming old) (at_waiting old.limits old.place (old.room - ahead.len) (without_front ahead.len old.waiting))
+  drops place = record {
+    place = place;
+    dropped = take ahead.len old.waiting.held;
+    front = sym (take-append-drop ahead.len old.waiting.held);
+    apart = subst (NoneBeginsInSearch old.waiting.delimiter old.waiting.held) (sym front_len) is.apart;
+    within = omega (arith, fits, front_len);
+    next = refl;
+  }
+
+  pub preamble_dropped : (p : Progress) (w : MultipartWaiting) (room : ℕ) → p ≡ old → old.place ≡ Preamble → w ≡ without_front ahead.len p.waiting → room ≡ p.room - ahead.len
+      → AfterPreamble (part_streaming old) (part_streaming (record p { waiting = w; room = room }))
+  preamble_dropped p w room same place waits left = rw (waits, left, same) (inr (inl (drops place)))
+
+  pub preamble_awaits : (p : Progress) (w : MultipartWaiting) → p ≡ old → ahead.has_come ≡ false → w ≡ without_front ahead.len p.waiting → length w.held < length w.delimiter
+  preamble_awaits p w same lacks waits = rw (waits, same) (omega (arith, is.few lacks, is.within, length-drop ahead.len old.waiting.held))
+
+  -- the delimiter is dropped too
+  passes : old.place ≡ Preamble → ahead.has_come ≡ true → PassesPreamble (part_streaming old) (at_waiting old.limits AtHead old.room (without_front (length old.waiting.delimiter) (without_front ahead.len old.waiting)))
+  passes place come = record {
+    place = place;
+    preamble = take ahead.len old.waiting.held;
+    takes = subst (TakesFrame old.waiting.delimiter old.waiting.held (take ahead.len old.waiting.held)) (sym (drop-drop (length old.waiting.delimiter) ahead.len old.waiting.held)) (is.here come);
+    within = omega (arith, fits, front_len);
+    next = refl;
+  }
+
+  pub preamble_passed : (p : Progress) (w v : MultipartWaiting) (n : ℕ) → p ≡ old → old.place ≡ Preamble → ahead.has_come ≡ true → w ≡ without_front ahead.len p.waiting → n ≡ length w.delimiter → v ≡ without_front n w
+      → AfterPreamble (part_streaming old) (part_streaming (record p { waiting = v; place = AtHead }))
+  preamble_passed p w v n same place come waits size waits_then = rw (waits_then, size, waits, same) (inr (inr (passes place come)))
+
+  -- a piece is taken
+  piece_taken : (piece : List ℕ) (w : MultipartWaiting) → old.place ≡ InBody → old.waiting.held ≡ piece ++ w.held → 0 < length piece → length piece ≤ ahead.len → w.delimiter ≡ old.waiting.delimiter
+      → GivesPartPiece (part_streaming old) piece (at_waiting old.limits old.place (old.room - length piece) w)
+  piece_taken piece w place front some most delimiter = record {
+    place = place;
+    some = some;
+    front = front;
+    apart = NoneBegins-fewer old.waiting.delimiter old.waiting.held ahead.len (length piece) most is.apart;
+    within = omega (arith, fits, most);
+    next = λ i. record { delimiter = delimiter i; limits = old.limits; place = old.place; room = old.room - length piece; held = w.held };
+  }
+
+  pub piece_given : (p : Progress) (piece : List ℕ) (w : MultipartWaiting) (room : ℕ) → p ≡ old → old.place ≡ InBody → p.waiting.held ≡ piece ++ w.held → 0 < length piece → length piece ≤ ahead.len
+      → w.delimiter ≡ p.waiting.delimiter → room ≡ p.room - length piece → GivesPartPiece (part_streaming old) piece (part_streaming (record p { waiting = w; room = room }))
+  piece_given p piece w room same place front some most delimiter left =
+      let front_old = subst (λ (q : Progress). q.waiting.held ≡ piece ++ w.held) same front in
+      let delimiter_old = subst (λ (q : Progress). w.delimiter ≡ q.waiting.delimiter) same delimiter in
+      rw (left, same) (piece_taken piece w place front_old some most delimiter_old)
+
+  -- the body has ended
+  pub end_given : (p : Progress) (w : MultipartWaiting) (n : ℕ) → p ≡ old → old.place ≡ InBody → ahead.len ≡ 0 → ahead.has_come ≡ true → n ≡ length p.waiting.delimiter → w ≡ without_front n p.waiting
+      → GivesPartEnd (part_streaming old) (part_streaming (record p { waiting = w; place = AtHead }))
+  end_given p w n same place none come size waits = rw (waits, size, same) (record {
+    place = place;
+    some = is.some;
+    delimiter =
+        let d = old.waiting.delimiter in
+        let end : ahead.len + length d ≡ length d = omega (arith, none) in
+        (is.here come).bytes ∙ (λ i. take (none i) old.waiting.held ++ (d ++ drop (end i) old.waiting.held));
+    next = refl;
+  })
+
+  pub body_awaits : (p : Progress) → p ≡ old → old.place ≡ InBody → ahead.len ≡ 0 → ahead.has_come ≡ false → IsPartStreamStep (part_streaming old) (Ok None) (part_streaming p)
+  body_awaits p same place none lacks =
+      let few : length old.waiting.held < length old.waiting.delimiter = omega (arith, none, is.few lacks) in
+      rw same (inl refl, subst (λ place. IsPartAwaited place (part_streaming old)) (sym place) few)
+
+-- nothing comes before the first delimiter or after the last one
+pub awaits_elsewhere : (old : Progress) (place : Place) → (place ≡ Preamble → length old.waiting.held < length old.waiting.delimiter) → place ≢ AtHead → place ≢ InBody → IsPartAwaited place (part_streaming old)
+awaits_elsewhere old Preamble few not_head not_body = few refl
+awaits_elsewhere old AtHead few not_head not_body = absurd (not_head refl)
+awaits_elsewhere old InBody few not_head not_body = absurd (not_body refl)
+awaits_elsewhere old Ended few not_head not_body = tt
+
+-- why there is no head is why the call fails
+pub fault_at_head : (e : PartError) (s : PartStreaming) → s.place ≡ AtHead → IsPartHeadFault e s.delimiter s.limits s.held → IsPartStreamFault e s
+fault_at_head Malformed s place why = (place, why)
+fault_at_head NotUtf8 s place why = (place, why)
+fault_at_head TooLarge s place why = inl (place, why)
+fault_at_head (Refused reason) s place why = why
+
+-- the step fails, and nothing has changed
+pub failed_step : (old new : PartStreaming) (result : Result (Option PartEvent) PartError) (e : PartError) → result ≡ Err e → new ≡ old → IsPartStreamFault e old → IsPartStreamStep old result new
+failed_step old new result e is same why = rw (is, same) (refl, why)
+
+-- the step fails for want of memory
+pub refused_step : (old new : PartStreaming) (result : Result (Option PartEvent) PartError) (e : PartError) (reason : Reason) → result ≡ Err e → e ≡ Refused reason → reason ≡ OutOfMemory → new ≡ old
+    → IsPartStreamStep old result new
+refused_step old new result e reason is refused want same = failed_step old new result e is same (rw refused want)
+
+-- too many bytes are before the next delimiter
+pub over_step : (s : PartStreaming) (e : PartError) → (s.place ≡ Preamble) ⊎ (s.place ≡ InBody) → e ≡ TooLarge → PassesPartRoom s → IsPartStreamFault e s
+over_step s e place is over = rw is (inr (place, over))
+
+-- a piece is pushed, or dropped after the end
+pub stream_pushed : (old : Progress) (w : MultipartWaiting) (piece : List ℕ) → has_part_stream_ended old.place ≡ false → w ≡ record old.waiting { held = old.waiting.held ++ piece }
+    → part_streaming (record old { waiting = w }) ≡ part_stream_appended (part_streaming old) piece
+stream_pushed old w piece on is = rw (is, on) refl
+
+pub stream_dropped : (old : Progress) (piece : List ℕ) → has_part_stream_ended old.place ≡ true → part_streaming old ≡ part_stream_appended (part_streaming old) piece
+stream_dropped old piece ended = rw ended refl
+
+-- ---- at a head
+
+-- two dashes come
+pub closes_step : (old : Progress) (w : MultipartWaiting) → old.place ≡ AtHead → take (length multipart_dashes) old.waiting.held ≡ multipart_dashes → w ≡ record old.waiting { held = [] }
+    → IsPartStreamStep (part_streaming old) (Ok None) (part_streaming (record old { waiting = w; place = Ended }))
+closes_step old w place dashes is = rw is (inr (record { place = place; dashes = dashes; next = refl }), tt)
+
+-- no head has come
+pub awaits_step : (old : Progress) (w : MultipartWaiting) → old.place ≡ AtHead → take (length multipart_dashes) old.waiting.held ≢ multipart_dashes → w ≡ old.waiting
+    → AwaitsPartHead old.waiting.delimiter old.limits old.waiting.held → IsPartStreamStep (part_streaming old) (Ok None) (part_streaming (record old { waiting = w }))
+awaits_step old w place on same awaits = rw same (inl refl, subst (λ place. IsPartAwaited place (part_streaming old)) (sym place) (on, awaits))
+
+-- a head has come
+pub head_given : (old : Progress) (w v : MultipartWaiting) (len n : ℕ) (head : PartHead) → w ≡ old.waiting → old.place ≡ AtHead → HasPartHeadEnd old.waiting.delimiter old.limits old.waiting.held len
+    → IsMultipartHead (take len old.waiting.held) head.text → AreMultipartFields head.text → HasMultipartParameter multipart_name head.text head.name → HasMultipartParameter multipart_file_name head.text head.file_name
+    → n ≡ len + length multipart_head_end → v ≡ without_front n w → GivesPartHead (part_streaming old) head (part_streaming (record old { waiting = v; place = InBody; room = old.limits.body }))
+head_given old w v len n head same place found is fields name file_name size waits = rw (waits, size, same) (record {
+  place = place;
+  takes = takes_head old.waiting.delimiter old.limits old.waiting.held len found head.text is;
+  fields = fields;
+  name = name;
+  file_name = file_name;
+  next = refl;
+})
+
+-- the head that has come is none
+pub parse_fault : (old : Progress) (len : ℕ) → old.place ≡ AtHead → HasPartHeadEnd old.waiting.delimiter old.limits old.waiting.held len → (e : PartError)
+    → (e ≡ Malformed → (head : List ℕ) → IsMultipartHead (take len old.waiting.held) head → ¬ AreMultipartFields head) → e ≢ TooLarge
+    → (e ≡ NotUtf8 → (head : List ℕ) × IsMultipartHead (take len old.waiting.held) head × (¬ IsUtf8 head)) → ((reason : Reason) → e ≡ Refused reason → reason ≡ OutOfMemory) → IsPartStreamFault e (part_streaming old)
+parse_fault old len place found Malformed malformed large not_text want = (place, no_fields_come old.waiting.delimiter old.limits old.waiting.held len found (malformed refl))
+parse_fault old len place found NotUtf8 malformed large not_text want = (place, not_utf8_come old.waiting.delimiter old.limits old.waiting.held len found (not_text refl))
+parse_fault old len place found TooLarge malformed large not_text want = absurd (large refl)
+parse_fault old len place found (Refused reason) malformed large not_text want = want reason refl
+
+-- ---- what a call returned
+
+fewer_given : (at : PartStreaming) (event : PartEvent) (new : PartStreaming) → GivesPartEvent at event new → length new.held < length at.held
+fewer_given at (Head head) new gives =
+    omega (arith, ap length gives.takes.cut.bytes, length-append gives.takes.front (multipart_head_end ++ new.held), length-append multipart_head_end new.held)
+fewer_given at (Body piece) new gives = omega (arith, gives.some, ap length gives.front, length-append piece new.held)
+fewer_given at End new gives = omega (arith, gives.some, ap length gives.delimiter, length-append at.delimiter new.held)
+
+none_more : (old at : PartStreaming) → AfterPreamble old at → length at.held ≤ length old.held
+none_more old at (inl same) = rw same (omega arith)
+none_more old at (inr (inl drops)) = omega (arith, ap length drops.front, length-append drops.dropped at.held)
+none_more old at (inr (inr passes)) =
+    omega (arith, ap length passes.takes.bytes, length-append passes.preamble (old.delimiter ++ at.held), length-append old.delimiter at.held)
+
+module _ (old new : PartStreaming) where
+  pub call_of_return : (result : Result (Option PartEvent) PartError) → IsPartStreamReturn old result new → IfOk result (λ next. IsPartStreamCall old next new)
+  call_of_return (Ok (Some event)) returns = (returns.0, returns.1, returns.2)
+  call_of_return (Ok None) returns = (returns.0, returns.1, returns.2.0)
+  call_of_return (Err e) returns = tt
+
+  pub waits_of_return : (result : Result (Option PartEvent) PartError) → IsPartStreamReturn old result new → IfOk result (λ next. IfNone next (IsPartAwaited new.place new))
+  waits_of_return (Ok (Some event)) returns = tt
+  waits_of_return (Ok None) returns = returns.2.1
+  waits_of_return (Err e) returns = tt
+
+  pub fewer_of_return : (result : Result (Option PartEvent) PartError) → IsPartStreamReturn old result new → IfOk result (λ next. IfSome next (λ _. length new.held < length old.held))
+  fewer_of_return (Ok (Some event)) returns =
+      let before = none_more old returns.0 returns.1 in
+      let given = fewer_given returns.0 event new returns.2 in
+      omega (arith, before, given)
+  fewer_of_return (Ok None) returns = tt
+  fewer_of_return (Err e) returns = tt
+
+  pub err_of_return : (result : Result (Option PartEvent) PartError) → IsPartStreamReturn old result new → OnErr result (AfterPreamble old new)
+  err_of_return (Ok next) returns = tt
+  err_of_return (Err e) returns = subst (AfterPreamble old) (sym returns.2.0) returns.1
+
+  pub fault_of_return : (result : Result (Option PartEvent) PartError) → IsPartStreamReturn old result new → IfErr result (λ e. IsPartStreamFault e new)
+  fault_of_return (Ok next) returns = tt
+  fault_of_return (Err e) returns = returns.2.1

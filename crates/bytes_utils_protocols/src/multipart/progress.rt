@@ -1,0 +1,146 @@
+//! How far the parts of a stream were given.
+ghost use Rattle.std.specs.Prelude.{◌≡◌, ◌<◌, ◌≤◌, length, IfOk, IfErr, OnOk, OnErr};
+ghost use Rattle.bytes_utils_protocols.specs.MultipartStream.{AfterPreamble, IsAheadOfNeedle, IsPartStreamReturn, IsPartStreamStep, PassesPartRoom, part_streaming};
+
+use super::event::PartEvent;
+use super::head::{HEAD_END, parse_head};
+use super::limits::{Limits, PartError};
+use super::waiting::{Ahead, DASHES, Waiting};
+use std::alloc::Global;
+
+/// Where in a stream the bytes that wait begin.
+#[derive(Clone, Copy, Debug, Eq, PartialEq)]
+pub(super) enum Place {
+    /// Before the first delimiter.
+    Preamble,
+    /// After a delimiter.
+    AtHead,
+    /// In the body of a part.
+    InBody,
+    /// After the close delimiter.
+    Ended,
+}
+
+/// What is to come of the parts of a stream.
+#[derive(Debug, Drop)]
+pub(super) struct Progress {
+    pub(super) waiting: Waiting,
+    pub(super) place: Place,
+    /// How many more bytes the limits allow, of the preamble or of the body.
+    pub(super) room: usize,
+    pub(super) limits: Limits,
+}
+
+impl Progress {
+    /// Gives the next event, as `PartStream` does.
+    pub(super) fn next_event(&mut self, alloc: Global) -> Result<Option<PartEvent>, PartError>
+        ensures { IsPartStreamReturn (part_streaming self.old) result (part_streaming self.new) }
+    {
+        self.pass_preamble()?;
+        self.next_after_preamble(alloc)
+    }
+
+    /// Drops what has come of the preamble, and the first delimiter.
+    fn pass_preamble(&mut self) -> Result<(), PartError>
+        ensures ok { OnOk result (AfterPreamble (part_streaming self.old) (part_streaming self.new)) }
+        ensures awaits { OnOk result (self.new.place ≡ Place.Preamble
+            → length self.new.waiting.held < length self.new.waiting.delimiter) }
+        ensures err { OnErr result (self.new ≡ self.old) }
+        ensures over { IfErr result (λ e. (e ≡ PartError.TooLarge)
+            × (self.old.place ≡ Place.Preamble) × PassesPartRoom (part_streaming self.old)) }
+    {
+        match self.place {
+            Place::Preamble => self.drop_preamble(),
+            _ => Ok(()),
+        }
+    }
+
+    /// The same in the preamble.
+    fn drop_preamble(&mut self) -> Result<(), PartError>
+        requires { self.old.place ≡ Place.Preamble }
+        ensures ok { OnOk result (AfterPreamble (part_streaming self.old) (part_streaming self.new)) }
+        ensures awaits { OnOk result (self.new.place ≡ Place.Preamble
+            → length self.new.waiting.held < length self.new.waiting.delimiter) }
+        ensures err { OnErr result (self.new ≡ self.old) }
+        ensures over { IfErr result (λ e. (e ≡ PartError.TooLarge)
+            × PassesPartRoom (part_streaming self.old)) }
+    {
+        let ahead = self.look_ahead()?;
+        self.waiting.advance(ahead.len);
+        if !ahead.has_come {
+            self.room -= ahead.len;
+            return Ok(());
+        }
+        self.waiting.advance(self.waiting.delimiter_len());
+        self.place = Place::AtHead;
+        Ok(())
+    }
+
+    /// Looks for the next delimiter, before which there may be as many bytes as there is room.
+    fn look_ahead(&mut self) -> Result<Ahead, PartError>
+        ensures same { self.new ≡ self.old }
+        ensures ahead { IfOk result (λ ahead. IsAheadOfNeedle
+            self.old.waiting.delimiter self.old.waiting.held ahead) }
+        ensures within { IfOk result (λ ahead. ahead.len ≤ self.old.room) }
+        ensures over { IfErr result (λ e. (e ≡ PartError.TooLarge)
+            × PassesPartRoom (part_streaming self.old)) }
+    {
+        let ahead = self.waiting.search();
+        if ahead.len > self.room {
+            return Err(PartError::TooLarge);
+        }
+        Ok(ahead)
+    }
+
+    /// Gives the next event, if the preamble has come.
+    fn next_after_preamble(&mut self, alloc: Global) -> Result<Option<PartEvent>, PartError>
+        requires { self.old.place ≡ Place.Preamble
+            → length self.old.waiting.held < length self.old.waiting.delimiter }
+        ensures { IsPartStreamStep (part_streaming self.old) result (part_streaming self.new) }
+    {
+        match self.place {
+            Place::AtHead => self.next_head(alloc),
+            Place::InBody => self.next_in_body(alloc),
+            _ => Ok(None),
+        }
+    }
+
+    /// Gives the head after a delimiter, or ends, if two dashes follow that.
+    fn next_head(&mut self, alloc: Global) -> Result<Option<PartEvent>, PartError>
+        requires { self.old.place ≡ Place.AtHead }
+        ensures { IsPartStreamStep (part_streaming self.old) result (part_streaming self.new) }
+    {
+        if self.waiting.starts_with(DASHES) {
+            self.waiting.clear(alloc);
+            self.place = Place::Ended;
+            return Ok(None);
+        }
+        let Some(len) = self.waiting.head_len(self.limits)? else {
+            return Ok(None);
+        };
+        let head = parse_head(alloc, self.waiting.peek(alloc, len)?)?;
+        self.waiting.advance(len + HEAD_END.len());
+        self.place = Place::InBody;
+        self.room = self.limits.body;
+        Ok(Some(PartEvent::Head(head)))
+    }
+
+    /// Gives a piece of a body, or its end.
+    fn next_in_body(&mut self, alloc: Global) -> Result<Option<PartEvent>, PartError>
+        requires { self.old.place ≡ Place.InBody }
+        ensures { IsPartStreamStep (part_streaming self.old) result (part_streaming self.new) }
+    {
+        let ahead = self.look_ahead()?;
+        if ahead.len > 0 {
+            let piece = self.waiting.take(alloc, ahead.len)?;
+            self.room -= piece.len();
+            return Ok(Some(PartEvent::Body(piece)));
+        }
+        if !ahead.has_come {
+            return Ok(None);
+        }
+        self.waiting.advance(self.waiting.delimiter_len());
+        self.place = Place::AtHead;
+        Ok(Some(PartEvent::End))
+    }
+}
