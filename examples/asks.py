@@ -1,11 +1,13 @@
-"""What is asked of each program of examples/, beside what its own ask.py asks: where memory is refused, and where its
-listener is lost."""
-import contextlib, ctypes, os, resource, socket, subprocess, tempfile, time
+"""What is asked of each program of examples/, beside what its own ask.py asks: where memory is refused, where its
+listener is lost, at the end of its input, and where nobody reads its log."""
+import contextlib, ctypes, os, re, resource, socket, struct, subprocess, tempfile, time
 
 # how many bytes a program may take beyond those of its start where memory is refused, and by how many clients at most
 ROOM, MOST_CALLERS = 8 << 20, 3_000
 # the system's call for a descriptor of another process
 PIDFD_GETFD = 438
+# a line of the log
+LINE = re.compile(rb"error (\d+), (\d+) since the last line: ([^\n]*)\n")
 
 
 def processor_time(pid):
@@ -15,9 +17,9 @@ def processor_time(pid):
 
 
 @contextlib.contextmanager
-def started(command, log=None):
+def started(command, log=None, given=None):
     """A program that is running, and its address. It prints errors to the log."""
-    with subprocess.Popen(command, stdout=subprocess.PIPE, stderr=log, text=True) as running:
+    with subprocess.Popen(command, stdin=given, stdout=subprocess.PIPE, stderr=log, text=True) as running:
         try:
             yield running, running.stdout.readline().strip()
         finally:
@@ -48,7 +50,7 @@ def is_soon(holds):
     return held
 
 
-def refused(judge, command, said, reply, silent):
+def refused(judge, command, said, reply, silent, *_):
     """Clients that say half of something, until memory is refused: the others are served."""
     with tempfile.TemporaryFile() as log, started(command, log) as (running, at), contextlib.ExitStack() as callers:
         talk, size = Talk(at, said, reply), int(open(f"/proc/{running.pid}/statm").read().split()[0])
@@ -58,7 +60,8 @@ def refused(judge, command, said, reply, silent):
         resource.prlimit(running.pid, resource.RLIMIT_AS, (most, most))
 
         def refusals():
-            return os.pread(log.fileno(), 1 << 24, 0).count(b": not accepted: out of memory\n")
+            lines = LINE.findall(os.pread(log.fileno(), 1 << 24, 0))
+            return sum(int(count) for _, count, error in lines if error == b"not accepted: out of memory")
 
         with contextlib.ExitStack() as others:
             count = 0
@@ -94,7 +97,7 @@ def listener_of(pid):
                 return it
 
 
-def lost(judge, command, said, reply, _):
+def lost(judge, command, said, reply, *_):
     """Without its listener the program ends at once, though a client stays."""
     with tempfile.TemporaryFile() as log, started(command, log) as (running, at):
         talk, listener = Talk(at, said, reply), listener_of(running.pid)
@@ -109,13 +112,94 @@ def lost(judge, command, said, reply, _):
             judge(f"without its listener it ends with status {status} and {error}", is_well)
 
 
+def ended(judge, command, said, reply, half, long, whole):
+    """At the end of its input the program responds to what runs, takes nothing new, and ends well."""
+    with started([*command, "end=stdin"], given=subprocess.PIPE) as (running, at):
+        talk = Talk(at, said, reply)
+        with talk.call() as slow, talk.call() as idle:
+            is_first = talk.is_served(idle)
+            slow.sendall(long)
+            began = slow.recv(1)
+            running.stdin.close()
+
+            def is_closed():
+                with contextlib.suppress(ConnectionError), talk.call():
+                    return False
+                return True
+
+            judge("at the end of its input it takes no new client", is_first and is_soon(is_closed))
+            judge("an idle one is left", idle.recv(1) == b"")
+            response = began + b"".join(iter(lambda: slow.recv(1 << 20), b""))
+            judge("a slow one gets its whole response", response.endswith(whole))
+        judge("then it ends well", running.wait(10) == 0)
+    with started([*command, "end=stdin", "finish=1"], given=subprocess.PIPE) as (running, at):
+        with Talk(at, said, reply).call() as line:
+            line.sendall(half)
+            time.sleep(0.2)
+            began = time.monotonic()
+            running.stdin.close()
+            status, took = running.wait(10), time.monotonic() - began
+        judge(f"half of a request holds it up for {took:.1f} s, within 3", status == 0 and took < 3)
+    nothing = subprocess.run([*command, "end=stdin"], stdin=subprocess.DEVNULL, timeout=10, capture_output=True)
+    judge("without input it ends at once", nothing.returncode == 0)
+    without = ["sh", "-c", 'exec "$@" <&-', "sh", *command, "end=stdin"]
+    closed = subprocess.run(without, timeout=10, capture_output=True)
+    judge("its input has to be open", closed.returncode == 1 and b"standard input isn't open" in closed.stderr)
+
+
+def ask_once(line, page, figure):
+    """What comes after the name of a figure on a page."""
+    line.sendall(page)
+    return b"".join(iter(lambda: line.recv(1 << 16), b"")).split(figure)[-1].split()[0]
+
+
+def unread(judge, command, said, reply, half, long, whole, page=None, figure=b""):
+    """Nobody reads its log, which is full: no client waits for that, and the next line stands for all errors. A page
+    may have the number of lines that were dropped."""
+    reading, writing = os.pipe()
+    os.set_blocking(writing, False)
+    with contextlib.suppress(BlockingIOError):
+        while True:
+            os.write(writing, bytes(4_096))
+    os.set_blocking(writing, True)
+    with open(reading, "rb", 0) as log, started(command, writing) as (running, at):
+        os.close(writing)
+        talk = Talk(at, said, reply)
+
+        def vanish():
+            with talk.call() as line:
+                line.sendall(half)
+                line.setsockopt(socket.SOL_SOCKET, socket.SO_LINGER, struct.pack("ii", 1, 0))
+
+        for _ in range(2_000):
+            vanish()
+        began = time.monotonic()
+        with talk.call() as line:
+            is_served = talk.is_served(line)
+        took = time.monotonic() - began
+        judge(f"a full log and 2,000 clients that vanish: {took:.2f} s for another, within 1", is_served and took < 1)
+        with talk.call() if page else contextlib.nullcontext() as line:
+            dropped = page and ask_once(line, page, figure)
+            judge(f"lines of the log that were dropped: {dropped}", not page or int(dropped) > 0)
+        log.read(1 << 16)
+        os.set_blocking(reading, False)
+
+        def lines():
+            vanish()
+            return LINE.findall(log.read(1 << 16) or b"")
+
+        found = is_soon(lines)
+        is_all = found and int(found[0][1]) > 1_000 and found[0][2].startswith(b"127.0.0.1:")
+        judge(f"then the log has {found[:1]}", is_all)
+
+
 def ask_all(judge, room, command, ask, *talk):
-    """Starts a program for each of these, and judges its replies; the last two only if there is something to say."""
+    """Starts a program for each of these, and judges its replies; the last ones only if there is something to say."""
     # each of the clients takes a descriptor
     soft, hard = resource.getrlimit(resource.RLIMIT_NOFILE)
     resource.setrlimit(resource.RLIMIT_NOFILE, (max(soft, min(hard, 2 * MOST_CALLERS)), hard))
     with started(command) as (running, at):
         ask(judge, room, at, running)
         judge("the program still runs", running.poll() is None)
-    for ask_of_another in (refused, lost) if talk else ():
+    for ask_of_another in (refused, lost, ended, unread) if talk else ():
         ask_of_another(judge, command, *talk)

@@ -68,7 +68,7 @@ def memory(caller, chat, sent):
 
 
 def lines(judge, room, at, chat):
-    refused = subprocess.run([chat.args[0], ""], capture_output=True, timeout=10)
+    refused = subprocess.run([chat.args[0], "separator="], capture_output=True, timeout=10)
     judge("an empty separator", refused.returncode != 0 and b"the separator is empty" in refused.stderr)
     caller = Caller(judge, at)
     with caller.called() as line:
@@ -106,8 +106,35 @@ def frames(judge, room, at, chat):
     memory(caller, chat, bytes(100_000) + b";;")
 
 
+def silent(judge, room, at, chat):
+    """The bounds that the operator sets."""
+    caller = Caller(judge, at)
+    judge("it prints its bounds", chat.stdout.readline() == "connections=2 silence=1 finish=10\n")
+    began = time.monotonic()
+    with caller.called() as one, caller.called() as two:
+        two.settimeout(0.5)
+        with contextlib.suppress(TimeoutError):
+            two.sendall(b"\n" * 20_000_000)
+        with caller.called() as three:
+            three.sendall(b"four\n")
+            is_served = three.recv(100) == b"4\n"
+            took = time.monotonic() - began
+        judge(f"a third one waits {took:.1f} s for the end of a silent one", is_served and 0.9 < took < 3)
+        judge("the silent one is left", one.recv(100) == b"")
+        time.sleep(1)
+        two.settimeout(5)
+        with contextlib.suppress(ConnectionError):
+            while two.recv(1 << 20):
+                pass
+    judge("so is one that doesn't read", time.monotonic() - began < 8)
+
+
 HALF = b"a" * 8_000
 
-# of each run: the program's arguments, the function that asks it, a request and the end of its reply, and half of a
-# request
-RUNS = [([], lines, b"one\n", b"3\n", HALF), ([";;"], frames, b"one;;", b"3\n", HALF)]
+# of each run: the program's arguments, the function that asks it, and maybe a request and the end of its reply, half
+# of a request, and a long one and its replies
+RUNS = [
+    ([], lines, b"one\n", b"3\n", HALF, b"\n" * 50_000, b"0\n" * 50_000),
+    (["separator=;;"], frames, b"one;;", b"3\n", HALF, b";;" * 50_000, b"0\n" * 50_000),
+    (["connections=2", "silence=1"], silent),
+]

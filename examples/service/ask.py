@@ -1,5 +1,5 @@
 """Asks the service by curl, which has to be installed, and compares each response with the right one."""
-import contextlib, csv, io, os, re, resource, socket, subprocess, time
+import contextlib, csv, io, os, re, resource, select, socket, subprocess, time
 from concurrent.futures import ThreadPoolExecutor
 
 from asks import is_soon, processor_time
@@ -253,7 +253,7 @@ def operator(client):
         it.recv(100)
     after = figures(client)
     # the figures were asked for twice, and the first of these responses isn't among the first figures
-    wanted = {"200": 3, "400": 1, "404": 1, "413": 1, "501": 1, "503": 0}
+    wanted = {"200": 3, "400": 1, "404": 1, "408": 0, "413": 1, "501": 1, "503": 0}
     grown = {it: after[name] - before[name] for it in wanted for name in [f'service_responses_total{{status="{it}"}}']}
     opened = after["service_connections_total"] - before["service_connections_total"]
     client.judge(f"{opened} connections and responses by status {grown}", opened == 7 and grown == wanted)
@@ -273,7 +273,7 @@ def called(client):
 def bounded(judge, room, at, service):
     """The bounds that the operator sets."""
     client, chunked = Client(judge, room, at), ["-T", "-", "-H", "Expect:"]
-    judge("it prints its bounds", service.stdout.readline() == "held=1000000 connections=20 head=1\n")
+    judge("it prints its bounds", service.stdout.readline().startswith("held=1000000 connections=20 head=1 "))
     refused = subprocess.run([service.args[0], "other=1"], capture_output=True, timeout=10)
     judge("a bound that there isn't", refused.returncode == 1 and b"no bound is named other" in refused.stderr)
     most = bytes(1_000_000)
@@ -304,6 +304,29 @@ def bounded(judge, room, at, service):
     client.expect("all bytes may be held again", "/echo", most + b"\n200", *chunked, given=most)
 
 
+def late(judge, room, at, service):
+    """Bodies that come too slowly, and a response that isn't read."""
+    client = Client(judge, room, at)
+    head, piece = b"POST /echo HTTP/1.1\r\nHost: h\r\nContent-Length: %d\r\n\r\n", bytes(1 << 14)
+    for what, length, sent, pause, status in (
+        ("bytes that come too slowly", 100, [b"a"] * 15, 0.1, b"408"),
+        ("pieces that come in time", 5 << 14, [piece] * 5, 0.5, b"200"),
+    ):
+        with called(client) as it:
+            it.sendall(head % length)
+            for one in sent:
+                if select.select([it], [], [], pause)[0]:
+                    break
+                it.sendall(one)
+            response = it.recv(100)
+        judge(f"{what}: {response[9:12]}", response[9:12] == status)
+    with called(client) as it:
+        it.sendall(POST % (len(LONG), LONG))
+        judge("a response that isn't read", is_soon(lambda: figures(client)["service_connections"] == 1))
+    seen = figures(client)
+    judge("what a timer closed is counted", (seen["service_timeouts_total"], seen["service_held_bytes"]) == (2, 0))
+
+
 def ask(judge, room, at, service):
     """Asks the service at an address, with files of the asker's in a folder."""
     client = Client(judge, room, at)
@@ -319,10 +342,13 @@ def ask(judge, room, at, service):
 # a request, of which the response ends with its last bytes, and half of another one
 POST = b"POST /echo HTTP/1.1\r\nHost: h\r\nContent-Length: %d\r\n\r\n%s"
 ONE, HALF = POST % (3, b"one"), POST % (16_000, b"a" * 8_000)
+LONG = os.urandom(1 << 20) * 20
+PAGE = b"GET /metrics HTTP/1.1\r\nHost: h\r\nConnection: close\r\n\r\n"
 
-# of each run: the program's arguments, the function that asks it, and maybe a request and the end of its reply, and
-# half of a request
+# of each run: the program's arguments, the function that asks it, and maybe a request and the end of its reply, half
+# of a request, a long one and the end of its reply, and one for the figures with the name of that of dropped lines
 RUNS = [
-    ([], ask, ONE, b"\r\n\r\none", HALF),
+    ([], ask, ONE, b"\r\n\r\none", HALF, POST % (len(LONG), LONG), LONG, PAGE, b"\nservice_log_dropped_total "),
     (["held=1000000", "connections=20", "head=1"], bounded),
+    (["body=1", "answer=1"], late),
 ]
