@@ -114,7 +114,8 @@ fn body_bytes_given(parts: &mut PartStream) -> Option<usize> {
     for _ in 0..parts.remaining().saturating_add(1) {
         match parts.next_event().ok()? {
             Some(PartEvent::Body(piece)) => count = count.saturating_add(piece.len()),
-            Some(_) => (),
+            Some(PartEvent::Head(_head)) => (),
+            Some(PartEvent::End) => (),
             None => return Some(count),
         }
     }
