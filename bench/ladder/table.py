@@ -43,10 +43,16 @@ def lines_of(call, rungs):
             groups[low, high, of[start].requests, times][k] = of[start].asked - times * of[start].n
     for (low, high, requests, times), more in groups.items():
         slope = slope_of(more)
-        for ks in [[*more]] if slope is not None else [[k] for k in more]:
-            asks = f"{said(requests, 'request')}, {formula(times, slope or 0, more[ks[0]] - (slope or 0) * ks[0])} bytes"
-            sizes = " ".join(f"{word} {n:,}" for word, n in (("from", low), ("to", high)) if n) or "any n"
-            yield f"{call} | {sizes} | k = {', '.join(map(str, ks))} | {asks if requests else 'no request'}"
+        alike = [[*more]] if slope else [[k for k in more if more[k] == it] for it in dict.fromkeys(more.values())]
+        for ks in alike:
+            asks = f"{said(requests, 'request')}, {formula(times, slope, more[ks[0]] - slope * ks[0])} bytes"
+            sizes = f"at {low:,}" if low == high != "" else " ".join(f"{word} {n:,}" for word, n in ends(low, high))
+            where = f"k = {', '.join(map(str, ks))}"
+            yield f"{call} | {sizes or 'any n'} | {where} | {asks if requests else 'no request'}"
+
+
+def ends(low, high):
+    return [(word, n) for word, n in (("from", low), ("to", high)) if n != ""]
 
 
 def runs_of(of):
@@ -54,10 +60,10 @@ def runs_of(of):
     ends, and how many times."""
     start = 0
     while start < len(of):
-        ends = {times: start + same_from(of[start:], times) for times in range(5)}
-        times = max(ends, key=lambda it: (ends[it], -it))
-        yield start, ends[times], times
-        start = ends[times]
+        to = {times: start + same_from(of[start:], times) for times in range(5)}
+        times = max(to, key=lambda it: (to[it], -it))
+        yield start, to[times], times
+        start = to[times]
 
 
 def same_from(of, times):
@@ -67,10 +73,10 @@ def same_from(of, times):
 
 
 def slope_of(more):
-    """How many bytes each further segment adds, or None if it isn't always so many."""
+    """How many bytes each further segment adds, or 0 if it isn't always so many."""
     (first, least), (last, most) = min(more.items()), max(more.items())
     slope = (most - least) // max(last - first, 1)
-    return slope if slope >= 0 and all(it == least + slope * (k - first) for k, it in more.items()) else None
+    return slope if slope > 0 and all(it == least + slope * (k - first) for k, it in more.items()) else 0
 
 
 def formula(times, each, more):
