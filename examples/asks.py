@@ -112,7 +112,7 @@ def lost(judge, command, said, reply, *_):
             judge(f"without its listener it ends with status {status} and {error}", is_well)
 
 
-def ended(judge, command, said, reply, half, long, whole):
+def ended(judge, command, said, reply, half, long, whole, *_):
     """At the end of its input the program responds to what runs, takes nothing new, and ends well."""
     with started([*command, "end=stdin"], given=subprocess.PIPE) as (running, at):
         talk = Talk(at, said, reply)
