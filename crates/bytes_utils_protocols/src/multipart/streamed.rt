@@ -1,5 +1,5 @@
 //! The parts of a body that are given as they come.
-ghost use Rattle.std.specs.Prelude.{◌≡◌, ◌↔◌, ◌+◌, ◌^◌, ◌<◌, ◌≤◌, [], ◌++◌, length, true, IsOk, IfOk, IfErr, IfSome, IfNone, OnOk, OnErr};
+ghost use Rattle.std.specs.Prelude.{◌≡◌, ◌↔◌, ◌+◌, ◌^◌, ◌<◌, ◌≤◌, [], length, true, IsOk, IfOk, IfErr, IfSome, IfNone, OnOk, OnErr};
 ghost use Rattle.bytes_utils_codec.specs.Pushing.{IsPush};
 ghost use Rattle.bytes_utils_protocols.specs.Multipart.{multipart_delimiter};
 ghost use Rattle.bytes_utils_protocols.specs.MultipartStream.{AfterPreamble, IsPartAwaited, IsPartStreamCall, IsPartStreamFault, PartStreamLaw, has_part_stream_ended, part_stream_appended, part_stream_started, part_streaming};
@@ -126,8 +126,8 @@ impl PartStream {
     /// Fails with `TooLarge` as soon as a head, a body or what is before the first delimiter is
     /// certainly over its limit, with `Malformed` if the next head isn't header fields or has no end
     /// before the next delimiter, with `NotUtf8` if it isn't UTF-8, and with `Refused` if memory is
-    /// refused. Then nothing has changed, except that bytes before the first delimiter may have been
-    /// dropped.
+    /// refused. Then nothing has changed, except that what has come up to the first delimiter, and
+    /// that one, may have been dropped.
     pub fn next_event(&mut self) -> Result<Option<PartEvent>, PartError>
         ensures call { IfOk result (λ next. IsPartStreamCall self.old next self.new) }
         ensures waits { IfOk result (λ next. IfNone next (IsPartAwaited self.new.place self.new)) }
