@@ -154,7 +154,7 @@ def ask_once(line, page, figure):
 
 
 def unread(judge, command, said, reply, half, long, whole, page=None, figure=b""):
-    """Nobody reads its log, which is full: no client waits for that, and the next line stands for all errors. A page
+    """Nobody reads its log, which is full: no client waits for that, and the next line reports all errors. A page
     may have the number of lines that were dropped."""
     reading, writing = os.pipe()
     os.set_blocking(writing, False)

@@ -73,7 +73,7 @@ def same_from(of, times):
 
 
 def slope_of(more):
-    """How many bytes each further segment adds, or 0 if it isn't always so many."""
+    """How many bytes each further segment adds, or 0 if the number isn't always the same."""
     (first, least), (last, most) = min(more.items()), max(more.items())
     slope = (most - least) // max(last - first, 1)
     return slope if slope > 0 and all(it == least + slope * (k - first) for k, it in more.items()) else 0

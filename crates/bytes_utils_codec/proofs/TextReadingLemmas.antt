@@ -48,7 +48,7 @@ front_of_four bytes (Text len) is =
 front_of_four bytes (Fault len) is = (none_of_four bytes is.0, sym (error_len_of_four bytes) ∙ is.1)
 front_of_four bytes Unfinished is = (none_of_four bytes is.0, sym (error_len_of_four bytes) ∙ is.1)
 
--- of what stands for bytes that are no text, the text of the first piece, which is none, is no longer than it
+-- the item for bytes that are no text is at least as long as the text at the start of the first piece, which is empty
 pub fault_longest : (pieces : List (List ℕ)) (item : TextItem) → utf8_valid_len (concat pieces) ≡ 0
     → IfOk item (λ text. utf8_valid_len (front_segment pieces) ≤ length text)
 fault_longest pieces (Ok text) none = omega (arith, none_in_front pieces none)

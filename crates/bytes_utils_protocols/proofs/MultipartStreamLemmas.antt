@@ -399,7 +399,7 @@ fault_at_head (Refused reason) s place why = why
 pub failed_step : (old new : PartStreaming) (result : Result (Option PartEvent) PartError) (e : PartError) → result ≡ Err e → new ≡ old → IsPartStreamFault e old → IsPartStreamStep old result new
 failed_step old new result e is same why = rw (is, same) (refl, why)
 
--- the step fails for want of memory
+-- the step fails, as memory is refused
 pub refused_step : (old new : PartStreaming) (result : Result (Option PartEvent) PartError) (e : PartError) (reason : Reason) → result ≡ Err e → e ≡ Refused reason → reason ≡ OutOfMemory → new ≡ old
     → IsPartStreamStep old result new
 refused_step old new result e reason is refused want same = failed_step old new result e is same (rw refused want)

@@ -100,7 +100,7 @@ pub record AwaitsPartHead (delimiter : List ℕ) (limits : Limits) (held : List 
   pub short : (front rest : List ℕ) → TakesFrame multipart_head_end held front rest → length rest + 1 < length delimiter
   pub few : length held ≤ limits.head + length delimiter
 
--- what is found of a head: so many bytes are before its end
+-- what is found of a head: `len` bytes are before its end
 pub record HasPartHeadEnd (delimiter : List ℕ) (limits : Limits) (held : List ℕ) (len : ℕ) : Type 0 where
   pub within : len + length multipart_head_end ≤ length held
   pub cut : TakesFrame multipart_head_end held (take len held) (drop (len + length multipart_head_end) held)

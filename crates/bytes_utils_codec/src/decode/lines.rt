@@ -87,9 +87,9 @@ pub(crate) type Line = Result<Str, LineFault>;
 /// carriage return is part of it. Those of a line over the limit are dropped, and no line comes.
 ///
 /// While it waits, bytes are not searched again, and no memory is asked for. A line that lies in
-/// one segment shares it: a piece of more than 512 bytes, or a block of copied ones. Any other is
-/// copied into one block. `OutOfMemory` comes only for a line within the limit that has come, or at
-/// the end of the stream for the last one.
+/// one segment, with its carriage return if it has one, shares it: a piece of more than 512 bytes,
+/// or a block of copied ones. Any other is copied into one block. `OutOfMemory` comes only for a line
+/// within the limit that has come, or at the end of the stream for the last one.
 #[derive(Debug, Drop)]
 pub struct Lines {
     frames: Delimited,

@@ -117,7 +117,7 @@ impl Waiting {
     }
 
     /// Takes bytes off the front: `most`, or those of the first segment if it has fewer. A piece that
-    /// was held as it came is shared. Requires that `most` is not 0, and that so many bytes wait.
+    /// was held as it came is shared. Requires that `most` is not 0, and at most `len()`.
     pub(super) fn take(&mut self, alloc: Global, most: usize) -> Result<Bytes, Reason>
         requires some { 0 < most }
         requires within { most ≤ length self.old.held }
@@ -135,7 +135,7 @@ impl Waiting {
         Ok(piece)
     }
 
-    /// Drops the first `len` bytes. Requires that so many wait.
+    /// Drops the first `len` bytes. Requires that `len` is at most `len()`.
     pub(super) fn advance(&mut self, len: usize)
         requires { len ≤ length self.old.held }
         ensures { self.new ≡ record self.old { held = drop len self.old.held } }
@@ -154,7 +154,7 @@ impl Waiting {
         self.head_end.restart();
     }
 
-    /// Returns the first `len` bytes, which stay. Requires that so many wait.
+    /// Returns the first `len` bytes, which stay. Requires that `len` is at most `len()`.
     pub(super) fn peek(&self, alloc: Global, len: usize) -> Result<Bytes, Reason>
         requires { len ≤ length self.now.held }
         ensures value { IfOk result (λ front. front ≡ take len self.now.held) }
