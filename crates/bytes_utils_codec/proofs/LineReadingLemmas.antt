@@ -1,5 +1,5 @@
 -- What the decoder of lines did, by what it returned, and the items of one that is new.
-use Rattle.std.proofs.Common.{◌≡◌, ℕ, suc, ◌+◌, ◌<◌, ◌≤◌, Bool, true, false, List, [], ◌∷◌, ◌++◌, length, take, drop, map, Option, None, Some, Result, Ok, Err, inl, inr, sym, ap, ◌∙◌, refl, subst, arith, append_assoc, length-append, take-append-drop, get_or, ◌-◌, IsUtf8, nat_le, if◌then◌else◌}
+use Rattle.std.proofs.Common.{◌≡◌, ℕ, suc, ◌<◌, ◌≤◌, Bool, true, false, List, [], ◌∷◌, ◌++◌, length, take, map, Option, None, Some, Result, Ok, Err, inl, inr, sym, ap, ◌∙◌, refl, subst, arith, append_assoc, length-append, take-append-drop, get_or, ◌-◌, IsUtf8, nat_le, if◌then◌else◌}
 use Rattle.std.proofs.Math.Seq.{drop-cons, get_or-append_seam}
 use Rattle.std.proofs.lemmas.Bool.{cases_eq, leb-false, leb-true}
 use Rattle.std.proofs.lemmas.List.{drop_all, drop_at}
@@ -11,7 +11,7 @@ use Rattle.bytes_utils.specs.Lines.{IsWithoutReturn, carriage_return, line_feed,
 use Rattle.bytes_utils.specs.Occurrence.{Occurs}
 use Rattle.bytes_utils.proofs.LinesLemmas.{lines-whole}
 use Rattle.bytes_utils_codec.specs.Decoding.{AreItems, Decoding, Item, Last, DecodesAtEnd, fed, starting}
-use Rattle.bytes_utils_codec.specs.Delimited.{Delimiting, FindsNextDelimited, StopsDelimitedAt, delimited_begun, delimiting, gives_delimited, delimited_left, ready_delimited, delimited_within}
+use Rattle.bytes_utils_codec.specs.Delimited.{Delimiting, StopsDelimitedAt, delimited_begun, delimiting, gives_delimited, delimited_left, ready_delimited, delimited_within}
 use Rattle.bytes_utils_codec.specs.DelimitedLaws.{delimited_keeps_threshold}
 use Rattle.bytes_utils_codec.specs.Frames.{AreFrames}
 use Rattle.bytes_utils_codec.specs.LineReading.{AreLineItemsOf, IsLineItemOf, IsLastLineOf, IsLeftLine, IsLineOf, IsTextLineItem, LineItem, LineReadingLaw, LineReading, TakesLastLine, TakesLineItem, WholeLineReadingLaw, begun_line, fails_line, frames_of_lines, gives_line, keeps_line, ready_line}
@@ -23,7 +23,7 @@ use Rattle.bytes_utils_codec.specs.declared.decode.too_long.FrameTooLong.{FrameT
 use Rattle.bytes_utils_codec.specs.declared.decode.lines.LineFault.TheVariants.{NotUtf8, TooLong}
 use Rattle.bytes_utils_codec.proofs.DecodingLemmas.{SameNext-now, SameNext-refl}
 use Rattle.bytes_utils_codec.proofs.DelimitedLemmas.{delimited_ends, delimited_frames_law}
-use Rattle.bytes_utils_codec.proofs.StreamLinesLemmas.{TakesStreamLine-framed, before_utf8, first_lines_law}
+use Rattle.bytes_utils_codec.proofs.StreamLinesLemmas.{TakesStreamLine-framed, first_lines_law}
 
 -- ---- the end of the stream
 
@@ -73,26 +73,6 @@ module _ (s mid t : Decoding LineReading) (took : TakesLineItem s (Ok None) mid)
   )
 
 -- ---- a line that is lossy
-
-pub gives_lossy : (s t : Decoding LineReading) (mid : Decoding Delimiting) (len : ℕ) (text : List ℕ) → s.decoder.lossy ≡ true
-    → FindsNextDelimited (frames_of_lines s) (Some (Ok len)) mid → IsLineOf true (Ok text) (Ok (take len mid.held))
-    → t ≡ record {
-      decoder = record { frames = ready_delimited mid.decoder; lossy = s.decoder.lossy };
-      held = drop (len + length mid.decoder.separator) mid.held;
-      threshold = mid.threshold;
-    }
-    → gives_line s (Item (Ok text)) t
-gives_lossy s t mid len text lossy finds is ends = (
-  Ok (take len mid.held),
-  subst (λ (u : Decoding Delimiting). gives_delimited (frames_of_lines s) (Item (Ok (take len mid.held))) u) (ap frames_of_lines (sym ends)) finds.2,
-  subst (λ b. IsLineOf b (Ok text) (Ok (take len mid.held))) (sym lossy) is,
-  ap (λ (u : Decoding LineReading). u.decoder.lossy) ends,
-)
-
--- a text without a carriage return at its end is one
-pub utf8_line : (line frame : List ℕ) → IsWithoutReturn line frame → IsUtf8 frame → IsUtf8 line
-utf8_line line frame (inl returned) is = before_utf8 line carriage_return [] (omega arith) (subst IsUtf8 returned is)
-utf8_line line frame (inr whole) is = subst IsUtf8 whole.0 is
 
 -- of a text the lossy item is the strict one
 pub lossy_item : (lossy : Bool) (item : LineItem) (bytes : List ℕ) → (lossy ≡ true → IsUtf8 bytes) → IsTextLineItem false item bytes → IsTextLineItem lossy item bytes

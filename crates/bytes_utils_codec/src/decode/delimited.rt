@@ -120,11 +120,7 @@ impl Delimited {
     }
 
     /// Takes the next frame, or reports that it is longer than the limit.
-    pub(super) fn take_frame(
-        &mut self,
-        alloc: Global,
-        held: &mut PackedBuf,
-    ) -> Result<Option<Frame>, Reason>
+    fn take_frame(&mut self, alloc: Global, held: &mut PackedBuf) -> Result<Option<Frame>, Reason>
         ensures step { Decodes gives_delimited AwaitsDelimitedFrame fails_delimited keeps_delimited
             (decoding self.old held.old) result (decoding self.new held.new) }
         ensures stops { IfOk result (λ next. IfNone next
@@ -137,7 +133,11 @@ impl Delimited {
         match self.next_frame(held) {
             None => Ok(None),
             Some(Err(over)) => Ok(Some(Err(over))),
-            Some(Ok(len)) => Ok(Some(Ok(self.take(alloc, held, len)?))),
+            Some(Ok(len)) => {
+                let frame = held.take_bytes(alloc, len)?;
+                self.pass_separator(held);
+                Ok(Some(Ok(frame)))
+            }
         }
     }
 
@@ -192,28 +192,8 @@ impl Delimited {
         }
     }
 
-    /// Takes the next frame, of `len` bytes, and its separator.
-    pub(super) fn take(
-        &mut self,
-        alloc: Global,
-        held: &mut PackedBuf,
-        len: usize,
-    ) -> Result<Bytes, Reason>
-        requires { len + length self.old.separator ≤ length (concat held.old.held.segments) }
-        ensures frame { IfOk result (λ frame. frame ≡ take len (concat held.old.held.segments)) }
-        ensures ok { OnOk result (decoding self.new held.new
-            ≡ passed ready_delimited (len + length self.old.separator) (decoding self.old held.old)) }
-        ensures err { OnErr result (decoding self.new held.new ≡ decoding self.old held.old) }
-        ensures reason { IfErr result (λ reason. reason ≡ Reason.OutOfMemory) }
-        ensures some { OnErr result (0 < len) }
-    {
-        let frame = held.take_bytes(alloc, len)?;
-        self.pass_separator(held);
-        Ok(frame)
-    }
-
     /// Drops the separator, with which the held bytes begin. The next frame is after it.
-    pub(super) fn pass_separator(&mut self, held: &mut PackedBuf)
+    fn pass_separator(&mut self, held: &mut PackedBuf)
         requires { length self.old.separator ≤ length (concat held.old.held.segments) }
         ensures { decoding self.new held.new
             ≡ passed ready_delimited (length self.old.separator) (decoding self.old held.old) }

@@ -1,8 +1,8 @@
 //! Lines as texts.
-ghost use Rattle.std.specs.Prelude.{◌≡◌, ◌+◌, ◌<◌, ◌≤◌, [], length, take, drop, false, true, Ok, IfErr, IfOk, IsOk, IsTrue, IsUtf8, OnErr, OnOk};
+ghost use Rattle.std.specs.Prelude.{◌≡◌, ◌↔◌, ◌+◌, ◌<◌, ◌≤◌, [], length, take, drop, slice_index, false, true, Ok, IfErr, IfOk, IsOk, IsTrue, IsUtf8, OnErr, OnOk};
 ghost use Rattle.std.specs.List.{concat};
 ghost use Rattle.std.specs.Str.Lossy.{utf8_lossy};
-ghost use Rattle.bytes_utils.specs.Lines.{IsWithoutReturn};
+ghost use Rattle.bytes_utils.specs.Lines.{IsWithoutReturn, carriage_return};
 ghost use Rattle.bytes_utils_codec.specs.Decoding.{Decodes, decoding, passed};
 ghost use Rattle.bytes_utils_codec.specs.Delimited.{fails_delimited};
 ghost use Rattle.bytes_utils_codec.specs.LineReading.{AwaitsLine, IsLastLineOf, IsLineOf, IsTextLineItem, LineReadingLaw, TakesLastLine, TakesLineItem, WholeLineReadingLaw, fails_line, frames_of_lines, gives_line, keeps_line, line_reading, ready_line};
@@ -87,9 +87,9 @@ pub(crate) type Line = Result<Str, LineFault>;
 /// carriage return is part of it. Those of a line over the limit are dropped, and no line comes.
 ///
 /// While it waits, bytes are not searched again, and no memory is asked for. A line that lies in
-/// one segment, with its carriage return if it has one, shares it: a piece of more than 512 bytes,
-/// or a block of copied ones. Any other is copied into one block. `OutOfMemory` comes only for a line
-/// within the limit that has come, or at the end of the stream for the last one.
+/// one segment shares it, wherever its end is: a piece of more than 512 bytes, or a block of copied
+/// ones. Any other is copied into one block. `OutOfMemory` comes only for a line within the limit
+/// that has come, or at the end of the stream for the last one.
 #[derive(Debug, Drop)]
 pub struct Lines {
     frames: Delimited,
@@ -145,45 +145,23 @@ impl Lines {
         ensures { TakesLineItem (decoding self.old held.old) result
             (decoding self.new held.new) }
     {
-        if self.lossy {
-            self.take_lossy(alloc, held)
-        } else {
-            self.take_strict(alloc, held)
-        }
-    }
-
-    /// Takes the next line; bytes that are no text are a fault.
-    fn take_strict(&mut self, alloc: Global, held: &mut PackedBuf) -> Result<Option<Line>, Reason>
-        requires { self.old.lossy ≡ false }
-        ensures { TakesLineItem (decoding self.old held.old) result
-            (decoding self.new held.new) }
-    {
-        let Some(frame) = self.frames.take_frame(alloc, held)? else {
-            return Ok(None);
-        };
-        Ok(Some(line_of(frame)))
-    }
-
-    /// Takes the next line, with U+FFFD for bytes that are no character.
-    fn take_lossy(&mut self, alloc: Global, held: &mut PackedBuf) -> Result<Option<Line>, Reason>
-        requires { self.old.lossy ≡ true }
-        ensures { TakesLineItem (decoding self.old held.old) result
-            (decoding self.new held.new) }
-    {
         match self.frames.next_frame(held) {
             None => Ok(None),
             Some(Err(_)) => Ok(Some(Err(LineFault::TooLong))),
-            Some(Ok(len)) => Ok(Some(Ok(self.take_text(alloc, held, len)?))),
+            Some(Ok(len)) => Ok(Some(self.take_framed(alloc, held, len)?)),
         }
     }
 
-    /// Takes the next frame, of `len` bytes, as a line with U+FFFD for bytes that are no character.
-    /// If there are any, the text is made before they are taken, so that a refused request changes
-    /// nothing.
-    fn take_text(&mut self, alloc: Global, held: &mut PackedBuf, len: usize) -> Result<Str, Reason>
+    /// Takes the line of the next frame, which has `len` bytes, and passes its end.
+    fn take_framed(
+        &mut self,
+        alloc: Global,
+        held: &mut PackedBuf,
+        len: usize,
+    ) -> Result<Line, Reason>
         requires { len + length self.old.frames.separator ≤ length (concat held.old.held.segments) }
-        ensures text { IfOk result
-            (λ text. IsLineOf true (Ok text) (Ok (take len (concat held.old.held.segments)))) }
+        ensures line { IfOk result (λ line. IsLineOf self.old.lossy line
+            (Ok (take len (concat held.old.held.segments)))) }
         ensures ok { OnOk result (decoding self.new held.new
             ≡ passed ready_line (len + length self.old.frames.separator)
             (decoding self.old held.old)) }
@@ -191,17 +169,11 @@ impl Lines {
         ensures some { OnErr result (0 < len) }
         ensures reason { IfErr result (λ reason. reason ≡ Reason.OutOfMemory) }
     {
-        if is_text_line_in_one(held, len) {
-            let mut line = self.frames.take(alloc, held, len)?;
-            drop_return(&mut line);
-            return Ok(Str::from_inner_unchecked(line));
-        }
-        let mut line = held.as_segmented().peek_bytes(alloc, len)?;
-        drop_return(&mut line);
-        let text = lossy_line(alloc, line)?;
-        held.advance(len);
-        self.frames.pass_separator(held);
-        Ok(text)
+        let text_len = len_without_return(held, len);
+        let line = take_line(alloc, held, text_len, self.lossy)?;
+        held.advance(len - text_len + 1);
+        self.frames.ready();
+        Ok(line)
     }
 
     /// Takes all bytes as the last line, if there are any and they are not those of a line that is
@@ -265,13 +237,30 @@ impl Decoder for Lines {
     ghost same = { line_same };
 }
 
-/// The line of a frame.
-fn line_of(frame: Result<Bytes, FrameTooLong>) -> Line
-    ensures { IsLineOf false result frame }
+/// The length of the first `len` bytes without one carriage return at their end, if they have one.
+fn len_without_return(held: &PackedBuf, len: usize) -> usize
+    requires { len ≤ length (concat held.now.held.segments) }
+    ensures line { IsWithoutReturn (take result (concat held.now.held.segments))
+        (take len (concat held.now.held.segments)) }
+    ensures within { result ≤ len }
+    ensures few { len ≤ result + 1 }
 {
-    let mut line = frame?;
-    drop_return(&mut line);
-    text_of_line(line)
+    if len > 0 && is_return_at(held, len - 1) {
+        len - 1
+    } else {
+        len
+    }
+}
+
+/// Whether the byte at index `place` is a carriage return.
+fn is_return_at(held: &PackedBuf, place: usize) -> bool
+    requires { place < length (concat held.now.held.segments) }
+    ensures { IsTrue result ↔ (slice_index (concat held.now.held.segments) place ≡ carriage_return) }
+{
+    match held.chunk().get(place) {
+        Some(byte) => *byte == b'\r',
+        None => held.as_segmented().byte_at(place) == Some(b'\r'),
+    }
 }
 
 /// Removes one carriage return from the end, if there is one.

@@ -153,9 +153,19 @@ fn all_lines_of_texts(rt: HostRuntime) {
     }
 }
 
+/// The end of a line comes in a piece of its own, or in two.
+const ENDED_LATER: &str = "\
+any text: &, -, +<.ab.a, &d#600, &ab, $a
+any text: &, -, +<, -, &, -, +., *#1201, $-
+any text: &, -, own <, -, own ., &d#600, $-
+any lossy: &, -, +<.ab, &d#600, $ab
+600 text: &, -, +<., long, $-
+601 text: &, -, +., &d#600, &, -, +<., &d#600, $-
+";
+
 /// A line in a block of copied bytes shares it, one in two segments has a block of its own, and one
 /// in a long piece shares that. A line in one piece and a last one in one share their pieces, and one in two
-/// pieces does not.
+/// pieces does not. A line that is a whole piece shares it, if its end comes in others.
 #[test]
 fn a_line_in_one_segment_is_shared(rt: HostRuntime) {
     let mut piece = [b'd'; 600];
@@ -165,6 +175,9 @@ fn a_line_in_one_segment_is_shared(rt: HostRuntime) {
     piece[..6].copy_from_slice(b"ab\r\ndd");
     assert_decode_row_lets_go::<Lines, _>(&rt, &piece, "599 text: &, &, &#2, *#598, $&#596");
     assert_decode_row_lets_go::<Lines, _>(&rt, &piece, "any text: &, &, &#2, *#598, $&#596");
+    for row in ENDED_LATER.lines() {
+        assert_decode_row_lets_go::<Lines, _>(&rt, &[b'd'; 600], row);
+    }
 }
 
 /// A line of 200,000 bytes in 201 pieces, and a last one of the same length in 200. A limit may be the length of the
