@@ -18,7 +18,7 @@ use Rattle.bytes_utils_codec.proofs.FramesLemmas.{TakesFrame-more, TakesFrame-sa
 use Rattle.bytes_utils_codec.proofs.SearchLemmas.{NoneBeginsInSearch-more, NoneBeginsInSearch-missed, first_of_all, frame_of_all, nowhere_left}
 use Rattle.bytes_utils_protocols.specs.Multipart.{AreMultipartFields, HasMultipartParameter, IsMultipartHead, multipart_dashes, multipart_file_name, multipart_head_end, multipart_name}
 use Rattle.bytes_utils_protocols.specs.MultipartWaiting.{AreSearchesWithin, IsSearchWithin, MultipartWaiting}
-use Rattle.bytes_utils_protocols.specs.MultipartStream.{PartStreaming, DropsPreamble, PassesPreamble, AfterPreamble, TakesPartHead, NoPartFieldsCome, NoPartHeadComes, HasPartHeadNotUtf8, AwaitsPartHead, HasPartHeadEnd, IsAheadOfNeedle, GivesPartHead, GivesPartPiece, GivesPartEnd, GivesPartEvent, IsPartStreamCall, IsPartAwaited, IsPartStreamFault, IsPartStreamStep, IsPartStreamReturn, IsPartHeadFault, PassesPartRoom, has_part_stream_ended, part_stream_appended, part_streaming}
+use Rattle.bytes_utils_protocols.specs.MultipartStream.{PartStreaming, DropsPreamble, PassesPreamble, AfterPreamble, TakesPartHead, NoPartFieldsCome, NoPartHeadComes, HasPartHeadNotUtf8, AwaitsPartHead, HasPartHeadEnd, HasPartPiece, IsAheadOfNeedle, GivesPartHead, GivesPartPiece, GivesPartEnd, GivesPartEvent, IsPartStreamCall, IsPartAwaited, IsPartStreamFault, IsPartStreamStep, IsPartStreamReturn, IsPartHeadFault, PartStreamAsks, PassesPartRoom, has_part_stream_ended, part_stream_appended, part_streaming}
 use Rattle.bytes_utils_protocols.specs.declared.multipart.event.PartEvent.{PartEvent}
 use Rattle.bytes_utils_protocols.specs.declared.multipart.event.PartEvent.TheVariants.{Head, Body, End}
 use Rattle.bytes_utils_protocols.specs.declared.multipart.head.PartHead.{PartHead}
@@ -363,6 +363,12 @@ module _ (old : Progress) (ahead : Ahead) (is : IsAheadOfNeedle old.waiting.deli
       let delimiter_old = subst (λ (q : Progress). w.delimiter ≡ q.waiting.delimiter) same delimiter in
       rw (left, same) (piece_taken piece w place front_old some most delimiter_old)
 
+  -- the memory for a piece is refused
+  pub asks_in_body : old.place ≡ InBody → 0 < ahead.len → PartStreamAsks old.place (part_streaming old)
+  asks_in_body place some =
+      let come : HasPartPiece old.waiting.delimiter old.waiting.held = (omega (arith, some, is.within), NoneBegins-fewer old.waiting.delimiter old.waiting.held ahead.len 1 some is.apart) in
+      subst (λ place. PartStreamAsks place (part_streaming old)) (sym place) come
+
   -- the body has ended
   pub end_given : (p : Progress) (w : MultipartWaiting) (n : ℕ) → p ≡ old → old.place ≡ InBody → ahead.len ≡ 0 → ahead.has_come ≡ true → n ≡ length p.waiting.delimiter → w ≡ without_front n p.waiting
       → GivesPartEnd (part_streaming old) (part_streaming (record p { waiting = w; place = AtHead }))
@@ -393,16 +399,16 @@ pub fault_at_head : (e : PartError) (s : PartStreaming) → s.place ≡ AtHead �
 fault_at_head Malformed s place why = (place, why)
 fault_at_head NotUtf8 s place why = (place, why)
 fault_at_head TooLarge s place why = inl (place, why)
-fault_at_head (Refused reason) s place why = why
+fault_at_head (Refused reason) s place why = absurd why
 
 -- the step fails, and nothing has changed
 pub failed_step : (old new : PartStreaming) (result : Result (Option PartEvent) PartError) (e : PartError) → result ≡ Err e → new ≡ old → IsPartStreamFault e old → IsPartStreamStep old result new
 failed_step old new result e is same why = rw (is, same) (refl, why)
 
 -- the step fails, as memory is refused
-pub refused_step : (old new : PartStreaming) (result : Result (Option PartEvent) PartError) (e : PartError) (reason : Reason) → result ≡ Err e → e ≡ Refused reason → reason ≡ OutOfMemory → new ≡ old
-    → IsPartStreamStep old result new
-refused_step old new result e reason is refused want same = failed_step old new result e is same (rw refused want)
+pub refused_step : (old new : PartStreaming) (result : Result (Option PartEvent) PartError) (e : PartError) (reason : Reason) → result ≡ Err e → e ≡ Refused reason → reason ≡ OutOfMemory → PartStreamAsks old.place old
+    → new ≡ old → IsPartStreamStep old result new
+refused_step old new result e reason is refused want asks same = failed_step old new result e is same (rw refused (want, asks))
 
 -- too many bytes are before the next delimiter
 pub over_step : (s : PartStreaming) (e : PartError) → (s.place ≡ Preamble) ⊎ (s.place ≡ InBody) → e ≡ TooLarge → PassesPartRoom s → IsPartStreamFault e s
@@ -441,14 +447,19 @@ head_given old w v len n head same place found is fields name file_name size wai
   next = refl;
 })
 
+-- the memory for a head is refused
+pub asks_at_head : (old : Progress) (len : ℕ) → old.place ≡ AtHead → take (length multipart_dashes) old.waiting.held ≢ multipart_dashes → HasPartHeadEnd old.waiting.delimiter old.limits old.waiting.held len
+    → PartStreamAsks old.place (part_streaming old)
+asks_at_head old len place on found = subst (λ place. PartStreamAsks place (part_streaming old)) (sym place) (on, len, found)
+
 -- the head that has come is none
-pub parse_fault : (old : Progress) (len : ℕ) → old.place ≡ AtHead → HasPartHeadEnd old.waiting.delimiter old.limits old.waiting.held len → (e : PartError)
+pub parse_fault : (old : Progress) (len : ℕ) → old.place ≡ AtHead → take (length multipart_dashes) old.waiting.held ≢ multipart_dashes → HasPartHeadEnd old.waiting.delimiter old.limits old.waiting.held len → (e : PartError)
     → (e ≡ Malformed → (head : List ℕ) → IsMultipartHead (take len old.waiting.held) head → ¬ AreMultipartFields head) → e ≢ TooLarge
     → (e ≡ NotUtf8 → (head : List ℕ) × IsMultipartHead (take len old.waiting.held) head × (¬ IsUtf8 head)) → ((reason : Reason) → e ≡ Refused reason → reason ≡ OutOfMemory) → IsPartStreamFault e (part_streaming old)
-parse_fault old len place found Malformed malformed large not_text want = (place, no_fields_come old.waiting.delimiter old.limits old.waiting.held len found (malformed refl))
-parse_fault old len place found NotUtf8 malformed large not_text want = (place, not_utf8_come old.waiting.delimiter old.limits old.waiting.held len found (not_text refl))
-parse_fault old len place found TooLarge malformed large not_text want = absurd (large refl)
-parse_fault old len place found (Refused reason) malformed large not_text want = want reason refl
+parse_fault old len place on found Malformed malformed large not_text want = (place, no_fields_come old.waiting.delimiter old.limits old.waiting.held len found (malformed refl))
+parse_fault old len place on found NotUtf8 malformed large not_text want = (place, not_utf8_come old.waiting.delimiter old.limits old.waiting.held len found (not_text refl))
+parse_fault old len place on found TooLarge malformed large not_text want = absurd (large refl)
+parse_fault old len place on found (Refused reason) malformed large not_text want = (want reason refl, asks_at_head old len place on found)
 
 -- ---- what a call returned
 

@@ -123,7 +123,7 @@ abbrev pub IsPartHeadFault : PartError → List ℕ → Limits → List ℕ → 
 IsPartHeadFault Malformed delimiter limits held = NoPartFieldsCome delimiter held
 IsPartHeadFault TooLarge delimiter limits held = NoPartHeadComes delimiter limits held
 IsPartHeadFault NotUtf8 delimiter limits held = HasPartHeadNotUtf8 delimiter limits held
-IsPartHeadFault (Refused reason) delimiter limits held = reason ≡ OutOfMemory
+IsPartHeadFault (Refused reason) delimiter limits held = ⊥
 
 abbrev pub FindsPartHead : List ℕ → Limits → List ℕ → Result (Option ℕ) PartError → Type 0
 FindsPartHead delimiter limits held (Ok (Some len)) = HasPartHeadEnd delimiter limits held len
@@ -188,13 +188,24 @@ IsPartAwaited Ended s = ⊤
 abbrev pub PassesPartRoom : PartStreaming → Type 0
 PassesPartRoom s = (more frame rest : List ℕ) → TakesFrame s.delimiter (s.held ++ more) frame rest → s.room < length frame
 
+-- In a body some bytes have come in which no delimiter begins, whatever comes after the held bytes.
+abbrev pub HasPartPiece : List ℕ → List ℕ → Type 0
+HasPartPiece delimiter held = (0 < length held) × NoneBeginsInSearch delimiter held 1
+
+-- When a call asks for memory: a head that no dashes begin has come with its end, or a piece of a body has come. A call that waits asks for none.
+abbrev pub PartStreamAsks : Place → PartStreaming → Type 0
+PartStreamAsks Preamble s = ⊥
+PartStreamAsks AtHead s = (take (length multipart_dashes) s.held ≢ multipart_dashes) × (len : ℕ) × HasPartHeadEnd s.delimiter s.limits s.held len
+PartStreamAsks InBody s = HasPartPiece s.delimiter s.held
+PartStreamAsks Ended s = ⊥
+
 -- why a call fails, after the preamble
 abbrev pub IsPartStreamFault : PartError → PartStreaming → Type 0
 IsPartStreamFault Malformed s = (s.place ≡ AtHead) × NoPartFieldsCome s.delimiter s.held
 IsPartStreamFault NotUtf8 s = (s.place ≡ AtHead) × HasPartHeadNotUtf8 s.delimiter s.limits s.held
 IsPartStreamFault TooLarge s =
     ((s.place ≡ AtHead) × NoPartHeadComes s.delimiter s.limits s.held) ⊎ (((s.place ≡ Preamble) ⊎ (s.place ≡ InBody)) × PassesPartRoom s)
-IsPartStreamFault (Refused reason) s = reason ≡ OutOfMemory
+IsPartStreamFault (Refused reason) s = (reason ≡ OutOfMemory) × PartStreamAsks s.place s
 
 -- a call after the preamble, whatever it returns
 abbrev pub IsPartStreamStep : PartStreaming → Result (Option PartEvent) PartError → PartStreaming → Type 0
