@@ -95,7 +95,8 @@ impl Requests {
     }
 
     /// Returns a body of `len` bytes, in pieces as `Framed` returns them, or `None` while some of it
-    /// is to come. Fails with `OutOfMemory` if memory is refused; then nothing has changed.
+    /// is to come. Fails with `OutOfMemory` if memory is refused, which is asked for only if all of
+    /// a body of some bytes has come; then nothing has changed.
     pub fn next_body(&mut self, len: usize) -> Result<Option<SegmentedBuf<Bytes>>, Reason>
         ensures body { IfOk result (λ next. IfSome next
             (λ body. concat body.segments ≡ take len self.old.held)) }
@@ -104,6 +105,7 @@ impl Requests {
         ensures waits { IfOk result
             (λ next. IfNone next ((self.new ≡ self.old) × (length self.old.held < len))) }
         ensures err { OnErr result (self.new ≡ self.old) }
+        ensures due { OnErr result ((0 < len) × (len ≤ length self.old.held)) }
         ensures reason { IfErr result (λ reason. reason ≡ Reason.OutOfMemory) }
     {
         if self.heads.remaining() < len {
