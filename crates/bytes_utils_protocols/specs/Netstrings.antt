@@ -1,6 +1,7 @@
 -- Netstrings (http://cr.yp.to/proto/netstrings.txt): a length in decimal digits, a colon, as many bytes, and a comma.
 use Rattle.std.specs.Prelude.{◌≡◌, ℕ, List, [], ◌∷◌, ◌++◌, length, decimal}
-use Rattle.bytes_utils_codec.specs.Frames.{TakesFrame}
+use Rattle.bytes_utils_buf.specs.declared.refused.Reason.TheVariants.{OutOfMemory, TooLong}
+use Rattle.bytes_utils_codec.specs.Frames.{HasFrameWithin, TakesFrame}
 use Rattle.bytes_utils_codec.specs.Decoding.{Decoding, Gives}
 use Rattle.bytes_utils_codec.specs.Taking.{Taking, gives_by}
 use Rattle.bytes_utils_protocols.specs.Digits.{WriteNumber, colon}
@@ -39,7 +40,9 @@ awaits_netstring s = NoNetstring s.held
 abbrev pub gives_netstring : {D : Type 0} → Gives D (List ℕ)
 gives_netstring = gives_by takes_netstring awaits_netstring
 
--- `Malformed` only if the bytes begin with no netstring, whatever comes after them; of a refusal nothing is said
+-- `Malformed` only if the bytes begin with no netstring, whatever comes after them; memory is refused only if some bytes, at most 20, and a colon have
+-- come; of `TooLong` nothing is said
 abbrev pub fails_netstring : {D : Type 0} → Decoding D → NetstringError → Type 0
-fails_netstring s (Refused reason) = Unit {0}
+fails_netstring s (Refused TooLong) = Unit {0}
+fails_netstring s (Refused OutOfMemory) = HasFrameWithin 20 (colon ∷ []) s.held
 fails_netstring s Malformed = (more : List ℕ) → NoNetstring (s.held ++ more)
