@@ -6,9 +6,10 @@ use Rattle.std.specs.List.{after_first, before_first, list_all, list_any, starts
 use Rattle.std.specs.Option.{option_or, option_to_list}
 use Rattle.std.specs.Str.Parse.{digits_value}
 use Rattle.bytes_utils.specs.Lines.{line_feed}
+use Rattle.bytes_utils_buf.specs.declared.refused.Reason.TheVariants.{OutOfMemory}
 use Rattle.bytes_utils_codec.specs.Decoding.{Decoding, HasSameNext, Item, fed, starting}
 use Rattle.bytes_utils_codec.specs.StreamRuns.{AreFirstOfRun, IsRunOver, SameFirstOfRunLaw, StreamEvent, given_in_stream, pushed_in_stream}
-use Rattle.bytes_utils_codec.specs.UniversalReading.{AwaitsUniversal, UniversalReading, gives_universal, universal_reading}
+use Rattle.bytes_utils_codec.specs.UniversalReading.{AwaitsUniversal, UniversalReading, fails_universal, gives_universal, universal_reading}
 use Rattle.bytes_utils_codec.specs.declared.decode.lines.LineFault.{LineFault}
 use Rattle.bytes_utils_codec.specs.declared.decode.lines.LineFault.TheVariants.{NotUtf8 as NotText, TooLong}
 use Rattle.bytes_utils_protocols.specs.declared.events.Event.{Event}
@@ -174,6 +175,10 @@ ReadsNoEventLine old new = KeepsEvents old new ⊎ AwaitsEventLine old new
 -- Nothing is lost: some lines are read, none of which ends an event. The line after them may have been taken, and waits.
 abbrev pub LosesNoEvent : Eventing → Eventing → Type 0
 LosesNoEvent old new = (mid : Eventing) × ReadsEventLines old mid × ReadsNoEventLine mid new
+
+-- Memory is refused: some lines are read, none of which ends an event. Some bytes of the next one have come, or it was taken, and waits.
+abbrev pub RefusesEventLine : Eventing → Eventing → Type 0
+RefusesEventLine old new = (mid : Eventing) × ReadsEventLines old mid × ((KeepsEvents mid new × fails_universal mid.lines OutOfMemory) ⊎ AwaitsEventLine mid new)
 
 -- some lines are read, none of which ends an event, and the end of the next one has not come
 abbrev pub WaitsForEventLine : Eventing → Eventing → Type 0

@@ -3,9 +3,9 @@ ghost use Rattle.std.specs.Prelude.{◌≡◌, ◌≢◌, ◌+◌, ◌^◌, ◌<
 ghost use Rattle.std.specs.Option.{option_or};
 ghost use Rattle.bytes_utils.specs.Lines.{line_feed};
 ghost use Rattle.bytes_utils_codec.specs.Pushing.{IsPush};
-ghost use Rattle.bytes_utils_codec.specs.UniversalReading.{AwaitsUniversal};
+ghost use Rattle.bytes_utils_codec.specs.UniversalReading.{AwaitsUniversal, fails_universal};
 ghost use Rattle.bytes_utils_protocols.specs.EventData.{event_data_if_any, event_data_text};
-ghost use Rattle.bytes_utils_protocols.specs.Events.{DoesEventLine, EndsEvent, EventRunLaw, GivesEvent, IsEndOfEventLine, IsEventTooLarge, KeepsEvents, LargeEventLaw, LosesNoEvent, NoEventLaw, PassesEventFault, SameEventLaw, TakesEventFault, TakesNextEventLine, WaitsForEventLine, WaitsWithEventTooLarge, after_event_field, event_content, event_field_name, event_field_value, event_name_of, event_number_of, event_text_len, event_value_of, events_left_to_read, no_event_bytes_held, pushed_to_events, with_event_line};
+ghost use Rattle.bytes_utils_protocols.specs.Events.{DoesEventLine, EndsEvent, EventRunLaw, GivesEvent, IsEndOfEventLine, IsEventTooLarge, KeepsEvents, LargeEventLaw, LosesNoEvent, NoEventLaw, PassesEventFault, RefusesEventLine, SameEventLaw, TakesEventFault, TakesNextEventLine, WaitsForEventLine, WaitsWithEventTooLarge, after_event_field, event_content, event_field_name, event_field_value, event_name_of, event_number_of, event_text_len, event_value_of, events_left_to_read, no_event_bytes_held, pushed_to_events, with_event_line};
 
 use crate::number::number;
 use bytes::Bytes;
@@ -167,7 +167,8 @@ impl EventReader {
     }
 
     /// Returns the next event, or `None` if the empty line that ends it has not come yet. Fails with
-    /// `Refused` if memory is refused; then nothing is lost, and the same call can be made again.
+    /// `Refused` if memory is refused, which is asked for only if some bytes of the next line have
+    /// come; then nothing is lost, and the same call can be made again.
     /// Fails with `NotUtf8` if a line within its limit is not UTF-8, and with `TooLarge` if a line
     /// passes its limit, whether it is UTF-8 or not; then that line is passed over, and the next call
     /// continues after it. (A browser puts U+FFFD for the bytes that are no character, and reads the
@@ -186,6 +187,8 @@ impl EventReader {
             (length self.new.lines.held ≤ self.new.lines.decoder.max_length)) }
         ensures refused { IfErr result (λ e. (reason : _) → e ≡ EventError.Refused reason
             → LosesNoEvent self.old self.new) }
+        ensures due { IfErr result (λ e. (reason : _) → e ≡ EventError.Refused reason
+            → RefusesEventLine self.old self.new) }
         ensures reason { IfErr result (λ e. (reason : _) → e ≡ EventError.Refused reason
             → reason ≡ Reason.OutOfMemory) }
         ensures not_utf8 { IfErr result (λ e. e ≡ EventError.NotUtf8
@@ -239,6 +242,8 @@ impl EventReader {
             (length self.new.lines.held ≤ self.new.lines.decoder.max_length)) }
         ensures refused { IfErr result
             (λ e. (reason : _) → e ≡ EventError.Refused reason → KeepsEvents self.old self.new) }
+        ensures due { IfErr result (λ e. (reason : _) → e ≡ EventError.Refused reason
+            → fails_universal self.old.lines Reason.OutOfMemory) }
         ensures reason { IfErr result (λ e. (reason : _) → e ≡ EventError.Refused reason
             → reason ≡ Reason.OutOfMemory) }
         ensures not_utf8 { IfErr result (λ e. e ≡ EventError.NotUtf8

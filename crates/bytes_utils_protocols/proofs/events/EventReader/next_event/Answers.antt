@@ -1,4 +1,4 @@
-use Rattle.std.proofs.Common.{Some, inr, ap, ◌∙◌, sym}
+use Rattle.std.proofs.Common.{Some, inl, inr, ap, ◌∙◌, sym}
 use Rattle.std.proofs.lemmas.Result.{err_from_is_err_and}
 use Rattle.bytes_utils_protocols.proofs.EventsLemmas.{fault_less, gives_less, over_kept, reads_less, reads_more}
 use Rattle.bytes_utils_protocols.specs.Events.{Eventing}
@@ -44,3 +44,25 @@ pub returns-in-Err-clause-too_large : goal.returns-in-Err-clause-too_large
 returns-in-Err-clause-too_large c is =
     inr (over_kept c.args.self.now c.loop-line.self c.next_line.new.self _ c.in-Some.line c.loop-line.invariant (rw c.in-Some.is at c.in_ok-line.ensures.line) (rw c.in-Some.is at c.in_ok-line.ensures.utf8)
     (ap (λ (r : Eventing). record r { waiting = Some c.in-Some.line }) (c.self.view_is ∙ c.in-Err.ensures.err)) (c.in-Err.ensures.too_large is))
+
+pub returns-in_err-line-clause-due : goal.returns-in_err-line-clause-due
+returns-in_err-line-clause-due c =
+    let out = err_from_is_err_and c.from_residual.result c.from_residual.ensures.1 in
+    rw out.1 (λ reason is. (
+      c.loop-line.self,
+      c.loop-line.invariant,
+      inl (c.in_err-line.ensures.refused reason (sym out.2 ∙ is), c.in_err-line.ensures.due reason (sym out.2 ∙ is)),
+    ))
+
+pub returns-in-Err-clause-due : goal.returns-in-Err-clause-due
+returns-in-Err-clause-due c reason is = (
+  c.loop-line.self,
+  c.loop-line.invariant,
+  inr (record {
+    line = c.in-Some.line;
+    taken = c.next_line.new.self;
+    takes = rw c.in-Some.is at c.in_ok-line.ensures.line;
+    utf8 = rw c.in-Some.is at c.in_ok-line.ensures.utf8;
+    waits = ap (λ (r : Eventing). record r { waiting = Some c.in-Some.line }) (c.self.view_is ∙ c.in-Err.ensures.err);
+  }),
+)

@@ -33,3 +33,8 @@ pub returns-in-None-clause-waits : goal.returns-in-None-clause-waits
 returns-in-None-clause-waits c =
     let step = rw c.in-None.is at c.in_ok-next_item.ensures.step in
     rw (← c.self.view_is) (step.0, rw c.self.view_is (keeps (goal.at.returns-in-None-clause-waits c).After-next_item step.1))
+
+pub returns-in_err-next_item-clause-due : goal.returns-in_err-next_item-clause-due
+returns-in_err-next_item-clause-due c =
+    let out = err_from_is_err_and c.from_residual.result c.from_residual.ensures.1 in
+    rw (← c.self.view_is) (rw out.1 (λ reason is. (refl, c.in_err-next_item.ensures.step.0.1)))
