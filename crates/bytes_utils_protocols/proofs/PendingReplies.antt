@@ -96,6 +96,9 @@ module _ (u : List ℕ) (len : ℕ) (line : IsRedisTextLine (take len u)) where
       some : 1 ≤ len
       some = omega (arith, ap length line.parts, length-take len u)
 
+  pub text_some : len ≤ length u → 0 < length u
+  text_some within = omega (arith, within, ap length line.parts, length-take len u)
+
   pub simple_text : (text : List ℕ) → text ≡ slice_range u 1 len → slice_get u 0 ≡ Some 43 → IsRedisLineOf (Simple text) (take len u)
   simple_text text is first =
       let kind : line.kind ≡ 43 = same_Some line.kind 43 (sym begins_with ∙ first) in
@@ -114,12 +117,17 @@ cursor_at segments start first next is passed =
     ap unread passed ∙ ap (λ r. unread (passed_on start r)) is ∙ ap (λ n. drop n (concat segments)) same
 
 module _ (limits : Limits) (room : ℕ) (u : List ℕ) (start len : ℕ) (awaits : AwaitsPendingBody limits u start len) where
+  bulk_some : 0 < length u
+  bulk_some =
+      let two : length redis_line_end ≡ 2 = refl in
+      omega (arith, two, ap length awaits.framed.bytes, length-append awaits.line (redis_line_end ++ drop start u), length-append redis_line_end (drop start u))
+
   pub no_bulk_item : (e : ReplyError) → (e ≡ Malformed → (more : List ℕ) → HasNoRedisBody len (drop start u ++ more)) → e ≢ TooLarge → ((reason : Reason) → e ≡ Refused reason → reason ≡ OutOfMemory)
       → IsNoPendingItem limits room u e
   no_bulk_item e malformed too_large reason = record {
     malformed = λ is any more. no_body any u more awaits.line (drop start u) awaits.framed len awaits.is (malformed is more);
     too_large = λ is. absurd (too_large is);
-    memory = reason;
+    memory = λ r is. (reason r is, bulk_some);
   }
 
   pub awaits_bulk : HasNoRedisBody len (drop start u) → BeginsRedisBody len (drop start u) → AwaitsPendingItem limits room u

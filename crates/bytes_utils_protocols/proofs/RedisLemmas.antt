@@ -273,7 +273,7 @@ whole_reply limits bytes items rest are pending few = record { are = are; whole 
 
 -- ---- a reply takes bytes
 
-item_takes : (limits : Limits) (old : List ℕ) (item : Item) (rest : List ℕ) → TakesRedisItem limits old item rest → length rest < length old
+pub item_takes : (limits : Limits) (old : List ℕ) (item : Item) (rest : List ℕ) → TakesRedisItem limits old item rest → length rest < length old
 item_takes limits old item rest takes =
     let two : length redis_line_end ≡ 2 = refl in
     let following = after_redis_line item ++ rest in

@@ -20,7 +20,10 @@ returns-in_err-begun-clause-head c =
       malformed = λ is. stays_none c.args.limits c.args.room u c.end_of_pending_line-len.result.0 c.end_of_pending_line-len.ensures.within.1
           c.end_of_pending_line-len.ensures.none (c.in_err-begun.ensures.malformed (sym out.2 ∙ is));
       too_large = λ is. absurd (c.in_err-begun.ensures.too_large (sym out.2 ∙ is));
-      memory = λ reason is. c.in_err-begun.ensures.reason reason (sym out.2 ∙ is);
+      memory = λ reason is. (
+        c.in_err-begun.ensures.reason reason (sym out.2 ∙ is),
+        omega (arith, c.in_err-begun.ensures.due reason (sym out.2 ∙ is), c.end_of_pending_line-len.ensures.within.1),
+      );
     })
 
 -- ---- what was read of a line

@@ -1,4 +1,6 @@
-use Rattle.std.proofs.Common.{◌≡◌, ◌++◌, ◌∙◌, refl, ap, subst, take, append_assoc, sym}
+use Rattle.std.proofs.Common.{arith, ◌≡◌, ◌≢◌, ◌++◌, ◌∙◌, refl, ap, subst, take, append_assoc, sym}
+use Rattle.std.proofs.lemmas.Bool.{false≢true}
+use Rattle.std.proofs.lemmas.Result.{err_from_is_err_and}
 use Rattle.std.specs.List.{concat, slice_range}
 use Rattle.bytes_utils_protocols.specs.Redis.{IsRedisLineOf}
 use Rattle.bytes_utils_protocols.specs.RedisLine.{IsRedisLineReadAs}
@@ -23,3 +25,9 @@ returns-clause-malformed c _ item more line =
     ∙ read_on u begun.len c.args.len c.requires.further in
     c.in-None.ensures (take begun.len u) c.requires.begun.1 item more
     (subst (IsRedisLineOf item) (ap (λ l. l ++ more) (sym front) ∙ append_assoc (take begun.len u) c.deref.result.now more) line)
+
+pub returns-in_err-bytes-clause-due : goal.returns-in_err-bytes-clause-due
+returns-in_err-bytes-clause-due c =
+    let out = err_from_is_err_and c.from_residual.result c.from_residual.ensures.1 in
+    let other : c.args.begun.len ≢ c.args.len = λ same. false≢true (c.in_err-bytes.ensures.none same) in
+    rw out.1 (λ reason is. omega (arith, c.requires.further, other))

@@ -1,8 +1,8 @@
-use Rattle.std.proofs.Common.{[], ◌++◌, ◌-◌, ◌∙◌, sym, subst, arith, append-nil}
+use Rattle.std.proofs.Common.{[], ap, drop, length, length-append, ◌++◌, ◌-◌, ◌∙◌, sym, subst, arith, append-nil}
 use Rattle.std.proofs.lemmas.Result.{err_from_is_err_and}
 use Rattle.bytes_utils_protocols.specs.Redis.{BeginsRedisReply, NoRedisItem, NoRedisReply}
 use Rattle.bytes_utils_protocols.specs.RedisPending.{held_by_pending, unread_by_pending}
-use Rattle.bytes_utils_protocols.proofs.RedisLemmas.{no_next, no_room}
+use Rattle.bytes_utils_protocols.proofs.RedisLemmas.{item_takes, no_next, no_room}
 use Rattle.bytes_utils_protocols.proofs.ReplyBeginnings.{begins_reply}
 use Rattle.bytes_utils_protocols.proofs.PendingReplies.{one_kept}
 use Rattle.bytes_utils_protocols.proofs.redis.pending.Pending.read.Goals as goal
@@ -55,3 +55,17 @@ loop-self-preserved c =
           (omega (arith, now.pending.within c.requires.some, c.len.ensures)) found keep.items keep.due keep.unread keep.held (keep.next c.args.limits);
       same = keep.held ∙ now.same;
     }
+
+pub returns-in_err-item-clause-due : goal.returns-in_err-item-clause-due
+returns-in_err-item-clause-due c =
+    let p = c.loop-self.self in
+    let out = err_from_is_err_and c.from_residual.result c.from_residual.ensures.1 in
+    rw out.1 (λ reason is. omega (arith, (c.in_err-item.ensures.found.memory reason (sym out.2 ∙ is)).1, length-append p.passed (unread_by_pending p), ap length c.loop-self.invariant.same))
+
+pub returns-in_err-keep-clause-due : goal.returns-in_err-keep-clause-due
+returns-in_err-keep-clause-due c =
+    let p = c.loop-self.self in
+    let out = err_from_is_err_and c.from_residual-in_err-keep.result c.from_residual-in_err-keep.ensures.1 in
+    let found = rw c.in-Some.is at c.in_ok-item.ensures.found in
+    let some = item_takes c.args.limits (unread_by_pending p) c.in-Some.item (drop c.in-Some.len (unread_by_pending p)) found.takes in
+    rw out.1 (λ reason is. omega (arith, some, length-append p.passed (unread_by_pending p), ap length c.loop-self.invariant.same))
