@@ -16,8 +16,10 @@ use Rattle.bytes_utils_buf.specs.declared.refused.Refused.{Refused}
 use Rattle.bytes_utils_codec.proofs.FramesLemmas.{TakesFrame-more, TakesFrame-same}
 use Rattle.bytes_utils_codec.proofs.SearchLemmas.{NoneBeginsInSearch-more}
 use Rattle.bytes_utils.proofs.OccurrenceLemmas.{OccursAt-front}
-use Rattle.bytes_utils_protocols.specs.Multipart.{AreMultipartFields, IsMultipartFieldLine, FewWaitInMultipart, IsMultipartIdle, MultipartReading, multipart_appended, multipart_closed, multipart_line_end, multipart_dashes, multipart_head_end, MultipartBytes, multipart_bytes, IsMultipartHead, IsMultipartPart, TakesMultipart, IsMultipartDue, EachMultipart, NoMultipart, ClosesMultipart, LacksNextInMultipart, held_in_multipart_sections, AreMultipartSectionsApart, multipart_sections_have_ended, held_by_multipart, waiting_in_multipart, IsMultipartDivided, SameMultipartSections, AfterMultipartSearch, HasMultipartDisposition, IsFirstMultipartDisposition, IsMultipartDisposition, IsMultipartFolded, NoMultipartDisposition, ReadsMultipartDisposition}
+use Rattle.bytes_utils_protocols.specs.Multipart.{AreMultipartFields, IsMultipartFieldLine, FewWaitInMultipart, IsMultipartIdle, MultipartReading, multipart_appended, multipart_closed, multipart_line_end, multipart_dashes, multipart_head_end, MultipartBytes, multipart_bytes, IsMultipartHead, IsMultipartPart, TakesMultipart, IsMultipartDue, HasNextInMultipart, IsMultipartSearchFault, EachMultipart, NoMultipart, ClosesMultipart, LacksNextInMultipart, held_in_multipart_sections, AreMultipartSectionsApart, multipart_sections_have_ended, held_by_multipart, waiting_in_multipart, IsMultipartDivided, SameMultipartSections, AfterMultipartSearch, HasMultipartDisposition, IsFirstMultipartDisposition, IsMultipartDisposition, IsMultipartFolded, NoMultipartDisposition, ReadsMultipartDisposition}
 use Rattle.bytes_utils_protocols.specs.declared.multipart.limits.Limits.{Limits}
+use Rattle.bytes_utils_protocols.specs.declared.multipart.limits.PartError.{PartError}
+use Rattle.bytes_utils_protocols.specs.declared.multipart.limits.PartError.TheVariants.{Refused as RefusedPart, Malformed, NotUtf8, TooLarge}
 use Rattle.bytes_utils_protocols.specs.declared.multipart.sections.Sections.{Sections}
 use Rattle.bytes_utils_protocols.specs.declared.multipart.sections.Stage.{Stage}
 use Rattle.bytes_utils_protocols.specs.declared.multipart.sections.Stage.TheVariants.{Preamble, Waiting, Found, Ended}
@@ -385,23 +387,53 @@ module _ (limits : Limits) (old s : Sections) where
         each_of_same (λ _. ⊥) old s same limits more
         (subst (λ stage. NoMultipart s.delimiter.needle limits (held_in_multipart_sections stage s.delimiter.needle s.preamble (concat s.found.segments) (waiting_in_multipart s) ++ more)) (sym is) none)
 
-    pub over_limits : (stage : Stage) → s.stage ≡ stage → AfterMultipartSearch stage old s → AreMultipartSectionsApart stage s.delimiter.needle s.preamble (concat s.found.segments) (waiting_in_multipart s)
-        → ((limits.head + limits.body < length s.preamble) ⊎ ((s.stage ≢ Found) × (limits.head + limits.body + length s.delimiter.needle < length (waiting_in_multipart s))))
-        → NoMultipart old.delimiter.needle limits (held_by_multipart old ++ more)
-    over_limits Preamble is after parts (inl much) = absurd (omega (arith, much, ap length parts))
-    over_limits Preamble is after parts (inr waits) =
-        same_none Preamble is after.0
-        (long_preamble s.delimiter.needle limits (waiting_in_multipart s) (subst (λ d. ¬ Occurs d (waiting_in_multipart s)) (sym after.0.delimiter) after.1) waits.1 more)
-    over_limits Waiting is after parts (inl much) = same_none Waiting is after.0 (many_before s.delimiter.needle limits s.preamble (waiting_in_multipart s) parts much more)
-    over_limits Waiting is after parts (inr waits) =
-        same_none Waiting is after.0
-        (long_part s.delimiter.needle limits s.preamble (waiting_in_multipart s) parts (subst (λ d. ¬ Occurs d (waiting_in_multipart s)) (sym after.0.delimiter) after.1) waits.1 more)
-    over_limits Found is after parts (inl much) =
-        same_none Found is after
+    -- too many bytes are before the first delimiter
+    pub much_before : (stage : Stage) → s.stage ≡ stage → SameMultipartSections old s → AreMultipartSectionsApart stage s.delimiter.needle s.preamble (concat s.found.segments) (waiting_in_multipart s)
+        → limits.head + limits.body < length s.preamble → NoMultipart old.delimiter.needle limits (held_by_multipart old ++ more)
+    much_before Preamble is same parts much = absurd (omega (arith, much, ap length parts))
+    much_before Waiting is same parts much = same_none Waiting is same (many_before s.delimiter.needle limits s.preamble (waiting_in_multipart s) parts much more)
+    much_before Found is same parts much =
+        same_none Found is same
         (many_before s.delimiter.needle limits s.preamble (concat s.found.segments ++ (s.delimiter.needle ++ (waiting_in_multipart s))) parts.0 much more)
-    over_limits Found is after parts (inr waits) = absurd (waits.0 is)
-    over_limits Ended is after parts (inl much) = absurd (omega (arith, much, ap length parts.0))
-    over_limits Ended is after parts (inr waits) = absurd (omega (arith, waits.1, ap length parts.1))
+    much_before Ended is same parts much = absurd (omega (arith, much, ap length parts.0))
+
+    -- too many bytes wait for the next one
+    pub over_limits : (stage : Stage) → s.stage ≡ stage → AfterMultipartSearch stage old s → AreMultipartSectionsApart stage s.delimiter.needle s.preamble (concat s.found.segments) (waiting_in_multipart s)
+        → s.stage ≢ Found → limits.head + limits.body + length s.delimiter.needle < length (waiting_in_multipart s) → NoMultipart old.delimiter.needle limits (held_by_multipart old ++ more)
+    over_limits Preamble is after parts not_found long =
+        same_none Preamble is after.0
+        (long_preamble s.delimiter.needle limits (waiting_in_multipart s) (subst (λ d. ¬ Occurs d (waiting_in_multipart s)) (sym after.0.delimiter) after.1) long more)
+    over_limits Waiting is after parts not_found long =
+        same_none Waiting is after.0
+        (long_part s.delimiter.needle limits s.preamble (waiting_in_multipart s) parts (subst (λ d. ¬ Occurs d (waiting_in_multipart s)) (sym after.0.delimiter) after.1) long more)
+    over_limits Found is after parts not_found long = absurd (not_found is)
+    over_limits Ended is after parts not_found long = absurd (omega (arith, long, ap length parts.1))
+
+-- ---- why there is no part
+
+-- a part is due where the same bytes are held
+pub due_of_same : (old new : Sections) → SameMultipartSections old new → (limits : Limits) → IsMultipartDue new.delimiter.needle limits (held_by_multipart new) → IsMultipartDue old.delimiter.needle limits (held_by_multipart old)
+due_of_same old new same limits due =
+    subst (λ d. IsMultipartDue d limits (held_by_multipart old)) same.delimiter (subst (IsMultipartDue new.delimiter.needle limits) same.held due)
+
+-- memory is refused for what is before the next delimiter
+pub due_before_next : (s : Sections) → s.stage ≡ Waiting → IsMultipartDivided s → HasNextInMultipart s.delimiter.needle (waiting_in_multipart s) → (limits : Limits) → length s.preamble ≤ limits.head + limits.body
+    → IsMultipartDue s.delimiter.needle limits (held_by_multipart s)
+due_before_next s waiting divided next limits few =
+    let d = s.delimiter.needle in
+    let p = s.preamble in
+    let f = concat s.found.segments in
+    let w = waiting_in_multipart s in
+    let begins : TakesFrame d (p ++ (d ++ w)) p w = subst (λ stage. AreMultipartSectionsApart stage d p f w) waiting divided.0 in
+    subst (λ stage. IsMultipartDue d limits (held_in_multipart_sections stage d p f w)) (sym waiting)
+    (record { preamble = p; after = w; begins = begins; raw = next.0; next = next.1; ends = next.2; few = few })
+
+-- but for one that is too large, a part is due
+pub due_by_fault : (e : PartError) (d : List ℕ) (limits : Limits) (held : List ℕ) → IsMultipartSearchFault e d limits held → e ≢ TooLarge → IsMultipartDue d limits held
+due_by_fault Malformed d limits held why not_large = absurd why
+due_by_fault NotUtf8 d limits held why not_large = absurd why
+due_by_fault TooLarge d limits held why not_large = absurd (not_large refl)
+due_by_fault (RefusedPart reason) d limits held why not_large = why.1
 
 -- ---- what is in a raw part
 

@@ -5,6 +5,7 @@ use Rattle.std.specs.List.{AllPass, concat, prefix_len, position_or_len, before_
 use Rattle.std.specs.Option.{option_to_list}
 use Rattle.std.specs.Str.{str_to_ascii_lowercase}
 use Rattle.std.specs.Str.Lines.{lines}
+use Rattle.bytes_utils_buf.specs.declared.refused.Reason.TheVariants.{OutOfMemory}
 use Rattle.bytes_utils_codec.specs.Frames.{TakesFrame}
 use Rattle.bytes_utils.specs.Occurrence.{Occurs}
 use Rattle.bytes_utils.specs.Lines.{carriage_return, line_feed}
@@ -14,6 +15,8 @@ use Rattle.bytes_utils_protocols.specs.Digits.{colon}
 use Rattle.bytes_utils_protocols.specs.Disposition.{ReadsDispositionParameter}
 use Rattle.bytes_utils_protocols.specs.Headers.{IsHeader, is_header_blank, without_header_blanks}
 use Rattle.bytes_utils_protocols.specs.declared.multipart.limits.Limits.{Limits}
+use Rattle.bytes_utils_protocols.specs.declared.multipart.limits.PartError.{PartError}
+use Rattle.bytes_utils_protocols.specs.declared.multipart.limits.PartError.TheVariants.{Refused, Malformed, NotUtf8, TooLarge}
 use Rattle.bytes_utils_protocols.specs.declared.multipart.Part.{Part}
 use Rattle.bytes_utils_protocols.specs.declared.multipart.sections.Sections.{Sections}
 use Rattle.bytes_utils_protocols.specs.declared.multipart.sections.Stage.{Stage}
@@ -87,6 +90,10 @@ pub record IsMultipartDue (delimiter : List ℕ) (limits : Limits) (bytes : List
   pub next : List ℕ
   pub ends : TakesFrame delimiter after raw next
   pub few : length preamble ≤ limits.head + limits.body
+
+-- the next delimiter has come
+abbrev pub HasNextInMultipart : List ℕ → List ℕ → Type 0
+HasNextInMultipart delimiter bytes = (frame : List ℕ) × (rest : List ℕ) × TakesFrame delimiter bytes frame rest
 
 -- `P` is true of each part that is in the bytes
 abbrev pub EachMultipart : (MultipartBytes → Type 0) → List ℕ → Limits → List ℕ → Type 0
@@ -233,6 +240,13 @@ AfterMultipartSearch Waiting old new =
     SameMultipartSections old new × (¬ Occurs old.delimiter.needle (waiting_in_multipart new)) × (¬ ClosesMultipart old.delimiter.needle (held_by_multipart old)) × LacksNextInMultipart old.delimiter.needle (held_by_multipart old)
 AfterMultipartSearch Found old new = SameMultipartSections old new
 AfterMultipartSearch Ended old new = (old.stage ≡ Ended) ⊎ ClosesMultipart old.delimiter.needle (held_by_multipart old)
+
+-- why a search fails: no part within the limits comes, or memory is refused for what is between two delimiters
+abbrev pub IsMultipartSearchFault : PartError → List ℕ → Limits → List ℕ → Type 0
+IsMultipartSearchFault Malformed delimiter limits held = ⊥
+IsMultipartSearchFault NotUtf8 delimiter limits held = ⊥
+IsMultipartSearchFault TooLarge delimiter limits held = (more : List ℕ) → NoMultipart delimiter limits (held ++ more)
+IsMultipartSearchFault (Refused reason) delimiter limits held = (reason ≡ OutOfMemory) × IsMultipartDue delimiter limits held
 
 -- ---- a run of calls
 

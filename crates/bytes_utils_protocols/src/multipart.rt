@@ -1,6 +1,6 @@
 //! The parts of a body of `multipart/form-data`, or of another multipart type, that comes in pieces
 //! (RFC 2046, section 5.1.1; RFC 7578).
-ghost use Rattle.std.specs.Prelude.{◌≡◌, ◌+◌, ◌-◌, ◌^◌, ◌<◌, ◌≤◌, ◌↔◌, ℕ, List, [], ◌++◌, length, false, true, IsUtf8, IsOk, IsTrue, IfOk, IfErr, IfSome, IfNone, OnOk, OnErr};
+ghost use Rattle.std.specs.Prelude.{◌≡◌, ◌≢◌, ◌+◌, ◌-◌, ◌^◌, ◌<◌, ◌≤◌, ◌↔◌, ℕ, List, [], ◌++◌, length, false, true, IsUtf8, IsOk, IsTrue, IfOk, IfErr, IfSome, IfNone, OnOk, OnErr};
 ghost use Rattle.bytes_utils_codec.specs.Pushing.{IsPush};
 ghost use Rattle.bytes_utils_protocols.specs.Disposition.{SameDispositionParameterLaw};
 ghost use Rattle.bytes_utils_protocols.specs.Multipart.{AreMultipartFields, FewWaitInMultipart, HasMultipartParameter, IsMultipartDivided, IsMultipartIdle, IsMultipartDue, NoMultipart, NoMultipartWithFields, MultipartBytes, MultipartLaw, SameMultipartLaw, TakesMultipart, multipart_appended, bytes_of_multipart, multipart_delimiter, multipart_file_name, held_by_multipart, multipart_line_end, multipart_name};
@@ -158,8 +158,8 @@ impl PartReader {
     /// Fails with `Malformed` if the held bytes begin with no part whose head is header fields,
     /// whatever comes after them, with `TooLarge` if they begin with none within the limits, with
     /// `NotUtf8` if the head isn't UTF-8, and with `Refused` if memory is refused; then nothing has
-    /// changed. `Malformed` comes only after the delimiter at the end of the part; before that, and
-    /// where too many bytes are before the first delimiter, the error is `TooLarge`.
+    /// changed. Each of them but `TooLarge` comes only after the delimiter at the end of the part, and
+    /// not where too many bytes are before the first delimiter: no other call asks for memory.
     pub fn next_part(&mut self) -> Result<Option<Part>, PartError>
         ensures part { IfOk result (λ next. IfSome next (λ part. TakesMultipart self.old.delimiter
             self.old.limits self.old.held (bytes_of_multipart part) self.new.held)) }
@@ -182,7 +182,7 @@ impl PartReader {
         ensures malformed { IfErr result (λ e. e ≡ PartError.Malformed
             → (limits : Limits) (more : List ℕ)
             → NoMultipartWithFields self.old.delimiter limits (self.old.held ++ more)) }
-        ensures due { IfErr result (λ e. e ≡ PartError.Malformed
+        ensures due { IfErr result (λ e. e ≢ PartError.TooLarge
             → IsMultipartDue self.old.delimiter self.old.limits self.old.held) }
         ensures too_large { IfErr result (λ e. e ≡ PartError.TooLarge → (more : List ℕ)
             → NoMultipart self.old.delimiter self.old.limits (self.old.held ++ more)) }
@@ -193,7 +193,7 @@ impl PartReader {
         ensures reason { IfErr result (λ e. (reason : _) → e ≡ PartError.Refused reason
             → reason ≡ Reason.OutOfMemory) }
     {
-        self.sections.search(self.alloc)?;
+        self.sections.search(self.alloc, self.limits)?;
         if self.sections.is_over(most_multipart_bytes(self.limits)) {
             return Err(PartError::TooLarge);
         }
@@ -231,7 +231,7 @@ fn take_part(sections: &mut Sections, alloc: Global, limits: Limits) -> Result<P
     ensures malformed { IfErr result (λ e. e ≡ PartError.Malformed
         → (any : Limits) (more : List ℕ)
         → NoMultipartWithFields sections.old.delimiter.needle any (held_by_multipart sections.old ++ more)) }
-    ensures due { IfErr result (λ e. e ≡ PartError.Malformed
+    ensures due { IfErr result (λ e. e ≢ PartError.TooLarge
         → IsMultipartDue sections.old.delimiter.needle limits (held_by_multipart sections.old)) }
     ensures too_large { IfErr result (λ e. e ≡ PartError.TooLarge → (more : List ℕ)
         → NoMultipart sections.old.delimiter.needle limits (held_by_multipart sections.old ++ more)) }

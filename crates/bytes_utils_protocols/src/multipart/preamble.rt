@@ -1,9 +1,8 @@
 //! What is before the first delimiter of a stream.
-ghost use Rattle.std.specs.Prelude.{◌≡◌, [], length};
+ghost use Rattle.std.specs.Prelude.{◌≡◌, ◌^◌, ◌<◌, ◌≤◌, [], length, take};
 ghost use Rattle.std.specs.List.{concat};
 
-use bytes::{Buf, Bytes};
-use bytes_utils::SegmentedBuf;
+use bytes_utils::segmented::PackedBuf;
 use std::alloc::Global;
 use std::fmt::{self, Debug, Formatter, Write};
 use std::marker::Model;
@@ -14,27 +13,28 @@ use std::snapshot::Snapshot;
 #[derive(Drop)]
 pub(super) struct Preamble {
     len: usize,
-    bytes: Snapshot<SegmentedBuf<Bytes>>,
+    bytes: Snapshot<PackedBuf>,
 }
 
 impl Model for Preamble {
-    ghost use Rattle.std.specs.Prelude.{◌≡◌, ℕ, List, length};
+    ghost use Rattle.std.specs.Prelude.{ℕ, ◌≤◌, List, length, take};
     ghost use Rattle.std.specs.List.{concat};
 
     ghost Value = { List ℕ };
 
-    ghost view = { λ p. concat p.bytes.value.segments };
+    ghost view = { λ p. take p.len (concat p.bytes.value.held.segments) };
 
-    ghost invariant = { λ p. p.len ≡ length (concat p.bytes.value.segments) };
+    ghost invariant = { λ p. p.len ≤ length (concat p.bytes.value.held.segments) };
 }
 
 impl Preamble {
-    /// Keeps the number of these bytes.
-    pub(super) fn of(bytes: &SegmentedBuf<Bytes>) -> Preamble
-        ensures { result ≡ concat bytes.now.segments }
+    /// The first `len` of these bytes.
+    pub(super) fn front_of(bytes: &PackedBuf, len: usize) -> Preamble
+        requires { len ≤ length (concat bytes.now.held.segments) }
+        ensures { result ≡ take len (concat bytes.now.held.segments) }
     {
         Preamble {
-            len: bytes.remaining(),
+            len,
             bytes: Snapshot::of(bytes),
         }
     }
@@ -43,12 +43,13 @@ impl Preamble {
     pub(super) fn none(alloc: Global) -> Preamble
         ensures { result ≡ [] }
     {
-        Preamble::of(&SegmentedBuf::new(alloc))
+        Preamble::front_of(&PackedBuf::new(alloc, 0), 0)
     }
 
     /// How many bytes there were.
     pub(super) fn len(&self) -> usize
-        ensures { result ≡ length self.now }
+        ensures value { result ≡ length self.now }
+        ensures fits { length self.now < 2 ^ 64 }
     {
         self.len
     }

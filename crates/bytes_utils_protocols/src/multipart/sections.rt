@@ -1,12 +1,13 @@
 //! What is between the delimiters of a stream.
-ghost use Rattle.std.specs.Prelude.{◌≡◌, ◌≢◌, ◌↔◌, ◌⊎◌, ◌+◌, ◌^◌, ◌<◌, ◌≤◌, [], ◌++◌, length, IsOk, IsTrue, OnOk, OnErr, IfOk, IfErr, IfSome, IfNone};
+ghost use Rattle.std.specs.Prelude.{◌≡◌, ◌≢◌, ◌↔◌, ◌+◌, ◌^◌, ◌<◌, ◌≤◌, [], ◌++◌, length, IsOk, IsTrue, OnOk, OnErr, IfOk, IfErr, IfSome, IfNone};
 ghost use Rattle.std.specs.List.{concat};
 ghost use Rattle.bytes_utils.specs.Occurrence.{Occurs};
 ghost use Rattle.bytes_utils_codec.specs.Frames.{TakesFrame};
 ghost use Rattle.bytes_utils_codec.specs.Pushing.{IsPush};
 ghost use Rattle.bytes_utils_codec.specs.Search.{search_from_front, searched_all};
-ghost use Rattle.bytes_utils_protocols.specs.Multipart.{AfterMultipartSearch, IsMultipartDivided, NoMultipartPassed, SameMultipartSections, waiting_in_multipart};
+ghost use Rattle.bytes_utils_protocols.specs.Multipart.{AfterMultipartSearch, HasNextInMultipart, IsMultipartDivided, IsMultipartDue, IsMultipartSearchFault, NoMultipartPassed, SameMultipartSections, held_by_multipart, waiting_in_multipart};
 
+use super::limits::{Limits, PartError, most_multipart_bytes};
 use super::preamble::Preamble;
 use bytes::{Buf, Bytes};
 use bytes_utils::segmented::PackedBuf;
@@ -84,15 +85,20 @@ impl Sections {
     }
 
     /// Searches for the delimiters before and after the next part, or for the close delimiter.
-    pub(super) fn search(&mut self, alloc: Global) -> Result<(), Reason>
+    pub(super) fn search(&mut self, alloc: Global, limits: Limits) -> Result<(), PartError>
         requires { IsMultipartDivided self.old }
         ensures divided { IsMultipartDivided self.new }
         ensures ok { OnOk result (AfterMultipartSearch self.new.stage self.old self.new) }
+        ensures few { OnOk result (length self.new.preamble ≤ limits.head + limits.body) }
         ensures err { OnErr result (SameMultipartSections self.old self.new) }
         ensures delimiter { self.new.delimiter.needle ≡ self.old.delimiter.needle }
-        ensures reason { IfErr result (λ reason. reason ≡ Reason.OutOfMemory) }
+        ensures fault { IfErr result (λ e. IsMultipartSearchFault e
+            self.old.delimiter.needle limits (held_by_multipart self.old)) }
     {
-        self.pass_preamble(alloc)?;
+        self.pass_preamble();
+        if self.preamble.len() > most_multipart_bytes(limits) {
+            return Err(PartError::TooLarge);
+        }
         if self.stage == Stage::Waiting {
             self.find_next(alloc)?;
         }
@@ -100,22 +106,45 @@ impl Sections {
     }
 
     /// Finds the delimiter before the next part, if it has come, and lets go of what is before it.
-    fn pass_preamble(&mut self, alloc: Global) -> Result<(), Reason>
+    fn pass_preamble(&mut self)
         requires { IsMultipartDivided self.old }
         ensures divided { IsMultipartDivided self.new }
         ensures same { SameMultipartSections self.old self.new }
-        ensures waits { OnOk result (self.new.stage ≡ Stage.Preamble
-            → ¬ Occurs self.old.delimiter.needle (waiting_in_multipart self.new)) }
+        ensures waits { self.new.stage ≡ Stage.Preamble
+            → ¬ Occurs self.old.delimiter.needle (waiting_in_multipart self.new) }
         ensures ended { self.new.stage ≡ Stage.Ended → self.old.stage ≡ Stage.Ended }
-        ensures reason { IfErr result (λ reason. reason ≡ Reason.OutOfMemory) }
     {
         if self.stage == Stage::Preamble
-            && let Some(preamble) = self.next_section(alloc)?
+            && let Some(preamble) = self.next_preamble()
         {
-            self.preamble = Preamble::of(&preamble);
+            self.preamble = preamble;
             self.stage = Stage::Waiting;
         }
-        Ok(())
+    }
+
+    /// Drops the bytes before the next delimiter, and that, or returns `None` if it has not come.
+    fn next_preamble(&mut self) -> Option<Preamble>
+        requires { NoMultipartPassed self.old }
+        ensures preamble { IfSome result (λ preamble. TakesFrame self.old.delimiter.needle
+            (waiting_in_multipart self.old) preamble (waiting_in_multipart self.new)) }
+        ensures some { IfSome result (λ _. self.new ≡ record self.old {
+          delimiter = search_from_front self.old.delimiter;
+          waiting = self.new.waiting;
+        }) }
+        ensures lacks { IfNone result (¬ Occurs self.old.delimiter.needle (waiting_in_multipart self.old)) }
+        ensures none { IfNone result (self.new ≡ record self.old {
+          delimiter = searched_all self.old.delimiter (waiting_in_multipart self.old);
+        }) }
+        ensures passed { NoMultipartPassed self.new }
+    {
+        let Some(len) = self.delimiter.find(self.waiting.as_segmented()) else {
+            return None;
+        };
+        let preamble = Preamble::front_of(&self.waiting, len);
+        self.waiting.advance(len);
+        self.waiting.advance(self.delimiter.needle().len());
+        self.delimiter.restart();
+        Some(preamble)
     }
 
     /// Finds the delimiter after the next part, if it has come, or ends, if two dashes follow the
@@ -125,8 +154,11 @@ impl Sections {
         requires waiting { self.old.stage ≡ Stage.Waiting }
         ensures divided { IsMultipartDivided self.new }
         ensures ok { OnOk result (AfterMultipartSearch self.new.stage self.old self.new) }
+        ensures shorter { OnOk result (length self.new.preamble ≤ length self.old.preamble) }
         ensures err { OnErr result (SameMultipartSections self.old self.new) }
         ensures delimiter { self.new.delimiter.needle ≡ self.old.delimiter.needle }
+        ensures due { OnErr result ((limits : Limits) → length self.old.preamble ≤ limits.head + limits.body
+            → IsMultipartDue self.old.delimiter.needle limits (held_by_multipart self.old)) }
         ensures reason { IfErr result (λ reason. reason ≡ Reason.OutOfMemory) }
     {
         if self.waiting.as_segmented().starts_with(b"--") {
@@ -158,6 +190,8 @@ impl Sections {
         })) }
         ensures passed { NoMultipartPassed self.new }
         ensures err { OnErr result (self.new ≡ self.old) }
+        ensures due { OnErr result
+            (HasNextInMultipart self.old.delimiter.needle (waiting_in_multipart self.old)) }
         ensures reason { IfErr result (λ reason. reason ≡ Reason.OutOfMemory) }
     {
         let Some(len) = self.delimiter.find(self.waiting.as_segmented()) else {
@@ -173,6 +207,7 @@ impl Sections {
     fn end(&mut self, alloc: Global)
         ensures divided { IsMultipartDivided self.new }
         ensures stage { self.new.stage ≡ Stage.Ended }
+        ensures preamble { self.new.preamble ≡ [] }
         ensures delimiter { self.new.delimiter.needle ≡ self.old.delimiter.needle }
     {
         self.waiting = PackedBuf::new(alloc, SMALL);
@@ -181,17 +216,15 @@ impl Sections {
         self.stage = Stage::Ended;
     }
 
-    /// Whether more bytes than these are before the first delimiter, or wait for a delimiter, without
-    /// the bytes of one.
+    /// Whether more bytes than these wait for a delimiter, without the bytes of one.
     pub(super) fn is_over(&self, most: usize) -> bool
-        ensures over { IsTrue result ↔ ((most < length self.now.preamble) ⊎ ((self.now.stage ≢ Stage.Found)
-            × (most + length self.now.delimiter.needle < length (waiting_in_multipart self.now)))) }
-        ensures short { length self.now.preamble < 2 ^ 64 }
+        ensures over { IsTrue result ↔ ((self.now.stage ≢ Stage.Found)
+            × (most + length self.now.delimiter.needle < length (waiting_in_multipart self.now))) }
         ensures fits { length (waiting_in_multipart self.now) < 2 ^ 64 }
     {
         let delimiter = self.delimiter.needle().len();
         let waiting = self.waiting.remaining().saturating_sub(delimiter);
-        self.preamble.len() > most || (self.stage != Stage::Found && waiting > most)
+        self.stage != Stage::Found && waiting > most
     }
 
     /// Removes what was found, up to the delimiter after it, and returns it.

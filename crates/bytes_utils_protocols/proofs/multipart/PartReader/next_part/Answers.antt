@@ -1,21 +1,55 @@
-use Rattle.std.proofs.Common.{arith, ◌≡◌, ◌≢◌, ◌⊎◌, ◌<◌, ◌≤◌, ◌+◌, ◌∙◌, inl, inr, sym, refl, subst, length, true}
+use Rattle.std.proofs.Common.{arith, ◌<◌, ◌≤◌, ◌+◌, ◌∙◌, sym, refl, subst, length}
 use Rattle.std.proofs.lemmas.Bool.{false≢true}
 use Rattle.std.proofs.lemmas.Result.{err_from_is_err_and}
-use Rattle.bytes_utils_protocols.specs.Multipart.{AfterMultipartSearch, AreMultipartFields, waiting_in_multipart}
-use Rattle.bytes_utils_protocols.specs.declared.multipart.sections.Stage.TheVariants.{Found}
-use Rattle.bytes_utils_protocols.proofs.MultipartLemmas.{few_wait, idle_after, none_after, each_of_same, over_limits}
+use Rattle.bytes_utils_protocols.specs.Multipart.{AfterMultipartSearch, AreMultipartFields, IsMultipartSearchFault, held_by_multipart, waiting_in_multipart}
+use Rattle.bytes_utils_protocols.proofs.MultipartLemmas.{due_by_fault, due_of_same, few_wait, idle_after, none_after, each_of_same, over_limits}
 use Rattle.bytes_utils_protocols.proofs.multipart.PartReader.next_part.Goals as goal
+
+pub returns-in_err-search-clause-malformed : goal.returns-in_err-search-clause-malformed
+returns-in_err-search-clause-malformed c =
+    let s = c.self.inside.sections in
+    let out = err_from_is_err_and c.from_residual.result c.from_residual.ensures.1 in
+    rw out.1 (λ is. absurd (subst (λ e. IsMultipartSearchFault e s.delimiter.needle c.self.inside.limits (held_by_multipart s)) (sym out.2 ∙ is) c.in_err-search.ensures.fault))
+
+pub returns-in_err-search-clause-due : goal.returns-in_err-search-clause-due
+returns-in_err-search-clause-due c =
+    let s = c.self.inside.sections in
+    let out = err_from_is_err_and c.from_residual.result c.from_residual.ensures.1 in
+    rw (← c.self.view_is) (rw out.1 (λ not_large. due_by_fault out.0 s.delimiter.needle c.self.inside.limits (held_by_multipart s)
+    (subst (λ e. IsMultipartSearchFault e s.delimiter.needle c.self.inside.limits (held_by_multipart s)) (sym out.2) c.in_err-search.ensures.fault) not_large))
+
+pub returns-in_err-search-clause-too_large : goal.returns-in_err-search-clause-too_large
+returns-in_err-search-clause-too_large c =
+    let s = c.self.inside.sections in
+    let out = err_from_is_err_and c.from_residual.result c.from_residual.ensures.1 in
+    rw (← c.self.view_is) (rw out.1 (λ is. subst (λ e. IsMultipartSearchFault e s.delimiter.needle c.self.inside.limits (held_by_multipart s)) (sym out.2 ∙ is) c.in_err-search.ensures.fault))
+
+pub returns-in_err-search-clause-not_utf8 : goal.returns-in_err-search-clause-not_utf8
+returns-in_err-search-clause-not_utf8 c =
+    let s = c.self.inside.sections in
+    let out = err_from_is_err_and c.from_residual.result c.from_residual.ensures.1 in
+    rw out.1 (λ is. absurd (subst (λ e. IsMultipartSearchFault e s.delimiter.needle c.self.inside.limits (held_by_multipart s)) (sym out.2 ∙ is) c.in_err-search.ensures.fault))
+
+pub returns-in_err-search-clause-reason : goal.returns-in_err-search-clause-reason
+returns-in_err-search-clause-reason c =
+    let s = c.self.inside.sections in
+    let out = err_from_is_err_and c.from_residual.result c.from_residual.ensures.1 in
+    rw out.1 (λ reason is. (subst (λ e. IsMultipartSearchFault e s.delimiter.needle c.self.inside.limits (held_by_multipart s)) (sym out.2 ∙ is) c.in_err-search.ensures.fault).0)
 
 pub returns-then-is_over-clause-too_large : goal.returns-then-is_over-clause-too_large
 returns-then-is_over-clause-too_large c _ =
     let new = c.search.new.self in
     let limits = c.self.inside.limits in
-    let over : (limits.head + limits.body < length new.preamble) ⊎ ((new.stage ≢ Found) × (limits.head + limits.body + length new.delimiter.needle < length (waiting_in_multipart new))) =
-    elim (c.is_over.ensures.over.0 c.if-is_over.true) [
-      | inl much ↦ inl (omega (arith, much, c.is_over.ensures.short, c.most_multipart_bytes.ensures))
-      | inr waits ↦ inr (waits.0, omega (arith, waits.1, c.is_over.ensures.fits, c.most_multipart_bytes.ensures))
-    ] in
-    rw (← c.self.view_is) (λ more. over_limits limits c.self.inside.sections new more new.stage refl c.in_ok-search.ensures.ok c.search.ensures.divided.0 over)
+    let waits = c.is_over.ensures.over.0 c.if-is_over.true in
+    let long : limits.head + limits.body + length new.delimiter.needle < length (waiting_in_multipart new) = omega (arith, waits.1, c.is_over.ensures.fits, c.most_multipart_bytes.ensures) in
+    rw (← c.self.view_is) (λ more. over_limits limits c.self.inside.sections new more new.stage refl c.in_ok-search.ensures.ok c.search.ensures.divided.0 waits.0 long)
+
+pub returns-in_err-take_part-in-Found-clause-due : goal.returns-in_err-take_part-in-Found-clause-due
+returns-in_err-take_part-in-Found-clause-due c =
+    let same = subst (λ stage. AfterMultipartSearch stage c.self.inside.sections c.search.new.self) c.in-Found.is c.in_ok-search.ensures.ok in
+    let out = err_from_is_err_and c.from_residual-in_err-take_part-in-Found.result c.from_residual-in_err-take_part-in-Found.ensures.1 in
+    rw (← c.self.view_is) (rw out.1 (λ not_large.
+    due_of_same c.self.inside.sections c.search.new.self same c.self.inside.limits (c.in_err-take_part-in-Found.ensures.due (λ is. not_large (out.2 ∙ is)))))
 
 pub returns-in_err-take_part-in-Found-clause-malformed : goal.returns-in_err-take_part-in-Found-clause-malformed
 returns-in_err-take_part-in-Found-clause-malformed c =
@@ -46,10 +80,7 @@ pub returns-in_default-clause-few : goal.returns-in_default-clause-few
 returns-in_default-clause-few c =
     let new = c.search.new.self in
     let limits = c.self.inside.limits in
-    let is_not : c.is_over.result ≡ true → ⊥ = λ is. false≢true (sym c.if-is_over.false ∙ is) in
-    let not_much : c.most_multipart_bytes.result < length new.preamble → ⊥ = λ much. is_not (c.is_over.ensures.over.1 (inl much)) in
     let not_long : c.most_multipart_bytes.result + length new.delimiter.needle < length (waiting_in_multipart new) → ⊥ =
-    λ long. is_not (c.is_over.ensures.over.1 (inr (c.in_default.not-Found, long))) in
-    let short : length new.preamble ≤ limits.head + limits.body = omega (arith, not_much, c.most_multipart_bytes.ensures) in
+    λ long. false≢true (sym c.if-is_over.false ∙ c.is_over.ensures.over.1 (c.in_default.not-Found, long)) in
     let few : length (waiting_in_multipart new) ≤ limits.head + limits.body + length new.delimiter.needle = omega (arith, not_long, c.most_multipart_bytes.ensures) in
-    few_wait limits c.self.inside.sections new short few new.stage c.in_ok-search.ensures.ok c.in_default.not-Found c.search.ensures.divided.0
+    few_wait limits c.self.inside.sections new c.in_ok-search.ensures.few few new.stage c.in_ok-search.ensures.ok c.in_default.not-Found c.search.ensures.divided.0

@@ -1,5 +1,6 @@
 use Rattle.std.proofs.Common.{◌≡◌, ◌+◌, length, take, drop, ap, ◌∙◌, sym, subst}
 use Rattle.std.proofs.lemmas.List.{drop-drop}
+use Rattle.std.proofs.lemmas.Result.{err_from_is_err_and}
 use Rattle.std.specs.List.{concat}
 use Rattle.bytes_utils_codec.specs.Frames.{TakesFrame}
 use Rattle.bytes_utils_codec.specs.Search.{NoneBeginsInSearch, Searching}
@@ -34,3 +35,13 @@ returns-clause-section c =
     let takes = frame_of_all d w s.delimiter.searched c.find.ensures.needle c.requires len found in
     subst (λ front. TakesFrame d w front (concat c.advance.new.self.held.segments)) (sym c.in_ok-section.ensures.front)
     (subst (TakesFrame d w (take len w)) (sym rest) takes)
+
+pub returns-in_err-section-clause-due : goal.returns-in_err-section-clause-due
+returns-in_err-section-clause-due c =
+    let s = c.args.self.now in
+    let d = s.delimiter.needle in
+    let w = waiting_in_multipart s in
+    let len = c.in-Some.len in
+    let found = rw c.as_segmented.ensures at c.in-Some.ensures.found in
+    let out = err_from_is_err_and c.from_residual.result c.from_residual.ensures.1 in
+    rw out.1 (take len w, drop (len + length d) w, frame_of_all d w s.delimiter.searched c.find.ensures.needle c.requires len found)
