@@ -22,14 +22,15 @@ mod memory;
 use crate::cases::fixtures::rows::{CalledByRow, Refusal, is_row_right, named_row_call};
 use crate::cases::fixtures::signs::{
     are_bytes_of_signs, are_parts_of_signs, is_block_of_signs, is_number_of_signs,
-    is_place_of_signs, meant_by_signs,
+    is_place_of_signs, meant_by_signs, sharing_of_signs,
 };
 use crate::cases::fixtures::{assert_row, in_blocks, in_segments};
 use bytes::Bytes;
-use bytes_utils::{Reason, SegmentedBuf};
+use bytes_utils::{Reason, SegmentedBuf, Str};
 use bytes_utils_buf::contiguous::ContiguousBuf;
 use bytes_utils_buf::segmented::PackedBuf;
 use bytes_utils_codec::cursor::Cursor;
+use bytes_utils_codec::decode::LineFault;
 use std::borrow::CowSlice;
 use std::io::Print;
 use std::process::Abort;
@@ -40,52 +41,101 @@ struct CursorRun<'a, B: ContiguousBuf + Drop> {
     cursor: Cursor<'a, B>,
 }
 
-/// What a call returned, or why not; and the name of the call.
-type Returned<T> = (&'static str, Result<Option<T>, Reason>);
+/// What a call returned, or why not.
+type Returned<T> = Result<Option<T>, Reason>;
+
+/// Whether it is right that a call gave no bytes. Fails if it was refused.
+fn is_not_given_by_cursor(
+    name: &'static str,
+    refused: Option<Reason>,
+    want: &str,
+) -> Result<bool, Refusal> {
+    match refused {
+        None => Ok(want == "none"),
+        Some(Reason::TooLong) => Ok(want == "long"),
+        Some(reason) => named_row_call("Cursor::", name, Err(reason)),
+    }
+}
 
 /// Whether the bytes that a call took are as wanted.
-fn is_taken_by_cursor((name, taken): Returned<Bytes>, want: &str) -> Result<bool, Refusal> {
+fn is_taken_by_cursor(
+    name: &'static str,
+    taken: &Returned<Bytes>,
+    want: &str,
+) -> Result<bool, Refusal> {
     match taken {
-        Ok(Some(bytes)) => Ok(is_block_of_signs(&bytes, want)),
-        Ok(None) => Ok(want == "none"),
-        Err(Reason::TooLong) => Ok(want == "long"),
-        Err(reason) => named_row_call("Cursor::", name, Err(reason)),
+        Ok(Some(bytes)) => Ok(is_block_of_signs(bytes, want)),
+        Ok(None) => is_not_given_by_cursor(name, None, want),
+        Err(reason) => is_not_given_by_cursor(name, Some(*reason), want),
     }
+}
+
+/// Whether these bytes were read as wanted.
+fn are_read_bytes_of_signs(bytes: &CowSlice<'_, u8>, want: &str) -> bool {
+    let (is_shared, want) = sharing_of_signs(want);
+    let is_copied = !matches!(bytes, CowSlice::Borrowed(_));
+    is_shared != Some(is_copied) && are_bytes_of_signs(bytes.as_slice(), want)
 }
 
 /// Whether the bytes that a call read are as wanted.
 fn is_read_by_cursor(
-    (name, read): Returned<CowSlice<'_, u8>>,
+    name: &'static str,
+    read: &Returned<CowSlice<'_, u8>>,
     want: &str,
 ) -> Result<bool, Refusal> {
     match read {
-        Ok(Some(bytes)) => {
-            let is_borrowed = matches!(bytes, CowSlice::Borrowed(_));
-            Ok(match (want.strip_prefix("&"), want.strip_prefix("*")) {
-                (Some(want), _) => is_borrowed && are_bytes_of_signs(bytes.as_slice(), want),
-                (_, Some(want)) => !is_borrowed && are_bytes_of_signs(bytes.as_slice(), want),
-                _ => are_bytes_of_signs(bytes.as_slice(), want),
-            })
-        }
-        Ok(None) => Ok(want == "none"),
-        Err(Reason::TooLong) => Ok(want == "long"),
-        Err(reason) => named_row_call("Cursor::", name, Err(reason)),
+        Ok(Some(bytes)) => Ok(are_read_bytes_of_signs(bytes, want)),
+        Ok(None) => is_not_given_by_cursor(name, None, want),
+        Err(reason) => is_not_given_by_cursor(name, Some(*reason), want),
     }
+}
+
+/// Whether the segments that were taken are as wanted.
+fn are_segments_of_cursor(
+    taken: Returned<SegmentedBuf<Bytes>>,
+    want: &str,
+) -> Result<bool, Refusal> {
+    match taken {
+        Ok(Some(parts)) => Ok(are_parts_of_signs(parts, want)),
+        Ok(None) => is_not_given_by_cursor("take_segments", None, want),
+        Err(reason) => is_not_given_by_cursor("take_segments", Some(reason), want),
+    }
+}
+
+/// Whether all unread bytes are as wanted.
+fn are_unread_of_cursor(
+    unread: Result<SegmentedBuf<Bytes>, Reason>,
+    want: &str,
+) -> Result<bool, Refusal> {
+    match unread {
+        Ok(parts) => Ok(are_parts_of_signs(parts, want)),
+        Err(reason) => named_row_call("Cursor::", "rest", Err(reason)),
+    }
+}
+
+/// Whether the line that was taken is as wanted.
+fn is_line_of_cursor(line: &Returned<Result<Str, LineFault>>, want: &str) -> Result<bool, Refusal> {
+    match line {
+        Ok(Some(Ok(text))) => Ok(are_bytes_of_signs(text.as_bytes(), want)),
+        Ok(Some(Err(_))) => Ok(false),
+        Ok(None) => is_not_given_by_cursor("line", None, want),
+        Err(reason) => is_not_given_by_cursor("line", Some(*reason), want),
+    }
+}
+
+/// The limit with which what is wanted may begin, and the rest of it.
+fn limit_and_want(want: &str) -> (usize, &str) {
+    let (most, within) = want.split_once(' ').unwrap_or(("", want));
+    (most.parse().unwrap_or(0), within)
 }
 
 impl<B: ContiguousBuf + Drop> CursorRun<'_, B> {
     /// Takes or reads a number of bytes, or passes them.
     fn count(&mut self, name: &str, len: usize, want: &str) -> Result<bool, Refusal> {
         match name {
-            "take" => is_taken_by_cursor(("take", self.cursor.take(len)), want),
-            "read" => is_read_by_cursor(("read", self.cursor.read(len)), want),
-            "take_segments" => {
-                let taken = self.cursor.take_segments(len);
-                match named_row_call("Cursor::", "take_segments", taken)? {
-                    Some(parts) => Ok(are_parts_of_signs(parts, want)),
-                    None => Ok(want == "none"),
-                }
-            }
+            "take" => is_taken_by_cursor("take", &self.cursor.take(len), want),
+            "read" => is_read_by_cursor("read", &self.cursor.read(len), want),
+            "take_segments" => are_segments_of_cursor(self.cursor.take_segments(len), want),
             _ if len > self.cursor.remaining() => Ok(false),
             _ => {
                 self.cursor.advance(len);
@@ -96,35 +146,77 @@ impl<B: ContiguousBuf + Drop> CursorRun<'_, B> {
 
     /// Looks for a needle, and takes or reads what is before it.
     fn search(&mut self, name: &str, needle: &[u8], want: &str) -> Result<bool, Refusal> {
-        let (most, within) = want.split_once(' ').unwrap_or(("", want));
-        let most = most.parse().unwrap_or(0);
-        let cursor = &mut self.cursor;
+        match name {
+            "find" => Ok(is_place_of_signs(self.cursor.find(needle), want)),
+            "take_until" | "take_to" | "take_until_within" => self.take_before(name, needle, want),
+            "read_until" | "read_until_within" => self.read_before(name, needle, want),
+            _ => Ok(false),
+        }
+    }
+
+    /// Takes what is before a needle.
+    fn take_before(&mut self, name: &str, needle: &[u8], want: &str) -> Result<bool, Refusal> {
+        let (most, within) = limit_and_want(want);
         if needle.is_empty() {
             return Ok(false);
         }
+        let (name, taken, want) = match name {
+            "take_until" => ("take_until", self.cursor.take_until(needle), want),
+            "take_to" => ("take_to", self.cursor.take_to(needle), want),
+            _ => {
+                let taken = self.cursor.take_until_within(needle, most);
+                ("take_until_within", taken, within)
+            }
+        };
+        is_taken_by_cursor(name, &taken, want)
+    }
+
+    /// Reads what is before a needle.
+    fn read_before(&mut self, name: &str, needle: &[u8], want: &str) -> Result<bool, Refusal> {
+        let (most, within) = limit_and_want(want);
+        if needle.is_empty() {
+            return Ok(false);
+        }
+        let (name, read, want) = match name {
+            "read_until" => ("read_until", self.cursor.read_until(needle), want),
+            _ => {
+                let read = self.cursor.read_until_within(needle, most);
+                ("read_until_within", read, within)
+            }
+        };
+        is_read_by_cursor(name, &read, want)
+    }
+
+    /// Takes or reads bytes, or passes them.
+    fn take_part(&mut self, name: &str, rest: &str) -> Result<bool, Refusal> {
+        let (argument, want) = rest.split_once(' ').unwrap_or((rest, ""));
         match name {
-            "find" => Ok(is_place_of_signs(cursor.find(needle), want)),
-            "take_until" => is_taken_by_cursor(("take_until", cursor.take_until(needle)), want),
-            "take_to" => is_taken_by_cursor(("take_to", cursor.take_to(needle)), want),
-            "read_until" => is_read_by_cursor(("read_until", cursor.read_until(needle)), want),
-            "take_until_within" => {
-                let taken = cursor.take_until_within(needle, most);
-                is_taken_by_cursor(("take_until_within", taken), within)
+            "line" => self.line(rest),
+            "rest" => self.rest(rest),
+            "tag" => Ok(self.tag(argument, want)),
+            "take" | "read" | "take_segments" | "advance" => {
+                self.count(name, argument.parse().unwrap_or(usize::MAX), want)
             }
-            "read_until_within" => {
-                let read = cursor.read_until_within(needle, most);
-                is_read_by_cursor(("read_until_within", read), within)
-            }
-            _ => Ok(false),
+            _ => self.search(name, meant_by_signs(argument).as_slice(), want),
         }
     }
 
     /// Takes the next line.
     fn line(&mut self, want: &str) -> Result<bool, Refusal> {
-        match named_row_call("Cursor::", "line", self.cursor.line())? {
-            Some(Ok(text)) => Ok(are_bytes_of_signs(text.as_bytes(), want)),
-            Some(Err(_)) => Ok(false),
-            None => Ok(want == "none"),
+        is_line_of_cursor(&self.cursor.line(), want)
+    }
+
+    /// Takes all unread bytes.
+    fn rest(&mut self, want: &str) -> Result<bool, Refusal> {
+        are_unread_of_cursor(self.cursor.rest(), want)
+    }
+
+    /// Passes these bytes.
+    fn tag(&mut self, bytes: &str, want: &str) -> bool {
+        match self.cursor.tag(meant_by_signs(bytes).as_slice()) {
+            Ok(Some(())) => want == "passes",
+            Ok(None) => want == "none",
+            Err(_) => want == "differs",
         }
     }
 
@@ -149,25 +241,9 @@ impl<B: ContiguousBuf + Drop> CursorRun<'_, B> {
 impl<B: ContiguousBuf + Drop> CalledByRow for CursorRun<'_, B> {
     fn make(&mut self, call: &str) -> Result<bool, Refusal> {
         let (name, rest) = call.split_once(' ').unwrap_or((call, ""));
-        let (argument, want) = rest.split_once(' ').unwrap_or((rest, ""));
-        if let Some(holds) = self.look(name, rest) {
-            return Ok(holds);
-        }
-        match name {
-            "line" => self.line(rest),
-            "rest" => {
-                let unread = named_row_call("Cursor::", "rest", self.cursor.rest())?;
-                Ok(are_parts_of_signs(unread, rest))
-            }
-            "tag" => Ok(match self.cursor.tag(meant_by_signs(argument).as_slice()) {
-                Ok(Some(())) => want == "passes",
-                Ok(None) => want == "none",
-                Err(_) => want == "differs",
-            }),
-            "take" | "read" | "take_segments" | "advance" => {
-                self.count(name, argument.parse().unwrap_or(usize::MAX), want)
-            }
-            _ => self.search(name, meant_by_signs(argument).as_slice(), want),
+        match self.look(name, rest) {
+            Some(holds) => Ok(holds),
+            None => self.take_part(name, rest),
         }
     }
 
@@ -213,20 +289,28 @@ const FRONTS: [(usize, usize, &str); 5] = [
     ),
 ];
 
-/// Whether a row is right of these pieces, as they are, and in a buffer whose small pieces are copied together.
-fn is_cursor_row_right_of_pieces<R: Abort + Print + AllocGlobal>(
+/// Whether a row is right of these pieces, each in a segment of its own.
+fn is_cursor_row_right_of_two<R: Abort + Print + AllocGlobal>(
     rt: &R,
     (front, back): (&'static [u8], &'static [u8]),
     row: &str,
-) -> Option<bool> {
-    let shared = in_segments(rt.alloc(), &[front, back])?;
-    let mut packed = PackedBuf::new(rt.alloc(), 4);
-    packed.push_slice(rt.alloc(), front).ok()?;
-    packed.push_slice(rt.alloc(), back).ok()?;
-    Some(
-        is_cursor_row_right(rt, &shared, row)
-            && is_cursor_row_right(rt, packed.as_segmented(), row),
-    )
+) -> bool {
+    match in_segments(rt.alloc(), &[front, back]) {
+        Some(buf) => is_cursor_row_right(rt, &buf, row),
+        None => false,
+    }
+}
+
+/// Whether a row is right of these pieces in a buffer whose small pieces are copied together.
+fn is_cursor_row_right_of_packed<R: Abort + Print + AllocGlobal>(
+    rt: &R,
+    (front, back): (&'static [u8], &'static [u8]),
+    row: &str,
+) -> bool {
+    let mut buf = PackedBuf::new(rt.alloc(), 4);
+    let is_pushed = buf.push_slice(rt.alloc(), front).is_ok()
+        && buf.push_slice(rt.alloc(), back).is_ok();
+    is_pushed && is_cursor_row_right(rt, buf.as_segmented(), row)
 }
 
 /// Each beginning of the message, cut at each place.
@@ -236,8 +320,9 @@ fn cursor_on_a_message_cut_at_each_place(rt: HostRuntime) {
         for len in least..=most {
             let came = MESSAGE.get(..len).unwrap_or(b"");
             for cut in 0..=came.len() {
-                let holds = is_cursor_row_right_of_pieces(&rt, came.split_at(cut), row)
-                    == Some(true);
+                let pieces = came.split_at(cut);
+                let holds = is_cursor_row_right_of_two(&rt, pieces, row)
+                    && is_cursor_row_right_of_packed(&rt, pieces, row);
                 assert_row(&rt, row, holds);
             }
         }
@@ -262,17 +347,28 @@ take_until_within ost:_example/org! 0 long, take_until_within ost:_example/org! 
 take_segments 18 none, take_segments 17 &#17 in 2
 ";
 
-/// The words of a line that is in one block share it.
+/// A line in one block.
+const LINE: &[&[u8]] = &[b"set \xff\xfe 12"];
+
+/// The words of that line share its block.
 const WORDS: &str = "take_until _ &set, take_until _ &~!, take 2 &12";
+
+/// Asserts each of the rows, of a new cursor.
+fn assert_cursor_rows<R: Abort + Print + AllocGlobal>(
+    rt: &R,
+    buf: &SegmentedBuf<Bytes>,
+    rows: &str,
+) {
+    for row in rows.lines() {
+        let holds = is_cursor_row_right(rt, buf, row);
+        assert_row(rt, row, holds);
+    }
+}
 
 #[test]
 fn cursor_takes_parts_of_blocks(rt: HostRuntime) {
-    let header = in_blocks(rt.alloc(), HEADER).expect(&rt, "no memory");
-    for row in ROWS.lines() {
-        let holds = is_cursor_row_right(&rt, &header, row);
-        assert_row(&rt, row, holds);
+    for (pieces, rows) in [(HEADER, ROWS), (LINE, WORDS)] {
+        let buf = in_blocks(rt.alloc(), pieces).expect(&rt, "no memory");
+        assert_cursor_rows(&rt, &buf, rows);
     }
-    let line = in_blocks(rt.alloc(), &[b"set \xff\xfe 12"]).expect(&rt, "no memory");
-    let holds = is_cursor_row_right(&rt, &line, WORDS);
-    assert_row(&rt, WORDS, holds);
 }

@@ -30,14 +30,45 @@ use std::process::Abort;
 
 /// The bytes in which calls look for a needle.
 #[derive(Drop)]
-struct FindRun<'a> {
+struct FindRun<'n, 'b> {
     alloc: Global,
-    needle: &'a [u8],
-    buf: SegmentedBuf<Bytes>,
+    needle: &'n [u8],
+    buf: &'b mut SegmentedBuf<Bytes>,
     search: Option<Search>,
 }
 
-impl FindRun<'_> {
+/// Makes a call of a search. Returns whether it is right.
+fn is_search_call_right(
+    search: &mut Search,
+    buf: &SegmentedBuf<Bytes>,
+    name: &str,
+    want: &str,
+) -> bool {
+    match name {
+        "search" => is_place_of_signs(search.find(buf), want),
+        "searched" => is_number_of_signs(want, search.searched()),
+        "needle" => are_bytes_of_signs(search.needle(), want),
+        "restart" => {
+            search.restart();
+            true
+        }
+        _ => {
+            search.search_from(want.parse().unwrap_or(0));
+            name == "search_from"
+        }
+    }
+}
+
+/// Whether what was before the needle is as wanted.
+fn is_front_right(front: &Result<Option<Bytes>, Reason>, want: &str) -> Result<bool, Refusal> {
+    match front {
+        Ok(Some(front)) => Ok(is_block_of_signs(front, want)),
+        Ok(None) => Ok(want == "none"),
+        Err(reason) => named_row_call("take_until", "", Err(*reason)),
+    }
+}
+
+impl FindRun<'_, '_> {
     /// Pushes a copy of these bytes.
     fn push(&mut self, bytes: &[u8]) -> Result<bool, Reason> {
         self.buf
@@ -47,21 +78,9 @@ impl FindRun<'_> {
 
     /// Makes a call of the search.
     fn search(&mut self, name: &str, want: &str) -> bool {
-        let Some(search) = &mut self.search else {
-            return false;
-        };
-        match name {
-            "search" => is_place_of_signs(search.find(&self.buf), want),
-            "searched" => is_number_of_signs(want, search.searched()),
-            "needle" => are_bytes_of_signs(search.needle(), want),
-            "restart" => {
-                search.restart();
-                true
-            }
-            _ => {
-                search.search_from(want.parse().unwrap_or(0));
-                name == "search_from"
-            }
+        match &mut self.search {
+            Some(search) => is_search_call_right(search, self.buf, name, want),
+            None => false,
         }
     }
 
@@ -69,7 +88,7 @@ impl FindRun<'_> {
     fn find_from(&self, rest: &str) -> bool {
         let (start, want) = rest.split_once(' ').unwrap_or(("", rest));
         let start = start.parse().unwrap_or(0);
-        is_place_of_signs(find_from(&self.buf, start, self.needle), want)
+        is_place_of_signs(find_from(self.buf, start, self.needle), want)
     }
 
     /// Takes what is before the needle.
@@ -77,11 +96,7 @@ impl FindRun<'_> {
         if self.needle.is_empty() {
             return Ok(false);
         }
-        let taken = take_until(&mut self.buf, self.alloc, self.needle);
-        match named_row_call("take_until", "", taken)? {
-            Some(front) => Ok(is_block_of_signs(&front, want)),
-            None => Ok(want == "none"),
-        }
+        is_front_right(&take_until(self.buf, self.alloc, self.needle), want)
     }
 
     /// Makes a new search.
@@ -89,23 +104,27 @@ impl FindRun<'_> {
         if self.needle.is_empty() {
             return Ok(false);
         }
-        let search = named_row_call("Search::", "new", Search::new(self.alloc, self.needle))?;
-        self.search = Some(search);
-        Ok(true)
+        match Search::new(self.alloc, self.needle) {
+            Ok(search) => {
+                self.search = Some(search);
+                Ok(true)
+            }
+            Err(reason) => named_row_call("Search::", "new", Err(reason)),
+        }
     }
 }
 
-impl CalledByRow for FindRun<'_> {
+impl CalledByRow for FindRun<'_, '_> {
     fn make(&mut self, call: &str) -> Result<bool, Refusal> {
         if let Some(bytes) = call.strip_prefix("+") {
             return named_row_call("a copy", "", self.push(meant_by_signs(bytes).as_slice()));
         }
         if let Some(want) = call.strip_prefix("=") {
-            return Ok(are_segments_of_signs(&self.buf, want));
+            return Ok(are_segments_of_signs(self.buf, want));
         }
         let (name, rest) = call.split_once(' ').unwrap_or((call, ""));
         match name {
-            "find" => Ok(is_place_of_signs(find(&self.buf, self.needle), rest)),
+            "find" => Ok(is_place_of_signs(find(self.buf, self.needle), rest)),
             "find_from" => Ok(self.find_from(rest)),
             "take_until" => self.take_until(rest),
             "new" => self.renew(),
@@ -121,7 +140,7 @@ impl CalledByRow for FindRun<'_> {
 /// Whether calls for a needle are right of these bytes.
 fn is_find_row_right<R: Abort + Print + AllocGlobal>(
     rt: &R,
-    buf: SegmentedBuf<Bytes>,
+    buf: &mut SegmentedBuf<Bytes>,
     needle: &[u8],
     calls: &str,
 ) -> bool {
@@ -142,8 +161,8 @@ pub(super) fn assert_find_rows<R: Abort + Print + AllocGlobal>(
 ) {
     for row in rows.lines() {
         let (needle, calls) = row.split_once(": ").unwrap_or(("", row));
-        if let Some(buf) = in_segments(rt.alloc(), pieces) {
-            let holds = is_find_row_right(rt, buf, meant_by_signs(needle).as_slice(), calls);
+        if let Some(mut buf) = in_segments(rt.alloc(), pieces) {
+            let holds = is_find_row_right(rt, &mut buf, meant_by_signs(needle).as_slice(), calls);
             assert_row(rt, row, holds);
         }
     }
@@ -173,8 +192,8 @@ fn body_to_find_in(alloc: Global, needle: &[u8]) -> Result<SegmentedBuf<Bytes>, 
 fn find_of_a_long_needle(rt: HostRuntime) {
     let mut needle = [b'x'; 65_536];
     needle[0] = b'y';
-    let body = body_to_find_in(rt.alloc(), &needle).expect(&rt, "no memory");
-    let holds = is_find_row_right(&rt, body, &needle, "find 40000, find_from 40001 none");
+    let mut body = body_to_find_in(rt.alloc(), &needle).expect(&rt, "no memory");
+    let holds = is_find_row_right(&rt, &mut body, &needle, "find 40000, find_from 40001 none");
     assert_that(&rt, holds);
 }
 

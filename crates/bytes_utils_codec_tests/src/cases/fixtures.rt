@@ -46,18 +46,27 @@ pub(crate) fn debugs<E: Error>(alloc: Global, error: &E, text: &str) -> bool {
 /// These pieces, each in a segment of its own, or `None` if memory is refused.
 pub(crate) fn in_segments(alloc: Global, pieces: &[&'static [u8]]) -> Option<SegmentedBuf<Bytes>> {
     let mut buf = SegmentedBuf::new(alloc);
+    let mut is_made = true;
     for piece in pieces {
-        buf.try_push(Bytes::from_static(piece)).ok()?;
+        is_made &= buf.try_push(Bytes::from_static(piece)).is_ok();
     }
-    Some(buf)
+    is_made.then_some(buf)
+}
+
+/// Pushes a copy of a piece. Returns whether memory was there.
+fn push_block(alloc: Global, buf: &mut SegmentedBuf<Bytes>, piece: &[u8]) -> bool {
+    match Bytes::copy_from_slice(alloc, piece) {
+        Ok(block) => buf.try_push(block).is_ok(),
+        Err(_) => false,
+    }
 }
 
 /// Copies of these pieces, each in a block of its own, or `None` if memory is refused.
 pub(crate) fn in_blocks(alloc: Global, pieces: &[&[u8]]) -> Option<SegmentedBuf<Bytes>> {
     let mut buf = SegmentedBuf::new(alloc);
+    let mut is_made = true;
     for piece in pieces {
-        buf.try_push(Bytes::copy_from_slice(alloc, piece).ok()?)
-            .ok()?;
+        is_made &= push_block(alloc, &mut buf, piece);
     }
-    Some(buf)
+    is_made.then_some(buf)
 }

@@ -1,8 +1,4 @@
 //! Places of a needle in bytes that come in pieces, and how often these are looked at.
-ghost use Rattle.std.specs.Prelude.{◌<◌, length};
-
-mod memory;
-
 use super::find::assert_find_rows;
 use super::fixtures::assert_that;
 use bytes::{Buf, Bytes};
@@ -61,36 +57,40 @@ impl<'c> ContiguousBuf for SearchedByte<'c> {
     }
 }
 
-/// Searches after each of 1,000 bytes, in segments of their own. Returns whether the needle was
-/// never there, or `None` if memory is refused.
+/// Searches after each of 1,000 bytes, in segments of their own. Returns whether all were pushed, and
+/// the needle was never there.
 fn search_finds_nothing<'c>(
     search: &mut Search,
     held: &mut SegmentedBuf<SearchedByte<'c>>,
     looks: &'c Cell<usize>,
-) -> Option<bool> {
+) -> bool {
     for _ in 0..1_000 {
         let byte = Bytes::from_static(b"-");
-        held.try_push(SearchedByte { byte, looks }).ok()?;
-        if search.find(held).is_some() {
-            return Some(false);
+        if held.try_push(SearchedByte { byte, looks }).is_err() || search.find(held).is_some() {
+            return false;
         }
     }
-    Some(true)
+    true
 }
 
-/// Returns how often these bytes are looked at, or `None` if the needle is there.
-fn looks_of_search(alloc: Global, needle: &[u8]) -> Option<usize>
-    requires { 0 < length needle.now }
-{
+/// Returns how often these bytes are looked at, or `usize::MAX` if the needle is there.
+fn looks_of_search(alloc: Global, search: &mut Search) -> usize {
     let looks = Cell::new(0);
-    let mut search = Search::new(alloc, needle).ok()?;
-    search_finds_nothing(&mut search, &mut SegmentedBuf::new(alloc), &looks)?.then_some(looks.get())
+    let mut held = SegmentedBuf::new(alloc);
+    let finds_nothing = search_finds_nothing(search, &mut held, &looks);
+    if finds_nothing {
+        looks.get()
+    } else {
+        usize::MAX
+    }
 }
 
 // A search that began at the front at each call would look 500,000 times.
 #[test]
 fn search_looks_at_no_byte_again(rt: HostRuntime) {
-    let looks_for_one = looks_of_search(rt.alloc(), b"+").unwrap_or(usize::MAX);
-    let looks_for_two = looks_of_search(rt.alloc(), b"-+").unwrap_or(usize::MAX);
+    let mut for_one = Search::new(rt.alloc(), b"+").expect(&rt, "no memory");
+    let looks_for_one = looks_of_search(rt.alloc(), &mut for_one);
+    let mut for_two = Search::new(rt.alloc(), b"-+").expect(&rt, "no memory");
+    let looks_for_two = looks_of_search(rt.alloc(), &mut for_two);
     assert_that(&rt, looks_for_one <= 8_000 && looks_for_two <= 8_000);
 }

@@ -18,6 +18,7 @@ use super::fixtures::signs::{
 };
 use bytes::Bytes;
 use bytes_utils::string::{Str, Utf8Error};
+use bytes_utils::{Reason, Refused};
 use bytes_utils_codec::texts::Texts;
 use std::alloc::Global;
 use std::io::Print;
@@ -40,36 +41,58 @@ fn texts_of_kind(alloc: Global, kind: &str) -> Texts {
     }
 }
 
-/// Whether an item is as wanted, and so are the owners of its block.
-fn is_item_of_texts(item: Option<Result<Str, Utf8Error<Bytes>>>, want: &str) -> bool {
+/// Whether an error has the wanted bytes, and so are the owners of their block.
+fn is_fault_of_texts(fault: Utf8Error<Bytes>, want: &str) -> bool {
+    let bytes = fault.into_inner();
+    match want.strip_prefix("fault ") {
+        Some(want) => is_block_of_signs(&bytes, want),
+        None => false,
+    }
+}
+
+/// Whether an item is as wanted, and so are the owners of its block. Fails if the call was refused.
+fn is_item_of_texts(
+    name: &'static str,
+    item: Result<Option<Result<Str, Utf8Error<Bytes>>>, Reason>,
+    want: &str,
+) -> Result<bool, Refusal> {
     match item {
-        Some(Ok(text)) => is_block_of_signs(text.inner(), want),
-        Some(Err(fault)) => match want.strip_prefix("fault ") {
-            Some(want) => is_block_of_signs(&fault.into_inner(), want),
-            None => false,
-        },
-        None => want == "none",
+        Ok(Some(Ok(text))) => Ok(is_block_of_signs(text.inner(), want)),
+        Ok(Some(Err(fault))) => Ok(is_fault_of_texts(fault, want)),
+        Ok(None) => Ok(want == "none"),
+        Err(reason) => named_row_call("Texts::", name, Err(reason)),
+    }
+}
+
+/// Whether a piece of this length was pushed. If the call was refused, the piece came back.
+fn is_pushed_to_texts(pushed: &Result<(), Refused<Bytes>>, len: usize) -> Result<bool, Refusal> {
+    match pushed {
+        Ok(()) => Ok(true),
+        Err(refused) if refused.back.len() == len => {
+            named_row_call("Texts::", "push", Err(refused.reason))
+        }
+        Err(_) => Ok(false),
     }
 }
 
 impl TextsRun<'_> {
-    /// Pushes the bytes of the block from one place to another. If the call is refused, they come back.
+    /// Pushes the bytes of the block from one place to another.
     fn push(&mut self, places: &str) -> Result<bool, Refusal> {
         let (from, to) = places.split_once(' ').unwrap_or((places, ""));
         let (from, to) = (from.parse().unwrap_or(0), to.parse().unwrap_or(0_usize));
         if to < from || self.block.len() < to {
             return Ok(false);
         }
-        let Ok(piece) = self.block.slice(from..to) else {
-            return Ok(false);
-        };
-        match self.texts.push(piece) {
-            Ok(()) => Ok(true),
-            Err(refused) if refused.back.len() == to - from => {
-                named_row_call("Texts::", "push", Err(refused.reason))
-            }
+        match self.block.slice(from..to) {
+            Ok(piece) => is_pushed_to_texts(&self.texts.push(piece), to - from),
             Err(_) => Ok(false),
         }
+    }
+
+    /// Takes back what is held.
+    fn finish(&mut self, want: &str) -> bool {
+        let texts = mem::replace(&mut self.texts, Texts::new(self.alloc));
+        are_parts_of_signs(texts.finish(), want)
     }
 }
 
@@ -78,19 +101,10 @@ impl CalledByRow for TextsRun<'_> {
         let (name, rest) = call.split_once(' ').unwrap_or((call, ""));
         match name {
             "push" => self.push(rest),
-            "next" => {
-                let item = self.texts.next_item();
-                Ok(is_item_of_texts(named_row_call("Texts::", "next_item", item)?, rest))
-            }
-            "last" => {
-                let item = self.texts.last_item();
-                Ok(is_item_of_texts(named_row_call("Texts::", "last_item", item)?, rest))
-            }
+            "next" => is_item_of_texts("next_item", self.texts.next_item(), rest),
+            "last" => is_item_of_texts("last_item", self.texts.last_item(), rest),
             "remaining" => Ok(is_number_of_signs(rest, self.texts.remaining())),
-            "finish" => {
-                let texts = mem::replace(&mut self.texts, Texts::new(self.alloc));
-                Ok(are_parts_of_signs(texts.finish(), rest))
-            }
+            "finish" => Ok(self.finish(rest)),
             _ => Ok(false),
         }
     }

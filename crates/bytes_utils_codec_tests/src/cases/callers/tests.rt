@@ -3,8 +3,17 @@ use super::{body, header, message, send};
 use crate::cases::fixtures::{assert_that, in_segments};
 use bytes::{Buf, Bytes};
 use bytes_utils::{Reason, SegmentedBuf, Str};
-use bytes_utils_codec::decode::{Framed, LengthPrefixed, ReadItemError};
+use bytes_utils_codec::decode::{FrameTooLong, Framed, LengthPrefixed, ReadItemError};
 use std::alloc::Global;
+
+/// Whether this message was read, or for `-` none.
+fn is_message(message: &Option<Result<Bytes, FrameTooLong>>, want: &str) -> bool {
+    match message {
+        Some(Ok(message)) => message.as_slice() == want.as_bytes(),
+        Some(Err(_)) => want == "long",
+        None => want == "-",
+    }
+}
 
 /// Whether these messages are read, and then `-` for the end of the input.
 fn are_messages(
@@ -12,12 +21,7 @@ fn are_messages(
     messages: &mut Framed<LengthPrefixed>,
 ) -> Result<bool, ReadItemError<Reason>> {
     for want in "Hi||long|!|-".split('|') {
-        let is_right = match message(&mut input, messages)? {
-            Some(Ok(message)) => message.as_slice() == want.as_bytes(),
-            Some(Err(_)) => want == "long",
-            None => want == "-",
-        };
-        if !is_right {
+        if !is_message(&message(&mut input, messages)?, want) {
             return Ok(false);
         }
     }
@@ -32,18 +36,21 @@ fn messages_of_a_reader(rt: HostRuntime) {
     assert_that(&rt, holds);
 }
 
-/// Whether a line has no value, and another has both.
-fn are_headers() -> Result<bool, Reason> {
-    let is_none = header(Str::from_static("Host:"))?.is_none();
-    match header(Str::from_static("Host: é.org: 80"))? {
-        Some((name, value)) => Ok(is_none && name.eq_str("Host") && value.eq_str("é.org: 80")),
-        None => Ok(false),
+/// Whether a line has this name and this value.
+fn is_header(line: Str, (name, value): (&str, &str)) -> bool {
+    match header(line) {
+        Ok(Some((front, back))) => front.eq_str(name) && back.eq_str(value),
+        _ => false,
     }
 }
 
+/// A line has no value, and another has both.
 #[test]
 fn headers(rt: HostRuntime) {
-    assert_that(&rt, are_headers() == Ok(true));
+    let is_none = matches!(header(Str::from_static("Host:")), Ok(None));
+    let line = Str::from_static("Host: é.org: 80");
+    let holds = is_none && is_header(line, ("Host", "é.org: 80"));
+    assert_that(&rt, holds);
 }
 
 /// A greeting in four pieces, one of them empty.

@@ -5,6 +5,8 @@ use bytes_utils::SegmentedBuf;
 use bytes_utils_buf::contiguous::ContiguousBuf;
 use bytes_utils_codec::cursor::Cursor;
 use std::alloc::Global;
+use std::io::Print;
+use std::process::Abort;
 
 /// Takes the next integer or array. Returns `None` if the name is another one.
 pub(super) fn is_next_integer<B: ContiguousBuf + Drop>(
@@ -54,18 +56,31 @@ const SEVEN: &str =
 /// The bytes in segments of `size` bytes, or `None` if memory is refused.
 fn segments_of_integers(alloc: Global, bytes: &[u8], size: usize) -> Option<SegmentedBuf<&[u8]>> {
     let mut held = SegmentedBuf::new(alloc);
+    let mut is_made = true;
     for segment in bytes.chunks(size.max(1)) {
-        held.try_push(segment).ok()?;
+        is_made &= held.try_push(segment).is_ok();
     }
-    Some(held)
+    is_made.then_some(held)
+}
+
+/// Whether a row is right of the bytes in segments of `size` bytes.
+fn is_row_right_at_size<R: Abort + Print + AllocGlobal>(
+    rt: &R,
+    bytes: &[u8],
+    size: usize,
+    row: &str,
+) -> bool {
+    match segments_of_integers(rt.alloc(), bytes, size) {
+        Some(held) => is_cursor_row_right(rt, &held, row),
+        None => false,
+    }
 }
 
 #[test]
 fn integers_cut_at_each_size(rt: HostRuntime) {
     for (bytes, row) in [(BYTES, ALL), (&BYTES[..7], SEVEN)] {
         for size in 1..=bytes.len() {
-            let held = segments_of_integers(rt.alloc(), bytes, size).expect(&rt, "no memory");
-            let holds = is_cursor_row_right(&rt, &held, row);
+            let holds = is_row_right_at_size(&rt, bytes, size, row);
             assert_row(&rt, row, holds);
         }
     }

@@ -1,13 +1,12 @@
 //! What each call returns if a request for memory is refused, and that the cursor stays then.
-use super::{CursorRun, is_cursor_row_right};
-use crate::cases::fixtures::rows::CalledByRow;
-use crate::cases::fixtures::{assert_row, in_segments};
-use bytes_utils_codec::cursor::Cursor;
+use super::assert_cursor_rows;
+use crate::cases::fixtures::in_segments;
 
 /// Bytes in two segments.
 const PIECES: &[&[u8]] = &[b"0123456789", b"0123456789\nab"];
 
-/// Rows of new cursors.
+/// Rows of new cursors. A search asks for no memory, and what is before the needles of the last row is shared: of these
+/// calls none is refused.
 const ROWS: &str = "\
 take 12 012345678901, at 12
 take_until 9. 0123456789012345678, at 21
@@ -18,31 +17,13 @@ read_until 9. 0123456789012345678, at 21
 read_until_within 89. 18 012345678901234567, at 21
 find 12345678901234567 1, rest 01234567890123456789.ab in 2, take_segments 12 012345678901 in 2
 line 01234567890123456789
+take_until_within 12345678901234567 0 long, take_until_within 678901234567890.abc 100 none, \
+    take_until_within 12345678901234567 1 0, at 18
 ";
 
 #[test]
 fn cursor_calls_if_memory_is_refused(rt: HostRuntime) {
     if let Some(buf) = in_segments(rt.alloc(), PIECES) {
-        for row in ROWS.lines() {
-            let holds = is_cursor_row_right(&rt, &buf, row);
-            assert_row(&rt, row, holds);
-        }
-    }
-}
-
-/// A search asks for no memory, and what is before these needles is shared: no call is refused memory.
-const LIMITED: &str = "take_until_within 12345678901234567 0 long, \
-    take_until_within 678901234567890.abc 100 none, take_until_within 12345678901234567 1 0, at 18";
-
-#[test]
-fn cursor_searches_need_no_memory(rt: HostRuntime) {
-    if let Some(buf) = in_segments(rt.alloc(), PIECES) {
-        let mut run = CursorRun {
-            cursor: Cursor::new(rt.alloc(), &buf),
-        };
-        for call in LIMITED.split(", ") {
-            let holds = matches!(run.make(call), Ok(true));
-            assert_row(&rt, call, holds);
-        }
+        assert_cursor_rows(&rt, &buf, ROWS);
     }
 }

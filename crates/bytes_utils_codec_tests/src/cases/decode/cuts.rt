@@ -9,21 +9,24 @@ use bytes_utils_codec::decode::Framed;
 use std::io::Print;
 use std::process::Abort;
 
-/// Appends an item, with a stroke after it.
-fn put_cut_item<D: Made>(item: D::Item, out: &mut Vec<u8>) -> Option<()> {
-    out.extend_from_slice(D::into_bytes(item).as_slice()).ok()?;
-    out.push(b'|').ok()
+/// Appends an item, with a stroke after it. Returns whether memory was there.
+fn put_cut_item<D: Made>(item: D::Item, out: &mut Vec<u8>) -> bool {
+    out.extend_from_slice(D::into_bytes(item).as_slice())
+        .is_ok()
+        && out.push(b'|').is_ok()
 }
 
-/// Takes the items that have come. Returns `None` if one is refused, or there are too many.
-fn take_cut_items<D: Made>(reader: &mut Framed<D>, out: &mut Vec<u8>) -> Option<()> {
+/// Takes the items that have come. Returns whether memory was there, and they had an end.
+fn take_cut_items<D: Made>(reader: &mut Framed<D>, out: &mut Vec<u8>) -> bool {
+    let mut is_put = true;
     for _ in 0..16 {
-        match reader.next_item().ok()? {
-            Some(item) => put_cut_item::<D>(item, out)?,
-            None => return Some(()),
+        match reader.next_item() {
+            Ok(Some(item)) => is_put &= put_cut_item::<D>(item, out),
+            Ok(None) => return is_put,
+            Err(_) => return false,
         }
     }
-    None
+    false
 }
 
 /// Pushes a piece in parts of at most `most` bytes, and takes the items that come.
@@ -31,28 +34,55 @@ fn take_cut_parts<D: Made>(
     reader: &mut Framed<D>,
     (piece, most): (&[u8], usize),
     out: &mut Vec<u8>,
-) -> Option<()> {
+) -> bool {
+    let mut is_taken = true;
     for part in piece.chunks(most.max(1)) {
-        reader.push_slice(part).ok()?;
-        take_cut_items(reader, out)?;
+        is_taken &= reader.push_slice(part).is_ok() && take_cut_items(reader, out);
     }
-    Some(())
+    is_taken
+}
+
+/// Takes the last item, if there is one. Returns whether memory was there.
+fn take_last_cut_item<D: Made>(reader: &mut Framed<D>, out: &mut Vec<u8>) -> bool {
+    match reader.last_item() {
+        Ok(Some(item)) => put_cut_item::<D>(item, out),
+        Ok(None) => true,
+        Err(_) => false,
+    }
+}
+
+/// Takes all held bytes. Returns whether memory was there.
+fn take_cut_rest<D: Made>(reader: &mut Framed<D>, out: &mut Vec<u8>) -> bool {
+    let len = reader.remaining();
+    match reader.take_bytes(len) {
+        Ok(rest) => out.extend_from_slice(rest.as_slice()).is_ok(),
+        Err(_) => false,
+    }
 }
 
 /// Takes the last item, after a dollar, and the bytes that are left. Returns whether no other item is after it.
-fn take_cut_end<D: Made>(reader: &mut Framed<D>, out: &mut Vec<u8>) -> Option<bool> {
-    out.push(b'$').ok()?;
-    if let Some(item) = reader.last_item().ok()? {
-        put_cut_item::<D>(item, out)?;
-    }
-    let is_last = matches!(reader.last_item(), Ok(None));
-    let len = reader.remaining();
-    let rest = reader.take_bytes(len).ok()?;
-    out.extend_from_slice(rest.as_slice()).ok()?;
-    Some(is_last)
+fn take_cut_end<D: Made>(reader: &mut Framed<D>, out: &mut Vec<u8>) -> bool {
+    out.push(b'$').is_ok()
+        && take_last_cut_item(reader, out)
+        && matches!(reader.last_item(), Ok(None))
+        && take_cut_rest(reader, out)
 }
 
-/// Whether this comes of three pieces, each in parts of at most `most` bytes.
+/// Whether this comes of a reader, of three pieces, each in parts of at most `most` bytes.
+fn reader_gives_of_pieces<D: Made>(
+    reader: &mut Framed<D>,
+    (pieces, most): ([&[u8]; 3], usize),
+    out: &mut Vec<u8>,
+    want: &[u8],
+) -> bool {
+    let mut is_taken = true;
+    for piece in pieces {
+        is_taken &= take_cut_parts(reader, (piece, most), out);
+    }
+    is_taken && take_cut_end(reader, out) && out.as_slice() == want
+}
+
+/// Whether this comes of a new reader, of three pieces, each in parts of at most `most` bytes.
 fn cuts_give_of_pieces<D: Made, R: Abort + Print + AllocGlobal>(
     rt: &R,
     kind: &str,
@@ -60,15 +90,13 @@ fn cuts_give_of_pieces<D: Made, R: Abort + Print + AllocGlobal>(
     most: usize,
     want: &[u8],
 ) -> bool {
-    let Some((mut reader, _)) = made_reader::<D, R>(rt, kind) else {
-        return false;
-    };
     let mut out = Vec::new(rt.alloc());
-    let mut is_taken = true;
-    for piece in pieces {
-        is_taken &= take_cut_parts(&mut reader, (piece, most), &mut out).is_some();
+    match made_reader::<D, R>(rt, kind) {
+        Some((mut reader, _)) => {
+            reader_gives_of_pieces(&mut reader, (pieces, most), &mut out, want)
+        }
+        None => false,
     }
-    is_taken && take_cut_end(&mut reader, &mut out) == Some(true) && out.as_slice() == want
 }
 
 /// Whether this comes of a stream, in single bytes and cut at each two places.

@@ -71,20 +71,27 @@ fn long_delimited_frame_within_a_limit(rt: HostRuntime) {
     assert_decode_rows::<Delimited, _>(&rt, &[b'a'; 1_000], LONG);
 }
 
-/// A piece of more than 512 bytes is held as it came, and its frames share it. One of 512 bytes is
-/// copied. A frame in two pieces is one block.
+/// Rows of pieces of such a length. A piece of more than 512 bytes is held as it came, and its frames share it. One of
+/// 512 bytes is copied. A frame in two pieces is one block.
+const SHARED: [(usize, &str); 4] = [
+    (512, "any -: &, piece alone, &a, =#510"),
+    (
+        513,
+        "any -: &, piece shared, &a, =#511, advance 511, piece alone",
+    ),
+    (
+        100_002,
+        "any -: &, piece shared, &a, =#100000, advance 100000, piece alone",
+    ),
+    (513, "any -: &, &a, &, *#512, =#511"),
+];
+
 #[test]
 fn delimited_frame_in_one_piece_is_shared(rt: HostRuntime) {
     let mut piece = [b'b'; 100_002];
     piece[..2].copy_from_slice(b"a-");
-    assert_decode_row_lets_go::<Delimited, _>(
-        &rt,
-        &piece[..512],
-        "any -: &, piece alone, &a, =#510",
-    );
-    let shared = "any -: &, piece shared, &a, =#511, advance 511, piece alone";
-    assert_decode_row_lets_go::<Delimited, _>(&rt, &piece[..513], shared);
-    let shared = "any -: &, piece shared, &a, =#100000, advance 100000, piece alone";
-    assert_decode_row_lets_go::<Delimited, _>(&rt, &piece, shared);
-    assert_decode_row_lets_go::<Delimited, _>(&rt, &piece[..513], "any -: &, &a, &, *#512, =#511");
+    for (len, row) in SHARED {
+        let piece = piece.get(..len).unwrap_or(b"");
+        assert_decode_row_lets_go::<Delimited, _>(&rt, piece, row);
+    }
 }

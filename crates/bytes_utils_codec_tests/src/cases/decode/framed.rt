@@ -1,22 +1,9 @@
 //! What a reader holds, lets go and shares, and the bytes that are taken off it as they are.
-use super::made::made_reader;
-use super::rows::{after_decode_row, assert_decode_row_lets_go, assert_decode_rows};
+use super::rows::{are_decode_calls_right, assert_decode_row_lets_go, assert_decode_rows};
 use crate::cases::fixtures::assert_that;
-use bytes::{Buf, Bytes};
 use bytes_utils_codec::decode::{Delimited, Framed, LengthPrefixed};
-use std::alloc::Global;
 use std::io::Print;
 use std::process::Abort;
-
-/// Whether what a finished reader held is a share of the piece until it is dropped.
-fn finished_framed_lets_go(alloc: Global, piece: &Bytes) -> Option<bool> {
-    let mut reader = Framed::new(alloc, LengthPrefixed::new(9));
-    reader.push(piece.clone().ok()?).ok()?;
-    let (_, held) = reader.finish();
-    let is_held = !piece.is_unique() && held.remaining() == 600;
-    drop(held);
-    Some(is_held && piece.is_unique())
-}
 
 /// First bytes share the first piece if they lie in it. In segments all that were held as they came are shared.
 const SHARED: &str = "\
@@ -33,25 +20,27 @@ fn framed_pieces_are_let_go(rt: HostRuntime) {
     for row in SHARED.lines() {
         assert_decode_row_lets_go::<Delimited, _>(&rt, &bytes, row);
     }
-    let piece = Bytes::copy_from_slice(rt.alloc(), &bytes).expect(&rt, "no memory");
-    let is_let_go = finished_framed_lets_go(rt.alloc(), &piece) == Some(true);
-    assert_that(&rt, is_let_go);
 }
 
 /// Pieces of at most three bytes are copied together, and a longer one is held as it came.
 #[test]
 fn framed_with_a_threshold(rt: HostRuntime) {
-    let reader = Framed::with_threshold(rt.alloc(), LengthPrefixed::new(9), 3);
+    let mut reader = Framed::with_threshold(rt.alloc(), LengthPrefixed::new(9), 3);
     let calls = "own ab, /1, own abc, /1, own abcd, /2, own ab, /3, =ababcabcdab";
-    assert_that(&rt, after_decode_row(&rt, reader, calls).is_some());
+    let holds = are_decode_calls_right(&rt, &mut reader, calls);
+    assert_that(&rt, holds);
+}
+
+/// Whether the decoder of a reader has this separator and this limit.
+fn has_its_decoder(reader: &Framed<Delimited>) -> bool {
+    let decoder = reader.decoder();
+    decoder.separator() == b"--".as_slice() && decoder.max_length() == 4
 }
 
 #[test]
 fn framed_has_its_decoder(rt: HostRuntime) {
     let decoder = Delimited::with_limit(rt.alloc(), b"--", 4).expect(&rt, "no memory");
-    let reader = Framed::new(rt.alloc(), decoder);
-    let decoder = reader.decoder();
-    let holds = decoder.separator() == b"--".as_slice() && decoder.max_length() == 4;
+    let holds = has_its_decoder(&Framed::new(rt.alloc(), decoder));
     assert_that(&rt, holds);
 }
 
@@ -100,24 +89,27 @@ const AFTER_TAKEN: &str = "\
 
 #[test]
 fn framed_bytes_that_are_taken(rt: HostRuntime) {
-    assert_decode_rows::<Delimited, _>(&rt, b"", BODIES);
-    assert_decode_rows::<Delimited, _>(&rt, b"", SPLIT_BODIES);
-    assert_decode_rows::<Delimited, _>(&rt, b"", AFTER_TAKEN);
-    assert_decode_rows::<Delimited, _>(&rt, &[b'a'; 100_000], "4 --: copy, =#100000");
+    let copied = "4 --: copy, =#100000";
+    for rows in [BODIES, SPLIT_BODIES, AFTER_TAKEN, copied] {
+        assert_decode_rows::<Delimited, _>(&rt, &[b'a'; 100_000], rows);
+    }
 }
 
 /// Makes calls on a reader, on one with another decoder over what is held then, and on the first one again. Returns
 /// whether they are right.
-fn framed_goes_on<R: Abort + Print + AllocGlobal>(rt: &R) -> Option<bool> {
-    let (reader, _) = made_reader::<Delimited, R>(rt, "4 --")?;
-    let (delimited, held) = after_decode_row(rt, reader, "+head--\0\0\0\x04a--bta, head")?.finish();
-    let bodies = Framed::from_parts(rt.alloc(), LengthPrefixed::new(9), held);
-    let (_, held) = after_decode_row(rt, bodies, "a--b")?.finish();
-    let reader = Framed::from_parts(rt.alloc(), delimited, held);
-    Some(after_decode_row(rt, reader, "+il--, tail")?.remaining() == 0)
+fn framed_goes_on<R: Abort + Print + AllocGlobal>(rt: &R, delimited: Delimited) -> bool {
+    let mut heads = Framed::new(rt.alloc(), delimited);
+    let is_first = are_decode_calls_right(rt, &mut heads, "+head--\0\0\0\x04a--bta, head");
+    let (delimited, held) = heads.finish();
+    let mut bodies = Framed::from_parts(rt.alloc(), LengthPrefixed::new(9), held);
+    let is_second = are_decode_calls_right(rt, &mut bodies, "a--b");
+    let (_, held) = bodies.finish();
+    let mut heads = Framed::from_parts(rt.alloc(), delimited, held);
+    is_first && is_second && are_decode_calls_right(rt, &mut heads, "+il--, tail, =")
 }
 
 #[test]
 fn framed_goes_on_with_another_decoder(rt: HostRuntime) {
-    assert_that(&rt, framed_goes_on(&rt) == Some(true));
+    let delimited = Delimited::with_limit(rt.alloc(), b"--", 4).expect(&rt, "no memory");
+    assert_that(&rt, framed_goes_on(&rt, delimited));
 }

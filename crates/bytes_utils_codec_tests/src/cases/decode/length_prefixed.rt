@@ -85,8 +85,9 @@ const ENDLESS: &str = "18446744073709551614 width 8: \
 
 #[test]
 fn length_prefixed_frames_after_each_piece(rt: HostRuntime) {
-    assert_decode_rows::<LengthPrefixed, _>(&rt, b"", SINGLE);
-    assert_decode_rows::<LengthPrefixed, _>(&rt, b"", ENDLESS);
+    for rows in [SINGLE, ENDLESS] {
+        assert_decode_rows::<LengthPrefixed, _>(&rt, b"", rows);
+    }
 }
 
 /// A frame of a piece of 600 bytes shares its block with what follows it.

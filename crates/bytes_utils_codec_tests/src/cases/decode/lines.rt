@@ -36,8 +36,9 @@ const LIMITED: &str = "\
 
 #[test]
 fn lines_of_streams_cut_anywhere(rt: HostRuntime) {
-    assert_cuts::<Lines, _>(&rt, STREAMS);
-    assert_cuts::<Lines, _>(&rt, LIMITED);
+    for rows in [STREAMS, LIMITED] {
+        assert_cuts::<Lines, _>(&rt, rows);
+    }
 }
 
 /// The case of `String::from_utf8_lossy`'s documentation, the one of the Unicode Standard, section
@@ -57,14 +58,14 @@ const REPLACED_FEW: &str = "\u{FFFD}\u{FFFD}|long|\u{FFFD}|long|$\r|";
 
 #[test]
 fn lossy_lines(rt: HostRuntime) {
-    assert_that(
-        &rt,
-        cuts_give::<Lines, _>(&rt, "any lossy", LOSSY, REPLACED.as_bytes()),
-    );
-    assert_that(
-        &rt,
-        cuts_give::<Lines, _>(&rt, "2 lossy", FEW, REPLACED_FEW.as_bytes()),
-    );
+    let cases = [
+        ("any lossy", LOSSY, REPLACED),
+        ("2 lossy", FEW, REPLACED_FEW),
+    ];
+    for (kind, stream, want) in cases {
+        let holds = cuts_give::<Lines, _>(&rt, kind, stream, want.as_bytes());
+        assert_that(&rt, holds);
+    }
 }
 
 /// Whether the item is a fault that says this, with these bytes, or none of a line that is too long.
@@ -120,63 +121,77 @@ const ENDLESS: &str = "1000 text: 100 times: +aaaaaaaaaa, -, /1; \
 
 #[test]
 fn lines_after_each_piece(rt: HostRuntime) {
-    assert_decode_rows::<Lines, _>(&rt, b"", CALLS);
-    assert_decode_rows::<Lines, _>(&rt, b"", ENDLESS);
+    for rows in [CALLS, ENDLESS] {
+        assert_decode_rows::<Lines, _>(&rt, b"", rows);
+    }
 }
 
 /// Texts, of which the last line of most has no line feed.
 const TEXTS: &str = "|a|a\n|a\r|a\r\n\r|\n\r\n|a\nb\r\r\nc\r|é\n\r\r|\n\n\n é";
 
-/// Whether the lines of the text are those of `str::lines`, and then nothing is left.
-fn are_lines_of_text(reader: &mut Framed<Lines>, text: &str) -> Option<bool> {
-    reader.push_slice(text.as_bytes()).ok()?;
-    for line in text.lines() {
-        let next = match reader.next_item().ok()? {
-            Some(line) => Some(line),
-            None => reader.last_item().ok()?,
-        };
-        if Lines::into_bytes(next?).as_slice() != line.as_bytes() {
-            return Some(false);
-        }
+/// Returns the next line, or the last one if there is no end of a line.
+fn next_or_last_line(reader: &mut Framed<Lines>) -> Result<Option<Result<Str, LineFault>>, Reason> {
+    match reader.next_item() {
+        Ok(None) => reader.last_item(),
+        next => next,
     }
-    Some(matches!(reader.last_item(), Ok(None)) && reader.remaining() == 0)
 }
 
-/// The lines of each text come, one text after another.
+/// Whether this line comes.
+fn is_line_of_text(reader: &mut Framed<Lines>, line: &str) -> bool {
+    match next_or_last_line(reader) {
+        Ok(Some(next)) => Lines::into_bytes(next).as_slice() == line.as_bytes(),
+        _ => false,
+    }
+}
+
+/// Whether the lines of the text are those of `str::lines`, and then nothing is left.
+fn are_lines_of_text(reader: &mut Framed<Lines>, text: &str) -> bool {
+    let mut is_right = reader.push_slice(text.as_bytes()).is_ok();
+    for line in text.lines() {
+        is_right &= is_line_of_text(reader, line);
+    }
+    is_right && matches!(reader.last_item(), Ok(None)) && reader.remaining() == 0
+}
+
+/// Whether the lines of each text come, one text after another.
+fn are_lines_of_texts(reader: &mut Framed<Lines>) -> bool {
+    let mut are_right = true;
+    for text in TEXTS.split('|') {
+        are_right &= are_lines_of_text(reader, text);
+    }
+    are_right
+}
+
 #[test]
 fn all_lines_of_texts(rt: HostRuntime) {
     let decoder = Lines::new(rt.alloc()).expect(&rt, "no memory");
-    let mut reader = Framed::new(rt.alloc(), decoder);
-    for text in TEXTS.split('|') {
-        let holds = are_lines_of_text(&mut reader, text) == Some(true);
-        assert_that(&rt, holds);
-    }
+    let holds = are_lines_of_texts(&mut Framed::new(rt.alloc(), decoder));
+    assert_that(&rt, holds);
 }
-
-/// The end of a line comes in a piece of its own, or in two.
-const ENDED_LATER: &str = "\
-any text: &, -, +<.ab.a, &d#600, &ab, $a
-any text: &, -, +<, -, &, -, +., *#1201, $-
-any text: &, -, own <, -, own ., &d#600, $-
-any lossy: &, -, +<.ab, &d#600, $ab
-600 text: &, -, +<., long, $-
-601 text: &, -, +., &d#600, &, -, +<., &d#600, $-
-";
 
 /// A line in a block of copied bytes shares it, one in two segments has a block of its own, and one
 /// in a long piece shares that. A line in one piece and a last one in one share their pieces, and one in two
-/// pieces does not. A line that is a whole piece shares it, if its end comes in others.
+/// pieces does not. A line that is a whole piece shares it, if its end comes in others. A piece begins with such bytes.
+const SHARED: [(&[u8; 6], &str); 10] = [
+    (b"b\r\nab\n", "any text: +ab.a, &ab, &, *ab, &ab"),
+    (b"b\r\nab\n", "any lossy: +ab.a, &ab, &, *ab, &ab"),
+    (b"ab\r\ndd", "599 text: &, &, &#2, *#598, $&#596"),
+    (b"ab\r\ndd", "any text: &, &, &#2, *#598, $&#596"),
+    (b"dddddd", "any text: &, -, +<.ab.a, &d#600, &ab, $a"),
+    (b"dddddd", "any text: &, -, +<, -, &, -, +., *#1201, $-"),
+    (b"dddddd", "any text: &, -, own <, -, own ., &d#600, $-"),
+    (b"dddddd", "any lossy: &, -, +<.ab, &d#600, $ab"),
+    (b"dddddd", "600 text: &, -, +<., long, $-"),
+    (b"dddddd", "601 text: &, -, +., &d#600, &, -, +<., &d#600, $-"),
+];
+
 #[test]
 fn a_line_in_one_segment_is_shared(rt: HostRuntime) {
-    let mut piece = [b'd'; 600];
-    piece[..6].copy_from_slice(b"b\r\nab\n");
-    assert_decode_row_lets_go::<Lines, _>(&rt, &piece, "any text: +ab.a, &ab, &, *ab, &ab");
-    assert_decode_row_lets_go::<Lines, _>(&rt, &piece, "any lossy: +ab.a, &ab, &, *ab, &ab");
-    piece[..6].copy_from_slice(b"ab\r\ndd");
-    assert_decode_row_lets_go::<Lines, _>(&rt, &piece, "599 text: &, &, &#2, *#598, $&#596");
-    assert_decode_row_lets_go::<Lines, _>(&rt, &piece, "any text: &, &, &#2, *#598, $&#596");
-    for row in ENDED_LATER.lines() {
-        assert_decode_row_lets_go::<Lines, _>(&rt, &[b'd'; 600], row);
+    for (front, row) in SHARED {
+        let mut piece = [b'd'; 600];
+        piece[..6].copy_from_slice(front);
+        assert_decode_row_lets_go::<Lines, _>(&rt, &piece, row);
     }
 }
 

@@ -43,14 +43,11 @@ fn made_delimited(
     if separator.is_empty() {
         return Err(NO_KIND);
     }
-    let made = match limit {
-        None => named_row_call("Delimited::", "new", Delimited::new(alloc, separator))?,
-        Some(limit) => {
-            let made = Delimited::with_limit(alloc, separator, limit);
-            named_row_call("Delimited::", "with_limit", made)?
-        }
+    let (name, made) = match limit {
+        None => ("new", Delimited::new(alloc, separator)),
+        Some(limit) => ("with_limit", Delimited::with_limit(alloc, separator, limit)),
     };
-    Ok((made, "Delimited"))
+    Ok((named_row_call("Delimited::", name, made)?, "Delimited"))
 }
 
 impl Made for Delimited {
@@ -77,6 +74,14 @@ impl Made for Delimited {
     }
 }
 
+/// A decoder of lines of this kind, with its name.
+fn lines_of_kind(lines: Lines, kind: &str) -> (Lines, &'static str) {
+    match kind {
+        "lossy" => (lines.lossy(), "lossy Lines"),
+        _ => (lines, "Lines"),
+    }
+}
+
 impl Made for Lines {
     /// The kind is `lossy` or `text`.
     fn of_kind(
@@ -84,19 +89,11 @@ impl Made for Lines {
         kind: &str,
         limit: Option<usize>,
     ) -> Result<(Lines, &'static str), Refusal> {
-        let lines = match limit {
-            None => named_row_call("Lines::", "new", Lines::new(alloc))?,
-            Some(limit) => named_row_call(
-                "Lines::",
-                "with_limit",
-                Lines::with_limit(alloc, limit),
-            )?,
+        let (name, made) = match limit {
+            None => ("new", Lines::new(alloc)),
+            Some(limit) => ("with_limit", Lines::with_limit(alloc, limit)),
         };
-        Ok(if kind == "lossy" {
-            (lines.lossy(), "lossy Lines")
-        } else {
-            (lines, "Lines")
-        })
+        Ok(lines_of_kind(named_row_call("Lines::", name, made)?, kind))
     }
 
     /// The bytes are `text` if a line that is UTF-8 was reported as one that is not.
@@ -175,23 +172,37 @@ impl Made for LengthPrefixed {
     }
 }
 
+/// The limit, if there is one, and the kind of a reader.
+fn limit_and_kind(kind: &str) -> Option<(Option<usize>, &str)> {
+    let (limit, kind) = kind.split_once(' ')?;
+    match limit {
+        "any" => Some((None, kind)),
+        _ => Some((Some(limit.parse().ok()?), kind)),
+    }
+}
+
+/// Makes a decoder, of its limit and its kind. If memory is refused, which is reported, it is made again.
+fn made_decoder<D: Made, R: Abort + Print + AllocGlobal>(
+    rt: &R,
+    (limit, kind): (Option<usize>, &str),
+) -> Option<(D, &'static str)> {
+    match D::of_kind(rt.alloc(), kind, limit) {
+        Ok(made) => Some(made),
+        Err(refusal) => {
+            report_row_call(rt, refusal);
+            D::of_kind(rt.alloc(), kind, limit).ok()
+        }
+    }
+}
+
 /// Makes a reader, of its limit and its kind, and returns it with the name of its decoder. If memory is refused, which
 /// is reported, it is made again. Returns `None` if there is no such kind.
 pub(super) fn made_reader<D: Made, R: Abort + Print + AllocGlobal>(
     rt: &R,
     kind: &str,
 ) -> Option<(Framed<D>, &'static str)> {
-    let (limit, kind) = kind.split_once(' ')?;
-    let limit = match limit {
-        "any" => None,
-        _ => Some(limit.parse().ok()?),
-    };
-    let (decoder, name) = match D::of_kind(rt.alloc(), kind, limit) {
-        Ok(made) => made,
-        Err(refusal) => {
-            report_row_call(rt, refusal);
-            D::of_kind(rt.alloc(), kind, limit).ok()?
-        }
-    };
-    Some((Framed::new(rt.alloc(), decoder), name))
+    match made_decoder::<D, R>(rt, limit_and_kind(kind)?) {
+        Some((decoder, name)) => Some((Framed::new(rt.alloc(), decoder), name)),
+        None => None,
+    }
 }

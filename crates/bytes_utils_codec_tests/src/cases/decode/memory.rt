@@ -4,20 +4,16 @@ use super::rows::{assert_decode_row_reads, assert_decode_rows};
 use crate::cases::fixtures::readers::SlowReader;
 use bytes_utils_codec::decode::{Delimited, LengthPrefixed, Lines, UniversalLines};
 
-/// A separator of 17 bytes, which the pieces cut, as they cut the frame before it.
-const FRAMES: &str =
-    "any 0123456789abcdef-: &, +a0123456, +789abcdef-0123456789abcdef-, a#601, $empty";
+/// A separator of 17 bytes, which the pieces cut, as they cut the frame before it. Of the second one only the beginning
+/// comes.
+const FRAMES: &str = "\
+any 0123456789abcdef-: &, +a0123456, +789abcdef-0123456789abcdef-, a#601, $empty
+700 0123456789abcdef-: &, -, +0123, -, +4567, -
+";
 
 #[test]
 fn delimited_decoder_if_memory_is_refused(rt: HostRuntime) {
     assert_decode_rows::<Delimited, _>(&rt, &[b'a'; 600], FRAMES);
-}
-
-// Its pieces are in two segments. Only these and the decoder take memory.
-#[test]
-fn decoder_that_waits_needs_no_memory(rt: HostRuntime) {
-    let row = "700 0123456789abcdef-: &, -, +1234, -, +5678, -";
-    assert_decode_rows::<Delimited, _>(&rt, &[b'0'; 600], row);
 }
 
 /// A line whose carriage return is in the second piece, and a last one; a last line of two pieces that are
@@ -57,22 +53,17 @@ fn length_prefixed_decoder_if_memory_is_refused(rt: HostRuntime) {
     assert_decode_rows::<LengthPrefixed, _>(&rt, &[b'a'; 600], PREFIXED);
 }
 
+/// Items of a reader, and single reads.
+const READS: &str = "\
+9 width 4: read_item ab, read_item cdef
+9 width 4: read_from 5, =#5, read_from 5, =#10
+9 width 4: room 600 5, =#5, room 600 5, =#10
+";
+
 #[test]
 fn decoder_reads_if_memory_is_refused(rt: HostRuntime) {
-    let input = SlowReader::new(b"\0\0\0\x02ab\0\0\0\x04cdef", 5);
-    assert_decode_row_reads::<LengthPrefixed, _>(
-        &rt,
-        input,
-        "9 width 4: read_item ab, read_item cdef",
-    );
-    assert_decode_row_reads::<LengthPrefixed, _>(
-        &rt,
-        input,
-        "9 width 4: read_from 5, =#5, read_from 5, =#10",
-    );
-    assert_decode_row_reads::<LengthPrefixed, _>(
-        &rt,
-        input,
-        "9 width 4: room 600 5, =#5, room 600 5, =#10",
-    );
+    for row in READS.lines() {
+        let input = SlowReader::new(b"\0\0\0\x02ab\0\0\0\x04cdef", 5);
+        assert_decode_row_reads::<LengthPrefixed, _>(&rt, input, row);
+    }
 }

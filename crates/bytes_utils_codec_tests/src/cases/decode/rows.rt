@@ -30,38 +30,81 @@ use crate::cases::fixtures::signs::{
     is_number_of_signs, meant_by_signs,
 };
 use bytes::Bytes;
-use bytes_utils::Reason;
+use bytes_utils::{Reason, SegmentedBuf};
 use bytes_utils_codec::decode::{Framed, ReadItemError};
-use std::alloc::Global;
+use std::alloc::{AllocError, Global};
 use std::io::{self, ErrorKind, Print};
 use std::process::Abort;
 
 /// A reader on which calls are made, with what they push and read.
 #[derive(Drop)]
-struct DecodeRun<'a, D: Made> {
+struct DecodeRun<'r, 'p, 'i, D: Made> {
     alloc: Global,
-    reader: Framed<D>,
+    reader: &'r mut Framed<D>,
     name: &'static str,
-    piece: &'a Bytes,
-    input: SlowReader<'a>,
+    piece: &'p Bytes,
+    input: SlowReader<'i>,
+}
+
+/// Whether the bytes of an item are as wanted.
+fn are_bytes_of_decode_row(bytes: &Bytes, want: &str) -> bool {
+    match want {
+        "empty" => bytes.is_empty(),
+        _ => is_block_of_signs(bytes, want),
+    }
 }
 
 /// Whether an item is as wanted.
 fn is_item_of_decode_row<D: Made>(item: Option<D::Item>, want: &str) -> bool {
     match item {
-        Some(item) if want == "empty" => D::into_bytes(item).is_empty(),
-        Some(item) => is_block_of_signs(&D::into_bytes(item), want),
+        Some(item) => are_bytes_of_decode_row(&D::into_bytes(item), want),
         None => want == "-",
     }
 }
 
-impl<D: Made> DecodeRun<'_, D> {
+/// Whether an item is as wanted. Fails with its name if it was refused.
+fn is_named_item_of_decode_row<D: Made>(
+    (name, at): (&'static str, &'static str),
+    item: Result<Option<D::Item>, Reason>,
+    want: &str,
+) -> Result<bool, Refusal> {
+    match item {
+        Ok(item) => Ok(is_item_of_decode_row::<D>(item, want)),
+        Err(reason) => named_row_call(name, at, Err(reason)),
+    }
+}
+
+/// Whether the first bytes are as wanted, in one block.
+fn is_front_of_decode_row(front: &Result<Bytes, Reason>, want: &str) -> Result<bool, Refusal> {
+    match front {
+        Ok(front) => Ok(is_block_of_signs(front, want)),
+        Err(reason) => named_row_call("Framed::", "take_bytes", Err(*reason)),
+    }
+}
+
+/// Whether the first bytes are as wanted, in segments.
+fn are_parts_of_decode_row(
+    front: Result<SegmentedBuf<Bytes>, Reason>,
+    want: &str,
+) -> Result<bool, Refusal> {
+    match front {
+        Ok(front) => Ok(are_parts_of_signs(front, want)),
+        Err(reason) => named_row_call("Framed::", "split_to", Err(reason)),
+    }
+}
+
+impl<D: Made> DecodeRun<'_, '_, '_, D> {
+    /// These bytes in a block of their own, or else a share of the piece.
+    fn new_piece(&self, bytes: Option<&str>) -> Result<Bytes, AllocError> {
+        match bytes {
+            Some(bytes) => Bytes::copy_from_slice(self.alloc, meant_by_signs(bytes).as_slice()),
+            None => self.piece.clone(),
+        }
+    }
+
     /// Pushes these bytes as a piece of their own, or else a share of the piece.
     fn push(&mut self, bytes: Option<&str>) -> Result<bool, Reason> {
-        let piece = match bytes {
-            Some(bytes) => Bytes::copy_from_slice(self.alloc, meant_by_signs(bytes).as_slice())?,
-            None => self.piece.clone()?,
-        };
+        let piece = self.new_piece(bytes)?;
         self.reader.push(piece)?;
         Ok(true)
     }
@@ -80,14 +123,8 @@ impl<D: Made> DecodeRun<'_, D> {
             return Ok(false);
         }
         match name {
-            "take_bytes" => {
-                let front = self.reader.take_bytes(len);
-                Ok(is_block_of_signs(&named_row_call("Framed::", "take_bytes", front)?, want))
-            }
-            "split_to" => {
-                let front = self.reader.split_to(len);
-                Ok(are_parts_of_signs(named_row_call("Framed::", "split_to", front)?, want))
-            }
+            "take_bytes" => is_front_of_decode_row(&self.reader.take_bytes(len), want),
+            "split_to" => are_parts_of_decode_row(self.reader.split_to(len), want),
             "advance" => {
                 self.reader.advance(len);
                 Ok(true)
@@ -126,6 +163,35 @@ impl<D: Made> DecodeRun<'_, D> {
         }
     }
 
+    /// Makes a call whose name is its first character.
+    fn make_signed(&mut self, call: &str, rest: &str) -> Result<bool, Refusal> {
+        match call.bytes().next() {
+            Some(b'+') => self.push_copy(meant_by_signs(rest).as_slice()),
+            Some(b'$') => {
+                let name = (self.name, " at last_item");
+                is_named_item_of_decode_row::<D>(name, self.reader.last_item(), rest)
+            }
+            Some(b'=') => {
+                let held = self.reader.pieces().as_segmented();
+                Ok(are_segments_of_signs(held, rest))
+            }
+            Some(b'/') => Ok(is_number_of_signs(rest, self.reader.pieces().segments())),
+            _ => self.make_unsigned(call),
+        }
+    }
+
+    /// Pushes the piece, or takes the next item.
+    fn make_unsigned(&mut self, call: &str) -> Result<bool, Refusal> {
+        match call {
+            "&" => named_row_call("Framed::", "push", self.push(None)),
+            "copy" => self.push_copy(self.piece.as_slice()),
+            _ => {
+                let name = (self.name, " at next_item");
+                is_named_item_of_decode_row::<D>(name, self.reader.next_item(), call)
+            }
+        }
+    }
+
     /// Makes a call whose name is a word.
     fn make_named(&mut self, name: &str, rest: &str) -> Result<bool, Refusal> {
         let (shortest, longest) = self.input.rooms;
@@ -153,35 +219,12 @@ impl<D: Made> DecodeRun<'_, D> {
     }
 }
 
-impl<D: Made> CalledByRow for DecodeRun<'_, D> {
+impl<D: Made> CalledByRow for DecodeRun<'_, '_, '_, D> {
     fn make(&mut self, call: &str) -> Result<bool, Refusal> {
-        if let Some((name, rest)) = call.split_once(' ') {
-            return self.make_named(name, rest);
+        match call.split_once(' ') {
+            Some((name, rest)) => self.make_named(name, rest),
+            None => self.make_signed(call, call.get(1..).unwrap_or("")),
         }
-        if let Some(bytes) = call.strip_prefix("+") {
-            return self.push_copy(meant_by_signs(bytes).as_slice());
-        }
-        if let Some(want) = call.strip_prefix("$") {
-            let item = self.reader.last_item();
-            return Ok(is_item_of_decode_row::<D>(
-                named_row_call(self.name, " at last_item", item)?,
-                want,
-            ));
-        }
-        if let Some(want) = call.strip_prefix("=") {
-            return Ok(are_segments_of_signs(self.reader.pieces().as_segmented(), want));
-        }
-        if let Some(count) = call.strip_prefix("/") {
-            return Ok(is_number_of_signs(count, self.reader.pieces().segments()));
-        }
-        if call == "&" {
-            return named_row_call("Framed::", "push", self.push(None));
-        }
-        if call == "copy" {
-            return self.push_copy(self.piece.as_slice());
-        }
-        let item = self.reader.next_item();
-        Ok(is_item_of_decode_row::<D>(named_row_call(self.name, " at next_item", item)?, call))
     }
 
     fn bytes(&self) -> usize {
@@ -189,6 +232,25 @@ impl<D: Made> CalledByRow for DecodeRun<'_, D> {
             .remaining()
             .saturating_add(self.input.rest.len())
     }
+}
+
+/// Makes calls on a reader, with this piece and this input. Returns whether they are right.
+fn are_calls_right<D: Made, R: Abort + Print + AllocGlobal>(
+    rt: &R,
+    reader: &mut Framed<D>,
+    name: &'static str,
+    piece: &Bytes,
+    input: SlowReader<'_>,
+    calls: &str,
+) -> bool {
+    let mut run = DecodeRun {
+        alloc: rt.alloc(),
+        reader,
+        name,
+        piece,
+        input,
+    };
+    is_row_right(rt, &mut run, calls)
 }
 
 /// Makes the calls of a row on a new reader. Returns whether it is right.
@@ -201,35 +263,20 @@ fn is_decode_row_right<D: Made, R: Abort + Print + AllocGlobal>(
     let Some((kind, calls)) = row.split_once(": ") else {
         return false;
     };
-    let Some((reader, name)) = made_reader::<D, R>(rt, kind) else {
-        return false;
-    };
-    let mut run = DecodeRun {
-        alloc: rt.alloc(),
-        reader,
-        name,
-        piece,
-        input,
-    };
-    is_row_right(rt, &mut run, calls)
+    match made_reader::<D, R>(rt, kind) {
+        Some((mut reader, name)) => are_calls_right(rt, &mut reader, name, piece, input, calls),
+        None => false,
+    }
 }
 
-/// Makes calls on a reader. Returns it if they are right.
-pub(super) fn after_decode_row<D: Made, R: Abort + Print + AllocGlobal>(
+/// Makes calls on a reader. Returns whether they are right.
+pub(super) fn are_decode_calls_right<D: Made, R: Abort + Print + AllocGlobal>(
     rt: &R,
-    reader: Framed<D>,
+    reader: &mut Framed<D>,
     calls: &str,
-) -> Option<Framed<D>> {
-    let mut run = DecodeRun {
-        alloc: rt.alloc(),
-        reader,
-        name: "a reader",
-        piece: &Bytes::new(),
-        input: SlowReader::new(b"", 1),
-    };
-    let is_right = is_row_right(rt, &mut run, calls);
-    let DecodeRun { reader, .. } = run;
-    is_right.then_some(reader)
+) -> bool {
+    let input = SlowReader::new(b"", 1);
+    are_calls_right(rt, reader, "a reader", &Bytes::new(), input, calls)
 }
 
 /// Asserts each of the rows, with this piece.

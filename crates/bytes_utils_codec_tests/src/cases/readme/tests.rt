@@ -6,7 +6,7 @@ use bytes_utils::Reason;
 use bytes_utils_codec::decode::{Framed, LineFault, Lines};
 
 /// Whether this line was returned, or for `-` none.
-fn is_readme_line(line: Option<Line>, want: &str) -> bool {
+fn is_readme_line(line: &Option<Line>, want: &str) -> bool {
     match line {
         Some(Ok(line)) => line.eq_str(want),
         Some(Err(LineFault::TooLong)) => want == "long",
@@ -27,7 +27,7 @@ const PIECES: [(&[u8], &str); 5] = [
 /// Whether the lines of these pieces come.
 fn are_readme_lines(lines: &mut Framed<Lines>) -> Result<bool, Reason> {
     for (piece, want) in PIECES {
-        if !is_readme_line(next_line(lines, Bytes::from_static(piece))?, want) {
+        if !is_readme_line(&next_line(lines, Bytes::from_static(piece))?, want) {
             return Ok(false);
         }
     }

@@ -9,23 +9,34 @@ use std::alloc::Global;
 use std::process::Abort;
 use std::str;
 
-/// Appends the text of an item, or U+FFFD. Returns `None` if memory is refused.
-fn put_cut_text(item: Result<Str, Utf8Error<Bytes>>, out: &mut String) -> Option<()> {
-    match item {
-        Ok(text) => out.push_str(text.as_str()).ok(),
-        Err(_) => out.push_str("\u{FFFD}").ok(),
-    }
+/// Appends the text of an item, or U+FFFD. Returns whether memory was there.
+fn put_cut_text(item: &Result<Str, Utf8Error<Bytes>>, out: &mut String) -> bool {
+    let text = match item {
+        Ok(text) => text.as_str(),
+        Err(_) => "\u{FFFD}",
+    };
+    out.push_str(text).is_ok()
 }
 
-/// Appends the texts of all items that come. Returns `None` if memory is refused, or there are too many.
-fn take_cut_texts(texts: &mut Texts, out: &mut String) -> Option<()> {
+/// Appends the texts of all items that come. Returns whether memory was there, and they had an end.
+fn take_cut_texts(texts: &mut Texts, out: &mut String) -> bool {
+    let mut is_put = true;
     for _ in 0..64 {
-        match texts.next_item().ok()? {
-            Some(item) => put_cut_text(item, out)?,
-            None => return Some(()),
+        match texts.next_item() {
+            Ok(Some(item)) => is_put &= put_cut_text(&item, out),
+            Ok(None) => return is_put,
+            Err(_) => return false,
         }
     }
-    None
+    false
+}
+
+/// Whether std says that these bytes are the first ones of a character, or none.
+fn is_beginning_of_character(bytes: &[u8]) -> bool {
+    match str::from_utf8(bytes) {
+        Ok(text) => text.is_empty(),
+        Err(fault) => fault.valid_up_to() == 0 && fault.error_len().is_none(),
+    }
 }
 
 /// Whether std says of all bytes that came that they are these texts, and the first bytes of a character, or none, which
@@ -35,10 +46,7 @@ fn are_cut_texts_as_std(alloc: Global, came: &[u8], held: usize, out: &str) -> b
         return false;
     }
     let (front, back) = came.split_at(came.len() - held);
-    let is_beginning = match str::from_utf8(back) {
-        Ok(text) => text.is_empty(),
-        Err(fault) => fault.valid_up_to() == 0 && fault.error_len().is_none(),
-    };
+    let is_beginning = is_beginning_of_character(back);
     match String::from_utf8_lossy(alloc, front) {
         Ok(lossy) => is_beginning && lossy.as_str() == out,
         Err(_) => false,
@@ -52,30 +60,53 @@ fn is_right_after_cut_text(
     texts: &mut Texts,
     (block, from, to): (&Bytes, usize, usize),
     out: &mut String,
-) -> Option<bool> {
+) -> bool {
     if to < from || block.len() < to {
-        return None;
+        return false;
     }
-    texts.push(block.slice(from..to).ok()?).ok()?;
-    take_cut_texts(texts, out)?;
+    let is_pushed = match block.slice(from..to) {
+        Ok(piece) => texts.push(piece).is_ok(),
+        Err(_) => false,
+    };
     let came = &block.as_slice()[..to];
-    Some(are_cut_texts_as_std(alloc, came, texts.remaining(), out.as_str()))
+    is_pushed
+        && take_cut_texts(texts, out)
+        && are_cut_texts_as_std(alloc, came, texts.remaining(), out.as_str())
+}
+
+/// Appends the text that comes with the end of the stream, which is U+FFFD if there is one.
+fn take_last_cut_text(texts: &mut Texts, out: &mut String) -> bool {
+    match texts.last_item() {
+        Ok(Some(item)) => put_cut_text(&item, out) && out.as_str().ends_with("\u{FFFD}"),
+        Ok(None) => true,
+        Err(_) => false,
+    }
 }
 
 /// Whether the stream ends with these texts, the last of which is U+FFFD if it came with the end, and nothing is left.
 fn cut_texts_end(texts: &mut Texts, out: &mut String, want: &str) -> bool {
-    let is_last = match texts.last_item() {
-        Ok(Some(item)) => put_cut_text(item, out).is_some() && out.as_str().ends_with("\u{FFFD}"),
-        Ok(None) => true,
-        Err(_) => false,
-    };
-    is_last
+    take_last_cut_text(texts, out)
         && texts.remaining() == 0
         && matches!(texts.last_item(), Ok(None))
         && out.as_str() == want
 }
 
-/// Whether std says the same after each of three pieces of the block, and these are its texts.
+/// Whether std says the same after each of three pieces of the block.
+fn are_cut_pieces_right(
+    alloc: Global,
+    texts: &mut Texts,
+    (block, cuts): (&Bytes, (usize, usize)),
+    out: &mut String,
+) -> bool {
+    let (mut is_right, mut from) = (true, 0);
+    for to in [cuts.0, cuts.1, block.len()] {
+        is_right &= is_right_after_cut_text(alloc, texts, (block, from, to), out);
+        from = to;
+    }
+    is_right
+}
+
+/// Whether that is so of a new reader, and these are the texts of the block.
 fn is_cut_text_right(
     alloc: Global,
     kind: &str,
@@ -85,13 +116,8 @@ fn is_cut_text_right(
 ) -> bool {
     let mut texts = texts_of_kind(alloc, kind);
     let mut out = String::new(alloc);
-    let (mut is_right, mut from) = (true, 0);
-    for to in [cuts.0, cuts.1, block.len()] {
-        let after = is_right_after_cut_text(alloc, &mut texts, (block, from, to), &mut out);
-        is_right &= after == Some(true);
-        from = to;
-    }
-    is_right && cut_texts_end(&mut texts, &mut out, want)
+    are_cut_pieces_right(alloc, &mut texts, (block, cuts), &mut out)
+        && cut_texts_end(&mut texts, &mut out, want)
 }
 
 /// Whether that is so of both kinds of reader.
@@ -145,10 +171,13 @@ fn texts_cut_at_every_two_places(rt: HostRuntime) {
 }
 
 /// Whether the texts of these bytes, cut after the first and the second of them, are std's.
-fn are_cut_texts_as_std_in_order(alloc: Global, bytes: &[u8]) -> Option<bool> {
-    let block = Bytes::copy_from_slice(alloc, bytes).ok()?;
-    let want = String::from_utf8_lossy(alloc, bytes).ok()?;
-    Some(are_cut_texts_right(alloc, &block, (1, 2), want.as_str()))
+fn are_cut_texts_as_std_in_order(alloc: Global, bytes: &[u8]) -> bool {
+    let block = Bytes::copy_from_slice(alloc, bytes);
+    let want = String::from_utf8_lossy(alloc, bytes);
+    match (&block, &want) {
+        (Ok(block), Ok(want)) => are_cut_texts_right(alloc, block, (1, 2), want.as_str()),
+        _ => false,
+    }
 }
 
 /// Each first byte and each second one, with bytes after them that may end any character.
@@ -157,7 +186,7 @@ fn texts_cut_between_any_two_bytes(rt: HostRuntime) {
     for lead in 0..=255 {
         for second in 0..=255 {
             let is_right = are_cut_texts_as_std_in_order(rt.alloc(), &[lead, second, 0x80, 0xBF]);
-            assert_that(&rt, is_right == Some(true));
+            assert_that(&rt, is_right);
         }
     }
 }
