@@ -180,11 +180,17 @@ fn are_cut_texts_as_std_in_order(alloc: Global, bytes: &[u8]) -> bool {
     }
 }
 
-/// Each first byte and each second one, with bytes after them that may end any character.
+/// Each first byte of a longer character and each second one, with bytes after them that may end any character. After
+/// each other byte nothing is held, as before the first one, so one second byte is enough.
 #[test]
 fn texts_cut_between_any_two_bytes(rt: HostRuntime) {
     for lead in 0..=255 {
-        for second in 0..=255 {
+        let last = if is_beginning_of_character(&[lead]) {
+            255
+        } else {
+            0
+        };
+        for second in 0..=last {
             let is_right = are_cut_texts_as_std_in_order(rt.alloc(), &[lead, second, 0x80, 0xBF]);
             assert_that(&rt, is_right);
         }
