@@ -172,7 +172,8 @@ fn all_lines_of_texts(rt: HostRuntime) {
 
 /// A line in a block of copied bytes shares it, one in two segments has a block of its own, and one
 /// in a long piece shares that. A line in one piece and a last one in one share their pieces, and one in two
-/// pieces does not. A line that is a whole piece shares it, if its end comes in others. A piece begins with such bytes.
+/// pieces does not. A line that is a whole piece shares it, if its end comes in others. A row
+/// has the first bytes of a piece of 600.
 const SHARED: [(&[u8; 6], &str); 10] = [
     (b"b\r\nab\n", "any text: +ab.a, &ab, &, *ab, &ab"),
     (b"b\r\nab\n", "any lossy: +ab.a, &ab, &, *ab, &ab"),
@@ -183,7 +184,10 @@ const SHARED: [(&[u8; 6], &str); 10] = [
     (b"dddddd", "any text: &, -, own <, -, own ., &d#600, $-"),
     (b"dddddd", "any lossy: &, -, +<.ab, &d#600, $ab"),
     (b"dddddd", "600 text: &, -, +<., long, $-"),
-    (b"dddddd", "601 text: &, -, +., &d#600, &, -, +<., &d#600, $-"),
+    (
+        b"dddddd",
+        "601 text: &, -, +., &d#600, &, -, +<., &d#600, $-",
+    ),
 ];
 
 #[test]
