@@ -158,8 +158,8 @@ impl PartReader {
     /// Fails with `Malformed` if the held bytes begin with no part whose head is header fields,
     /// whatever comes after them, with `TooLarge` if they begin with none within the limits, with
     /// `NotUtf8` if the head isn't UTF-8, and with `Refused` if memory is refused; then nothing has
-    /// changed. Each of them but `TooLarge` comes only after the delimiter at the end of the part, and
-    /// not where too many bytes are before the first delimiter: no other call asks for memory.
+    /// changed. Each but `TooLarge` comes only after the delimiter at the end of the part, and only if
+    /// what is before the first delimiter is within the limits: no other call asks for memory.
     pub fn next_part(&mut self) -> Result<Option<Part>, PartError>
         ensures part { IfOk result (λ next. IfSome next (λ part. TakesMultipart self.old.delimiter
             self.old.limits self.old.held (bytes_of_multipart part) self.new.held)) }

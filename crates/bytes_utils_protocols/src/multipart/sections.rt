@@ -84,7 +84,8 @@ impl Sections {
         self.waiting.push_slice(alloc, piece)
     }
 
-    /// Searches for the delimiters before and after the next part, or for the close delimiter.
+    /// Searches for the delimiters before and after the next part, or for the close delimiter. Fails
+    /// if what is before the first one is over the limits.
     pub(super) fn search(&mut self, alloc: Global, limits: Limits) -> Result<(), PartError>
         requires { IsMultipartDivided self.old }
         ensures divided { IsMultipartDivided self.new }
