@@ -10,13 +10,11 @@ use Rattle.std.proofs.lemmas.List.Folds.{concat-append}
 use Rattle.bytes_utils_codec.specs.Frames.{TakesFrame}
 use Rattle.bytes_utils.specs.Occurrence.{Occurs}
 use Rattle.bytes_utils_codec.specs.Pushing.{IsPush}
-use Rattle.bytes_utils_codec.specs.Search.{NoneBeginsInSearch, searched_all}
-use Rattle.bytes_utils_buf.specs.Packing.{Packing}
 use Rattle.bytes_utils_buf.specs.declared.refused.Refused.{Refused}
 use Rattle.bytes_utils_codec.proofs.FramesLemmas.{TakesFrame-more, TakesFrame-same}
-use Rattle.bytes_utils_codec.proofs.SearchLemmas.{NoneBeginsInSearch-more}
 use Rattle.bytes_utils.proofs.OccurrenceLemmas.{OccursAt-front}
-use Rattle.bytes_utils_protocols.specs.Multipart.{AreMultipartFields, IsMultipartFieldLine, FewWaitInMultipart, IsMultipartIdle, MultipartReading, multipart_appended, multipart_closed, multipart_line_end, multipart_dashes, multipart_head_end, MultipartBytes, multipart_bytes, IsMultipartHead, IsMultipartPart, TakesMultipart, IsMultipartDue, HasNextInMultipart, IsMultipartSearchFault, EachMultipart, NoMultipart, ClosesMultipart, LacksNextInMultipart, held_in_multipart_sections, AreMultipartSectionsApart, multipart_sections_have_ended, held_by_multipart, waiting_in_multipart, IsMultipartDivided, SameMultipartSections, AfterMultipartSearch, HasMultipartDisposition, IsFirstMultipartDisposition, IsMultipartDisposition, IsMultipartFolded, NoMultipartDisposition, ReadsMultipartDisposition}
+use Rattle.bytes_utils_protocols.specs.Multipart.{AreMultipartFields, IsMultipartFieldLine, FewWaitInMultipart, IsMultipartIdle, MultipartReading, multipart_appended, multipart_closed, multipart_line_end, multipart_dashes, multipart_head_end, MultipartBytes, multipart_bytes, IsMultipartHead, IsMultipartPart, TakesMultipart, IsMultipartDue, HasNextInMultipart, IsMultipartSearchFault, EachMultipart, NoMultipart, ClosesMultipart, LacksNextInMultipart, held_in_multipart_sections, AreMultipartSectionsApart, multipart_sections_have_ended, held_by_multipart, IsMultipartDivided, SameMultipartSections, AfterMultipartSearch, HasMultipartDisposition, IsFirstMultipartDisposition, IsMultipartDisposition, IsMultipartFolded, NoMultipartDisposition, ReadsMultipartDisposition}
+use Rattle.bytes_utils_protocols.specs.MultipartWaiting.{MultipartWaiting}
 use Rattle.bytes_utils_protocols.specs.declared.multipart.limits.Limits.{Limits}
 use Rattle.bytes_utils_protocols.specs.declared.multipart.limits.PartError.{PartError}
 use Rattle.bytes_utils_protocols.specs.declared.multipart.limits.PartError.TheVariants.{Refused as RefusedPart, Malformed, NotUtf8, TooLarge}
@@ -115,66 +113,56 @@ module _ (d : List ℕ) (limits : Limits) where
 -- ---- what is found
 
 module _ (s : Sections) (waiting : s.stage ≡ Waiting) (divided : IsMultipartDivided s) where
+  begins : TakesFrame s.waiting.delimiter (s.preamble ++ (s.waiting.delimiter ++ s.waiting.held)) s.preamble s.waiting.held
+  begins = subst (λ stage. AreMultipartSectionsApart stage s.waiting.delimiter s.preamble (concat s.found.segments) s.waiting.held) waiting divided
+
+  -- what is true of the preamble, the delimiter and the bytes after it is true of what is held
+  of_waiting : (P : List ℕ → Type 0) → P (s.preamble ++ (s.waiting.delimiter ++ s.waiting.held)) → P (held_by_multipart s)
+  of_waiting P here = subst (λ stage. P (held_in_multipart_sections stage s.waiting.delimiter s.preamble (concat s.found.segments) s.waiting.held)) (sym waiting) here
+
   -- neither the next delimiter nor the end
-  pub none_found : (new : Sections) → new ≡ record s { delimiter = searched_all s.delimiter (waiting_in_multipart s) } → (¬ Occurs s.delimiter.needle (waiting_in_multipart s))
-      → take 2 (waiting_in_multipart s) ≢ multipart_dashes → AfterMultipartSearch new.stage s new
-  none_found new is none other =
-      let d = s.delimiter.needle in
-      let p = s.preamble in
-      let f = concat s.found.segments in
-      let w = waiting_in_multipart s in
-      let begins : TakesFrame d (p ++ (d ++ w)) p w = subst (λ stage. AreMultipartSectionsApart stage d p f w) waiting divided.0 in
-      let not_closed = subst (λ stage. ¬ ClosesMultipart d (held_in_multipart_sections stage d p f w)) (sym waiting) (not_closed d p w begins other) in
-      let lacks = subst (λ stage. LacksNextInMultipart d (held_in_multipart_sections stage d p f w)) (sym waiting) (lacks_next d p w begins none) in
-      let searched : Sections = record s { delimiter = searched_all s.delimiter w } in
-      subst (λ (l : Sections). AfterMultipartSearch l.stage s l) (sym is)
-      (subst (λ stage. AfterMultipartSearch stage s searched) (sym waiting) (record { delimiter = refl; ended = refl; held = refl }, none, not_closed, lacks))
+  pub none_found : (new : Sections) → new ≡ s → (¬ Occurs s.waiting.delimiter s.waiting.held) → take 2 s.waiting.held ≢ multipart_dashes → AfterMultipartSearch new.stage s new
+  none_found new same none other =
+      let d = s.waiting.delimiter in
+      let not_closed = of_waiting (λ held. ¬ ClosesMultipart d held) (not_closed d s.preamble s.waiting.held begins other) in
+      let lacks = of_waiting (LacksNextInMultipart d) (lacks_next d s.preamble s.waiting.held begins none) in
+      subst (λ (l : Sections). AfterMultipartSearch l.stage s l) (sym same)
+      (subst (λ stage. AfterMultipartSearch stage s s) (sym waiting) (record { delimiter = refl; ended = refl; held = refl }, none, not_closed, lacks))
+
+  -- memory is refused for what is before the next delimiter
+  pub due_before_next : HasNextInMultipart s.waiting.delimiter s.waiting.held → (limits : Limits) → length s.preamble ≤ limits.head + limits.body → IsMultipartDue s.waiting.delimiter limits (held_by_multipart s)
+  due_before_next next limits few =
+      of_waiting (IsMultipartDue s.waiting.delimiter limits) (record { preamble = s.preamble; after = s.waiting.held; begins = begins; raw = next.0; next = next.1; ends = next.2; few = few })
 
 module _ (s : Sections) (is_found : s.stage ≡ Found) (divided : IsMultipartDivided s) where
-  module _ (limits : Limits) where
-    -- what was found is a part, and it is taken
-    pub takes_found : (part : MultipartBytes) (new : Sections) → IsMultipartPart limits (concat s.found.segments) part → length s.preamble ≤ limits.head + limits.body
-        → new.stage ≡ Waiting → new.delimiter ≡ s.delimiter → new.waiting ≡ s.waiting → new.preamble ≡ [] → TakesMultipart s.delimiter.needle limits (held_by_multipart s) part (held_by_multipart new)
-    takes_found part new is few stage delimiter waiting preamble =
-        let d = s.delimiter.needle in
-        let p = s.preamble in
-        let f = concat s.found.segments in
-        let v = waiting_in_multipart s in
-        let both : AreMultipartSectionsApart Found d p f v = subst (λ stage. AreMultipartSectionsApart stage d p f v) is_found divided.0 in
-        let left : held_by_multipart new ≡ d ++ v = rw (stage, delimiter, waiting, preamble) refl in
-        rw left (subst (λ stage. TakesMultipart d limits (held_in_multipart_sections stage d p f v) part (d ++ v)) (sym is_found) (found_part d limits p f v both.0 both.1 part is few))
+  both : AreMultipartSectionsApart Found s.waiting.delimiter s.preamble (concat s.found.segments) s.waiting.held
+  both = subst (λ stage. AreMultipartSectionsApart stage s.waiting.delimiter s.preamble (concat s.found.segments) s.waiting.held) is_found divided
 
+  -- the same with what was found and the delimiter after it
+  of_found : (P : List ℕ → Type 0) → P (s.preamble ++ (s.waiting.delimiter ++ (concat s.found.segments ++ (s.waiting.delimiter ++ s.waiting.held)))) → P (held_by_multipart s)
+  of_found P here = subst (λ stage. P (held_in_multipart_sections stage s.waiting.delimiter s.preamble (concat s.found.segments) s.waiting.held)) (sym is_found) here
+
+  module _ (limits : Limits) where
+    -- what was found is a part
     pub part_in_found : (part : MultipartBytes) → IsMultipartPart limits (concat s.found.segments) part → length s.preamble ≤ limits.head + limits.body
-        → (rest : List ℕ) × TakesMultipart s.delimiter.needle limits (held_by_multipart s) part rest
+        → (rest : List ℕ) × TakesMultipart s.waiting.delimiter limits (held_by_multipart s) part rest
     part_in_found part is few =
-        let d = s.delimiter.needle in
-        let p = s.preamble in
-        let f = concat s.found.segments in
-        let v = waiting_in_multipart s in
-        let both : AreMultipartSectionsApart Found d p f v = subst (λ stage. AreMultipartSectionsApart stage d p f v) is_found divided.0 in
-        (d ++ v, subst (λ stage. TakesMultipart d limits (held_in_multipart_sections stage d p f v) part (d ++ v)) (sym is_found) (found_part d limits p f v both.0 both.1 part is few))
+        let d = s.waiting.delimiter in
+        let rest = d ++ s.waiting.held in
+        (rest, of_found (λ held. TakesMultipart d limits held part rest) (found_part d limits s.preamble (concat s.found.segments) s.waiting.held both.0 both.1 part is few))
 
     -- the delimiters before and after it have come
-    pub due_in_found : length s.preamble ≤ limits.head + limits.body → IsMultipartDue s.delimiter.needle limits (held_by_multipart s)
+    pub due_in_found : length s.preamble ≤ limits.head + limits.body → IsMultipartDue s.waiting.delimiter limits (held_by_multipart s)
     due_in_found few =
-        let d = s.delimiter.needle in
-        let p = s.preamble in
-        let f = concat s.found.segments in
-        let v = waiting_in_multipart s in
-        let both : AreMultipartSectionsApart Found d p f v = subst (λ stage. AreMultipartSectionsApart stage d p f v) is_found divided.0 in
-        subst (λ stage. IsMultipartDue d limits (held_in_multipart_sections stage d p f v)) (sym is_found)
-        (record { preamble = p; after = f ++ (d ++ v); begins = both.0; raw = f; next = v; ends = both.1; few = few })
+        of_found (IsMultipartDue s.waiting.delimiter limits)
+        (record { preamble = s.preamble; after = concat s.found.segments ++ (s.waiting.delimiter ++ s.waiting.held); begins = both.0; raw = concat s.found.segments; next = s.waiting.held; ends = both.1; few = few })
 
     -- what is true of each part that was found is true of each that is there
     pub each_in_found : (P : MultipartBytes → Type 0) → ((part : MultipartBytes) → IsMultipartPart limits (concat s.found.segments) part → P part) → (more : List ℕ)
-        → EachMultipart P s.delimiter.needle limits (held_by_multipart s ++ more)
+        → EachMultipart P s.waiting.delimiter limits (held_by_multipart s ++ more)
     each_in_found P each more =
-        let d = s.delimiter.needle in
-        let p = s.preamble in
-        let f = concat s.found.segments in
-        let v = waiting_in_multipart s in
-        let both : AreMultipartSectionsApart Found d p f v = subst (λ stage. AreMultipartSectionsApart stage d p f v) is_found divided.0 in
-        subst (λ stage. EachMultipart P d limits (held_in_multipart_sections stage d p f v ++ more)) (sym is_found) (each_found d limits p f v both.0 both.1 P each more)
+        let d = s.waiting.delimiter in
+        of_found (λ held. EachMultipart P d limits (held ++ more)) (each_found d limits s.preamble (concat s.found.segments) s.waiting.held both.0 both.1 P each more)
 
 -- ---- a piece is pushed
 
@@ -203,27 +191,6 @@ held_apart Waiting d p f w on = sym (append_assoc p d w)
 held_apart Found d p f w on = sym (append_assoc p d (f ++ (d ++ w))) ∙ ap (λ l. (p ++ d) ++ l) (sym (append_assoc f d w)) ∙ sym (append_assoc (p ++ d) (f ++ d) w)
 held_apart Ended d p f w on = cc
 
-module _ (s : Sections) (waiting : Packing) (piece : List ℕ) (held : concat waiting.held.segments ≡ waiting_in_multipart s ++ piece) where
-  pub divided_more : multipart_sections_have_ended s.stage ≡ false → IsMultipartDivided s → IsMultipartDivided (record s { waiting = waiting })
-  divided_more on parts =
-      let d = s.delimiter.needle in
-      let p = s.preamble in
-      let f = concat s.found.segments in
-      let w = waiting_in_multipart s in (
-        subst (AreMultipartSectionsApart s.stage d p f) (sym held) (apart_more s.stage d p f w piece on parts.0),
-        subst (λ l. NoneBeginsInSearch d l s.delimiter.searched) (sym held) (NoneBeginsInSearch-more d w piece s.delimiter.searched parts.1),
-      )
-
-  pub held_more : multipart_sections_have_ended s.stage ≡ false → held_by_multipart (record s { waiting = waiting }) ≡ held_by_multipart s ++ piece
-  held_more on =
-      let d = s.delimiter.needle in
-      let p = s.preamble in
-      let f = concat s.found.segments in
-      let w = waiting_in_multipart s in
-      let before = held_before s.stage d p f in
-      ap (held_in_multipart_sections s.stage d p f) held ∙ held_apart s.stage d p f (w ++ piece) on ∙ sym (append_assoc before w piece)
-      ∙ ap (λ l. l ++ piece) (sym (held_apart s.stage d p f w on))
-
 -- what a push says of a part of the state, and of all of it
 pub push_of_all : {U : Type 0} (held piece : List ℕ) (result : Result U (Refused (List ℕ))) {A B C D : Type 0} → IsPush held piece result A B → (A → C) → (B → D) → IsPush held piece result C D
 push_of_all held piece (Ok u) push all same = record { ok = all push.ok; err = tt; back = tt; too_long = tt; empty = push.empty }
@@ -231,36 +198,40 @@ push_of_all held piece (Err e) push all same = record { ok = tt; err = same push
 
 -- what clauses see
 abbrev seen : Limits → Sections → MultipartReading
-seen limits s = record { delimiter = s.delimiter.needle; limits = limits; ended = multipart_sections_have_ended s.stage; held = held_by_multipart s }
+seen limits s = record { delimiter = s.waiting.delimiter; limits = limits; ended = multipart_sections_have_ended s.stage; held = held_by_multipart s }
 
-module _ (s new : Sections) (piece : List ℕ) (others : new ≡ record s { waiting = new.waiting }) where
-  pub still_divided : {E : Type 0} (result : Result (Unit {0}) E) → OnOk result (waiting_in_multipart new ≡ waiting_in_multipart s ++ piece) → OnErr result (new ≡ s) → multipart_sections_have_ended s.stage ≡ false
-      → IsMultipartDivided s → IsMultipartDivided new
-  still_divided (Ok u) held unchanged on parts = subst IsMultipartDivided (sym others) (divided_more s new.waiting piece held on parts)
-  still_divided (Err e) held unchanged on parts = subst IsMultipartDivided (sym unchanged) parts
+-- the same state, with a piece after the bytes that wait
+abbrev waits_more : Sections → List ℕ → MultipartWaiting
+waits_more s piece = record s.waiting { held = s.waiting.held ++ piece }
 
-  pub seen_more : (limits : Limits) → waiting_in_multipart new ≡ waiting_in_multipart s ++ piece → multipart_sections_have_ended s.stage ≡ false → seen limits new ≡ multipart_appended (seen limits s) piece
-  seen_more limits held on =
-      let more = held_more s new.waiting piece held on in
-      ap (seen limits) others ∙ (rw on (λ i. record { delimiter = s.delimiter.needle; limits = limits; ended = false; held = more i }))
+pub still_divided : {E : Type 0} (s : Sections) (w : MultipartWaiting) (piece : List ℕ) (result : Result (Unit {0}) E) → OnOk result (w ≡ waits_more s piece) → OnErr result (w ≡ s.waiting) → multipart_sections_have_ended s.stage ≡ false
+    → IsMultipartDivided s → IsMultipartDivided (record s { waiting = w })
+still_divided s w piece (Ok u) more same on parts = rw more (apart_more s.stage s.waiting.delimiter s.preamble (concat s.found.segments) s.waiting.held piece on parts)
+still_divided s w piece (Err e) more same on parts = rw same parts
+
+pub seen_more : (s : Sections) (w : MultipartWaiting) (piece : List ℕ) (limits : Limits) → w ≡ waits_more s piece → multipart_sections_have_ended s.stage ≡ false → seen limits (record s { waiting = w }) ≡ multipart_appended (seen limits s) piece
+seen_more s w piece limits is on =
+    let d = s.waiting.delimiter in
+    let p = s.preamble in
+    let f = concat s.found.segments in
+    let before = held_before s.stage d p f in
+    let more : held_in_multipart_sections s.stage d p f (s.waiting.held ++ piece) ≡ held_by_multipart s ++ piece =
+    held_apart s.stage d p f (s.waiting.held ++ piece) on ∙ sym (append_assoc before s.waiting.held piece) ∙ ap (λ l. l ++ piece) (sym (held_apart s.stage d p f s.waiting.held on)) in
+    rw (is, on) (λ i. record { delimiter = d; limits = limits; ended = false; held = more i })
 
 -- the bytes that wait are the last ones that are held
-pub waiting_last : (s : Sections) → multipart_sections_have_ended s.stage ≡ false → (front : List ℕ) × (held_by_multipart s ≡ front ++ (waiting_in_multipart s))
+pub waiting_last : (s : Sections) → multipart_sections_have_ended s.stage ≡ false → (front : List ℕ) × (held_by_multipart s ≡ front ++ s.waiting.held)
 waiting_last s on = (
-  held_before s.stage s.delimiter.needle s.preamble (concat s.found.segments),
-  held_apart s.stage s.delimiter.needle s.preamble (concat s.found.segments) (waiting_in_multipart s) on,
+  held_before s.stage s.waiting.delimiter s.preamble (concat s.found.segments),
+  held_apart s.stage s.waiting.delimiter s.preamble (concat s.found.segments) s.waiting.held on,
 )
 
-module _ (s new : Sections) (limits : Limits) (piece : List ℕ) (result : Result (Unit {0}) (Refused (List ℕ))) (others : new ≡ record s { waiting = new.waiting })
-    (push : IsPush (waiting_in_multipart s) piece result (waiting_in_multipart new ≡ waiting_in_multipart s ++ piece) (new ≡ s)) where
-  pub is_pushed : multipart_sections_have_ended s.stage ≡ false → (front : List ℕ) × (waiting : List ℕ) × (held_by_multipart s ≡ front ++ waiting)
-      × IsPush waiting piece result (seen limits new ≡ multipart_appended (seen limits s) piece) (seen limits new ≡ seen limits s)
-  is_pushed on = let last = waiting_last s on in (
-    last.0,
-    waiting_in_multipart s,
-    last.1,
-    push_of_all (waiting_in_multipart s) piece result push (λ held. seen_more s new piece others limits held on) (ap (seen limits)),
-  )
+pub is_pushed : (s : Sections) (w : MultipartWaiting) (limits : Limits) (piece : List ℕ) (result : Result (Unit {0}) (Refused (List ℕ))) → IsPush s.waiting.held piece result (w ≡ waits_more s piece) (w ≡ s.waiting)
+    → multipart_sections_have_ended s.stage ≡ false → (front : List ℕ) × (waiting : List ℕ) × (held_by_multipart s ≡ front ++ waiting)
+    × IsPush waiting piece result (seen limits (record s { waiting = w }) ≡ multipart_appended (seen limits s) piece) (seen limits (record s { waiting = w }) ≡ seen limits s)
+is_pushed s w limits piece result push on =
+    let last = waiting_last s on in
+    (last.0, s.waiting.held, last.1, push_of_all s.waiting.held piece result push (λ more. seen_more s w piece limits more on) (ap (λ (w : MultipartWaiting). seen limits (record s { waiting = w }))))
 
 -- ---- without a part
 
@@ -301,10 +272,10 @@ module _ (d : List ℕ) (limits : Limits) where
       no_dashes limits takes.raw part (d ++ takes.next) takes.is (whole ∙ ap (λ l. multipart_dashes ++ l) (sym (ap (drop 2) whole)))
 
 -- the bytes that are held now are those from before
-pub each_of_same : (P : MultipartBytes → Type 0) (old new : Sections) → SameMultipartSections old new → (limits : Limits) (more : List ℕ) → EachMultipart P new.delimiter.needle limits (held_by_multipart new ++ more)
-    → EachMultipart P old.delimiter.needle limits (held_by_multipart old ++ more)
+pub each_of_same : (P : MultipartBytes → Type 0) (old new : Sections) → SameMultipartSections old new → (limits : Limits) (more : List ℕ) → EachMultipart P new.waiting.delimiter limits (held_by_multipart new ++ more)
+    → EachMultipart P old.waiting.delimiter limits (held_by_multipart old ++ more)
 each_of_same P old new same limits more each =
-    subst (λ l. EachMultipart P l limits (held_by_multipart old ++ more)) same.delimiter (subst (λ l. EachMultipart P new.delimiter.needle limits (l ++ more)) same.held each)
+    subst (λ l. EachMultipart P l limits (held_by_multipart old ++ more)) same.delimiter (subst (λ l. EachMultipart P new.waiting.delimiter limits (l ++ more)) same.held each)
 
 -- ---- few bytes wait
 
@@ -335,22 +306,22 @@ module _ (limits : Limits) (d : List ℕ) where
 
 module _ (limits : Limits) (old s : Sections) where
   -- if it found no part, there is none
-  pub none_after : (stage : Stage) → AfterMultipartSearch stage old s → stage ≢ Found → NoMultipart old.delimiter.needle limits (held_by_multipart old)
-  none_after Preamble after not_found = no_part_yet old.delimiter.needle limits (held_by_multipart old) after.3
-  none_after Waiting after not_found = no_part_yet old.delimiter.needle limits (held_by_multipart old) after.3
+  pub none_after : (stage : Stage) → AfterMultipartSearch stage old s → stage ≢ Found → NoMultipart old.waiting.delimiter limits (held_by_multipart old)
+  none_after Preamble after not_found = no_part_yet old.waiting.delimiter limits (held_by_multipart old) after.3
+  none_after Waiting after not_found = no_part_yet old.waiting.delimiter limits (held_by_multipart old) after.3
   none_after Found after not_found = absurd (not_found refl)
   none_after Ended (inl before) not_found =
-      subst (λ stage. NoMultipart old.delimiter.needle limits (held_in_multipart_sections stage old.delimiter.needle old.preamble (concat old.found.segments) (waiting_in_multipart old))) (sym before)
-      (none_in_nothing old.delimiter.needle limits)
-  none_after Ended (inr closing) not_found = none_closed old.delimiter.needle limits (held_by_multipart old) closing
+      subst (λ stage. NoMultipart old.waiting.delimiter limits (held_in_multipart_sections stage old.waiting.delimiter old.preamble (concat old.found.segments) old.waiting.held)) (sym before)
+      (none_in_nothing old.waiting.delimiter limits)
+  none_after Ended (inr closing) not_found = none_closed old.waiting.delimiter limits (held_by_multipart old) closing
 
   abbrev Kept : Type 0
-  Kept = (seen limits s ≡ seen limits old) × (¬ ClosesMultipart old.delimiter.needle (held_by_multipart old)) × LacksNextInMultipart old.delimiter.needle (held_by_multipart old)
+  Kept = (seen limits s ≡ seen limits old) × (¬ ClosesMultipart old.waiting.delimiter (held_by_multipart old)) × LacksNextInMultipart old.waiting.delimiter (held_by_multipart old)
 
   abbrev End : Type 0
-  End = (seen limits s ≡ multipart_closed (seen limits old)) × ((multipart_sections_have_ended old.stage ≡ true) ⊎ ClosesMultipart old.delimiter.needle (held_by_multipart old))
+  End = (seen limits s ≡ multipart_closed (seen limits old)) × ((multipart_sections_have_ended old.stage ≡ true) ⊎ ClosesMultipart old.waiting.delimiter (held_by_multipart old))
 
-  idle_kept : multipart_sections_have_ended s.stage ≡ false → SameMultipartSections old s → (¬ ClosesMultipart old.delimiter.needle (held_by_multipart old)) → LacksNextInMultipart old.delimiter.needle (held_by_multipart old)
+  idle_kept : multipart_sections_have_ended s.stage ≡ false → SameMultipartSections old s → (¬ ClosesMultipart old.waiting.delimiter (held_by_multipart old)) → LacksNextInMultipart old.waiting.delimiter (held_by_multipart old)
       → IsMultipartIdle (seen limits old) (seen limits s)
   idle_kept on same still_open lacks =
       let unchanged : seen limits s ≡ seen limits old =
@@ -358,75 +329,63 @@ module _ (limits : Limits) (old s : Sections) where
       subst (λ b. MatchBool b End Kept) (sym on) (unchanged, still_open, lacks)
 
   -- then it changed nothing, or the close delimiter was read
-  pub idle_after : (stage : Stage) → s.stage ≡ stage → s.delimiter.needle ≡ old.delimiter.needle → AfterMultipartSearch stage old s → stage ≢ Found → IsMultipartIdle (seen limits old) (seen limits s)
+  pub idle_after : (stage : Stage) → s.stage ≡ stage → s.waiting.delimiter ≡ old.waiting.delimiter → AfterMultipartSearch stage old s → stage ≢ Found → IsMultipartIdle (seen limits old) (seen limits s)
   idle_after Preamble is delimiter after not_found = idle_kept (ap multipart_sections_have_ended is) after.0 after.2 after.3
   idle_after Waiting is delimiter after not_found = idle_kept (ap multipart_sections_have_ended is) after.0 after.2 after.3
   idle_after Found is delimiter after not_found = absurd (not_found refl)
   idle_after Ended is delimiter after not_found =
-      let nothing : held_by_multipart s ≡ [] = ap (λ stage. held_in_multipart_sections stage s.delimiter.needle s.preamble (concat s.found.segments) (waiting_in_multipart s)) is in
+      let nothing : held_by_multipart s ≡ [] = ap (λ stage. held_in_multipart_sections stage s.waiting.delimiter s.preamble (concat s.found.segments) s.waiting.held) is in
       let ended : seen limits s ≡ multipart_closed (seen limits old) =
       λ i. record { delimiter = delimiter i; limits = limits; ended = ap multipart_sections_have_ended is i; held = nothing i } in
-      let why : (multipart_sections_have_ended old.stage ≡ true) ⊎ ClosesMultipart old.delimiter.needle (held_by_multipart old) = elim after [ inl before ↦ inl (ap multipart_sections_have_ended before) | inr closing ↦ inr closing ] in
+      let why : (multipart_sections_have_ended old.stage ≡ true) ⊎ ClosesMultipart old.waiting.delimiter (held_by_multipart old) = elim after [ inl before ↦ inl (ap multipart_sections_have_ended before) | inr closing ↦ inr closing ] in
       subst (λ b. MatchBool b End Kept) (sym (ap multipart_sections_have_ended is)) (ended, why)
 
   -- few bytes wait then, if they are within the limits
-  module _ (short : length s.preamble ≤ limits.head + limits.body) (few : length (waiting_in_multipart s) ≤ limits.head + limits.body + length s.delimiter.needle) where
-    pub few_wait : (stage : Stage) → AfterMultipartSearch stage old s → stage ≢ Found → AreMultipartSectionsApart stage s.delimiter.needle s.preamble (concat s.found.segments) (waiting_in_multipart s)
-        → FewWaitInMultipart s.delimiter.needle limits (held_in_multipart_sections stage s.delimiter.needle s.preamble (concat s.found.segments) (waiting_in_multipart s))
+  module _ (short : length s.preamble ≤ limits.head + limits.body) (few : length s.waiting.held ≤ limits.head + limits.body + length s.waiting.delimiter) where
+    pub few_wait : (stage : Stage) → AfterMultipartSearch stage old s → stage ≢ Found → AreMultipartSectionsApart stage s.waiting.delimiter s.preamble (concat s.found.segments) s.waiting.held
+        → FewWaitInMultipart s.waiting.delimiter limits (held_in_multipart_sections stage s.waiting.delimiter s.preamble (concat s.found.segments) s.waiting.held)
     few_wait Preamble after not_found parts =
-        few_before limits s.delimiter.needle (waiting_in_multipart s) (subst (λ d. ¬ Occurs d (waiting_in_multipart s)) (sym after.0.delimiter) after.1) few
-    few_wait Waiting after not_found parts = few_after limits s.delimiter.needle s.preamble (waiting_in_multipart s) parts short few
+        few_before limits s.waiting.delimiter s.waiting.held (subst (λ d. ¬ Occurs d s.waiting.held) (sym after.0.delimiter) after.1) few
+    few_wait Waiting after not_found parts = few_after limits s.waiting.delimiter s.preamble s.waiting.held parts short few
     few_wait Found after not_found parts = absurd (not_found refl)
-    few_wait Ended after not_found parts = few_in_nothing limits s.delimiter.needle
+    few_wait Ended after not_found parts = few_in_nothing limits s.waiting.delimiter
 
   -- if they are not, no part comes
   module _ (more : List ℕ) where
     same_none : (stage : Stage) → s.stage ≡ stage → SameMultipartSections old s
-        → NoMultipart s.delimiter.needle limits (held_in_multipart_sections stage s.delimiter.needle s.preamble (concat s.found.segments) (waiting_in_multipart s) ++ more) → NoMultipart old.delimiter.needle limits (held_by_multipart old ++ more)
+        → NoMultipart s.waiting.delimiter limits (held_in_multipart_sections stage s.waiting.delimiter s.preamble (concat s.found.segments) s.waiting.held ++ more) → NoMultipart old.waiting.delimiter limits (held_by_multipart old ++ more)
     same_none stage is same none =
         each_of_same (λ _. ⊥) old s same limits more
-        (subst (λ stage. NoMultipart s.delimiter.needle limits (held_in_multipart_sections stage s.delimiter.needle s.preamble (concat s.found.segments) (waiting_in_multipart s) ++ more)) (sym is) none)
+        (subst (λ stage. NoMultipart s.waiting.delimiter limits (held_in_multipart_sections stage s.waiting.delimiter s.preamble (concat s.found.segments) s.waiting.held ++ more)) (sym is) none)
 
     -- too many bytes are before the first delimiter
-    pub much_before : (stage : Stage) → s.stage ≡ stage → SameMultipartSections old s → AreMultipartSectionsApart stage s.delimiter.needle s.preamble (concat s.found.segments) (waiting_in_multipart s)
-        → limits.head + limits.body < length s.preamble → NoMultipart old.delimiter.needle limits (held_by_multipart old ++ more)
+    pub much_before : (stage : Stage) → s.stage ≡ stage → SameMultipartSections old s → AreMultipartSectionsApart stage s.waiting.delimiter s.preamble (concat s.found.segments) s.waiting.held
+        → limits.head + limits.body < length s.preamble → NoMultipart old.waiting.delimiter limits (held_by_multipart old ++ more)
     much_before Preamble is same parts much = absurd (omega (arith, much, ap length parts))
-    much_before Waiting is same parts much = same_none Waiting is same (many_before s.delimiter.needle limits s.preamble (waiting_in_multipart s) parts much more)
+    much_before Waiting is same parts much = same_none Waiting is same (many_before s.waiting.delimiter limits s.preamble s.waiting.held parts much more)
     much_before Found is same parts much =
         same_none Found is same
-        (many_before s.delimiter.needle limits s.preamble (concat s.found.segments ++ (s.delimiter.needle ++ (waiting_in_multipart s))) parts.0 much more)
+        (many_before s.waiting.delimiter limits s.preamble (concat s.found.segments ++ (s.waiting.delimiter ++ s.waiting.held)) parts.0 much more)
     much_before Ended is same parts much = absurd (omega (arith, much, ap length parts.0))
 
     -- too many bytes wait for the next one
-    pub over_limits : (stage : Stage) → s.stage ≡ stage → AfterMultipartSearch stage old s → AreMultipartSectionsApart stage s.delimiter.needle s.preamble (concat s.found.segments) (waiting_in_multipart s)
-        → s.stage ≢ Found → limits.head + limits.body + length s.delimiter.needle < length (waiting_in_multipart s) → NoMultipart old.delimiter.needle limits (held_by_multipart old ++ more)
+    pub over_limits : (stage : Stage) → s.stage ≡ stage → AfterMultipartSearch stage old s → AreMultipartSectionsApart stage s.waiting.delimiter s.preamble (concat s.found.segments) s.waiting.held
+        → s.stage ≢ Found → limits.head + limits.body + length s.waiting.delimiter < length s.waiting.held → NoMultipart old.waiting.delimiter limits (held_by_multipart old ++ more)
     over_limits Preamble is after parts not_found long =
         same_none Preamble is after.0
-        (long_preamble s.delimiter.needle limits (waiting_in_multipart s) (subst (λ d. ¬ Occurs d (waiting_in_multipart s)) (sym after.0.delimiter) after.1) long more)
+        (long_preamble s.waiting.delimiter limits s.waiting.held (subst (λ d. ¬ Occurs d s.waiting.held) (sym after.0.delimiter) after.1) long more)
     over_limits Waiting is after parts not_found long =
         same_none Waiting is after.0
-        (long_part s.delimiter.needle limits s.preamble (waiting_in_multipart s) parts (subst (λ d. ¬ Occurs d (waiting_in_multipart s)) (sym after.0.delimiter) after.1) long more)
+        (long_part s.waiting.delimiter limits s.preamble s.waiting.held parts (subst (λ d. ¬ Occurs d s.waiting.held) (sym after.0.delimiter) after.1) long more)
     over_limits Found is after parts not_found long = absurd (not_found is)
     over_limits Ended is after parts not_found long = absurd (omega (arith, long, ap length parts.1))
 
 -- ---- why there is no part
 
 -- a part is due where the same bytes are held
-pub due_of_same : (old new : Sections) → SameMultipartSections old new → (limits : Limits) → IsMultipartDue new.delimiter.needle limits (held_by_multipart new) → IsMultipartDue old.delimiter.needle limits (held_by_multipart old)
+pub due_of_same : (old new : Sections) → SameMultipartSections old new → (limits : Limits) → IsMultipartDue new.waiting.delimiter limits (held_by_multipart new) → IsMultipartDue old.waiting.delimiter limits (held_by_multipart old)
 due_of_same old new same limits due =
-    subst (λ d. IsMultipartDue d limits (held_by_multipart old)) same.delimiter (subst (IsMultipartDue new.delimiter.needle limits) same.held due)
-
--- memory is refused for what is before the next delimiter
-pub due_before_next : (s : Sections) → s.stage ≡ Waiting → IsMultipartDivided s → HasNextInMultipart s.delimiter.needle (waiting_in_multipart s) → (limits : Limits) → length s.preamble ≤ limits.head + limits.body
-    → IsMultipartDue s.delimiter.needle limits (held_by_multipart s)
-due_before_next s waiting divided next limits few =
-    let d = s.delimiter.needle in
-    let p = s.preamble in
-    let f = concat s.found.segments in
-    let w = waiting_in_multipart s in
-    let begins : TakesFrame d (p ++ (d ++ w)) p w = subst (λ stage. AreMultipartSectionsApart stage d p f w) waiting divided.0 in
-    subst (λ stage. IsMultipartDue d limits (held_in_multipart_sections stage d p f w)) (sym waiting)
-    (record { preamble = p; after = w; begins = begins; raw = next.0; next = next.1; ends = next.2; few = few })
+    subst (λ d. IsMultipartDue d limits (held_by_multipart old)) same.delimiter (subst (IsMultipartDue new.waiting.delimiter limits) same.held due)
 
 -- but for one that is too large, a part is due
 pub due_by_fault : (e : PartError) (d : List ℕ) (limits : Limits) (held : List ℕ) → IsMultipartSearchFault e d limits held → e ≢ TooLarge → IsMultipartDue d limits held

@@ -21,7 +21,7 @@ use Rattle.bytes_utils_protocols.specs.declared.multipart.progress.Place.{Place}
 use Rattle.bytes_utils_protocols.specs.declared.multipart.progress.Place.TheVariants.{Preamble, AtHead, InBody, Ended}
 use Rattle.bytes_utils_protocols.proofs.MultipartLemmas.{no_part_yet, none_closed, one_head}
 use Rattle.bytes_utils_protocols.proofs.MultipartLaws.{TakesMultipart-more, ClosesMultipart-more}
-use Rattle.bytes_utils_protocols.proofs.MultipartStreamLemmas.{NoneBegins-at_front, NoneBegins-join, TakesFrame-join, TakesFrame-at_front}
+use Rattle.bytes_utils_protocols.proofs.MultipartStreamLemmas.{NoneBegins-join, TakesFrame-join, TakesFrame-at_front}
 
 -- one more event
 given_more : (g : GivenParts) (items : List (Option PartEvent)) (item : Option PartEvent) → given_of_parts g (items ++ item ∷ []) ≡ given_next_of_part (given_of_parts g items) item
@@ -353,7 +353,7 @@ module _ (d : List ℕ) (limits : Limits) where
     limits_are = refl;
     rest = multipart_line_end;
     are = refl;
-    stands = (refl, record { gone = []; parts = refl; apart = NoneBegins-at_front d multipart_line_end; few = omega arith });
+    stands = (refl, record { gone = []; parts = refl; apart = λ more k here. omega arith; few = omega arith });
   }
 
   -- ---- what was given of a part is right

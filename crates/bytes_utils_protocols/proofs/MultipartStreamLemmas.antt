@@ -1,24 +1,20 @@
 -- Bytes that wait for a delimiter, and what is given of a part.
-use Rattle.std.proofs.Common.{◌≡◌, ◌≢◌, ◌⊎◌, ◌↔◌, ℕ, ◌+◌, ◌-◌, ◌^◌, ◌<◌, ◌≤◌, max, IsOk, List, [], ◌++◌, length, take, drop, Option, None, Some, Result, Ok, Err, OnOk, OnErr, IfOk, IfErr, IfSome, IfNone, IsUtf8, Bool, not, true, false, ap, ◌∙◌, sym, refl, subst, arith, inl, inr, append_assoc, append-nil, length-append, length-drop, take-append-drop}
+use Rattle.std.proofs.Common.{◌≡◌, ◌≢◌, ◌⊎◌, ℕ, ◌+◌, ◌-◌, ◌<◌, ◌≤◌, max, List, [], ◌++◌, length, take, drop, Option, None, Some, Result, Ok, Err, OnErr, IfOk, IfErr, IfSome, IfNone, IsUtf8, Bool, not, true, false, ap, ◌∙◌, sym, refl, subst, arith, inl, inr, append_assoc, append-nil, length-append, length-drop, take-append-drop}
 use Rattle.std.proofs.lemmas.List.{drop-append-le, drop-drop, drop_at, take_at, length-take-le}
 use Rattle.std.proofs.lemmas.Bool.{false≢true}
-use Rattle.std.specs.List.{concat}
 use Rattle.memchr.specs.Find.{FindsNeedle}
-use Rattle.bytes_utils_buf.specs.Packing.{Packing}
 use Rattle.bytes_utils_buf.specs.declared.refused.Reason.{Reason}
-use Rattle.bytes_utils_buf.specs.declared.refused.Reason.TheVariants.{OutOfMemory, TooLong}
-use Rattle.bytes_utils_buf.specs.declared.refused.Refused.{Refused as RefusedBack}
+use Rattle.bytes_utils_buf.specs.declared.refused.Reason.TheVariants.{OutOfMemory}
 use Rattle.bytes_utils.specs.Occurrence.{Occurs, OccursAt, OccursFirstAt}
 use Rattle.bytes_utils.proofs.Boundaries.{OccursAt-fits}
 use Rattle.bytes_utils.proofs.OccurrenceLemmas.{OccursAt-append, OccursAt-front, OccursFirstAt-append}
 use Rattle.bytes_utils_codec.specs.Frames.{TakesFrame}
-use Rattle.bytes_utils_codec.specs.Pushing.{IsPush}
-use Rattle.bytes_utils_codec.specs.Search.{NoneBeginsInSearch, Searching, search_from_front, searched_all}
+use Rattle.bytes_utils_codec.specs.Search.{NoneBeginsInSearch, Searching}
 use Rattle.bytes_utils_codec.proofs.FramesLemmas.{TakesFrame-more, TakesFrame-same}
-use Rattle.bytes_utils_codec.proofs.SearchLemmas.{NoneBeginsInSearch-more, NoneBeginsInSearch-missed, first_of_all, frame_of_all, nowhere_left}
+use Rattle.bytes_utils_codec.proofs.SearchLemmas.{NoneBeginsInSearch-missed, first_of_all, frame_of_all, nowhere_left}
 use Rattle.bytes_utils_protocols.specs.Multipart.{AreMultipartFields, HasMultipartParameter, IsMultipartHead, multipart_dashes, multipart_file_name, multipart_head_end, multipart_name}
-use Rattle.bytes_utils_protocols.specs.MultipartWaiting.{AreSearchesWithin, IsSearchWithin, MultipartWaiting}
-use Rattle.bytes_utils_protocols.specs.MultipartStream.{PartStreaming, DropsPreamble, PassesPreamble, AfterPreamble, TakesPartHead, NoPartFieldsCome, NoPartHeadComes, HasPartHeadNotUtf8, AwaitsPartHead, HasPartHeadEnd, HasPartPiece, IsAheadOfNeedle, GivesPartHead, GivesPartPiece, GivesPartEnd, GivesPartEvent, IsPartStreamCall, IsPartAwaited, IsPartStreamFault, IsPartStreamStep, IsPartStreamReturn, IsPartHeadFault, PartStreamAsks, PassesPartRoom, has_part_stream_ended, part_stream_appended, part_streaming}
+use Rattle.bytes_utils_protocols.specs.MultipartWaiting.{IsAheadOfNeedle, IsSearchWithin, MultipartWaiting}
+use Rattle.bytes_utils_protocols.specs.MultipartStream.{PartStreaming, DropsPreamble, PassesPreamble, AfterPreamble, TakesPartHead, NoPartFieldsCome, NoPartHeadComes, HasPartHeadNotUtf8, AwaitsPartHead, HasPartHeadEnd, HasPartPiece, GivesPartHead, GivesPartPiece, GivesPartEnd, GivesPartEvent, IsPartStreamCall, IsPartAwaited, IsPartStreamFault, IsPartStreamStep, IsPartStreamReturn, IsPartHeadFault, PartStreamAsks, PassesPartRoom, has_part_stream_ended, part_stream_appended, part_streaming}
 use Rattle.bytes_utils_protocols.specs.declared.multipart.event.PartEvent.{PartEvent}
 use Rattle.bytes_utils_protocols.specs.declared.multipart.event.PartEvent.TheVariants.{Head, Body, End}
 use Rattle.bytes_utils_protocols.specs.declared.multipart.head.PartHead.{PartHead}
@@ -46,10 +42,6 @@ module _ (d : List ℕ) where
       let g = length gone in
       let sum : g + (j - g) ≡ j = omega (arith, low) in
       ap (take (length d)) (ap (drop (j - g)) (sym (drop_at gone t g refl)) ∙ drop-drop (j - g) g (gone ++ t) ∙ ap (λ n. drop n (gone ++ t)) sum) ∙ here
-
-  -- none begins before the first place
-  pub NoneBegins-at_front : (bytes : List ℕ) → NoneBeginsInSearch d bytes 0
-  NoneBegins-at_front bytes more k here = omega arith
 
   pub NoneBegins-fewer : (bytes : List ℕ) (n m : ℕ) → m ≤ n → NoneBeginsInSearch d bytes n → NoneBeginsInSearch d bytes m
   NoneBegins-fewer bytes n m fewer none more k here = omega (arith, fewer, none more k here)
@@ -96,78 +88,13 @@ module _ (d : List ℕ) where
 
 -- ---- bytes that wait
 
--- nothing waits
-pub nothing_apart : (search : Searching) (pieces : Packing) → search.searched ≡ 0 → IsSearchWithin search pieces
-nothing_apart search pieces none = rw none (NoneBegins-at_front search.needle (concat pieces.held.segments), omega arith)
-
--- a piece is pushed, or refused
-pub still_apart : {E : Type 0} (search : Searching) (old new : Packing) (piece : List ℕ) (result : Result (Unit {0}) E) → OnOk result (concat new.held.segments ≡ concat old.held.segments ++ piece)
-    → OnErr result (new ≡ old) → IsSearchWithin search old → IsSearchWithin search new
-still_apart search old new piece (Ok u) held same apart =
-    let bytes = concat old.held.segments in
-    let more : NoneBeginsInSearch search.needle (bytes ++ piece) search.searched × (search.searched ≤ length (bytes ++ piece)) =
-    (NoneBeginsInSearch-more search.needle bytes piece search.searched apart.0, omega (arith, apart.1, length-append bytes piece)) in
-    subst (λ l. NoneBeginsInSearch search.needle l search.searched × (search.searched ≤ length l)) (sym held) more
-still_apart search old new piece (Err e) held same apart = subst (IsSearchWithin search) (sym same) apart
-
--- the same of both searches
-pub still_within : {E : Type 0} (delimiter head_end : Searching) (old new : Packing) (piece : List ℕ) (result : Result (Unit {0}) E) → OnOk result (concat new.held.segments ≡ concat old.held.segments ++ piece)
-    → OnErr result (new ≡ old) → AreSearchesWithin delimiter head_end old → AreSearchesWithin delimiter head_end new
-still_within delimiter head_end old new piece result held same within = record {
-  delimiter_is = still_apart delimiter old new piece result held same within.delimiter_is;
-  head_end_is = still_apart head_end old new piece result held same within.head_end_is;
-  needle = within.needle;
-}
-
-abbrev waits : List ℕ → List ℕ → MultipartWaiting
-waits d held = record { delimiter = d; held = held }
-
-pub pushed_waiting : (d : List ℕ) (old new : Packing) (piece : List ℕ) (result : Result (Unit {0}) (RefusedBack (List ℕ))) → OnOk result (concat new.held.segments ≡ concat old.held.segments ++ piece)
-    → OnErr result (new ≡ old) → IfErr result (λ e. e.back ≡ piece) → IfErr result (λ e. (e.reason ≡ TooLong) ↔ (2 ^ 64 ≤ length (concat old.held.segments) + length piece)) → (piece ≡ [] → IsOk result)
-    → IsPush (concat old.held.segments) piece result (waits d (concat new.held.segments) ≡ waits d (concat old.held.segments ++ piece)) (waits d (concat new.held.segments) ≡ waits d (concat old.held.segments))
-pushed_waiting d old new piece (Ok u) held same back too_long empty = record { ok = ap (waits d) held; err = tt; back = tt; too_long = tt; empty = empty }
-pushed_waiting d old new piece (Err e) held same back too_long empty =
-    record { ok = tt; err = ap (λ p. waits d (concat p.held.segments)) same; back = back; too_long = rw back too_long; empty = empty }
-
 -- bytes are taken off the front
-pub taken_apart : (old search : Searching) (before after : Packing) (len : ℕ) → len ≤ length (concat before.held.segments) → concat after.held.segments ≡ drop len (concat before.held.segments)
-    → search ≡ record old { searched = old.searched - len } → IsSearchWithin old before → IsSearchWithin search after
-taken_apart old search before after len within rest is apart =
-    let bytes = concat before.held.segments in
-    let known : NoneBeginsInSearch old.needle (drop len bytes) (old.searched - len) × (old.searched - len ≤ length (drop len bytes)) =
-    (NoneBegins-drop old.needle bytes old.searched len within apart.0, omega (arith, apart.1, within, length-drop len bytes)) in
-    subst (λ (s : Searching). IsSearchWithin s after) (sym is)
-    (subst (λ l. NoneBeginsInSearch old.needle l (old.searched - len) × (old.searched - len ≤ length l)) (sym rest) known)
-
-pub taken_within : (delimiter head_end new newer : Searching) (before after : Packing) (len : ℕ) → len ≤ length (concat before.held.segments) → concat after.held.segments ≡ drop len (concat before.held.segments)
-    → new ≡ record delimiter { searched = delimiter.searched - len } → newer ≡ search_from_front head_end → AreSearchesWithin delimiter head_end before → AreSearchesWithin new newer after
-taken_within delimiter head_end new newer before after len len_fits rest is is_too within = record {
-  delimiter_is = taken_apart delimiter new before after len len_fits rest is within.delimiter_is;
-  head_end_is = nothing_apart newer after (ap (λ (s : Searching). s.searched) is_too);
-  needle = ap (λ (s : Searching). s.needle) is_too ∙ within.needle;
-}
-
--- nothing was searched
-pub front_within : (delimiter head_end : Searching) (pieces : Packing) → delimiter.searched ≡ 0 → head_end.searched ≡ 0 → head_end.needle ≡ multipart_head_end → AreSearchesWithin delimiter head_end pieces
-front_within delimiter head_end pieces none none_too needle = record { delimiter_is = nothing_apart delimiter pieces none; head_end_is = nothing_apart head_end pieces none_too; needle = needle }
-
--- after a search
-pub search_found : (old new newer : Searching) (pieces : Packing) (at : ℕ) → FindsNeedle (concat pieces.held.segments) old.needle old.searched (Some at) → new ≡ old → newer ≡ record new { searched = at } → 0 < length old.needle
-    → IsSearchWithin old pieces → IsSearchWithin newer pieces
-search_found old new newer pieces at found same is some within =
-    let bytes = concat pieces.held.segments in
-    let fits = found.1.fits in
-    let known : NoneBeginsInSearch old.needle bytes at × (at ≤ length bytes) =
-    (NoneBegins-before old.needle bytes at some (first_of_all old.needle bytes old.searched some within.0 at found), omega (arith, fits)) in
-    subst (λ (s : Searching). IsSearchWithin s pieces) (sym (is ∙ ap (λ (s : Searching). record s { searched = at }) same)) known
-
-pub search_missed : (old new : Searching) (pieces : Packing) → FindsNeedle (concat pieces.held.segments) old.needle old.searched None → new ≡ searched_all old (concat pieces.held.segments) → 0 < length old.needle
-    → IsSearchWithin old pieces → IsSearchWithin new pieces
-search_missed old new pieces missed is some within =
-    let bytes = concat pieces.held.segments in
-    let known : NoneBeginsInSearch old.needle bytes (max old.searched (length bytes - (length old.needle - 1))) × (max old.searched (length bytes - (length old.needle - 1)) ≤ length bytes) =
-    (NoneBeginsInSearch-missed old.needle bytes old.searched some within.0 missed, omega (arith, within.1)) in
-    subst (λ (s : Searching). IsSearchWithin s pieces) (sym is) known
+pub taken_apart : (old search : Searching) (before after : List ℕ) (len : ℕ) → len ≤ length before → after ≡ drop len before → search ≡ record old { searched = old.searched - len } → IsSearchWithin old before
+    → IsSearchWithin search after
+taken_apart old search before after len within rest is apart = rw (is, rest) (record {
+  none = NoneBegins-drop old.needle before old.searched len within apart.none;
+  within = omega (arith, apart.within, within, length-drop len before);
+})
 
 module _ (d held : List ℕ) (from : ℕ) (some : 0 < length d) (none : NoneBeginsInSearch d held from) where
   -- the next delimiter has come
@@ -331,18 +258,12 @@ module _ (old : Progress) (ahead : Ahead) (is : IsAheadOfNeedle old.waiting.deli
   preamble_awaits p w same lacks waits = rw (waits, same) (omega (arith, is.few lacks, is.within, length-drop ahead.len old.waiting.held))
 
   -- the delimiter is dropped too
-  passes : old.place ≡ Preamble → ahead.has_come ≡ true → PassesPreamble (part_streaming old) (at_waiting old.limits AtHead old.room (without_front (length old.waiting.delimiter) (without_front ahead.len old.waiting)))
-  passes place come = record {
-    place = place;
-    preamble = take ahead.len old.waiting.held;
-    takes = subst (TakesFrame old.waiting.delimiter old.waiting.held (take ahead.len old.waiting.held)) (sym (drop-drop (length old.waiting.delimiter) ahead.len old.waiting.held)) (is.here come);
-    within = omega (arith, fits, front_len);
-    next = refl;
-  }
+  passes : old.place ≡ Preamble → ahead.has_come ≡ true → PassesPreamble (part_streaming old) (at_waiting old.limits AtHead old.room (without_front (ahead.len + length old.waiting.delimiter) old.waiting))
+  passes place come = record { place = place; preamble = take ahead.len old.waiting.held; takes = is.here come; within = omega (arith, fits, front_len); next = refl }
 
-  pub preamble_passed : (p : Progress) (w v : MultipartWaiting) (n : ℕ) → p ≡ old → old.place ≡ Preamble → ahead.has_come ≡ true → w ≡ without_front ahead.len p.waiting → n ≡ length w.delimiter → v ≡ without_front n w
-      → AfterPreamble (part_streaming old) (part_streaming (record p { waiting = v; place = AtHead }))
-  preamble_passed p w v n same place come waits size waits_then = rw (waits_then, size, waits, same) (inr (inr (passes place come)))
+  pub preamble_passed : (p : Progress) (w : MultipartWaiting) → p ≡ old → old.place ≡ Preamble → ahead.has_come ≡ true → w ≡ without_front (ahead.len + length p.waiting.delimiter) p.waiting
+      → AfterPreamble (part_streaming old) (part_streaming (record p { waiting = w; place = AtHead }))
+  preamble_passed p w same place come waits = rw (waits, same) (inr (inr (passes place come)))
 
   -- a piece is taken
   piece_taken : (piece : List ℕ) (w : MultipartWaiting) → old.place ≡ InBody → old.waiting.held ≡ piece ++ w.held → 0 < length piece → length piece ≤ ahead.len → w.delimiter ≡ old.waiting.delimiter
@@ -370,15 +291,15 @@ module _ (old : Progress) (ahead : Ahead) (is : IsAheadOfNeedle old.waiting.deli
       subst (λ place. PartStreamAsks place (part_streaming old)) (sym place) come
 
   -- the body has ended
-  pub end_given : (p : Progress) (w : MultipartWaiting) (n : ℕ) → p ≡ old → old.place ≡ InBody → ahead.len ≡ 0 → ahead.has_come ≡ true → n ≡ length p.waiting.delimiter → w ≡ without_front n p.waiting
+  pub end_given : (p : Progress) (w : MultipartWaiting) → p ≡ old → old.place ≡ InBody → ahead.len ≡ 0 → ahead.has_come ≡ true → w ≡ without_front (ahead.len + length p.waiting.delimiter) p.waiting
       → GivesPartEnd (part_streaming old) (part_streaming (record p { waiting = w; place = AtHead }))
-  end_given p w n same place none come size waits = rw (waits, size, same) (record {
+  end_given p w same place none come waits = rw (waits, same) (record {
     place = place;
     some = is.some;
     delimiter =
         let d = old.waiting.delimiter in
-        let end : ahead.len + length d ≡ length d = omega (arith, none) in
-        (is.here come).bytes ∙ (λ i. take (none i) old.waiting.held ++ (d ++ drop (end i) old.waiting.held));
+        let rest = drop (ahead.len + length d) old.waiting.held in
+        (is.here come).bytes ∙ ap (λ n. take n old.waiting.held ++ (d ++ rest)) none;
     next = refl;
   })
 
@@ -414,13 +335,10 @@ refused_step old new result e reason is refused want asks same = failed_step old
 pub over_step : (s : PartStreaming) (e : PartError) → (s.place ≡ Preamble) ⊎ (s.place ≡ InBody) → e ≡ TooLarge → PassesPartRoom s → IsPartStreamFault e s
 over_step s e place is over = rw is (inr (place, over))
 
--- a piece is pushed, or dropped after the end
+-- a piece is pushed
 pub stream_pushed : (old : Progress) (w : MultipartWaiting) (piece : List ℕ) → has_part_stream_ended old.place ≡ false → w ≡ record old.waiting { held = old.waiting.held ++ piece }
     → part_streaming (record old { waiting = w }) ≡ part_stream_appended (part_streaming old) piece
 stream_pushed old w piece on is = rw (is, on) refl
-
-pub stream_dropped : (old : Progress) (piece : List ℕ) → has_part_stream_ended old.place ≡ true → part_streaming old ≡ part_stream_appended (part_streaming old) piece
-stream_dropped old piece ended = rw ended refl
 
 -- ---- at a head
 
@@ -430,15 +348,15 @@ pub closes_step : (old : Progress) (w : MultipartWaiting) → old.place ≡ AtHe
 closes_step old w place dashes is = rw is (inr (record { place = place; dashes = dashes; next = refl }), tt)
 
 -- no head has come
-pub awaits_step : (old : Progress) (w : MultipartWaiting) → old.place ≡ AtHead → take (length multipart_dashes) old.waiting.held ≢ multipart_dashes → w ≡ old.waiting
-    → AwaitsPartHead old.waiting.delimiter old.limits old.waiting.held → IsPartStreamStep (part_streaming old) (Ok None) (part_streaming (record old { waiting = w }))
-awaits_step old w place on same awaits = rw same (inl refl, subst (λ place. IsPartAwaited place (part_streaming old)) (sym place) (on, awaits))
+pub awaits_step : (old : Progress) (new : PartStreaming) → old.place ≡ AtHead → take (length multipart_dashes) old.waiting.held ≢ multipart_dashes → new ≡ part_streaming old → AwaitsPartHead old.waiting.delimiter old.limits old.waiting.held
+    → IsPartStreamStep (part_streaming old) (Ok None) new
+awaits_step old new place on same awaits = rw same (inl refl, subst (λ place. IsPartAwaited place (part_streaming old)) (sym place) (on, awaits))
 
 -- a head has come
-pub head_given : (old : Progress) (w v : MultipartWaiting) (len n : ℕ) (head : PartHead) → w ≡ old.waiting → old.place ≡ AtHead → HasPartHeadEnd old.waiting.delimiter old.limits old.waiting.held len
+pub head_given : (old p : Progress) (search : Searching) (w : MultipartWaiting) (len : ℕ) (head : PartHead) → p ≡ record old { head_end = search } → old.place ≡ AtHead → HasPartHeadEnd old.waiting.delimiter old.limits old.waiting.held len
     → IsMultipartHead (take len old.waiting.held) head.text → AreMultipartFields head.text → HasMultipartParameter multipart_name head.text head.name → HasMultipartParameter multipart_file_name head.text head.file_name
-    → n ≡ len + length multipart_head_end → v ≡ without_front n w → GivesPartHead (part_streaming old) head (part_streaming (record old { waiting = v; place = InBody; room = old.limits.body }))
-head_given old w v len n head same place found is fields name file_name size waits = rw (waits, size, same) (record {
+    → w ≡ without_front (len + length multipart_head_end) p.waiting → GivesPartHead (part_streaming old) head (part_streaming (record p { waiting = w; place = InBody; room = p.limits.body }))
+head_given old p search w len head same place found is fields name file_name waits = rw (waits, same) (record {
   place = place;
   takes = takes_head old.waiting.delimiter old.limits old.waiting.held len found head.text is;
   fields = fields;

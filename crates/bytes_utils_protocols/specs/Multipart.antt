@@ -9,7 +9,6 @@ use Rattle.bytes_utils_buf.specs.declared.refused.Reason.TheVariants.{OutOfMemor
 use Rattle.bytes_utils_codec.specs.Frames.{TakesFrame}
 use Rattle.bytes_utils.specs.Occurrence.{Occurs}
 use Rattle.bytes_utils.specs.Lines.{carriage_return, line_feed}
-use Rattle.bytes_utils_codec.specs.Search.{NoneBeginsInSearch}
 use Rattle.bytes_utils_codec.specs.StreamRuns.{StreamEvent, IsRunOver, AreFirstOfRun, SameFirstOfRunLaw, pushed_in_stream, given_in_stream}
 use Rattle.bytes_utils_protocols.specs.Digits.{colon}
 use Rattle.bytes_utils_protocols.specs.Disposition.{ReadsDispositionParameter}
@@ -212,34 +211,26 @@ multipart_sections_have_ended Waiting = false
 multipart_sections_have_ended Found = false
 multipart_sections_have_ended Ended = true
 
--- the bytes that wait for the next delimiter
-abbrev pub waiting_in_multipart : Sections → List ℕ
-waiting_in_multipart s = concat s.waiting.held.segments
-
 abbrev pub held_by_multipart : Sections → List ℕ
-held_by_multipart s = held_in_multipart_sections s.stage s.delimiter.needle s.preamble (concat s.found.segments) (waiting_in_multipart s)
-
--- of the bytes that wait, the search has passed none in which a delimiter begins, whatever comes after them
-abbrev pub NoMultipartPassed : Sections → Type 0
-NoMultipartPassed s = NoneBeginsInSearch s.delimiter.needle (waiting_in_multipart s) s.delimiter.searched
+held_by_multipart s = held_in_multipart_sections s.stage s.waiting.delimiter s.preamble (concat s.found.segments) s.waiting.held
 
 abbrev pub IsMultipartDivided : Sections → Type 0
-IsMultipartDivided s = AreMultipartSectionsApart s.stage s.delimiter.needle s.preamble (concat s.found.segments) (waiting_in_multipart s) × NoMultipartPassed s
+IsMultipartDivided s = AreMultipartSectionsApart s.stage s.waiting.delimiter s.preamble (concat s.found.segments) s.waiting.held
 
 -- the same delimiter, end and bytes
 pub record SameMultipartSections (old new : Sections) : Type 0 where
-  pub delimiter : new.delimiter.needle ≡ old.delimiter.needle
+  pub delimiter : new.waiting.delimiter ≡ old.waiting.delimiter
   pub ended : multipart_sections_have_ended new.stage ≡ multipart_sections_have_ended old.stage
   pub held : held_by_multipart new ≡ held_by_multipart old
 
 -- after a search, by what was found
 abbrev pub AfterMultipartSearch : Stage → Sections → Sections → Type 0
 AfterMultipartSearch Preamble old new =
-    SameMultipartSections old new × (¬ Occurs old.delimiter.needle (waiting_in_multipart new)) × (¬ ClosesMultipart old.delimiter.needle (held_by_multipart old)) × LacksNextInMultipart old.delimiter.needle (held_by_multipart old)
+    SameMultipartSections old new × (¬ Occurs old.waiting.delimiter new.waiting.held) × (¬ ClosesMultipart old.waiting.delimiter (held_by_multipart old)) × LacksNextInMultipart old.waiting.delimiter (held_by_multipart old)
 AfterMultipartSearch Waiting old new =
-    SameMultipartSections old new × (¬ Occurs old.delimiter.needle (waiting_in_multipart new)) × (¬ ClosesMultipart old.delimiter.needle (held_by_multipart old)) × LacksNextInMultipart old.delimiter.needle (held_by_multipart old)
+    SameMultipartSections old new × (¬ Occurs old.waiting.delimiter new.waiting.held) × (¬ ClosesMultipart old.waiting.delimiter (held_by_multipart old)) × LacksNextInMultipart old.waiting.delimiter (held_by_multipart old)
 AfterMultipartSearch Found old new = SameMultipartSections old new
-AfterMultipartSearch Ended old new = (old.stage ≡ Ended) ⊎ ClosesMultipart old.delimiter.needle (held_by_multipart old)
+AfterMultipartSearch Ended old new = (old.stage ≡ Ended) ⊎ ClosesMultipart old.waiting.delimiter (held_by_multipart old)
 
 -- why a search fails: no part within the limits comes, or memory is refused for what is between two delimiters
 abbrev pub IsMultipartSearchFault : PartError → List ℕ → Limits → List ℕ → Type 0

@@ -16,7 +16,7 @@ use Rattle.bytes_utils_protocols.specs.declared.multipart.limits.PartError.TheVa
 use Rattle.bytes_utils_protocols.specs.declared.multipart.progress.Place.{Place}
 use Rattle.bytes_utils_protocols.specs.declared.multipart.progress.Place.TheVariants.{Preamble, AtHead, InBody, Ended}
 use Rattle.bytes_utils_protocols.specs.declared.multipart.progress.Progress.{Progress}
-use Rattle.bytes_utils_protocols.specs.declared.multipart.waiting.Ahead.{Ahead}
+use Rattle.bytes_utils_protocols.specs.MultipartWaiting.{IsSearchWithin}
 
 -- What clauses see of a `PartStream`: the delimiter; the limits; where the held bytes begin; how many more bytes of the preamble or of the body the
 -- limits allow, if they begin there; and the held bytes.
@@ -29,6 +29,11 @@ pub record PartStreaming : Type 0 where
 
 abbrev pub part_streaming : Progress → PartStreaming
 part_streaming p = record { delimiter = p.waiting.delimiter; limits = p.limits; place = p.place; room = p.room; held = p.waiting.held }
+
+-- the search for the end of a head: after a delimiter it is within the bytes that wait
+pub record IsHeadSearchWithin (p : Progress) : Type 0 where
+  pub needle : p.head_end.needle ≡ multipart_head_end
+  pub within : p.place ≡ AtHead → IsSearchWithin p.head_end p.waiting.held
 
 -- the most bytes of a preamble
 abbrev pub most_in_preamble : Limits → ℕ
@@ -106,17 +111,6 @@ pub record HasPartHeadEnd (delimiter : List ℕ) (limits : Limits) (held : List 
   pub cut : TakesFrame multipart_head_end held (take len held) (drop (len + length multipart_head_end) held)
   pub apart : NoneBeginsInSearch delimiter held (len + length multipart_head_end)
   pub small : len + length multipart_head_end ≤ limits.head
-
--- What a search for a needle found: how many bytes there are at the front in which none begins, whatever comes after all. The needle comes after those,
--- or it has not come, and fewer bytes come after them than it has.
-pub record IsAheadOfNeedle (needle held : List ℕ) (ahead : Ahead) : Type 0 where
-  pub within : ahead.len ≤ length held
-  pub apart : NoneBeginsInSearch needle held ahead.len
-  pub here : ahead.has_come ≡ true → TakesFrame needle held (take ahead.len held) (drop (ahead.len + length needle) held)
-  pub fits : ahead.has_come ≡ true → ahead.len + length needle ≤ length held
-  pub lacks : ahead.has_come ≡ false → ¬ Occurs needle held
-  pub few : ahead.has_come ≡ false → length held < ahead.len + length needle
-  pub some : 0 < length needle
 
 -- why there is no head
 abbrev pub IsPartHeadFault : PartError → List ℕ → Limits → List ℕ → Type 0

@@ -1,9 +1,9 @@
 -- Bytes of a stream that wait for a delimiter.
-use Rattle.std.specs.Prelude.{◌≡◌, ℕ, ◌≤◌, List, length}
-use Rattle.std.specs.List.{concat}
-use Rattle.bytes_utils_buf.specs.Packing.{Packing}
+use Rattle.std.specs.Prelude.{◌≡◌, ℕ, ◌+◌, ◌<◌, ◌≤◌, true, false, List, length, take, drop}
+use Rattle.bytes_utils.specs.Occurrence.{Occurs}
+use Rattle.bytes_utils_codec.specs.Frames.{TakesFrame}
 use Rattle.bytes_utils_codec.specs.Search.{NoneBeginsInSearch, Searching}
-use Rattle.bytes_utils_protocols.specs.Multipart.{multipart_head_end}
+use Rattle.bytes_utils_protocols.specs.declared.multipart.waiting.Ahead.{Ahead}
 
 -- what clauses see of them: the delimiter, and the bytes
 pub record MultipartWaiting : Type 0 where
@@ -11,11 +11,17 @@ pub record MultipartWaiting : Type 0 where
   pub held : List ℕ
 
 -- of the bytes, a search has passed none in which its needle begins, whatever comes after them
-abbrev pub IsSearchWithin : Searching → Packing → Type 0
-IsSearchWithin search pieces = NoneBeginsInSearch search.needle (concat pieces.held.segments) search.searched × (search.searched ≤ length (concat pieces.held.segments))
+pub record IsSearchWithin (search : Searching) (held : List ℕ) : Type 0 where
+  pub none : NoneBeginsInSearch search.needle held search.searched
+  pub within : search.searched ≤ length held
 
--- the searches for a delimiter and for the end of a head
-pub record AreSearchesWithin (delimiter head_end : Searching) (pieces : Packing) : Type 0 where
-  pub delimiter_is : IsSearchWithin delimiter pieces
-  pub head_end_is : IsSearchWithin head_end pieces
-  pub needle : head_end.needle ≡ multipart_head_end
+-- What a search for a needle found: how many bytes there are at the front in which none begins, whatever comes after all. The needle comes after those,
+-- or it has not come, and fewer bytes come after them than it has.
+pub record IsAheadOfNeedle (needle held : List ℕ) (ahead : Ahead) : Type 0 where
+  pub within : ahead.len ≤ length held
+  pub apart : NoneBeginsInSearch needle held ahead.len
+  pub here : ahead.has_come ≡ true → TakesFrame needle held (take ahead.len held) (drop (ahead.len + length needle) held)
+  pub fits : ahead.has_come ≡ true → ahead.len + length needle ≤ length held
+  pub lacks : ahead.has_come ≡ false → ¬ Occurs needle held
+  pub few : ahead.has_come ≡ false → length held < ahead.len + length needle
+  pub some : 0 < length needle

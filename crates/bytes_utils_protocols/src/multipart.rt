@@ -79,7 +79,7 @@ impl Model for PartReader {
     ghost Value = { MultipartReading };
 
     ghost view = { λ r. record {
-      delimiter = r.sections.delimiter.needle;
+      delimiter = r.sections.waiting.delimiter;
       limits = r.limits;
       ended = multipart_sections_have_ended r.sections.stage;
       held = held_by_multipart r.sections;
@@ -101,7 +101,7 @@ impl PartReader {
         ensures reason { IfErr result (λ reason. reason ≡ Reason.OutOfMemory) }
     {
         let mut sections = Sections::new(alloc, &delimiter_of(alloc, boundary)?)?;
-        sections.push_slice(alloc, b"\r\n")?;
+        sections.waiting.push_slice(alloc, b"\r\n")?;
         Ok(PartReader {
             alloc,
             sections,
@@ -123,7 +123,7 @@ impl PartReader {
         if self.has_ended() {
             return Ok(());
         }
-        self.sections.push(self.alloc, piece)
+        self.sections.waiting.push(self.alloc, piece)
     }
 
     /// Appends a copy of `piece`, in a block that it shares with other small pieces, or drops it if
@@ -140,7 +140,7 @@ impl PartReader {
         ensures drops { self.old.ended ≡ true → IsOk result }
     {
         if !self.has_ended() {
-            self.sections.push_slice(self.alloc, piece)?;
+            self.sections.waiting.push_slice(self.alloc, piece)?;
         }
         Ok(())
     }
@@ -220,24 +220,24 @@ fn take_part(sections: &mut Sections, alloc: Global, limits: Limits) -> Result<P
     requires found { sections.old.stage ≡ Stage.Found }
     requires few { length sections.old.preamble ≤ limits.head + limits.body }
     ensures divided { IsMultipartDivided sections.new }
-    ensures part { IfOk result (λ part. TakesMultipart sections.old.delimiter.needle limits
+    ensures part { IfOk result (λ part. TakesMultipart sections.old.waiting.delimiter limits
         (held_by_multipart sections.old) (bytes_of_multipart part) (held_by_multipart sections.new)) }
     ensures fields { IfOk result (λ part. AreMultipartFields part.head) }
     ensures name { IfOk result (λ part. HasMultipartParameter multipart_name part.head part.name) }
     ensures file_name { IfOk result (λ part. HasMultipartParameter multipart_file_name part.head part.file_name) }
     ensures goes_on { OnOk result (sections.new.stage ≡ Stage.Waiting) }
-    ensures delimiter { sections.new.delimiter.needle ≡ sections.old.delimiter.needle }
+    ensures delimiter { sections.new.waiting.delimiter ≡ sections.old.waiting.delimiter }
     ensures err { OnErr result (sections.new ≡ sections.old) }
     ensures malformed { IfErr result (λ e. e ≡ PartError.Malformed
         → (any : Limits) (more : List ℕ)
-        → NoMultipartWithFields sections.old.delimiter.needle any (held_by_multipart sections.old ++ more)) }
+        → NoMultipartWithFields sections.old.waiting.delimiter any (held_by_multipart sections.old ++ more)) }
     ensures due { IfErr result (λ e. e ≢ PartError.TooLarge
-        → IsMultipartDue sections.old.delimiter.needle limits (held_by_multipart sections.old)) }
+        → IsMultipartDue sections.old.waiting.delimiter limits (held_by_multipart sections.old)) }
     ensures too_large { IfErr result (λ e. e ≡ PartError.TooLarge → (more : List ℕ)
-        → NoMultipart sections.old.delimiter.needle limits (held_by_multipart sections.old ++ more)) }
+        → NoMultipart sections.old.waiting.delimiter limits (held_by_multipart sections.old ++ more)) }
     ensures not_utf8 { IfErr result (λ e. e ≡ PartError.NotUtf8
         → (part : MultipartBytes) × (rest : List ℕ)
-        × TakesMultipart sections.old.delimiter.needle limits (held_by_multipart sections.old) part rest
+        × TakesMultipart sections.old.waiting.delimiter limits (held_by_multipart sections.old) part rest
         × (¬ IsUtf8 part.head)) }
     ensures reason { IfErr result (λ e. (reason : _) → e ≡ PartError.Refused reason
         → reason ≡ Reason.OutOfMemory) }

@@ -1,11 +1,15 @@
 //! The head of a part.
 ghost use Rattle.std.specs.Prelude.{◌≡◌, ◌≢◌, ◌≤◌, ℕ, List, length, drop, IsUtf8, IfOk, IfErr, IfSome, IfNone};
 ghost use Rattle.std.specs.List.{concat};
-ghost use Rattle.bytes_utils_protocols.specs.Multipart.{AreMultipartFields, HasMultipartParameter, IsMultipartHead, IsMultipartPart, MultipartBytes, multipart_bytes, multipart_file_name, multipart_name};
+ghost use Rattle.bytes_utils.specs.Occurrence.{Occurs};
+ghost use Rattle.bytes_utils_protocols.specs.Multipart.{AreMultipartFields, HasMultipartParameter, IsMultipartHead, IsMultipartPart, MultipartBytes, multipart_bytes, multipart_file_name, multipart_head_end, multipart_name};
+ghost use Rattle.bytes_utils_protocols.specs.MultipartStream.{FindsPartHead};
+ghost use Rattle.bytes_utils_protocols.specs.MultipartWaiting.{IsAheadOfNeedle};
 
 use super::disposition::read_parameter;
 use super::fields::{disposition_of_head, has_fields};
 use super::limits::{Limits, PartError};
+use super::waiting::{Ahead, DASHES};
 use crate::header::header_blanks_len;
 use bytes::{Buf, Bytes};
 use bytes_utils::{Reason, SegmentedBuf, Str};
@@ -114,4 +118,45 @@ fn head_in(mut front: Bytes) -> Option<Bytes>
     }
     front.advance(LINE_END.len());
     Some(front)
+}
+
+/// How many bytes are before the end of a head, by what is ahead of the next delimiter and of that
+/// end in `all` bytes.
+pub(super) fn found_head(
+    next: Ahead,
+    end: Ahead,
+    all: usize,
+    limits: Limits,
+) -> Result<Option<usize>, PartError>
+    ensures { (delimiter held : List ℕ) → length held ≡ all → IsAheadOfNeedle delimiter held next
+        → IsAheadOfNeedle multipart_head_end held end → FindsPartHead delimiter limits held result }
+{
+    if !end.has_come {
+        return awaited_head(next, all, limits);
+    }
+    let whole = end.len.saturating_add(HEAD_END.len());
+    if whole > limits.head {
+        return Err(PartError::TooLarge);
+    }
+    if whole <= next.len {
+        return Ok(Some(end.len));
+    }
+    if next.has_come {
+        return Err(PartError::Malformed);
+    }
+    Ok(None)
+}
+
+/// The same while the end of a head is to come.
+fn awaited_head(next: Ahead, all: usize, limits: Limits) -> Result<Option<usize>, PartError>
+    ensures { (delimiter held : List ℕ) → length held ≡ all → IsAheadOfNeedle delimiter held next
+        → (¬ Occurs multipart_head_end held) → FindsPartHead delimiter limits held result }
+{
+    if next.has_come {
+        return Err(PartError::Malformed);
+    }
+    if all >= limits.head.max(DASHES.len()) {
+        return Err(PartError::TooLarge);
+    }
+    Ok(None)
 }

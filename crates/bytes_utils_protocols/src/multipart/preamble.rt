@@ -1,9 +1,7 @@
 //! What is before the first delimiter of a stream.
 ghost use Rattle.std.specs.Prelude.{◌≡◌, ◌^◌, ◌<◌, ◌≤◌, [], length, take};
-ghost use Rattle.std.specs.List.{concat};
 
-use bytes_utils::segmented::PackedBuf;
-use std::alloc::Global;
+use super::waiting::Waiting;
 use std::fmt::{self, Debug, Formatter, Write};
 use std::marker::Model;
 use std::snapshot::Snapshot;
@@ -13,25 +11,24 @@ use std::snapshot::Snapshot;
 #[derive(Drop)]
 pub(super) struct Preamble {
     len: usize,
-    bytes: Snapshot<PackedBuf>,
+    bytes: Snapshot<Waiting>,
 }
 
 impl Model for Preamble {
     ghost use Rattle.std.specs.Prelude.{ℕ, ◌≤◌, List, length, take};
-    ghost use Rattle.std.specs.List.{concat};
 
     ghost Value = { List ℕ };
 
-    ghost view = { λ p. take p.len (concat p.bytes.value.held.segments) };
+    ghost view = { λ p. take p.len p.bytes.value.held };
 
-    ghost invariant = { λ p. p.len ≤ length (concat p.bytes.value.held.segments) };
+    ghost invariant = { λ p. p.len ≤ length p.bytes.value.held };
 }
 
 impl Preamble {
     /// The first `len` of these bytes.
-    pub(super) fn front_of(bytes: &PackedBuf, len: usize) -> Preamble
-        requires { len ≤ length (concat bytes.now.held.segments) }
-        ensures { result ≡ take len (concat bytes.now.held.segments) }
+    pub(super) fn front_of(bytes: &Waiting, len: usize) -> Preamble
+        requires { len ≤ length bytes.now.held }
+        ensures { result ≡ take len bytes.now.held }
     {
         Preamble {
             len,
@@ -39,11 +36,11 @@ impl Preamble {
         }
     }
 
-    /// No bytes.
-    pub(super) fn none(alloc: Global) -> Preamble
+    /// None of these bytes.
+    pub(super) fn none_of(bytes: &Waiting) -> Preamble
         ensures { result ≡ [] }
     {
-        Preamble::front_of(&PackedBuf::new(alloc, 0), 0)
+        Preamble::front_of(bytes, 0)
     }
 
     /// How many bytes there were.

@@ -1,11 +1,13 @@
 //! How far the parts of a stream were given.
 ghost use Rattle.std.specs.Prelude.{◌≡◌, ◌<◌, ◌≤◌, length, IfOk, IfErr, OnOk, OnErr};
-ghost use Rattle.bytes_utils_protocols.specs.MultipartStream.{AfterPreamble, IsAheadOfNeedle, IsPartStreamReturn, IsPartStreamStep, PassesPartRoom, part_streaming};
+ghost use Rattle.bytes_utils_protocols.specs.MultipartStream.{AfterPreamble, FindsPartHead, IsHeadSearchWithin, IsPartStreamReturn, IsPartStreamStep, PassesPartRoom, part_streaming};
+ghost use Rattle.bytes_utils_protocols.specs.MultipartWaiting.{IsAheadOfNeedle};
 
 use super::event::PartEvent;
-use super::head::{HEAD_END, parse_head};
+use super::head::{HEAD_END, found_head, parse_head};
 use super::limits::{Limits, PartError};
 use super::waiting::{Ahead, DASHES, Waiting};
+use bytes_utils_codec::search::Search;
 use std::alloc::Global;
 
 /// Where in a stream the bytes that wait begin.
@@ -25,6 +27,8 @@ pub(super) enum Place {
 #[derive(Debug, Drop)]
 pub(super) struct Progress {
     pub(super) waiting: Waiting,
+    /// The search for the end of a head, which begins after each delimiter.
+    pub(super) head_end: Search,
     pub(super) place: Place,
     /// How many more bytes the limits allow, of the preamble or of the body.
     pub(super) room: usize,
@@ -34,7 +38,9 @@ pub(super) struct Progress {
 impl Progress {
     /// Gives the next event, as `PartStream` does.
     pub(super) fn next_event(&mut self, alloc: Global) -> Result<Option<PartEvent>, PartError>
-        ensures { IsPartStreamReturn (part_streaming self.old) result (part_streaming self.new) }
+        requires { IsHeadSearchWithin self.old }
+        ensures head_end { IsHeadSearchWithin self.new }
+        ensures call { IsPartStreamReturn (part_streaming self.old) result (part_streaming self.new) }
     {
         self.pass_preamble()?;
         self.next_after_preamble(alloc)
@@ -42,6 +48,7 @@ impl Progress {
 
     /// Drops what has come of the preamble, and the first delimiter.
     fn pass_preamble(&mut self) -> Result<(), PartError>
+        ensures head_end { IsHeadSearchWithin self.old → IsHeadSearchWithin self.new }
         ensures ok { OnOk result (AfterPreamble (part_streaming self.old) (part_streaming self.new)) }
         ensures awaits { OnOk result (self.new.place ≡ Place.Preamble
             → length self.new.waiting.held < length self.new.waiting.delimiter) }
@@ -49,30 +56,18 @@ impl Progress {
         ensures over { IfErr result (λ e. (e ≡ PartError.TooLarge)
             × (self.old.place ≡ Place.Preamble) × PassesPartRoom (part_streaming self.old)) }
     {
-        match self.place {
-            Place::Preamble => self.drop_preamble(),
-            _ => Ok(()),
-        }
-    }
-
-    /// The same in the preamble.
-    fn drop_preamble(&mut self) -> Result<(), PartError>
-        requires { self.old.place ≡ Place.Preamble }
-        ensures ok { OnOk result (AfterPreamble (part_streaming self.old) (part_streaming self.new)) }
-        ensures awaits { OnOk result (self.new.place ≡ Place.Preamble
-            → length self.new.waiting.held < length self.new.waiting.delimiter) }
-        ensures err { OnErr result (self.new ≡ self.old) }
-        ensures over { IfErr result (λ e. (e ≡ PartError.TooLarge)
-            × PassesPartRoom (part_streaming self.old)) }
-    {
+        let Place::Preamble = self.place else {
+            return Ok(());
+        };
         let ahead = self.look_ahead()?;
-        self.waiting.advance(ahead.len);
-        if !ahead.has_come {
-            self.room -= ahead.len;
+        if ahead.has_come {
+            self.waiting.pass_delimiter(ahead.len);
+            self.head_end.restart();
+            self.place = Place::AtHead;
             return Ok(());
         }
-        self.waiting.advance(self.waiting.delimiter_len());
-        self.place = Place::AtHead;
+        self.waiting.advance(ahead.len);
+        self.room -= ahead.len;
         Ok(())
     }
 
@@ -94,9 +89,11 @@ impl Progress {
 
     /// Gives the next event, if the preamble has come.
     fn next_after_preamble(&mut self, alloc: Global) -> Result<Option<PartEvent>, PartError>
-        requires { self.old.place ≡ Place.Preamble
+        requires head_end { IsHeadSearchWithin self.old }
+        requires awaits { self.old.place ≡ Place.Preamble
             → length self.old.waiting.held < length self.old.waiting.delimiter }
-        ensures { IsPartStreamStep (part_streaming self.old) result (part_streaming self.new) }
+        ensures head_end { IsHeadSearchWithin self.new }
+        ensures step { IsPartStreamStep (part_streaming self.old) result (part_streaming self.new) }
     {
         match self.place {
             Place::AtHead => self.next_head(alloc),
@@ -107,15 +104,17 @@ impl Progress {
 
     /// Gives the head after a delimiter, or ends, if two dashes follow that.
     fn next_head(&mut self, alloc: Global) -> Result<Option<PartEvent>, PartError>
-        requires { self.old.place ≡ Place.AtHead }
-        ensures { IsPartStreamStep (part_streaming self.old) result (part_streaming self.new) }
+        requires head_end { IsHeadSearchWithin self.old }
+        requires place { self.old.place ≡ Place.AtHead }
+        ensures head_end { IsHeadSearchWithin self.new }
+        ensures step { IsPartStreamStep (part_streaming self.old) result (part_streaming self.new) }
     {
         if self.waiting.starts_with(DASHES) {
             self.waiting.clear(alloc);
             self.place = Place::Ended;
             return Ok(None);
         }
-        let Some(len) = self.waiting.head_len(self.limits)? else {
+        let Some(len) = self.head_len()? else {
             return Ok(None);
         };
         let head = parse_head(alloc, self.waiting.peek(alloc, len)?)?;
@@ -125,10 +124,26 @@ impl Progress {
         Ok(Some(PartEvent::Head(head)))
     }
 
+    /// Returns how many bytes are before the end of a head at the front, or `None` while that end, or
+    /// enough after it to see that no delimiter begins before it, is to come.
+    fn head_len(&mut self) -> Result<Option<usize>, PartError>
+        requires head_end { IsHeadSearchWithin self.old }
+        requires place { self.old.place ≡ Place.AtHead }
+        ensures head_end { IsHeadSearchWithin self.new }
+        ensures same { self.new ≡ record self.old { head_end = self.new.head_end } }
+        ensures found { FindsPartHead
+            self.old.waiting.delimiter self.old.limits self.old.waiting.held result }
+    {
+        let next = self.waiting.search();
+        let end = self.waiting.search_for(&mut self.head_end);
+        found_head(next, end, self.waiting.len(), self.limits)
+    }
+
     /// Gives a piece of a body, or its end.
     fn next_in_body(&mut self, alloc: Global) -> Result<Option<PartEvent>, PartError>
         requires { self.old.place ≡ Place.InBody }
-        ensures { IsPartStreamStep (part_streaming self.old) result (part_streaming self.new) }
+        ensures head_end { IsHeadSearchWithin self.old → IsHeadSearchWithin self.new }
+        ensures step { IsPartStreamStep (part_streaming self.old) result (part_streaming self.new) }
     {
         let ahead = self.look_ahead()?;
         if ahead.len > 0 {
@@ -139,7 +154,8 @@ impl Progress {
         if !ahead.has_come {
             return Ok(None);
         }
-        self.waiting.advance(self.waiting.delimiter_len());
+        self.waiting.pass_delimiter(ahead.len);
+        self.head_end.restart();
         self.place = Place::AtHead;
         Ok(Some(PartEvent::End))
     }

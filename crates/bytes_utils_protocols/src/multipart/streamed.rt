@@ -6,11 +6,13 @@ ghost use Rattle.bytes_utils_protocols.specs.MultipartStream.{AfterPreamble, IsP
 
 use super::delimiter::delimiter_of;
 use super::event::PartEvent;
+use super::head::HEAD_END;
 use super::limits::{Limits, PartError, most_multipart_bytes};
 use super::progress::{Place, Progress};
 use super::waiting::Waiting;
 use bytes::Bytes;
 use bytes_utils::{Reason, Refused};
+use bytes_utils_codec::search::Search;
 use std::alloc::Global;
 use std::marker::Model;
 
@@ -44,11 +46,13 @@ pub struct PartStream {
 }
 
 impl Model for PartStream {
-    ghost use Rattle.bytes_utils_protocols.specs.MultipartStream.{PartStreaming, part_streaming};
+    ghost use Rattle.bytes_utils_protocols.specs.MultipartStream.{IsHeadSearchWithin, PartStreaming, part_streaming};
 
     ghost Value = { PartStreaming };
 
     ghost view = { λ s. part_streaming s.progress };
+
+    ghost invariant = { λ s. IsHeadSearchWithin s.progress };
 }
 
 impl PartStream {
@@ -60,11 +64,13 @@ impl PartStream {
         ensures reason { IfErr result (λ reason. reason ≡ Reason.OutOfMemory) }
     {
         let mut waiting = Waiting::new(alloc, &delimiter_of(alloc, boundary)?)?;
+        let head_end = Search::new(alloc, HEAD_END)?;
         waiting.push_slice(alloc, b"\r\n")?;
         Ok(PartStream {
             alloc,
             progress: Progress {
                 waiting,
+                head_end,
                 place: Place::Preamble,
                 room: most_multipart_bytes(limits),
                 limits,

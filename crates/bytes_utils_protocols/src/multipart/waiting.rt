@@ -1,17 +1,12 @@
 //! Bytes of a stream that wait for the next delimiter.
-ghost use Rattle.std.specs.Prelude.{◌≡◌, ◌↔◌, ℕ, ◌+◌, ◌-◌, ◌^◌, ◌<◌, ◌≤◌, List, [], ◌++◌, length, take, drop, IsOk, IsTrue, OnOk, OnErr, IfOk, IfErr};
+ghost use Rattle.std.specs.Prelude.{◌≡◌, ◌↔◌, ◌+◌, ◌-◌, ◌^◌, ◌<◌, ◌≤◌, [], ◌++◌, length, take, drop, IsOk, IsTrue, OnOk, OnErr, IfOk, IfErr};
 ghost use Rattle.std.specs.List.{concat};
-ghost use Rattle.bytes_utils.specs.Occurrence.{Occurs};
 ghost use Rattle.bytes_utils_codec.specs.Pushing.{IsPush};
-ghost use Rattle.bytes_utils_protocols.specs.Multipart.{multipart_head_end};
-ghost use Rattle.bytes_utils_protocols.specs.MultipartStream.{FindsPartHead, IsAheadOfNeedle};
-ghost use Rattle.bytes_utils_protocols.specs.MultipartWaiting.{IsSearchWithin};
+ghost use Rattle.bytes_utils_protocols.specs.MultipartWaiting.{IsAheadOfNeedle, IsSearchWithin};
 
-use super::head::HEAD_END;
-use super::limits::{Limits, PartError};
 use bytes::{Buf, Bytes};
 use bytes_utils::segmented::PackedBuf;
-use bytes_utils::{Reason, Refused};
+use bytes_utils::{Reason, Refused, SegmentedBuf};
 use bytes_utils_codec::search::Search;
 use std::alloc::Global;
 use std::marker::Model;
@@ -31,17 +26,16 @@ pub(super) struct Ahead {
     pub(super) has_come: bool,
 }
 
-/// Bytes that came in pieces, and the searches in them for a delimiter and for the end of a head.
+/// Bytes that came in pieces, and the search in them for a delimiter.
 #[derive(Debug, Drop)]
 pub(super) struct Waiting {
     delimiter: Search,
-    head_end: Search,
     pieces: PackedBuf,
 }
 
 impl Model for Waiting {
     ghost use Rattle.std.specs.List.{concat};
-    ghost use Rattle.bytes_utils_protocols.specs.MultipartWaiting.{AreSearchesWithin, MultipartWaiting};
+    ghost use Rattle.bytes_utils_protocols.specs.MultipartWaiting.{IsSearchWithin, MultipartWaiting};
 
     ghost Value = { MultipartWaiting };
 
@@ -50,7 +44,7 @@ impl Model for Waiting {
       held = concat w.pieces.held.segments;
     } };
 
-    ghost invariant = { λ w. AreSearchesWithin w.delimiter w.head_end w.pieces };
+    ghost invariant = { λ w. IsSearchWithin w.delimiter (concat w.pieces.held.segments) };
 }
 
 impl Waiting {
@@ -62,7 +56,6 @@ impl Waiting {
     {
         Ok(Waiting {
             delimiter: Search::new(alloc, delimiter)?,
-            head_end: Search::new(alloc, HEAD_END)?,
             pieces: PackedBuf::new(alloc, SMALL),
         })
     }
@@ -116,6 +109,16 @@ impl Waiting {
         look_ahead(&mut self.delimiter, &self.pieces)
     }
 
+    /// Looks for the needle of another search, from where that stopped.
+    pub(super) fn search_for(&self, search: &mut Search) -> Ahead
+        requires { IsSearchWithin search.old self.now.held }
+        ensures needle { search.new.needle ≡ search.old.needle }
+        ensures within { IsSearchWithin search.new self.now.held }
+        ensures ahead { IsAheadOfNeedle search.old.needle self.now.held result }
+    {
+        look_ahead(search, &self.pieces)
+    }
+
     /// Takes bytes off the front: `most`, or those of the first segment if it has fewer. A piece that
     /// was held as it came is shared. Requires that `most` is not 0, and at most `len()`.
     pub(super) fn take(&mut self, alloc: Global, most: usize) -> Result<Bytes, Reason>
@@ -131,7 +134,6 @@ impl Waiting {
         let len = self.pieces.chunk().len().min(most);
         let piece = self.pieces.take_bytes(alloc, len)?;
         pass(&mut self.delimiter, len);
-        self.head_end.restart();
         Ok(piece)
     }
 
@@ -142,7 +144,38 @@ impl Waiting {
     {
         self.pieces.advance(len);
         pass(&mut self.delimiter, len);
-        self.head_end.restart();
+    }
+
+    /// Drops the first `len` bytes, and the delimiter after them. Requires that they have come.
+    pub(super) fn pass_delimiter(&mut self, len: usize)
+        requires { len + length self.old.delimiter ≤ length self.old.held }
+        ensures { self.new ≡ record self.old {
+          held = drop (len + length self.old.delimiter) self.old.held;
+        } }
+    {
+        self.advance(len);
+        self.advance(self.delimiter_len());
+    }
+
+    /// Takes the first `len` bytes, as `PackedBuf` does, and drops the delimiter after them. Requires
+    /// that they have come.
+    pub(super) fn split_at_delimiter(
+        &mut self,
+        alloc: Global,
+        len: usize,
+    ) -> Result<SegmentedBuf<Bytes>, Reason>
+        requires { len + length self.old.delimiter ≤ length self.old.held }
+        ensures front { IfOk result (λ front. concat front.segments ≡ take len self.old.held) }
+        ensures ok { OnOk result (self.new ≡ record self.old {
+          held = drop (len + length self.old.delimiter) self.old.held;
+        }) }
+        ensures err { OnErr result (self.new ≡ self.old) }
+        ensures reason { IfErr result (λ reason. reason ≡ Reason.OutOfMemory) }
+    {
+        let front = self.pieces.split_to(alloc, len)?;
+        self.pieces.advance(self.delimiter.needle().len());
+        self.delimiter.restart();
+        Ok(front)
     }
 
     /// Drops all bytes.
@@ -151,7 +184,6 @@ impl Waiting {
     {
         self.pieces = PackedBuf::new(alloc, SMALL);
         self.delimiter.restart();
-        self.head_end.restart();
     }
 
     /// Returns the first `len` bytes, which stay. Requires that `len` is at most `len()`.
@@ -162,65 +194,12 @@ impl Waiting {
     {
         self.pieces.as_segmented().peek_bytes(alloc, len)
     }
-
-    /// Returns how many bytes are before the end of a head at the front, or `None` while that end, or
-    /// enough after it to see that no delimiter begins before it, is to come.
-    pub(super) fn head_len(&mut self, limits: Limits) -> Result<Option<usize>, PartError>
-        ensures same { self.new ≡ self.old }
-        ensures found { FindsPartHead self.old.delimiter limits self.old.held result }
-    {
-        let next = look_ahead(&mut self.delimiter, &self.pieces);
-        let end = look_ahead(&mut self.head_end, &self.pieces);
-        found_head(next, end, self.pieces.remaining(), limits)
-    }
-}
-
-/// How many bytes are before the end of a head, by what is ahead of the next delimiter and of that
-/// end in `all` bytes.
-fn found_head(
-    next: Ahead,
-    end: Ahead,
-    all: usize,
-    limits: Limits,
-) -> Result<Option<usize>, PartError>
-    ensures { (delimiter held : List ℕ) → length held ≡ all → IsAheadOfNeedle delimiter held next
-        → IsAheadOfNeedle multipart_head_end held end → FindsPartHead delimiter limits held result }
-{
-    if !end.has_come {
-        return awaited_head(next, all, limits);
-    }
-    let whole = end.len.saturating_add(HEAD_END.len());
-    if whole > limits.head {
-        return Err(PartError::TooLarge);
-    }
-    if whole <= next.len {
-        return Ok(Some(end.len));
-    }
-    if next.has_come {
-        return Err(PartError::Malformed);
-    }
-    Ok(None)
-}
-
-/// The same while the end of a head is to come.
-fn awaited_head(next: Ahead, all: usize, limits: Limits) -> Result<Option<usize>, PartError>
-    ensures { (delimiter held : List ℕ) → length held ≡ all → IsAheadOfNeedle delimiter held next
-        → (¬ Occurs multipart_head_end held) → FindsPartHead delimiter limits held result }
-{
-    if next.has_come {
-        return Err(PartError::Malformed);
-    }
-    if all >= limits.head.max(DASHES.len()) {
-        return Err(PartError::TooLarge);
-    }
-    Ok(None)
 }
 
 /// Looks for the needle of a search, from where the last call stopped.
 fn look_ahead(search: &mut Search, pieces: &PackedBuf) -> Ahead
-    requires { IsSearchWithin search.old pieces.now }
-    ensures needle { search.new.needle ≡ search.old.needle }
-    ensures within { IsSearchWithin search.new pieces.now }
+    requires { IsSearchWithin search.old (concat pieces.now.held.segments) }
+    ensures search { search.new ≡ record search.old { searched = result.len } }
     ensures ahead { IsAheadOfNeedle search.old.needle (concat pieces.now.held.segments) result }
 {
     match search.find(pieces.as_segmented()) {

@@ -1,7 +1,7 @@
 use Rattle.std.proofs.Common.{arith, ◌<◌, ◌≤◌, ◌+◌, ◌∙◌, sym, refl, subst, length}
 use Rattle.std.proofs.lemmas.Bool.{false≢true}
 use Rattle.std.proofs.lemmas.Result.{err_from_is_err_and}
-use Rattle.bytes_utils_protocols.specs.Multipart.{AfterMultipartSearch, AreMultipartFields, IsMultipartSearchFault, held_by_multipart, waiting_in_multipart}
+use Rattle.bytes_utils_protocols.specs.Multipart.{AfterMultipartSearch, AreMultipartFields, IsMultipartSearchFault, held_by_multipart}
 use Rattle.bytes_utils_protocols.proofs.MultipartLemmas.{due_by_fault, due_of_same, few_wait, idle_after, none_after, each_of_same, over_limits}
 use Rattle.bytes_utils_protocols.proofs.multipart.PartReader.next_part.Goals as goal
 
@@ -9,40 +9,40 @@ pub returns-in_err-search-clause-malformed : goal.returns-in_err-search-clause-m
 returns-in_err-search-clause-malformed c =
     let s = c.self.inside.sections in
     let out = err_from_is_err_and c.from_residual.result c.from_residual.ensures.1 in
-    rw out.1 (λ is. absurd (subst (λ e. IsMultipartSearchFault e s.delimiter.needle c.self.inside.limits (held_by_multipart s)) (sym out.2 ∙ is) c.in_err-search.ensures.fault))
+    rw out.1 (λ is. absurd (subst (λ e. IsMultipartSearchFault e s.waiting.delimiter c.self.inside.limits (held_by_multipart s)) (sym out.2 ∙ is) c.in_err-search.ensures.fault))
 
 pub returns-in_err-search-clause-due : goal.returns-in_err-search-clause-due
 returns-in_err-search-clause-due c =
     let s = c.self.inside.sections in
     let out = err_from_is_err_and c.from_residual.result c.from_residual.ensures.1 in
-    rw (← c.self.view_is) (rw out.1 (λ not_large. due_by_fault out.0 s.delimiter.needle c.self.inside.limits (held_by_multipart s)
-    (subst (λ e. IsMultipartSearchFault e s.delimiter.needle c.self.inside.limits (held_by_multipart s)) (sym out.2) c.in_err-search.ensures.fault) not_large))
+    rw (← c.self.view_is) (rw out.1 (λ not_large. due_by_fault out.0 s.waiting.delimiter c.self.inside.limits (held_by_multipart s)
+    (subst (λ e. IsMultipartSearchFault e s.waiting.delimiter c.self.inside.limits (held_by_multipart s)) (sym out.2) c.in_err-search.ensures.fault) not_large))
 
 pub returns-in_err-search-clause-too_large : goal.returns-in_err-search-clause-too_large
 returns-in_err-search-clause-too_large c =
     let s = c.self.inside.sections in
     let out = err_from_is_err_and c.from_residual.result c.from_residual.ensures.1 in
-    rw (← c.self.view_is) (rw out.1 (λ is. subst (λ e. IsMultipartSearchFault e s.delimiter.needle c.self.inside.limits (held_by_multipart s)) (sym out.2 ∙ is) c.in_err-search.ensures.fault))
+    rw (← c.self.view_is) (rw out.1 (λ is. subst (λ e. IsMultipartSearchFault e s.waiting.delimiter c.self.inside.limits (held_by_multipart s)) (sym out.2 ∙ is) c.in_err-search.ensures.fault))
 
 pub returns-in_err-search-clause-not_utf8 : goal.returns-in_err-search-clause-not_utf8
 returns-in_err-search-clause-not_utf8 c =
     let s = c.self.inside.sections in
     let out = err_from_is_err_and c.from_residual.result c.from_residual.ensures.1 in
-    rw out.1 (λ is. absurd (subst (λ e. IsMultipartSearchFault e s.delimiter.needle c.self.inside.limits (held_by_multipart s)) (sym out.2 ∙ is) c.in_err-search.ensures.fault))
+    rw out.1 (λ is. absurd (subst (λ e. IsMultipartSearchFault e s.waiting.delimiter c.self.inside.limits (held_by_multipart s)) (sym out.2 ∙ is) c.in_err-search.ensures.fault))
 
 pub returns-in_err-search-clause-reason : goal.returns-in_err-search-clause-reason
 returns-in_err-search-clause-reason c =
     let s = c.self.inside.sections in
     let out = err_from_is_err_and c.from_residual.result c.from_residual.ensures.1 in
-    rw out.1 (λ reason is. (subst (λ e. IsMultipartSearchFault e s.delimiter.needle c.self.inside.limits (held_by_multipart s)) (sym out.2 ∙ is) c.in_err-search.ensures.fault).0)
+    rw out.1 (λ reason is. (subst (λ e. IsMultipartSearchFault e s.waiting.delimiter c.self.inside.limits (held_by_multipart s)) (sym out.2 ∙ is) c.in_err-search.ensures.fault).0)
 
 pub returns-then-is_over-clause-too_large : goal.returns-then-is_over-clause-too_large
 returns-then-is_over-clause-too_large c _ =
     let new = c.search.new.self in
     let limits = c.self.inside.limits in
     let waits = c.is_over.ensures.over.0 c.if-is_over.true in
-    let long : limits.head + limits.body + length new.delimiter.needle < length (waiting_in_multipart new) = omega (arith, waits.1, c.is_over.ensures.fits, c.most_multipart_bytes.ensures) in
-    rw (← c.self.view_is) (λ more. over_limits limits c.self.inside.sections new more new.stage refl c.in_ok-search.ensures.ok c.search.ensures.divided.0 waits.0 long)
+    let long : limits.head + limits.body + length new.waiting.delimiter < length new.waiting.held = omega (arith, waits.1, c.is_over.ensures.fits, c.most_multipart_bytes.ensures) in
+    rw (← c.self.view_is) (λ more. over_limits limits c.self.inside.sections new more new.stage refl c.in_ok-search.ensures.ok c.search.ensures.divided waits.0 long)
 
 pub returns-in_err-take_part-in-Found-clause-due : goal.returns-in_err-take_part-in-Found-clause-due
 returns-in_err-take_part-in-Found-clause-due c =
@@ -80,7 +80,7 @@ pub returns-in_default-clause-few : goal.returns-in_default-clause-few
 returns-in_default-clause-few c =
     let new = c.search.new.self in
     let limits = c.self.inside.limits in
-    let not_long : c.most_multipart_bytes.result + length new.delimiter.needle < length (waiting_in_multipart new) → ⊥ =
+    let not_long : c.most_multipart_bytes.result + length new.waiting.delimiter < length new.waiting.held → ⊥ =
     λ long. false≢true (sym c.if-is_over.false ∙ c.is_over.ensures.over.1 (c.in_default.not-Found, long)) in
-    let few : length (waiting_in_multipart new) ≤ limits.head + limits.body + length new.delimiter.needle = omega (arith, not_long, c.most_multipart_bytes.ensures) in
-    few_wait limits c.self.inside.sections new c.in_ok-search.ensures.few few new.stage c.in_ok-search.ensures.ok c.in_default.not-Found c.search.ensures.divided.0
+    let few : length new.waiting.held ≤ limits.head + limits.body + length new.waiting.delimiter = omega (arith, not_long, c.most_multipart_bytes.ensures) in
+    few_wait limits c.self.inside.sections new c.in_ok-search.ensures.few few new.stage c.in_ok-search.ensures.ok c.in_default.not-Found c.search.ensures.divided

@@ -5,11 +5,10 @@ use Rattle.bytes_utils_protocols.proofs.multipart.PartReader.push.Goals as goal
 pub invariant_of-self : goal.invariant_of-self
 invariant_of-self c =
     let on = sym c.has_ended.ensures.value ∙ c.if-has_ended.false in
-    still_divided c.self.inside.sections c.push.new.self c.args.piece c.push.ensures.others c.push.result c.push.ensures.pushed.ok c.push.ensures.pushed.err
-    (rw (← c.self.view_is) at on) c.self.invariant
+    still_divided c.self.inside.sections c.push.new.self c.args.piece c.push.result c.push.ensures.ok c.push.ensures.err (rw (← c.self.view_is) at on) c.self.invariant
 
 pub returns-clause-pushed : goal.returns-clause-pushed
 returns-clause-pushed c =
     let s = c.self.inside.sections in
     let on = sym c.has_ended.ensures.value ∙ c.if-has_ended.false in
-    rw (← c.self.view_is) (is_pushed s c.push.new.self c.self.inside.limits c.args.piece c.push.result c.push.ensures.others c.push.ensures.pushed (rw (← c.self.view_is) at on))
+    rw (← c.self.view_is) (is_pushed s c.push.new.self c.self.inside.limits c.args.piece c.push.result c.push.ensures (rw (← c.self.view_is) at on))

@@ -1,17 +1,15 @@
 use Rattle.std.proofs.Common.{◌≡◌, ◌↔◌, ◌≤◌, ◌+◌, ◌^◌, length, IfErr, rules}
 use Rattle.bytes_utils_buf.specs.declared.refused.Reason.TheVariants.{TooLong}
-use Rattle.bytes_utils_protocols.specs.Multipart.{waiting_in_multipart}
 use Rattle.bytes_utils_protocols.proofs.MultipartLemmas.{still_divided, waiting_last}
 use Rattle.bytes_utils_protocols.proofs.multipart.PartReader.push_slice.Goals as goal
 
 pub invariant_of-self : goal.invariant_of-self
 invariant_of-self c =
-    still_divided c.self.inside.sections c.push_slice.new.self c.args.piece.now c.push_slice.ensures.others c.push_slice.result c.push_slice.ensures.ok c.push_slice.ensures.err
-    (search rules) c.self.invariant
+    still_divided c.self.inside.sections c.push_slice.new.self c.args.piece.now c.push_slice.result c.push_slice.ensures.ok c.push_slice.ensures.err (search rules) c.self.invariant
 
 pub returns-in_err-push_slice-clause-too_long : goal.returns-in_err-push_slice-clause-too_long
 returns-in_err-push_slice-clause-too_long c =
     let s = c.self.inside.sections in
-    let over : IfErr c.from_residual.result (λ reason. (reason ≡ TooLong) ↔ (2 ^ 64 ≤ length (waiting_in_multipart s) + length c.args.piece.now)) = search rules in
+    let over : IfErr c.from_residual.result (λ reason. (reason ≡ TooLong) ↔ (2 ^ 64 ≤ length s.waiting.held + length c.args.piece.now)) = search rules in
     let last = waiting_last s (search rules) in
-    rw (← c.self.view_is) (last.0, waiting_in_multipart s, last.1, over)
+    rw (← c.self.view_is) (last.0, s.waiting.held, last.1, over)

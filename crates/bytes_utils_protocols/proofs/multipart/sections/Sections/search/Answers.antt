@@ -7,7 +7,7 @@ pub returns-then-len-most_multipart_bytes-clause-fault : goal.returns-then-len-m
 returns-then-len-most_multipart_bytes-clause-fault c more =
     let s = c.pass_preamble.new.self in
     let much : c.args.limits.head + c.args.limits.body < length s.preamble = omega (arith, c.if-len-most_multipart_bytes.true, c.len.ensures.value, c.len.ensures.fits, c.most_multipart_bytes.ensures) in
-    much_before c.args.limits c.args.self.now s more s.stage refl c.pass_preamble.ensures.same c.pass_preamble.ensures.divided.0 much
+    much_before c.args.limits c.args.self.now s more s.stage refl c.pass_preamble.ensures.same c.pass_preamble.ensures.divided much
 
 pub returns-in_err-find_next-clause-fault : goal.returns-in_err-find_next-clause-fault
 returns-in_err-find_next-clause-fault c =

@@ -1,6 +1,6 @@
 use Rattle.std.proofs.Common.{arith}
 use Rattle.bytes_utils_protocols.proofs.MultipartStreamLemmas.{malformed_without, large_without, awaits_without}
-use Rattle.bytes_utils_protocols.proofs.multipart.waiting.awaited_head.Goals as goal
+use Rattle.bytes_utils_protocols.proofs.multipart.head.awaited_head.Goals as goal
 
 pub returns-then-next : goal.returns-then-next
 returns-then-next c delimiter held size is none = malformed_without delimiter held is.some c.args.limits c.args.next is none c.if-next.true

@@ -1,7 +1,7 @@
 use Rattle.std.proofs.Common.{◌≡◌, ◌+◌, length, arith}
 use Rattle.bytes_utils_protocols.specs.Multipart.{multipart_head_end}
 use Rattle.bytes_utils_protocols.proofs.MultipartStreamLemmas.{awaits_late, head_end_found, is_set, large_late, malformed_late, unset}
-use Rattle.bytes_utils_protocols.proofs.multipart.waiting.found_head.Goals as goal
+use Rattle.bytes_utils_protocols.proofs.multipart.head.found_head.Goals as goal
 
 pub returns-then-not-end : goal.returns-then-not-end
 returns-then-not-end c delimiter held size is end = c.awaited_head.ensures delimiter held size is (end.lacks (unset c.args.end.has_come c.if-not-end.true))
