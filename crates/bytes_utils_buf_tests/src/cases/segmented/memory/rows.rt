@@ -1,5 +1,4 @@
-//! Refused memory: rows of calls on a `SegmentedBuf`. `refusals.txt` has the most bytes that a request
-//! for long segments may ask for.
+//! Refused memory: rows of calls on a `SegmentedBuf`.
 use crate::cases::segmented::rows::assert_segmented_rows;
 use std::process::Abort;
 
