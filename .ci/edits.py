@@ -1,6 +1,6 @@
 """Wrong bodies: how an edit, whose form CONTRIBUTING.md has, is read and applied, and what the check of a copy says of
 it."""
-import functools, re
+import re
 from collections import namedtuple
 from pathlib import Path
 
@@ -12,7 +12,7 @@ OPEN = re.compile(r"src/|\./proofs/.*(does not follow|allow values at which|(fou
 BY_PROOF = "by the proof file alone"
 UNREAD = "the prover can't read the copy"
 # a function of a file, which may have no body; one that has at most one line of it; a macro; the head of an impl or a
-# trait; and in it the trait and the type
+# trait; in it the trait and the type; and where a type or a trait is defined
 START = r"(?:pub(?:\([^)]*\))? )?(?:const |unsafe |final )*fn "
 NO_BODY, BODY = rf"[^\n]*{{}}|(?:(?!{{\n|^ *{START}).)*?;", rf"(?:(?!^ *{START}).)*?^\1(?:{{}}|}})"
 FUNCTION = re.compile(rf"^( *){START}(\w+)({NO_BODY}|{BODY})\n", re.M | re.S)
@@ -20,16 +20,18 @@ ONE_LINE = re.compile(r"(?:\{\n.*\n *\}|\{\}|;)\n\Z")
 MACRO = re.compile(r"^macro_rules! (\w+) \{.*?^\}", re.M | re.S)
 HEAD = re.compile(r"^(?:(?:unsafe )?impl\b|(?:pub(?:\([^)]*\))? )?trait\b)[^{]*", re.M)
 OWNER = re.compile(r".*?(?:trait|impl(?:<(?:->|[^<>]|<[^<>]*>)*>)?) (?:(.*) for )?(.*?)(?:: |\s+where\b|\s*\Z)", re.S)
+TYPE = re.compile(r"^(?:pub(?:\([^)]*\))? )?(?:struct|enum|trait) (\w+)", re.M)
 # it only takes a value apart, so that no wrong body can be written
 ONLY_TAKES_APART = [("bytes_utils", "into_inner")]
 # a program's files are texts by their paths, and its folder is that of its edits; a pair is an old text and a new one
-Program = namedtuple("Program", "name uses files folder")
+Program = namedtuple("Program", "name uses files folder functions")
 Edit = namedtuple("Edit", "program name file functions test breaks pairs")
 
 
 def program_of(name):
     """A crate or an example."""
-    return Program(name, (CRATES | EXAMPLES)[name], files_of(FOLDERS[name]), FOLDERS[name])
+    files = files_of(FOLDERS[name])
+    return Program(name, (CRATES | EXAMPLES)[name], files, FOLDERS[name], [*functions_of(files)])
 
 
 def edits_of(program, part=""):
@@ -39,35 +41,36 @@ def edits_of(program, part=""):
 
 
 def edit_of(program, name, text):
-    file, of, test, breaks = (re.findall(rf"^{it}: (.*)$", text, re.M) for it in ("file", "# fn", "# test", "# breaks"))
+    file, test, breaks = ("".join(re.findall(rf"^{it}: (.*)$", text, re.M)) for it in ("file", "# test", "# breaks"))
     pairs = re.findall(r"^old: (.+)\nnew: ?(.*)$", text, re.M)
-    return Edit(program, f"{program.name}/{name}", "".join(file), of, "".join(test), "".join(breaks), pairs)
+    return Edit(program, f"{program.name}/{name}", file, changed_by(program, file, pairs), test, breaks, pairs)
 
 
 def files_with(edits):
     """The files of a program with some of its edits, or nothing where an old text isn't in its file once."""
     files = dict(edits[0].program.files)
-    for edit in edits:
-        for old, new in edit.pairs:
-            if files.get(edit.file, "").count(old) != 1:
-                return None
-            files[edit.file] = files[edit.file].replace(old, new)
+    for path, old, new in ((it.file, *pair) for it in edits for pair in it.pairs):
+        if files.get(path, "").count(old) != 1:
+            return None
+        files[path] = files[path].replace(old, new)
     return files
 
 
 def test_of(edit):
     """The file that has the test for an edit, in the tests of its crate, and its text, or none if it isn't there."""
     path = f"src/{'/'.join(edit.test.split('::')[:-1])}.rt"
-    it = Path(ROOT, f"{edit.program.folder}_tests", path)
-    return path, it.read_text("utf-8") if it.is_file() else ""
+    return path, files_of(f"{edit.program.folder}_tests").get(path, "")
 
 
-def owner_of(head):
-    """The prover's name for an impl or a trait: that of `impl<'a> From<&'a [u8]> for Text<Bytes>` is
-    `TextBytesFromRefSliceU8`."""
-    trait, own = OWNER.match(head).groups("")
+def name_of(function, head, path, homes):
+    """The prover's name for a function, by the head of its impl or trait, its file, and the files of types. The owner
+    in `impl<'a> From<&'a [u8]> for Text<Bytes>` of src/a.rt is `a::TextBytesFromRefSliceU8`, in `impl Text<Bytes>`
+    `a::Text+Bytes`, and in `impl<S> Text<S>` `b::Text`, if that type is in src/b.rt."""
+    trait, own = OWNER.match(head).groups("") if head else ("", "")
     words = re.findall(r"&|\[|(?<!')\b\w\w+", own + " " + re.sub(r"^(\w+::)*", "", trait))
-    return "".join({"&": "Ref", "[": "Slice"}.get(it, it[0].upper() + it[1:]) for it in words)
+    owner = ("" if trait else "+").join({"&": "Ref", "[": "Slice"}.get(it, it[0].upper() + it[1:]) for it in words)
+    home = re.sub(r"^src/((lib|main)\.rt)?|\.rt$", "", path if trait else homes.get(owner, path))
+    return "::".join(filter(None, (*home.split("/"), owner, function)))
 
 
 def is_public(function, head):
@@ -75,28 +78,24 @@ def is_public(function, head):
     return function.lstrip().startswith("pub ") or " for " in head or head.startswith("pub trait")
 
 
-@functools.cache
-def functions_of(path, text):
-    """The functions of a file: where each is, the head of its impl or trait, and its last two names for the prover."""
-    found = []
-    for it in FUNCTION.finditer(text) if path.startswith("src/") else ():
-        head = "".join(HEAD.findall(text[: it.start()])[-1:]) if it[1] else ""
-        owner = owner_of(head) if head else Path(path).stem.replace("main", "lib")
-        found.append((it, head, f"{owner}::{it[2]}".removeprefix("lib::")))
-    return found
+def functions_of(files):
+    """The functions of a program: the path of each, where it is there, the head of its impl or trait, and its name."""
+    homes = {it: path for path, text in files.items() for it in TYPE.findall(text)}
+    for path, text in files.items():
+        for it in FUNCTION.finditer(text) if path.startswith("src/") else ():
+            head = "".join(HEAD.findall(text[: it.start()])[-1:]) if it[1] else ""
+            yield path, it, head, name_of(it[2], head, path, homes)
 
 
-def changed_by(edit):
-    """The last two names of each function that an edit changes."""
-    found, files, text = set(), edit.program.files, edit.program.files[edit.file]
-    for old, new in edit.pairs:
-        has_it = lambda it: it.start() <= text.find(old) and text.find(old) + len(old) <= it.end()
-        inside = {name for it, _, name in functions_of(edit.file, text) if has_it(it)}
-        macro = next((f"{it[1]}!" for it in MACRO.finditer(text) if has_it(it)), None)
-        users = {name for at in files.items() if macro for it, _, name in functions_of(*at) if macro in it[0]}
-        # outside of functions it changes a macro, and so each function that uses it, or puts a function there
-        found |= inside or users or {f"{Path(edit.file).stem}::{it}" for it in re.findall(r"\bfn (\w+)", new)}
-    return found
+def changed_by(program, path, pairs):
+    """The functions that an edit changes, or of a macro those that use it. Outside of both it puts a function there."""
+    found = set()
+    for old, new in pairs:
+        macros = [f"{it[1]}!" for it in MACRO.finditer(program.files.get(path, "")) if old in it[0]]
+        has_it = lambda at, text: (at == path and old in text) or any(it in text for it in macros)
+        changed = {name for at, it, _, name in program.functions if has_it(at, it[0])}
+        found |= changed or {name_of(it, "", path, {}) for it in re.findall(r"\bfn (\w+)", new)}
+    return sorted(found)
 
 
 def fault_of(edit):
@@ -105,25 +104,21 @@ def fault_of(edit):
         return f"an old text isn't in {edit.file} once, or is the new one"
     if edit.test:
         return "" if re.search(rf"\bfn {edit.test.split('::')[-1]}\b", test_of(edit)[1]) else "there is no such test"
-    named, changed = {"::".join(it.replace("+", "").split("::")[-2:]) for it in edit.functions}, changed_by(edit)
-    said = lambda names: ", ".join(sorted(names)) or "no function"
-    return "" if named == changed != set() else f"it names {said(named)}, and changes {said(changed)}"
+    return "" if edit.functions else "it changes no function"
 
 
 def unchanged(program):
     """The public functions of a crate, of more than one line, in which no wrong body is, nor in a private function by
     which they work."""
-    edits, found, calls, changed = edits_of(program), [], {}, set()
-    places = [(it.file, program.files.get(it.file, "").find(old)) for it in edits for old, _ in it.pairs]
-    for path, it, head in ((path, *it[:2]) for path, text in program.files.items() for it in functions_of(path, text)):
+    wrong, found, calls, changed = {name for it in edits_of(program) for name in it.functions}, [], {}, set()
+    for _, it, head, name in program.functions:
         is_seen = is_public(it[0], head)
-        name = (path, it[2], it.start()) if is_seen else it[2]
-        calls[name] = re.findall(r"\b(\w+)\(", it[3])
-        if any(file == path and it.start() <= at < it.end() for file, at in places):
-            changed |= set() if is_seen else {name}
+        calls[name if is_seen else it[2]] = re.findall(r"\b(\w+)\(", it[3])
+        if name in wrong:
+            changed |= set() if is_seen else {it[2]}
         elif is_seen and not ONE_LINE.search(it[0]) and (program.name, it[2]) not in ONLY_TAKES_APART:
             found.append(name)
-    return [f"{program.name}/{it[0]}, {it[1]}" for it in found if not below(it, calls) & changed]
+    return [f"{program.name}/{it}" for it in found if not below(it, calls) & changed]
 
 
 def goals_in(said):
