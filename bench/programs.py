@@ -8,6 +8,8 @@ sys.path.append(f"{ROOT}/.ci")
 from kit import build, counted, tried_on
 
 MIB = 1 << 20
+# the crate of our program, and the libraries that it uses
+CRATE, USES = "bench", ["std", "bytes_utils_protocols", "bytes_utils_codec", "bytes_utils", "bytes_utils_buf", "bytes"]
 # how a column is named that has ratios, or multiples of the bytes held
 RATIO = re.compile("of the |of Rust|ratio|all / half|`Framed`|`SegmentedBuf`|in Rust")
 DEBIAN = ["source.crates-io.replace-with='debian'", "source.debian.directory='/usr/share/cargo/registry'"]
@@ -98,26 +100,26 @@ def programs(folder, builds):
         yield room
 
 
-def source(bench, room):
-    """The folder with the crate of our program of a bench."""
-    os.makedirs(f"{room}/ours_source/src", exist_ok=True)
-    for name in os.listdir(f"{ROOT}/bench/{bench}/ours"):
-        shutil.copy(f"{ROOT}/bench/{bench}/ours/{name}", f"{room}/ours_source/src/{name.removesuffix('.txt')}")
+def source(folder, room):
+    """The folder with the crate of a program of ours, whose files a folder of bench/ has."""
+    renamed = lambda file, to: shutil.copy(file, to.removesuffix(".txt"))
+    shutil.copytree(f"{ROOT}/bench/{folder}", f"{room}/ours_source/src", copy_function=renamed, dirs_exist_ok=True)
     return f"{room}/ours_source"
 
 
-def ours(bench, *libraries):
-    """How our program of a bench is built, over the crates of the repository, which `rt lib` builds before as far as
-    they have changed, and the kit's."""
+def ours(room):
+    """Builds our program of all benches, over the crates of the repository, which `rt lib` builds before as far as they
+    have changed, and the kit's."""
+    called(["rt", "lib"], f"{ROOT}/crates/bytes_utils_protocols")
+    said = build(CRATE, USES, source("ours", room), f"{room}/kept", f"{room}/ours_made")
+    if not os.path.isfile(f"{room}/ours_made"):
+        sys.exit(f"our program isn't proved:\n{said[-3000:]}")
+    return f"{room}/ours_made"
 
-    def built(room):
-        called(["rt", "lib"], f"{ROOT}/crates/{libraries[0]}")
-        said = build(f"{bench}_bench", ["std", *libraries], source(bench, room), f"{room}/kept", f"{room}/ours_made")
-        if not os.path.isfile(f"{room}/ours_made"):
-            sys.exit(f"our program of bench/{bench} isn't proved:\n{said[-3000:]}")
-        return f"{room}/ours_made"
 
-    return built
+def command(room, program, bench):
+    """How a program of a bench is called, before its own arguments: ours is told which bench it is for."""
+    return [f"{room}/{program}", *[bench] * (program == "ours")]
 
 
 def rust(bench, original=""):
@@ -134,16 +136,15 @@ def rust(bench, original=""):
     return built
 
 
-def judge(bench, libraries, cases):
-    """Builds our program of a bench unproved, runs it on each case, and ends with the status. A case is its name, the
-    program's arguments, its input, and what is right: all that it writes, or the numbers that this begins with."""
-    cases = [*cases]
+def judged(benches):
+    """Builds our program unproved, runs it on the cases of each bench, and gives each with what is wrong with it, or an
+    empty text. A case is its name, the bench's arguments, its input, and what is right: all that the program writes, or
+    the numbers that this begins with."""
+    cases = [(f"{of}: {name}", [of, *words], *more) for of, each in benches.items() for name, words, *more in each]
     given = [(map(str, words), it, right if isinstance(right, bytes) else None) for _, words, it, right in cases]
     with tempfile.TemporaryDirectory(prefix="bench-") as room:
-        ended = [*tried_on(given, f"{bench}_bench", ["std", *libraries], source(bench, room))]
-    found = []
+        ended = [*tried_on(given, CRATE, USES, source("ours", room))]
     for (name, *_, right), (status, wrote) in zip(cases, ended):
         seen = wrote if isinstance(right, bytes) else [*map(int, re.findall(rb"\d+", wrote))][: len(right)]
         is_right = status == 0 and seen == right
-        found.append((name, "" if is_right else f"status {status}, {wrote[-300:]}, where {right[:50]} is right"))
-    sys.exit(counted(found))
+        yield name, "" if is_right else f"status {status}, {wrote[-300:]}, where {right[:50]} is right"
