@@ -74,6 +74,7 @@ pub(super) fn cut_before<S: Storage>(text: StrInner<S>, start: usize) -> Result<
     ensures rest { IfOk result (λ rest. rest ≡ drop start text) }
     ensures err { OnErr result (0 < start) }
     ensures reason { IfErr result S.refuses }
+    ensures side { IfErr result S.refuses_side }
 {
     if start == 0 {
         return Ok(text);
@@ -88,6 +89,7 @@ pub(super) fn cut_front<S: Storage>(text: StrInner<S>, end: usize) -> Result<Str
     ensures front { IfOk result (λ front. front ≡ take end text) }
     ensures err { OnErr result (end < length text) }
     ensures reason { IfErr result S.refuses }
+    ensures side { IfErr result S.refuses_side }
 {
     if end == text.as_str().len() {
         return Ok(text);

@@ -22,6 +22,7 @@ impl<S: Storage> StrInner<S> {
         ensures err { OnErr result (BeginsWith prefix.now self) }
         ensures empty { prefix.now ≡ [] → IsOk result }
         ensures reason { IfErr result S.refuses }
+        ensures side { IfErr result S.refuses_side }
     {
         let text = self.as_str();
         let Some(following) = text.strip_prefix(prefix) else {
@@ -40,6 +41,7 @@ impl<S: Storage> StrInner<S> {
         ensures err { OnErr result (EndsWith suffix.now self) }
         ensures empty { suffix.now ≡ [] → IsOk result }
         ensures reason { IfErr result S.refuses }
+        ensures side { IfErr result S.refuses_side }
     {
         let Some(before) = self.as_str().strip_suffix(suffix) else {
             return Ok(None);

@@ -22,6 +22,7 @@ impl<S: Storage> StrInner<S> {
         ensures place { IfOk result (λ part. IsBetweenSpaceAtEnds part self) }
         ensures err { OnErr result (length (trim self) < length self) }
         ensures reason { IfErr result S.refuses }
+        ensures side { IfErr result S.refuses_side }
     {
         let text = self.as_str();
         let following = text.trim_start();
@@ -38,6 +39,7 @@ impl<S: Storage> StrInner<S> {
         ensures place { IfOk result (λ part. IsTrimStart self part) }
         ensures err { OnErr result (length (trim_start self) < length self) }
         ensures reason { IfErr result S.refuses }
+        ensures side { IfErr result S.refuses_side }
     {
         let text = self.as_str();
         let start = text.len() - text.trim_start().len();
@@ -51,6 +53,7 @@ impl<S: Storage> StrInner<S> {
         ensures place { IfOk result (λ part. IsTrimEnd self part) }
         ensures err { OnErr result (length (trim_end self) < length self) }
         ensures reason { IfErr result S.refuses }
+        ensures side { IfErr result S.refuses_side }
     {
         let end = self.as_str().trim_end().len();
         cut_front(self, end)

@@ -1,5 +1,5 @@
 //! Building a text.
-ghost use Rattle.std.specs.Prelude.{◌≡◌, ◌++◌, [], encode_utf8, ◌⊎◌, IfOk, IfErr, OnOk, OnErr};
+ghost use Rattle.std.specs.Prelude.{◌≡◌, ◌++◌, [], encode_utf8, ◌⊎◌, IsOk, IfOk, IfErr, OnOk, OnErr};
 
 use crate::string::{Storage, StorageMut, StrInner};
 use bytes_utils_buf::Reason;
@@ -17,13 +17,17 @@ impl<S: Storage> StrInner<S> {
 }
 
 impl<S: StorageMut> StrInner<S> {
-    /// Appends `s`. Fails with the storage's reason (`OutOfMemory` for `StrMut`); then nothing has
-    /// changed.
+    /// Appends `s`. Fails with the storage's reason (`OutOfMemory` for `StrMut`), never for an empty
+    /// `s`; then nothing has changed.
     pub fn push_str(&mut self, s: &str) -> Result<(), Reason>
         ensures ok { OnOk result (self.new ≡ self.old ++ s.now) }
         ensures err { OnErr result (self.new ≡ self.old) }
+        ensures empty { s.now ≡ [] → IsOk result }
         ensures reason { IfErr result S.refuses }
     {
+        if s.is_empty() {
+            return Ok(());
+        }
         self.storage.push_slice(s.as_bytes())?;
         Ok(())
     }

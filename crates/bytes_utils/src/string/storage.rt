@@ -23,6 +23,9 @@ pub trait Storage: Sized + Drop {
     // The reasons for which it may refuse.
     ghost refuses: { Reason → Type 0 } = { λ _. ⊤ };
 
+    // Those for which it may refuse to return one side alone.
+    ghost refuses_side: { Reason → Type 0 } = { λ _. ⊤ };
+
     /// Makes a storage of no bytes. Fails with a reason that `refuses` allows.
     fn empty(alloc: Global) -> Result<Self, Reason>
         ensures ok { IfOk result (λ s. stored s ≡ []) }
@@ -49,30 +52,24 @@ pub trait Storage: Sized + Drop {
         ensures err { IfErr result (λ e. stored e.back ≡ stored self) }
         ensures reason { IfErr result (λ e. refuses e.reason) };
 
-    /// Returns the bytes before `at` alone, for which a storage may have a cheaper way than a
-    /// split. Requires and fails as `split_at`.
-    #[inline]
+    /// Returns the bytes before `at` alone: the first piece of `split_at`, or a cheaper way. Requires
+    /// what `split_at` does. Fails with a reason that `refuses` and `refuses_side` allow; then the
+    /// storage comes back.
     fn into_front(self, at: usize) -> Result<Self, Refused<Self>>
         requires { at ≤ length (stored self) }
         ensures front { IfOk result (λ front. stored front ≡ take at (stored self)) }
         ensures err { IfErr result (λ e. stored e.back ≡ stored self) }
         ensures reason { IfErr result (λ e. refuses e.reason) }
-    {
-        let (front, _) = self.split_at(at)?;
-        Ok(front)
-    }
+        ensures side { IfErr result (λ e. refuses_side e.reason) };
 
-    /// Returns the bytes from `at` on alone. Requires and fails as `split_at`.
-    #[inline]
+    /// Returns the bytes from `at` on alone: the second piece of `split_at`, or a cheaper way. Requires
+    /// and fails as `into_front`.
     fn into_back(self, at: usize) -> Result<Self, Refused<Self>>
         requires { at ≤ length (stored self) }
         ensures back { IfOk result (λ back. stored back ≡ drop at (stored self)) }
         ensures err { IfErr result (λ e. stored e.back ≡ stored self) }
         ensures reason { IfErr result (λ e. refuses e.reason) }
-    {
-        let (_, back) = self.split_at(at)?;
-        Ok(back)
-    }
+        ensures side { IfErr result (λ e. refuses_side e.reason) };
 }
 
 /// A storage in which text is built.

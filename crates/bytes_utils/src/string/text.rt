@@ -141,6 +141,7 @@ impl<S: Storage> StrInner<S> {
         requires { IsCharBoundary self at }
         ensures ok { IfOk result (λ front. front ≡ take at self) }
         ensures reason { IfErr result S.refuses }
+        ensures side { IfErr result S.refuses_side }
     {
         let StrInner { storage } = self;
         match storage.into_front(at) {
@@ -156,6 +157,7 @@ impl<S: Storage> StrInner<S> {
         requires { IsCharBoundary self at }
         ensures ok { IfOk result (λ back. back ≡ drop at self) }
         ensures reason { IfErr result S.refuses }
+        ensures side { IfErr result S.refuses_side }
     {
         let StrInner { storage } = self;
         match storage.into_back(at) {

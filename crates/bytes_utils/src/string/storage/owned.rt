@@ -16,6 +16,8 @@ impl Storage for BytesMut {
 
     ghost refuses = { λ reason. reason ≡ OutOfMemory };
 
+    ghost refuses_side = { λ _. ⊥ };
+
     fn empty(alloc: Global) -> Result<Self, Reason>
         ensures value { IfOk result (λ s. s.items ≡ []) }
         // It takes no memory.

@@ -16,6 +16,8 @@ impl Storage for Bytes {
 
     ghost refuses = { λ reason. reason ≡ OutOfMemory };
 
+    ghost refuses_side = { λ _. ⊥ };
+
     fn empty(_alloc: Global) -> Result<Self, Reason>
         ensures value { IfOk result (λ s. s ≡ []) }
         // It takes no memory.

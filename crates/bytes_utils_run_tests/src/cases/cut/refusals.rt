@@ -80,6 +80,16 @@ impl Storage for RefusesAsLong {
             back: self,
         })
     }
+
+    fn into_front(self, at: usize) -> Result<Self, Refused<Self>> {
+        let (front, _) = self.split_at(at)?;
+        Ok(front)
+    }
+
+    fn into_back(self, at: usize) -> Result<Self, Refused<Self>> {
+        let (_, back) = self.split_at(at)?;
+        Ok(back)
+    }
 }
 
 #[test]
