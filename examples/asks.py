@@ -4,6 +4,8 @@ import contextlib, ctypes, os, re, resource, socket, struct, subprocess, tempfil
 
 # how many bytes a program may take beyond those of its start where memory is refused, and by how many clients at most
 ROOM, MOST_CALLERS = 8 << 20, 3_000
+# how many eighths of half of something the clients of each crowd say
+CROWDS = 8, 4, 7, 1, 8
 # the system's call for a descriptor of another process
 PIDFD_GETFD = 438
 # a line of the log
@@ -51,7 +53,8 @@ def is_soon(holds):
 
 
 def refused(judge, command, said, reply, silent, *_):
-    """Clients that say half of something, until memory is refused: the others are served."""
+    """Clients that say a part of something, until memory is refused: the others are served. Crowd after crowd says
+    another part, so that each takes other memory than what the one before has left."""
     with tempfile.TemporaryFile() as log, started(command, log) as (running, at), contextlib.ExitStack() as callers:
         talk, size = Talk(at, said, reply), int(open(f"/proc/{running.pid}/statm").read().split()[0])
         old = callers.enter_context(talk.call())
@@ -63,28 +66,35 @@ def refused(judge, command, said, reply, silent, *_):
             lines = LINE.findall(os.pread(log.fileno(), 1 << 24, 0))
             return sum(int(count) for _, count, error in lines if error == b"not accepted: out of memory")
 
-        with contextlib.ExitStack() as others:
-            count = 0
-            while count < MOST_CALLERS and refusals() < 3:
-                line = others.enter_context(talk.call())
-                with contextlib.suppress(ConnectionError):
-                    line.sendall(silent)
-                count += 1
-                time.sleep(0.001)
-            is_refused = is_soon(lambda: refusals() > 2)
-            judge(f"{count} silent clients and {refusals()} refusals under {most >> 20} MiB", is_refused)
-            began = processor_time(running.pid)
-            time.sleep(1)
-            judge("it takes little processor time then", processor_time(running.pid) - began < 0.2)
-            judge("an old client is served", is_first and talk.is_served(old))
-
         def is_new_served():
             with contextlib.suppress(OSError), talk.call() as line:
                 return talk.is_served(line)
 
-        judge("a new client is served once they have left", is_soon(is_new_served))
+        for eighths in CROWDS:
+            part, before = silent[: len(silent) * eighths // 8], refusals()
+            with contextlib.ExitStack() as others:
+                count = call_until(lambda: refusals() > before, talk, others, part)
+                is_refused = is_soon(lambda: refusals() > before)
+                judge(f"{count} silent clients of {len(part):,} bytes each, under {most >> 20} MiB", is_refused)
+                began = processor_time(running.pid)
+                time.sleep(0.5)
+                judge("it takes little processor time then", processor_time(running.pid) - began < 0.1)
+                judge("an old client is served", is_first and talk.is_served(old))
+            judge("a new client is served once they have left", is_soon(is_new_served))
         judge("the old one too", talk.is_served(old))
         judge("the program still runs, where memory was refused", running.poll() is None)
+
+
+def call_until(holds, talk, callers, said):
+    """Makes clients that say this and stay, until something holds or there are as many as may be, and counts them."""
+    count = 0
+    while count < MOST_CALLERS and not holds():
+        line = callers.enter_context(talk.call())
+        with contextlib.suppress(ConnectionError):
+            line.sendall(said)
+        count += 1
+        time.sleep(0.001)
+    return count
 
 
 def listener_of(pid):
