@@ -131,7 +131,7 @@ def goals_in(said):
         elif named := re.match(r"(?:fn|impl) \w+::(\S+): (.*)", line):
             name, verdict = named.groups()
             own = [it for it in errors if it.startswith(f"./proofs/{name.replace('::', '/')}/")] + notes
-            waits = re.match(r"not proved; it waits|no proof: it calls", verdict)
+            waits = re.search(r"; it waits for|, which (is not proved|are not proved|has no proof)", verdict)
             found[name] = [] if verdict.startswith("proved") else own or ([] if waits else [verdict])
             notes = []
     return found
