@@ -1,5 +1,5 @@
-"""What is asked of each program of examples/, beside what its own ask.py asks: where memory is refused, where its
-listener is lost, at the end of its input, and where nobody reads its log."""
+"""What is asked of each program of examples/, beside what its own ask.py asks: where memory is refused, where a peer
+has too many connections, where its listener is lost, at the end of its input, and where nobody reads its log."""
 import contextlib, ctypes, os, re, resource, socket, struct, subprocess, tempfile, time
 
 # how many bytes a program may take beyond those of its start where memory is refused, and by how many clients at most
@@ -35,13 +35,17 @@ class Talk:
         host, _, port = at.rpartition(":")
         self.at, self.said, self.reply = (host, int(port)), said, reply
 
-    def call(self):
-        return socket.create_connection(self.at, 10)
+    def call(self, source=None):
+        return socket.create_connection(self.at, 10, source)
 
     def is_served(self, line):
         with contextlib.suppress(OSError):
             line.sendall(self.said)
             return line.recv(1 << 16).endswith(self.reply)
+
+    def is_new_served(self):
+        with contextlib.suppress(OSError), self.call() as line:
+            return self.is_served(line)
 
 
 def is_soon(holds):
@@ -66,10 +70,6 @@ def refused(judge, command, said, reply, silent, *_):
             lines = LINE.findall(os.pread(log.fileno(), 1 << 24, 0))
             return sum(int(count) for _, count, error in lines if error == b"not accepted: out of memory")
 
-        def is_new_served():
-            with contextlib.suppress(OSError), talk.call() as line:
-                return talk.is_served(line)
-
         for eighths in CROWDS:
             part, before = silent[: len(silent) * eighths // 8], refusals()
             with contextlib.ExitStack() as others:
@@ -80,7 +80,7 @@ def refused(judge, command, said, reply, silent, *_):
                 time.sleep(0.5)
                 judge("it takes little processor time then", processor_time(running.pid) - began < 0.1)
                 judge("an old client is served", is_first and talk.is_served(old))
-            judge("a new client is served once they have left", is_soon(is_new_served))
+            judge("a new client is served once they have left", is_soon(talk.is_new_served))
         judge("the old one too", talk.is_served(old))
         judge("the program still runs, where memory was refused", running.poll() is None)
 
@@ -95,6 +95,27 @@ def call_until(holds, talk, callers, said):
         count += 1
         time.sleep(0.001)
     return count
+
+
+def crowded(judge, command, said, reply, *_):
+    """A peer that has as many connections as it may have: a further one is closed at once, and others are served."""
+    with tempfile.TemporaryFile() as log, started([*command, "peer=5"], log) as (_, at), contextlib.ExitStack() as stack:
+        talk, closed = Talk(at, said, reply), 0
+        lines = [stack.enter_context(talk.call()) for _ in range(5)]
+        judge("five connections of a peer are served", all(map(talk.is_served, lines)))
+        began = time.monotonic()
+        for _ in range(20):
+            with talk.call() as line:
+                closed += line.recv(1) == b""
+        with talk.call(("127.0.0.2", 0)) as line:
+            is_served, took = talk.is_served(line), time.monotonic() - began
+        is_well = closed == 20 and is_served and took < 1
+        judge(f"{closed} of 20 more are closed, and another peer is served: {took:.2f} s, within 1", is_well)
+        errors = [error for *_, error in LINE.findall(os.pread(log.fileno(), 1 << 16, 0))]
+        judge(f"the log has {errors}", errors and {*errors} == {b"not accepted: connection refused"})
+        lines[0].close()
+        judge("once one of the five has ended, the next one is served", is_soon(talk.is_new_served))
+        judge("the other four too", all(map(talk.is_served, lines[1:])))
 
 
 def listener_of(pid):
@@ -211,5 +232,5 @@ def ask_all(judge, room, command, ask, *talk):
     with started(command) as (running, at):
         ask(judge, room, at, running)
         judge("the program still runs", running.poll() is None)
-    for ask_of_another in (refused, lost, ended, unread) if talk else ():
+    for ask_of_another in (refused, crowded, lost, ended, unread) if talk else ():
         ask_of_another(judge, command, *talk)
