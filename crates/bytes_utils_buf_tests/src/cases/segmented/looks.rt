@@ -1,6 +1,6 @@
 //! How often buffers are advanced and looked at.
 use crate::cases::fixtures::odd::OddCounter;
-use crate::cases::fixtures::{assert_that, hold, lend, put, put_first, take_out};
+use crate::cases::fixtures::{assert_row, assert_that, hold, lend, put, put_first, take_out};
 use bytes::Buf;
 use bytes_utils_buf::contiguous::ContiguousBuf;
 use bytes_utils_buf::parts::BufParts;
@@ -211,4 +211,147 @@ fn advances_and_looks_of_held_segments(rt: HostRuntime) {
         &rt,
         left.len() == 1 && have_few_looks(&left, (3, 3), usize::MAX),
     );
+}
+
+/// Three buffers of one byte each, and after them a thousand, which lie before them in memory.
+fn held_to_look_at(rt: &(impl Abort + Alloc<A = Global>)) -> SegmentedBuf<OddCounter> {
+    let mut buf = SegmentedBuf::new(rt.alloc());
+    assert_that(rt, buf.extend(thousand_to_look_at(rt).into_iter()).is_ok());
+    for _ in 0..3 {
+        assert_that(rt, put_first(&mut buf, OddCounter::of("x")));
+    }
+    buf
+}
+
+/// Looks for the byte at a place.
+fn finds_for_looks<B: ContiguousBuf + Drop>(
+    buf: &SegmentedBuf<B>,
+    call: &str,
+    place: usize,
+) -> Option<bool> {
+    Some(match call {
+        "byte_at" => buf.byte_at(place) == Some(b'x'),
+        "holds_at" => buf.holds_at(place, b"x"),
+        "segment_of" => buf.segment_of(place) == Some((place, 0)),
+        _ => return None,
+    })
+}
+
+/// Reads or shares the byte at a place.
+fn ranges_for_looks<B: ContiguousBuf + Drop>(
+    alloc: Global,
+    buf: &SegmentedBuf<B>,
+    call: &str,
+    place: usize,
+) -> Option<bool> {
+    let end = place.checked_add(1)?;
+    if end > buf.remaining() {
+        return None;
+    }
+    Some(match call {
+        "slice" => buf.slice(alloc, place..end).is_ok(),
+        "copy_range" => buf.copy_range(alloc, place..end).is_ok(),
+        "read_range" => buf.read_range(alloc, place..end).is_ok(),
+        _ => return None,
+    })
+}
+
+/// Shows three chunks, one after another.
+fn shows_three_for_looks<B: ContiguousBuf + Drop>(buf: &SegmentedBuf<B>) -> bool {
+    let mut chunks = buf.chunks();
+    for _ in 0..3 {
+        if chunks.next() != Some(b"x") {
+            return false;
+        }
+    }
+    true
+}
+
+/// Reads or shares three bytes at the front.
+fn fronts_for_looks<B: BufParts + ContiguousBuf + Drop>(
+    alloc: Global,
+    buf: &SegmentedBuf<B>,
+    call: &str,
+) -> bool {
+    let mut table: [&[u8]; 3] = [b""; 3];
+    buf.remaining() >= 3
+        && match call {
+            "starts_with" => buf.starts_with(b"xxx"),
+            "peek" => buf.peek(&mut [0; 3]) == 3,
+            "peek_bytes" => buf.peek_bytes(alloc, 3).is_ok(),
+            "prefix" => buf.prefix(alloc, 3).is_ok(),
+            "chunks" => shows_three_for_looks(buf),
+            "chunks_into" => buf.chunks_into(&mut table) == 3,
+            _ => false,
+        }
+}
+
+/// Whether the buffers between a place and the nearer end were looked at at most `most` times more
+/// than before, and the others no more.
+fn have_looks_up_to(
+    before: &[OddCounter],
+    after: &[OddCounter],
+    place: usize,
+    most: usize,
+) -> bool {
+    let is_near_front = place <= after.len() / 2;
+    for (at, (old, new)) in before.iter().zip(after).enumerate() {
+        let is_passed = at == place || (at < place) == is_near_front;
+        let more = if is_passed { most } else { 0 };
+        if new.looks.get().saturating_sub(old.looks.get()) > more {
+            return false;
+        }
+    }
+    before.len() == after.len()
+}
+
+/// Whether a call at a place looks as often as its row says.
+fn has_looks_of_row(
+    rt: &(impl Abort + Alloc<A = Global>),
+    before: &[OddCounter],
+    row: &str,
+) -> Option<bool> {
+    let mut words = row.split(' ');
+    let (call, place, most) = (words.next()?, words.next()?, words.next()?);
+    let (place, most) = (place.parse().ok()?, most.parse().ok()?);
+    let buf = held_to_look_at(rt);
+    let is_made = match finds_for_looks(&buf, call, place) {
+        Some(is_found) => is_found,
+        None => match ranges_for_looks(rt.alloc(), &buf, call, place) {
+            Some(is_range) => is_range,
+            None => fronts_for_looks(rt.alloc(), &buf, call),
+        },
+    };
+    let after = buf.into_inner().into_vec();
+    Some(is_made && have_looks_up_to(before, &after, place, most))
+}
+
+// A call, the place at which it ends, and how often it may look at a buffer up to there. A place is
+// looked for from the nearer end, and no buffer beyond it is looked at.
+const UP_TO: &str = "\
+byte_at 2 2
+byte_at 1000 2
+holds_at 2 2
+holds_at 1000 2
+segment_of 2 2
+segment_of 1000 1
+slice 2 3
+slice 1000 3
+copy_range 2 4
+copy_range 1000 4
+read_range 2 2
+read_range 1000 2
+starts_with 2 1
+peek 2 1
+peek_bytes 2 2
+prefix 2 2
+chunks 2 1
+chunks_into 2 1";
+
+#[test]
+fn looks_end_at_a_place(rt: HostRuntime) {
+    let before = held_to_look_at(&rt).into_inner().into_vec();
+    for row in UP_TO.lines() {
+        assert_row(&rt, row, has_looks_of_row(&rt, &before, row));
+    }
 }

@@ -18,20 +18,20 @@ fn nested_pair<B: Buf + Drop>(
 }
 
 // The upper buffer of the middle level is of two, of which the second is empty, and the lower one of
-// a third. The outer buffer holds `a`, `b` and `cd`, the last in a segment of its own.
+// a third. The outer buffer holds `ab`, `c` and `de`, the last in a segment of its own.
 #[test]
 fn nested_segments_of_three_levels(rt: HostRuntime) {
-    let upper = nested_pair(&rt, held(&rt, "a||b"), SegmentedBuf::new(rt.alloc()));
-    let lower = nested_pair(&rt, held(&rt, "cd"), SegmentedBuf::new(rt.alloc()));
+    let upper = nested_pair(&rt, held(&rt, "ab||c"), SegmentedBuf::new(rt.alloc()));
+    let lower = nested_pair(&rt, held(&rt, "de"), SegmentedBuf::new(rt.alloc()));
     let mut outer = nested_pair(&rt, upper, lower);
     assert_that(&rt, outer.segments() == 2);
     assert_reads(
         &rt,
         &mut outer,
-        "left 4 a, slices a|b|cd, pass ab, left 2 cd",
+        "left 5 ab, slices ab|c|de, pass abc, left 2 de",
     );
     assert_that(&rt, outer.segments() == 1);
-    assert_reads(&rt, &mut outer, "copy cd, left 0 ");
+    assert_reads(&rt, &mut outer, "copy de, left 0 ");
     assert_that(&rt, outer.segments() == 0);
 }
 
@@ -39,6 +39,6 @@ fn nested_segments_of_three_levels(rt: HostRuntime) {
 #[test]
 fn nested_segments_fill_tables(rt: HostRuntime) {
     let mut both = [held(&rt, FOUR), held(&rt, FOUR)];
-    let row = "slices Hello| |World|Hello| |World, pass He, slice llo";
+    let row = "slices Hello| |World|Hello| |World, left 22 Hello, pass He, left 20 llo, slice llo";
     assert_reads(&rt, &mut lend(&rt, &mut both), row);
 }

@@ -147,6 +147,7 @@ const BLOCKS: &str = "\
 0: copy x*3000 1 = blocks 3000 of 6000
 512: copy x*3000 1, push/1 x*3001 2 = blocks 6000 of 6000, 1 of 4096
 512: copy x*100000 1 = blocks 100000 of 200000
+512: copy x*33000 1, copy/3300 x*33000 1 = blocks 66000 of 66000
 18446744073709551615: push/1 x*5000 1 = blocks 5000 of 8194";
 
 // Bytes are pushed one by one after a longer piece, which is shared.
@@ -154,7 +155,9 @@ const LATER_BLOCKS: &str = "\
 10: push Hello_World 1, push/1 x 2, advance Hello_World 1 = blocks 1 of 64
 10: push Hello_World 1, push/1 x*64 2, advance Hello_World 1 = blocks 64 of 64
 10: push Hello_World 1, push/1 x*65 2, advance Hello_World 1 = blocks 65 of 128
-10: push Hello_World 1, push/1 x*5000 3, advance Hello_World 2 = blocks 4096 of 4096, 904 of 4096";
+10: push Hello_World 1, push/1 x*5000 3, advance Hello_World 2 = blocks 4096 of 4096, 904 of 4096
+10: push/11 x*1100 100, push/1 x*5000 102, advance x*1100 2 = blocks 4096 of 4096, 904 of 4096
+10000: push x*10001 1, push/1 x*5000 2, advance x*10001 1 = blocks 5000 of 8194";
 
 // A read takes as many bytes as there is room for, if that is for at least 512.
 const READ_BLOCKS: &str = "\
@@ -183,6 +186,7 @@ const SHARED: &str = "\
 11: give Hello_World 1 alone
 18446744073709551615: give Hello_World 1 alone
 11: give Hello_World 1, take Hel 1 shared, take lo_ 1 shared
+512: copy x*70000 1, take x*69999 1 shared
 10: give Hello_World 1, take Hel 1 shared, advance lo_Worl 1, push alongerpiece 2, take dal 1 alone
 11: give Hello_World 1, split Hel 1 alone
 10: give Hello_World 1, split Hel 1 shared
