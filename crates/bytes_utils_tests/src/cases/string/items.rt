@@ -12,8 +12,8 @@ fn item_back<B: Drop>(answer: Result<(), Refused<B>>) -> Option<B> {
     (refused.reason == Reason::TooLong).then_some(refused.back)
 }
 
-/// Whether the call is refused the third item. That comes back, a borrowed iterator continues after
-/// it, and the text has the first two. An empty item needs no room, and is passed over.
+/// Whether the call is refused the third item that isn't empty. That comes back, a borrowed iterator
+/// continues after it, and the text has the first two. An empty item is never refused.
 fn gives_item_back<S: StorageMut>(alloc: Global, mut text: StrInner<S>, call: &str) -> bool {
     match call {
         "extend_chars" => {
@@ -22,9 +22,9 @@ fn gives_item_back<S: StorageMut>(alloc: Global, mut text: StrInner<S>, call: &s
             is_back && items.next() == Some('d') && text.eq_str("aβ")
         }
         "extend_strs" => {
-            let mut items = "one,,two,three".split(',');
-            let is_back = item_back(text.extend_strs(&mut items)) == Some("two");
-            is_back && items.next() == Some("three") && text.eq_str("one")
+            let mut items = "one,,two,three,four".split(',');
+            let is_back = item_back(text.extend_strs(&mut items)) == Some("three");
+            is_back && items.next() == Some("four") && text.eq_str("onetwo")
         }
         _ => match strings(alloc, "a,b,c,d") {
             Ok(strings) => {
