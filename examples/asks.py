@@ -59,7 +59,8 @@ def is_soon(holds):
 def refused(judge, command, said, reply, silent, *_):
     """Clients that say a part of something, until memory is refused: the others are served. Crowd after crowd says
     another part, so that each takes other memory than what the one before has left."""
-    with tempfile.TemporaryFile() as log, started(command, log) as (running, at), contextlib.ExitStack() as callers:
+    many = [*command, f"connections={MOST_CALLERS}", f"peer={MOST_CALLERS}"]
+    with tempfile.TemporaryFile() as log, started(many, log) as (running, at), contextlib.ExitStack() as callers:
         talk, size = Talk(at, said, reply), int(open(f"/proc/{running.pid}/statm").read().split()[0])
         old = callers.enter_context(talk.call())
         is_first = talk.is_served(old)
