@@ -2,7 +2,7 @@
 import contextlib, csv, io, os, re, resource, select, socket, subprocess, time
 from concurrent.futures import ThreadPoolExecutor
 
-from asks import is_soon, processor_time
+from asks import is_soon, processor_time, started
 
 BODY = 50_000_000
 # what the service may have held after all these requests: its longest body, and this much more
@@ -225,9 +225,31 @@ def drips(client, service):
         memory(client, service, most)
 
 
+def resident(service, which):
+    """How many bytes are resident now, `VmRSS`, or were at most, `VmHWM`."""
+    return int(re.search(rf"{which}:\s+(\d+) kB", open(f"/proc/{service.pid}/status").read())[1]) << 10
+
+
 def memory(client, service, most):
-    held = int(re.search(r"VmHWM:\s+(\d+) kB", open(f"/proc/{service.pid}/status").read())[1]) << 10
+    held = resident(service, "VmHWM")
     client.judge(f"resident memory of {held >> 20} MiB, within {most >> 20}", held <= most)
+
+
+def given_back(judge, room, _, service):
+    """Bodies over the bound, and what stays of them once they have left, if large blocks are mapped alone."""
+    most, long = 200_000_000, POST % (10_000_000, bytes(9_999_999))
+    command = ["env", "MALLOC_MMAP_THRESHOLD_=131072", service.args[0], f"held={most}"]
+    with started(command) as (running, at):
+        client = Client(judge, room, at)
+        with contextlib.ExitStack() as stack:
+            for line in [stack.enter_context(called(client)) for _ in range(40)]:
+                with contextlib.suppress(OSError):
+                    line.sendall(long)
+            is_held = lambda: figures(client)["service_held_bytes"] > most - 10_000_000
+            judge("40 bodies of 10 MB, of which all that may be held is", is_soon(is_held))
+            memory(client, running, most + (64 << 20))
+        is_back = lambda: figures(client)["service_connections"] == 1 and resident(running, "VmRSS") < 48 << 20
+        judge("less than 48 MiB stay once they have left", is_soon(is_back))
 
 
 def figures(client):
@@ -351,4 +373,5 @@ RUNS = [
     ([], ask, ONE, b"\r\n\r\none", HALF, POST % (len(LONG), LONG), LONG, PAGE, b"\nservice_log_dropped_total "),
     (["held=1000000", "connections=20", "head=1"], bounded),
     (["body=1", "answer=1"], late),
+    ([], given_back),
 ]
