@@ -31,7 +31,7 @@ fn refused_copy_takes_nothing<B: Buf>(alloc: Global, buf: &mut B) -> bool {
     matches!(&copy, Err(refused) if refused.taken == 0) && buf.remaining() == len
 }
 
-// No memory has so many bytes.
+// No memory has `usize::MAX` bytes.
 #[test]
 fn buf_parts_refused_at_once_take_nothing(rt: HostRuntime) {
     let mut zeros = OddZeros { left: usize::MAX };
