@@ -100,9 +100,9 @@ def call_until(holds, talk, callers, said):
 
 def crowded(judge, command, said, reply, *_):
     """A peer that has as many connections as it may have: a further one is closed at once, and others are served."""
-    with tempfile.TemporaryFile() as log, started([*command, "peer=5"], log) as (_, at), contextlib.ExitStack() as stack:
+    with tempfile.TemporaryFile() as log, started([*command, "peer=5"], log) as (_, at), contextlib.ExitStack() as five:
         talk, closed = Talk(at, said, reply), 0
-        lines = [stack.enter_context(talk.call()) for _ in range(5)]
+        lines = [five.enter_context(talk.call()) for _ in range(5)]
         judge("five connections of a peer are served", all(map(talk.is_served, lines)))
         began = time.monotonic()
         for _ in range(20):
