@@ -73,7 +73,7 @@ impl ContiguousBuf for &[u8] {
 
 /// Takes the first `len` bytes out of a buffer, as its own `prefix` returns them: a body for
 /// `copy_out`. Requires that `len` is at most `remaining()` (test: `remaining`). Fails with
-/// `CopyRefused` if memory is refused; then nothing has changed.
+/// `CopyRefused` if memory is refused; then nothing has changed. With `len` 0 it never fails.
 pub fn take_prefix<B: ContiguousBuf>(
     buf: &mut B,
     alloc: Global,
@@ -84,6 +84,7 @@ pub fn take_prefix<B: ContiguousBuf>(
     ensures refused { IfErr result (λ e. e.taken ≡ 0) }
     ensures rest { B.unread buf.new ≡ drop (taken_by_copy len result) (B.unread buf.old) }
     ensures same { OnErr result (buf.new ≡ buf.old) }
+    ensures none { len ≡ 0 → IsOk result }
     ensures kept { B.kept buf.new ≡ B.kept buf.old }
 {
     let Ok(copy) = buf.prefix(alloc, len) else {

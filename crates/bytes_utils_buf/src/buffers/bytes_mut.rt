@@ -1,5 +1,5 @@
 //! `BytesMut`: bytes that are taken out of it are shared.
-ghost use Rattle.std.specs.Prelude.{◌≡◌, ◌<◌, ◌≤◌, length, take, drop, IfOk, IfErr, OnErr};
+ghost use Rattle.std.specs.Prelude.{◌≡◌, ◌<◌, ◌≤◌, length, take, drop, IsOk, IfOk, IfErr, OnErr};
 ghost use Rattle.bytes.specs.Adapters.{kept_spare};
 ghost use Rattle.bytes_utils_buf.specs.Copies.{taken_by_copy};
 ghost use Rattle.bytes_utils_buf.specs.Slices.{joined_slices, FillsSlices};
@@ -21,6 +21,7 @@ impl BufParts for BytesMut {
         ensures kept { kept_spare self.new.spare ≡ kept_spare self.old.spare }
         ensures refused { IfErr result (λ e. e.taken ≡ 0) }
         ensures same { OnErr result (self.new ≡ self.old) }
+        ensures none { len ≡ 0 → IsOk result }
     {
         match self.freeze_to(len) {
             Ok(copy) => Ok(copy),
