@@ -59,6 +59,7 @@ pub fn look_at_first_bytes(
     ensures found { IfOk result (λ at. FindsNeedle piece.now needle.now 0 (Some at)) }
     ensures within { IfErr result (λ left. left ≤ length piece.now) }
     ensures none { IfErr result (λ left. Nowhere (OccursAt piece.now needle.now) 0 left) }
+    ensures past { IfErr result (λ left. from < length piece.now → from < left) }
 {
     let mut at = from;
     while at < piece.len() {
@@ -90,6 +91,8 @@ pub fn prefix_without_first_byte(needle: &[u8], piece: &[u8]) -> usize
     requires { 0 < length needle.now }
     ensures within { result ≤ length piece.now }
     ensures none { (k : ℕ) → k < result → slice_index piece.now k ≢ slice_index needle.now 0 }
+    ensures first { result < length piece.now
+        → slice_index piece.now result ≡ slice_index needle.now 0 }
 {
     place_from(needle[0], piece, 0)
 }
@@ -102,6 +105,7 @@ pub fn place_from(first: u8, bytes: &[u8], from: usize) -> usize
     ensures low { from ≤ result }
     ensures within { result ≤ length bytes.now }
     ensures none { (k : ℕ) → from ≤ k → k < result → slice_index bytes.now k ≢ first }
+    ensures found { result < length bytes.now → slice_index bytes.now result ≡ first }
 {
     match memchr(first, &bytes[from..]) {
         Some(at) => from + at,

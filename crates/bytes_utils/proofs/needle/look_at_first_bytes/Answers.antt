@@ -6,6 +6,7 @@ use Rattle.bytes_utils.proofs.needle.look_at_first_bytes.Goals as goal
 
 pub loop-at-init : goal.loop-at-init
 loop-at-init c = record {
+  low = omega arith;
   within = c.requires.within;
   none = none_before_first c.args.needle.now c.args.piece.now c.args.from c.requires.some c.requires.none;
 }
@@ -22,6 +23,7 @@ loop-at-preserved c =
     let piece = c.args.piece.now in
     let at = c.loop-at.at in
     let next = c.place_from-at.ensures in record {
+      low = omega (arith, c.loop-at.invariant.low, next.low);
       within = next.within;
       none = none_before_next c.args.needle.now piece at c.loop-at.invariant.within c.loop-at.invariant.none c.place_from-at.result c.requires.some
           (λ here. false≢true (c.if-is_prefix.ensures.1 (rw (← range_rest piece at) at here))) (λ k low high. next.none k (omega (arith, low)) high);

@@ -4,6 +4,7 @@ use Rattle.bytes_utils.proofs.needle.look_at_first_bytes.Given as goal
 
 abbrev pub invariant-loop-at : goal.invariant-loop-at
 invariant-loop-at l = record {
+  low : l.from ≤ l.at;
   within : l.at ≤ length l.piece;
   none : Nowhere (OccursAt l.piece l.needle) 0 l.at;
 }
