@@ -165,6 +165,7 @@ impl<'a, B: ContiguousBuf + Drop> Cursor<'a, B> {
             (λ bytes. length bytes < len) self.old self.new result }
         ensures reason { IfErr result (λ reason. reason ≡ Reason.OutOfMemory) }
         ensures none { len ≡ 0 → IsOk result }
+        ensures due { OnErr result (len ≤ length (unread self.old)) }
     {
         if self.remaining() < len {
             return Ok(None);
@@ -180,6 +181,7 @@ impl<'a, B: ContiguousBuf + Drop> Cursor<'a, B> {
         ensures pieces { IfOk result (λ next. IfSome next (AreNextSegments len self.old)) }
         ensures reason { IfErr result (λ reason. reason ≡ Reason.OutOfMemory) }
         ensures none { len ≡ 0 → IsOk result }
+        ensures due { OnErr result (len ≤ length (unread self.old)) }
     {
         if self.remaining() < len {
             return Ok(None);

@@ -3,7 +3,7 @@ ghost use Rattle.std.specs.Prelude.{◌≡◌, ◌+◌, ◌-◌, ◌*◌, ◌^�
 ghost use Rattle.std.specs.List.{concat};
 ghost use Rattle.memchr.specs.Find.{FindsNeedle, IsFirst, Nowhere, OccursAt};
 ghost use Rattle.bytes_utils_buf.specs.Segments.{CountsPass, IsPaid, IsPlace, SkipsSegments};
-ghost use Rattle.bytes_utils_codec.specs.Frames.{TakesFrame};
+ghost use Rattle.bytes_utils_codec.specs.Frames.{HasFrame, TakesFrame};
 ghost use Rattle.bytes_utils.specs.Occurrence.{Occurs};
 
 use bytes::{Buf, Bytes};
@@ -71,8 +71,8 @@ pub fn find_from<B: ContiguousBuf + Drop>(
 /// Takes out what is before the first `needle`, as one `Bytes`, and drops the needle. Returns
 /// `None`, and changes nothing, if the needle isn't there. What is before it is shared if the first
 /// segment has it all and shares its own, as a `Bytes` does; otherwise it is copied into one block.
-/// Requires that `needle` is not empty (test: `is_empty`). Fails with `OutOfMemory` if memory is
-/// refused; then nothing has changed.
+/// Requires that `needle` is not empty (test: `is_empty`). Fails with `OutOfMemory` if memory for the
+/// bytes before the needle is refused, never if there are none; then nothing has changed.
 ///
 /// ```text
 /// body.push(first)?;                        // a `Bytes` of `GET / HTTP/1.1\r`
@@ -93,6 +93,7 @@ pub fn take_until<B: ContiguousBuf + Drop>(
     ensures none { IfOk result (λ taken. IfNone taken
         ((buf.new ≡ buf.old) × (¬ Occurs needle.now (concat buf.old.segments)))) }
     ensures err { OnErr result (buf.new ≡ buf.old) }
+    ensures due { OnErr result (HasFrame needle.now (concat buf.old.segments)) }
     ensures reason { IfErr result (λ reason. reason ≡ Reason.OutOfMemory) }
 
     // Each passed segment counts one turn, on this value's own tally.
