@@ -22,6 +22,7 @@ fn buffer_shares_parts<B: ContiguousBuf>(alloc: Global, buf: &B) -> bool {
     buf.as_contiguous() == JOINED.as_bytes()
         && buf.remaining() == 11
         && is_shared_by_buffer(buf.prefix(alloc, 5), "Hello")
+        && is_shared_by_buffer(buf.part(alloc, 0..5), "Hello")
         && is_shared_by_buffer(buf.part(alloc, 1..5), "ello")
 }
 

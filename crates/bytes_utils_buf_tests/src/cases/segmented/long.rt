@@ -28,14 +28,14 @@ fn long_segments_are_copied(rt: HostRuntime) {
 
 // The last of the first segments is cut, and both ends of a range are.
 const SHARED: &str = "\
-push*1000 x*100 #1000, keep x*100000, peek_bytes x*99950, prefix x*99950 . 1000 pieces, \
-copy_range 50/x*99900, slice 50/x*99900 . 1000 pieces";
+push*3000 x*30 #3000, keep x*90000, peek_bytes x*89985, prefix x*89985 . 3000 pieces, \
+copy_range 15/x*89970, slice 15/x*89970 . 3000 pieces";
 
 // It is cut within a segment, by either call.
 const CUT: &str = "\
-push*1000 x*100 #1000, try_clone x*100000 . 1000 pieces, \
-split_off x*49950 #501 500 pieces, rejoin - #1001, keep x*100000
-push*1000 x*100 #1000, split_to x*50050 #500 501 pieces, rejoin - #1001, keep x*100000";
+push*3000 x*30 #3000, try_clone x*90000 . 3000 pieces, \
+split_off x*44985 #1501 1500 pieces, rejoin - #3001, keep x*90000
+push*3000 x*30 #3000, split_to x*45015 #1500 1501 pieces, rejoin - #3001, keep x*90000";
 
 const MOVED: &str = "\
 push*1000 x*100 #1000, drain_into_queue x*100000 -, append_queue x*100000 #1000";
@@ -53,4 +53,5 @@ fn long_segmented_bodies(rt: HostRuntime) {
 #[test]
 fn long_segmented_body_becomes_shared(rt: HostRuntime) {
     assert_packed(&rt, "99: push/100 x*100000 1000 = shared 1000 of 100000");
+    assert_packed(&rt, "9: push/10 x*40000 4000, copy y 4001 = shared 4001 of 40001");
 }
