@@ -95,7 +95,7 @@ def frames(judge, room, at, chat):
     caller = Caller(judge, at)
     sent, wanted = b"one;;;;two;\xff;;th;ree;;;rest", b"3\n0\n5\n6\n"
     caller.expect_wherever_cut("frames cut anywhere", sent, wanted)
-    big = [os.urandom(size).replace(b";", b",") for size in (1, 70_000, 0, 300_000)]
+    big = [os.urandom(size).replace(b";", b",") for size in (1, 70_000, 0, 300_000, 1_000_000)]
     lengths = "".join(f"{len(it)}\n" for it in big).encode()
     caller.judge("long frames", caller.reply(*(it + b";;" for it in big)) == lengths)
     caller.judge("a frame of a MiB", caller.reply(bytes(MOST) + b";;") == b"%d\n" % MOST)

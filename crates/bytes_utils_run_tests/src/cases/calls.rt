@@ -22,7 +22,15 @@ fn are_slices_of_call(slices: &[Vec<u8>], wanted: &str) -> bool {
     rest.is_empty()
 }
 
-/// Returns whether a reply is as written: in words, as a number, or by its bytes.
+/// Returns whether a piece is as written: by its bytes, or by their number.
+fn is_piece_of_call(piece: &[u8], wanted: &str) -> bool {
+    match wanted.strip_suffix(" bytes") {
+        Some(count) => count.parse().ok() == Some(piece.len()),
+        None => piece == wanted.as_bytes(),
+    }
+}
+
+/// Returns whether a reply is as written: in words, as a number, or as a piece or its bytes.
 fn is_reply_of_call(reply: &Reply, wanted: &str) -> bool {
     match reply {
         Reply::Done => wanted == "ok",
@@ -30,7 +38,7 @@ fn is_reply_of_call(reply: &Reply, wanted: &str) -> bool {
         Reply::TooLong => wanted == "too long",
         Reply::NoMemory | Reply::CopyStopped(_) => false,
         Reply::Number(number) => wanted.parse().ok() == Some(*number),
-        Reply::Piece(piece) => piece.as_slice() == wanted.as_bytes(),
+        Reply::Piece(piece) => is_piece_of_call(piece.as_slice(), wanted),
         Reply::Shown(chunk) => chunk.as_slice() == wanted.as_bytes(),
         Reply::Slices(slices) => are_slices_of_call(slices, wanted),
     }
@@ -74,6 +82,8 @@ fn calls_on_zeros_and_drips(rt: HostRuntime) -> Result<(), Fail> {
         ReadCall::Chunk,
     ];
     assert!(rt; calls_give_replies(rt.alloc(), &mut Zeros::new(20), &calls, ZEROS));
+    let long = [ReadCall::CopyOut(50_000)];
+    assert!(rt; calls_give_replies(rt.alloc(), &mut Zeros::new(70_000), &long, "50000 bytes"));
     let (first, second) = (Bytes::from_static(b"ab"), Bytes::from_static(b"c"));
     let drips = vec![in rt.alloc(); Drip::new(first), Drip::new(second)]?;
     let mut buf = SegmentedBuf::from_vec(rt.alloc(), drips)?;
