@@ -20,6 +20,8 @@ end: 3 held
 
 13: => always Refused(TooLong)
 
+70000: => always Refused(TooLong)
+
 # no colon among the first 21 bytes
 123456789012345678901 => always Refused(TooLong)
 

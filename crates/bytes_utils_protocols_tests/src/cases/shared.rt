@@ -189,12 +189,20 @@ const PART: &str = r"--b\r\n\r\n
 <600 a>
 \r\n--b--";
 
+const NAMED: &str = r"event: <590 a>\n
+data: b\n\n";
+
 #[test]
 fn shared_message_in_two_pieces(rt: HostRuntime) {
     for (protocol, pieces, wanted) in [
         (Protocol::Requests(99), REQUEST, "b\"<1000 a>\""),
         (PARTS, PART, "\"\" None None b\"<1200 a>\""),
         (PART_STREAM, PART, "\"\" None None b\"<1200 a>\""),
+        (
+            EVENTS,
+            NAMED,
+            "Event { name: Some(\"<590 a>\"), data: \"b\", id: None }",
+        ),
     ] {
         let holds = is_message_shared(rt.alloc(), protocol, pieces, wanted);
         assert!(rt; holds, "{pieces}");
