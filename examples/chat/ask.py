@@ -109,7 +109,7 @@ def frames(judge, room, at, chat):
 def silent(judge, room, at, chat):
     """The bounds that the operator sets."""
     caller = Caller(judge, at)
-    judge("it prints its bounds", chat.stdout.readline() == "connections=2 peer=1000 silence=1 finish=10\n")
+    judge("it prints its bounds", chat.stdout.readline() == "silence=1 connections=2 peer=1000 finish=10\n")
     began = time.monotonic()
     with caller.called() as one, caller.called() as two:
         two.settimeout(0.5)

@@ -295,7 +295,7 @@ def called(client):
 def bounded(judge, room, at, service):
     """The bounds that the operator sets."""
     client, chunked = Client(judge, room, at), ["-T", "-", "-H", "Expect:"]
-    judge("it prints its bounds", service.stdout.readline().startswith("held=1000000 connections=20 peer=1000 head=1 "))
+    judge("it prints its bounds", service.stdout.readline().startswith("held=1000000 head=1 body=30 answer=30 connections=20 "))
     refused = subprocess.run([service.args[0], "other=1"], capture_output=True, timeout=10)
     judge("a bound that there isn't", refused.returncode == 1 and b"no bound is named other" in refused.stderr)
     most = bytes(1_000_000)
