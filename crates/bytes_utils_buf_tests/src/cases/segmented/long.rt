@@ -53,5 +53,8 @@ fn long_segmented_bodies(rt: HostRuntime) {
 #[test]
 fn long_segmented_body_becomes_shared(rt: HostRuntime) {
     assert_packed(&rt, "99: push/100 x*100000 1000 = shared 1000 of 100000");
-    assert_packed(&rt, "9: push/10 x*40000 4000, copy y 4001 = shared 4001 of 40001");
+    assert_packed(
+        &rt,
+        "9: push/10 x*40000 4000, copy y 4001 = shared 4001 of 40001",
+    );
 }
