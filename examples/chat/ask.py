@@ -31,6 +31,13 @@ class Caller:
             got += iter(lambda: line.recv(1 << 16), b"")
         return b"".join(got)
 
+    def reply_to_each(self, said):
+        """The reply to each of these, which is said once the reply to the one before has come."""
+        with self.called() as line, line.makefile("rb") as replies:
+            for it in said:
+                line.sendall(it)
+                yield replies.readline()
+
     def expect_wherever_cut(self, what, sent, wanted):
         """The same replies, wherever what is sent is cut in two, and also if it comes byte by byte."""
         cut = all(self.reply(sent[:at], sent[at:]) == wanted for at in range(1, len(sent)))
@@ -60,6 +67,14 @@ def crowd(caller, said, wanted):
     caller.judge(f"100 callers, of which half are silent, vanish or never read: {most:.2f} s, within 2", most < 2)
 
 
+def lengths(caller, end):
+    """Lines or frames of many lengths, so that a round number of bytes is held when each ends."""
+    sizes = [it - len(end) for it in range(10_000, MOST, 10_000)]
+    wanted = [b"%d\n" % it for it in sizes]
+    is_well = [*caller.reply_to_each(bytes(it) + end for it in sizes)] == wanted
+    caller.judge(f"{len(sizes)} of up to {sizes[-1]:,} bytes, each after the reply to the one before", is_well)
+
+
 def memory(caller, chat, sent):
     """What comes in many small reads isn't held in a block for each."""
     caller.reply(*(sent[at : at + 1] for at in range(len(sent))), pause=0)
@@ -87,6 +102,7 @@ def lines(judge, room, at, chat):
     caller.judge("a line of a MiB", caller.reply(bytes(MOST) + b"\n") == b"%d\n" % MOST)
     caller.judge("a line of one byte more", caller.reply(b"one\n", bytes(MOST + 1) + b"\n") in (b"3\n", b""))
     caller.judge("a line of 64 MiB", caller.reply(b"one\n", bytes(64 * MOST)) in (b"3\n", b""))
+    lengths(caller, b"\n")
     crowd(caller, b"four\n", b"4\n")
     memory(caller, chat, bytes(100_000) + b"\n")
 
@@ -102,6 +118,7 @@ def frames(judge, room, at, chat):
     caller.judge("a frame of one byte more", caller.reply(b"one;;", bytes(MOST + 1) + b";;") in (b"3\n", b""))
     many = b";;".join(b"a" * (i % 50) for i in range(20_000)) + b";;"
     caller.judge("20,000 frames at once", caller.reply(many) == "".join(f"{i % 50}\n" for i in range(20_000)).encode())
+    lengths(caller, b";;")
     crowd(caller, b"four;;", b"4\n")
     memory(caller, chat, bytes(100_000) + b";;")
 

@@ -70,3 +70,23 @@ fn program_with_failing_writers(rt: HostRuntime) {
         assert!(rt; given == answer && writer.held.as_slice() == written);
     }
 }
+
+// After a write that fails late, in the second call for a long part, the writer isn't called again:
+// its fourth call is the last one.
+#[test]
+fn program_with_a_late_failing_writer(rt: HostRuntime) {
+    let mut input = [b'a'; 9_000];
+    input[..8].copy_from_slice(b"split ,\n");
+    let mut writer = FakeSlowWriter {
+        held: Vec::new(rt.alloc()),
+        most: 5_000,
+        calls: FakeCalls {
+            made: 0,
+            fails_at: 4,
+        },
+    };
+    let given = script(rt.alloc(), &mut input.as_slice(), &mut writer);
+    assert!(rt;
+        given == Err(Fault::Io) && writer.calls.made == 4 && writer.held.len() == 5_005
+    );
+}
