@@ -22,13 +22,14 @@ pub trait BufParts: Buf {
     ghost loses: { ℕ → ℕ → Type 0 } = { λ _ _. ⊤ };
 
     /// Takes the first `len` unread bytes out. Requires that `len` is at most `remaining()` (test:
-    /// `remaining`). Fails with `CopyRefused` if memory is refused; then `taken` of them were taken
-    /// and are lost.
+    /// `remaining`). Fails with `CopyRefused` if memory is refused, never for no bytes; then `taken`
+    /// of them were taken and are lost.
     fn copy_out(&mut self, alloc: Global, len: usize) -> Result<Bytes, CopyRefused>
         requires { len ≤ length (Self.unread self.old) }
         ensures value { IfOk result (λ copy. copy ≡ take len (Self.unread self.old)) }
         ensures taken { taken_by_copy len result ≤ len }
         ensures lost { IfErr result (λ e. loses len e.taken) }
+        ensures none { len ≡ 0 → IsOk result }
         ensures rest { Self.unread self.new ≡ drop (taken_by_copy len result) (Self.unread self.old) }
         ensures kept { Self.kept self.new ≡ Self.kept self.old };
 
@@ -78,7 +79,11 @@ impl BufParts for &[u8] {
         ensures rest { self.new.now ≡ drop (taken_by_copy len result) self.old.now }
         ensures refused { IfErr result (λ e. e.taken ≡ 0) }
         ensures same { OnErr result (self.new.now ≡ self.old.now) }
+        ensures none { len ≡ 0 → IsOk result }
     {
+        if len == 0 {
+            return Ok(Bytes::new());
+        }
         let all: &[u8] = *self;
         let Ok(copy) = Bytes::copy_from_slice(alloc, &all[..len]) else {
             return Err(CopyRefused { taken: 0 });
@@ -98,15 +103,19 @@ impl BufParts for &[u8] {
 
 /// Takes the first `len` bytes out of any buffer by a copy: a body for `copy_out`. Requires that
 /// `len` is at most `remaining()` (test: `remaining`). Fails with `CopyRefused` if memory is
-/// refused; then it has taken none of them, or all `len`.
+/// refused, never for no bytes; then it has taken none of them, or all `len`.
 pub fn copy_out_of<B: Buf>(buf: &mut B, alloc: Global, len: usize) -> Result<Bytes, CopyRefused>
     requires { len ≤ length (B.unread buf.old) }
     ensures value { IfOk result (λ copy. copy ≡ take len (B.unread buf.old)) }
     ensures taken { taken_by_copy len result ≤ len }
     ensures refused { IfErr result (λ e. (e.taken ≡ 0) ⊎ (e.taken ≡ len)) }
+    ensures none { len ≡ 0 → IsOk result }
     ensures rest { B.unread buf.new ≡ drop (taken_by_copy len result) (B.unread buf.old) }
     ensures kept { B.kept buf.new ≡ B.kept buf.old }
 {
+    if len == 0 {
+        return Ok(Bytes::new());
+    }
     let Ok(mut copy) = vec![in alloc; 0; len] else {
         return Err(CopyRefused { taken: 0 });
     };

@@ -1,5 +1,5 @@
 //! Cursors: the bytes after the position are unread.
-ghost use Rattle.std.specs.Prelude.{◌≡◌, ◌≤◌, length, take, drop, IfOk, IfErr};
+ghost use Rattle.std.specs.Prelude.{◌≡◌, ◌≤◌, length, take, drop, IsOk, IfOk, IfErr};
 ghost use Rattle.std.specs.Io.Cursor.{cursor_position, cursor_inner};
 ghost use Rattle.bytes.specs.Adapters.{cursor_kept};
 ghost use Rattle.bytes_utils_buf.specs.Copies.{taken_by_copy};

@@ -1,5 +1,5 @@
 //! Two buffers that are read one after the other.
-ghost use Rattle.std.specs.Prelude.{◌≡◌, ◌+◌, ◌≤◌, ◌++◌, length, take, IfOk, IfErr};
+ghost use Rattle.std.specs.Prelude.{◌≡◌, ◌+◌, ◌≤◌, ◌++◌, length, take, IsOk, IfOk, IfErr};
 ghost use Rattle.bytes_utils_buf.specs.Slices.{FillsSlices};
 
 use crate::Reason;
@@ -20,6 +20,7 @@ pub(super) fn first_of_pair<T: ContiguousBuf, U: ContiguousBuf>(
     ensures value { IfOk result
         (λ first. first ≡ take len (T.unread front.now ++ U.unread back.now)) }
     ensures reason { IfErr result (λ reason. reason ≡ Reason.OutOfMemory) }
+    ensures none { len ≡ 0 → IsOk result }
 {
     let in_front = front.remaining();
     if len <= in_front {

@@ -1,5 +1,5 @@
 //! `BytesQueue`: a queue of shared chunks.
-ghost use Rattle.std.specs.Prelude.{◌≡◌, ◌≤◌, length, take, drop, IfOk, IfErr};
+ghost use Rattle.std.specs.Prelude.{◌≡◌, ◌≤◌, length, take, drop, IsOk, IfOk, IfErr};
 ghost use Rattle.bytes_utils_buf.specs.Copies.{taken_by_copy};
 ghost use Rattle.bytes_utils_buf.specs.Slices.{FillsSlices};
 
@@ -11,6 +11,9 @@ use std::alloc::Global;
 /// queue's own `split_to` took are lost.
 impl BufParts for BytesQueue {
     fn copy_out(&mut self, alloc: Global, len: usize) -> Result<Bytes, CopyRefused> {
+        if len == 0 {
+            return Ok(Bytes::new());
+        }
         match self.split_to(alloc, len) {
             Ok(copy) => Ok(copy),
             Err(refused) => Err(CopyRefused {

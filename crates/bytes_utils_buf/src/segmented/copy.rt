@@ -1,5 +1,5 @@
 //! Copying bytes across segments.
-ghost use Rattle.std.specs.Prelude.{◌≡◌, ◌+◌, ◌-◌, ◌≤◌, ◌++◌, length, min, take, vec_capacity, IfOk, IfErr, ◌⊎◌};
+ghost use Rattle.std.specs.Prelude.{◌≡◌, ◌+◌, ◌-◌, ◌≤◌, ◌++◌, length, min, take, vec_capacity, IsOk, IfOk, IfErr, ◌⊎◌};
 ghost use Rattle.std.specs.List.{concat};
 ghost use Rattle.bytes.specs.Unread.{IsChunkOf};
 ghost use Rattle.bytes_utils_buf.specs.Lent.{Lent, Passes};
@@ -36,6 +36,7 @@ pub(super) trait SegmentedCopy {
         ensures taken { taken_by_copy len result ≤ len }
         ensures passes { Passes (taken_by_copy len result) (lent self.old) (lent self.new) }
         ensures refused { IfErr result (λ e. (e.taken ≡ 0) ⊎ (e.taken ≡ len)) }
+        ensures none { len ≡ 0 → IsOk result }
         ensures least { (lent self.old).tally.calls ≤ (lent self.new).tally.calls }
         ensures most { (lent self.new).tally.calls
             ≤ (lent self.old).tally.calls + taken_by_copy len result }

@@ -476,6 +476,7 @@ impl BufParts for PackedBuf {
             ≡ drop (taken_by_copy len result) (concat self.old.held.segments) }
         ensures threshold { self.new.threshold ≡ self.old.threshold }
         ensures lost { IfErr result (λ e. (e.taken ≡ 0) ⊎ (e.taken ≡ len)) }
+        ensures none { len ≡ 0 → IsOk result }
         ensures counts { CountsCopy len (taken_by_copy len result) self.old.held self.new.held }
     {
         self.held.copy_out(alloc, len)

@@ -1,5 +1,5 @@
 //! A buffer that shows one byte at a time.
-ghost use Rattle.std.specs.Prelude.{◌≡◌, ◌≤◌, length, take, drop, All, IfOk, IfErr, OnErr};
+ghost use Rattle.std.specs.Prelude.{◌≡◌, ◌≤◌, length, take, drop, All, IsOk, IfOk, IfErr, OnErr};
 ghost use Rattle.bytes.specs.Unread.{IsChunkOf};
 ghost use Rattle.bytes_utils_buf.specs.Copies.{taken_by_copy};
 ghost use Rattle.bytes_utils_buf.specs.Slices.{FillsSlices};

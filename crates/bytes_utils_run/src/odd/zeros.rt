@@ -1,5 +1,5 @@
 //! A buffer of any number of zero bytes.
-ghost use Rattle.std.specs.Prelude.{◌≡◌, ◌≤◌, length, map, take, drop, replicate, IfOk, IfErr, OnErr};
+ghost use Rattle.std.specs.Prelude.{◌≡◌, ◌≤◌, length, map, take, drop, replicate, IsOk, IfOk, IfErr, OnErr};
 ghost use Rattle.bytes.specs.Unread.{IsChunkOf};
 ghost use Rattle.bytes_utils_buf.specs.Copies.{taken_by_copy};
 ghost use Rattle.bytes_utils_buf.specs.Slices.{FillsSlices};

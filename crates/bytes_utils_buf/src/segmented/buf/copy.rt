@@ -1,5 +1,5 @@
 //! Copies of the bytes.
-ghost use Rattle.std.specs.Prelude.{◌≡◌, ◌+◌, ◌<◌, ◌≤◌, length, map, take, drop, IfOk, IfErr, ◌⊎◌};
+ghost use Rattle.std.specs.Prelude.{◌≡◌, ◌+◌, ◌<◌, ◌≤◌, length, map, take, drop, IsOk, IfOk, IfErr, ◌⊎◌};
 ghost use Rattle.std.specs.List.{concat};
 ghost use Rattle.bytes_utils_buf.specs.Copies.{CountsCopy, taken_by_copy};
 ghost use Rattle.bytes_utils_buf.specs.Segments.{CountsPass, front_segment, IsPaid, SkipsSegments};
@@ -15,9 +15,9 @@ use std::alloc::Global;
 impl<B: BufParts + Drop> SegmentedBuf<B> {
     /// Takes the first `len` bytes out. If the first segment has them all, its own `copy_out`
     /// returns them: a `Bytes` shares them. Otherwise they are copied. Requires that `len` is at
-    /// most `remaining()` (test: `remaining`). Fails with `CopyRefused` if memory is refused; then
-    /// `taken` bytes are lost: none or all across segments, or as many as that `copy_out` took. To
-    /// lose none of a `ContiguousBuf`, call `peek_bytes` and then `advance`.
+    /// most `remaining()` (test: `remaining`). Fails with `CopyRefused` if memory is refused, never
+    /// for no bytes; then `taken` bytes are lost: none or all across segments, or as many as that
+    /// `copy_out` took. To lose none of a `ContiguousBuf`, call `peek_bytes` and then `advance`.
     pub fn copy_to_bytes(&mut self, alloc: Global, len: usize) -> Result<Bytes, CopyRefused>
         requires { len ≤ length (concat self.old.segments) }
         ensures value { IfOk result (λ copy. copy ≡ take len (concat self.old.segments)) }
@@ -32,6 +32,7 @@ impl<B: BufParts + Drop> SegmentedBuf<B> {
             → IfErr result (λ e. B.loses len e.taken) }
         ensures refused { length (front_segment self.old.segments) < len
             → IfErr result (λ e. (e.taken ≡ 0) ⊎ (e.taken ≡ len)) }
+        ensures none { len ≡ 0 → IsOk result }
         ensures counts { CountsCopy len (taken_by_copy len result) self.old self.new }
         ensures paid { IsPaid self.old self.new }
     {
@@ -49,6 +50,7 @@ impl<B: BufParts + Drop> SegmentedBuf<B> {
         ensures value { IfOk result (λ copy. copy ≡ take len (concat self.old.segments)) }
         ensures taken { taken_by_copy len result ≤ len }
         ensures lost { IfErr result (λ e. B.loses len e.taken) }
+        ensures none { len ≡ 0 → IsOk result }
         ensures skips { SkipsSegments (taken_by_copy len result) self.old.segments self.new.segments }
         ensures counts { CountsPass 0 self.old self.new }
     {
@@ -71,6 +73,7 @@ impl<B: BufParts + Drop> BufParts for SegmentedBuf<B> {
         ensures rest { concat self.new.segments
             ≡ drop (taken_by_copy len result) (concat self.old.segments) }
         ensures lost { IfErr result (λ e. (e.taken ≡ 0) ⊎ (e.taken ≡ len) ⊎ B.loses len e.taken) }
+        ensures none { len ≡ 0 → IsOk result }
         ensures counts { CountsCopy len (taken_by_copy len result) self.old self.new }
     {
         self.copy_to_bytes(alloc, len)

@@ -1,5 +1,5 @@
 //! Calls on the first held segment alone.
-ghost use Rattle.std.specs.Prelude.{◌≡◌, ◌<◌, ◌≤◌, [], length, map, take, IsTrue, ◌↔◌, IfOk, IfErr, OnOk, OnErr};
+ghost use Rattle.std.specs.Prelude.{◌≡◌, ◌<◌, ◌≤◌, [], length, map, take, IsTrue, ◌↔◌, IsOk, IfOk, IfErr, OnOk, OnErr};
 ghost use Rattle.std.specs.List.{concat};
 ghost use Rattle.bytes_utils_buf.specs.Copies.{taken_by_copy};
 ghost use Rattle.bytes_utils_buf.specs.Segments.{IsPaid, cut_front_segment, front_segment};
@@ -59,6 +59,7 @@ pub(super) fn take_from_front<B: BufParts>(
     ensures value { IfOk result (λ copy. copy ≡ take len (front_segment (map B.unread segments.old.items))) }
     ensures taken { taken_by_copy len result ≤ len }
     ensures lost { IfErr result (λ e. B.loses len e.taken) }
+    ensures none { len ≡ 0 → IsOk result }
     ensures rest { map B.unread segments.new.items
         ≡ cut_front_segment (taken_by_copy len result) (map B.unread segments.old.items) }
 {

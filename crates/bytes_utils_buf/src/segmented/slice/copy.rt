@@ -1,5 +1,5 @@
 //! Copies of the bytes of borrowed buffers.
-ghost use Rattle.std.specs.Prelude.{◌≡◌, ◌+◌, ◌<◌, ◌≤◌, [], length, map, take, drop, replicate, IsTrue, ◌↔◌, IfOk, IfErr, ◌⊎◌};
+ghost use Rattle.std.specs.Prelude.{◌≡◌, ◌+◌, ◌<◌, ◌≤◌, [], length, map, take, drop, replicate, IsTrue, ◌↔◌, IsOk, IfOk, IfErr, ◌⊎◌};
 ghost use Rattle.std.specs.List.{concat};
 ghost use Rattle.bytes_utils_buf.specs.Copies.{CountsCopy, taken_by_copy};
 ghost use Rattle.bytes_utils_buf.specs.Lent.{held_of, SkipsLent};
@@ -16,8 +16,9 @@ use std::alloc::Global;
 impl<B: BufParts> SegmentedSlice<'_, B> {
     /// Takes the first `len` bytes out. If the first buffer has them all, its own `copy_out`
     /// returns them: a `Bytes` shares them. Otherwise they are copied. Requires that `len` is at
-    /// most `remaining()` (test: `remaining`). Fails with `CopyRefused` if memory is refused; then
-    /// `taken` bytes are lost: none or all across buffers, or as many as that `copy_out` took.
+    /// most `remaining()` (test: `remaining`). Fails with `CopyRefused` if memory is refused, never
+    /// for no bytes; then `taken` bytes are lost: none or all across buffers, or as many as that
+    /// `copy_out` took.
     pub fn copy_to_bytes(&mut self, alloc: Global, len: usize) -> Result<Bytes, CopyRefused>
         requires { len ≤ length (concat self.old.segments) }
         ensures value { IfOk result (λ copy. copy ≡ take len (concat self.old.segments)) }
@@ -32,6 +33,7 @@ impl<B: BufParts> SegmentedSlice<'_, B> {
             → IfErr result (λ e. B.loses len e.taken) }
         ensures refused { length (front_segment self.old.segments) < len
             → IfErr result (λ e. (e.taken ≡ 0) ⊎ (e.taken ≡ len)) }
+        ensures none { len ≡ 0 → IsOk result }
         ensures counts { CountsCopy len (taken_by_copy len result)
             (held_of self.old) (held_of self.new) }
         ensures paid { IsPaid (held_of self.old) (held_of self.new) }
@@ -58,6 +60,7 @@ impl<B: BufParts> SegmentedSlice<'_, B> {
         ensures value { IfOk result (λ copy. copy ≡ take len (concat self.old.segments)) }
         ensures taken { taken_by_copy len result ≤ len }
         ensures lost { IfErr result (λ e. B.loses len e.taken) }
+        ensures none { len ≡ 0 → IsOk result }
         ensures skips { SkipsLent (taken_by_copy len result) self.old self.new }
         ensures counts { CountsPass 0 (held_of self.old) (held_of self.new) }
     {
@@ -88,6 +91,7 @@ fn copy_from_first_of_slice<B: BufParts>(
     ensures value { IfOk result.1 (λ copy. copy ≡ take len (concat (map B.unread bufs.old))) }
     ensures taken { taken_by_copy len result.1 ≤ len }
     ensures lost { IfErr result.1 (λ e. B.loses len e.taken) }
+    ensures none { len ≡ 0 → IsOk result.1 }
     ensures passed { result.0 ≤ length bufs.old }
     ensures read_out { take result.0 (map B.unread bufs.new) ≡ replicate result.0 [] }
     ensures skips { SkipsSegments (taken_by_copy len result.1) (map B.unread bufs.old)
@@ -112,6 +116,7 @@ impl<B: BufParts> BufParts for SegmentedSlice<'_, B> {
         ensures rest { concat self.new.segments
             ≡ drop (taken_by_copy len result) (concat self.old.segments) }
         ensures lost { IfErr result (λ e. (e.taken ≡ 0) ⊎ (e.taken ≡ len) ⊎ B.loses len e.taken) }
+        ensures none { len ≡ 0 → IsOk result }
         ensures counts { CountsCopy len (taken_by_copy len result)
             (held_of self.old) (held_of self.new) }
     {
