@@ -10,6 +10,7 @@ impl<S: Storage> StrInner<S> {
     pub fn new(alloc: Global) -> Result<Self, Reason>
         ensures ok { IfOk result (λ text. text ≡ []) }
         ensures reason { IfErr result S.refuses }
+        ensures none { IfErr result S.refuses_empty }
     {
         let storage = S::empty(alloc)?;
         Ok(StrInner { storage })

@@ -23,13 +23,17 @@ pub trait Storage: Sized + Drop {
     // The reasons for which it may refuse.
     ghost refuses: { Reason → Type 0 } = { λ _. ⊤ };
 
+    // Those for which it may refuse to be made of no bytes.
+    ghost refuses_empty: { Reason → Type 0 } = { λ _. ⊤ };
+
     // Those for which it may refuse to return one side alone.
     ghost refuses_side: { Reason → Type 0 } = { λ _. ⊤ };
 
-    /// Makes a storage of no bytes. Fails with a reason that `refuses` allows.
+    /// Makes a storage of no bytes. Fails with a reason that `refuses` and `refuses_empty` allow.
     fn empty(alloc: Global) -> Result<Self, Reason>
         ensures ok { IfOk result (λ s. stored s ≡ []) }
-        ensures reason { IfErr result refuses };
+        ensures reason { IfErr result refuses }
+        ensures none { IfErr result refuses_empty };
 
     /// Returns all bytes.
     fn as_bytes(&self) -> &[u8]

@@ -16,6 +16,8 @@ impl Storage for BytesMut {
 
     ghost refuses = { λ reason. reason ≡ OutOfMemory };
 
+    ghost refuses_empty = { λ _. ⊥ };
+
     ghost refuses_side = { λ _. ⊥ };
 
     fn empty(alloc: Global) -> Result<Self, Reason>
