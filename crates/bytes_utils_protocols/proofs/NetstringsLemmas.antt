@@ -1,14 +1,15 @@
 -- Netstrings, read part by part.
-use Rattle.std.proofs.Common.{◌≡◌, ℕ, ◌+◌, ◌<◌, List, [], ◌∷◌, ◌++◌, length, decimal, ◌^◌, ap, ◌∙◌, sym, refl, subst, arith, append_assoc, append-nil, length-append}
+use Rattle.std.proofs.Common.{◌≡◌, ℕ, ◌+◌, ◌<◌, List, [], ◌∷◌, ◌++◌, length, decimal, ◌^◌, ap, ◌∙◌, sym, refl, subst, arith, inl, append_assoc, append-nil, length-append}
 use Rattle.std.specs.Str.Parse.{digits_value}
 use Rattle.bytes_utils_buf.specs.declared.refused.Reason.{Reason}
 use Rattle.bytes_utils_buf.specs.declared.refused.Reason.TheVariants.{OutOfMemory, TooLong}
-use Rattle.bytes_utils_codec.specs.Cursor.{IsBegunAtCursor, NeverBeginsAtCursor, CursorTakesFirst}
+use Rattle.bytes_utils_codec.specs.Cursor.{CursorHasNoFrameWithin, IsBegunAtCursor, NeverBeginsAtCursor, CursorTakesFirst}
 use Rattle.bytes_utils_codec.specs.Decoding.{Decoding}
 use Rattle.bytes_utils_codec.specs.Frames.{HasFrameWithin, TakesFrame}
 use Rattle.bytes_utils_codec.proofs.FramesLemmas.{TakesFrame-more, TakesFrame-same}
 use Rattle.bytes_utils.proofs.Joins.{append_same}
 use Rattle.bytes_utils_protocols.specs.Netstrings.{NoNetstring, TakesNetstring, fails_netstring, netstring_bytes, netstring_comma}
+use Rattle.bytes_utils_protocols.specs.declared.netstrings.Netstrings.{Netstrings}
 use Rattle.bytes_utils_protocols.specs.declared.netstrings.NetstringError.TheVariants.{Refused}
 use Rattle.bytes_utils_protocols.specs.Digits.{WriteNumber, colon}
 use Rattle.bytes_utils_protocols.proofs.DigitsLemmas.{WriteNumber-decimal, framed_digits}
@@ -64,7 +65,8 @@ takes_written text rest fits =
       bytes = refl;
     }
 
--- memory is refused only after a colon, which at most 20 bytes are before
-pub refused_after_colon : {D : Type 0} (s : Decoding D) (reason : Reason) → (reason ≡ OutOfMemory → HasFrameWithin 20 (colon ∷ []) s.held) → fails_netstring s (Refused reason)
-refused_after_colon s TooLong has = tt
-refused_after_colon s OutOfMemory has = has refl
+-- memory is refused only after a colon, which at most 20 bytes are before; and `TooLong` comes only if more are
+pub refused_by_colon : (s : Decoding Netstrings) (reason : Reason) → (reason ≡ OutOfMemory → HasFrameWithin 20 (colon ∷ []) s.held)
+    → (reason ≡ TooLong → CursorHasNoFrameWithin 20 (colon ∷ []) s.held) → fails_netstring s (Refused reason)
+refused_by_colon s TooLong has lacks = inl (lacks refl)
+refused_by_colon s OutOfMemory has lacks = has refl

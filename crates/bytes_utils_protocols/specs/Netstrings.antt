@@ -1,10 +1,12 @@
 -- Netstrings (http://cr.yp.to/proto/netstrings.txt): a length in decimal digits, a colon, as many bytes, and a comma.
-use Rattle.std.specs.Prelude.{◌≡◌, ℕ, List, [], ◌∷◌, ◌++◌, length, decimal}
+use Rattle.std.specs.Prelude.{◌≡◌, ◌<◌, ◌⊎◌, ℕ, List, [], ◌∷◌, ◌++◌, length, decimal}
 use Rattle.bytes_utils_buf.specs.declared.refused.Reason.TheVariants.{OutOfMemory, TooLong}
+use Rattle.bytes_utils_codec.specs.Cursor.{CursorHasNoFrameWithin}
 use Rattle.bytes_utils_codec.specs.Frames.{HasFrameWithin, TakesFrame}
 use Rattle.bytes_utils_codec.specs.Decoding.{Decoding, Gives}
 use Rattle.bytes_utils_codec.specs.Taking.{Taking, gives_by}
 use Rattle.bytes_utils_protocols.specs.Digits.{WriteNumber, colon}
+use Rattle.bytes_utils_protocols.specs.declared.netstrings.Netstrings.{Netstrings}
 use Rattle.bytes_utils_protocols.specs.declared.netstrings.NetstringError.{NetstringError}
 use Rattle.bytes_utils_protocols.specs.declared.netstrings.NetstringError.TheVariants.{Refused, Malformed}
 
@@ -40,9 +42,18 @@ awaits_netstring s = NoNetstring s.held
 abbrev pub gives_netstring : {D : Type 0} → Gives D (List ℕ)
 gives_netstring = gives_by takes_netstring awaits_netstring
 
+-- up to the first colon are the digits of a length over the limit
+pub record IsNetstringOverLimit (limit : ℕ) (bytes : List ℕ) : Type 0 where
+  pub digits : List ℕ
+  pub after : List ℕ
+  pub front : TakesFrame (colon ∷ []) bytes digits after
+  pub len : ℕ
+  pub writes : WriteNumber digits len
+  pub over : limit < len
+
 -- `Malformed` only if the bytes begin with no netstring, whatever comes after them; memory is refused only if some bytes, at most 20, and a colon have
--- come; of `TooLong` nothing is said
-abbrev pub fails_netstring : {D : Type 0} → Decoding D → NetstringError → Type 0
-fails_netstring s (Refused TooLong) = Unit {0}
+-- come; `TooLong` only if the length is over the limit, or more than 20 bytes are before the first colon, whatever comes after them
+abbrev pub fails_netstring : Decoding Netstrings → NetstringError → Type 0
+fails_netstring s (Refused TooLong) = CursorHasNoFrameWithin 20 (colon ∷ []) s.held ⊎ IsNetstringOverLimit s.decoder.max_length s.held
 fails_netstring s (Refused OutOfMemory) = HasFrameWithin 20 (colon ∷ []) s.held
 fails_netstring s Malformed = (more : List ℕ) → NoNetstring (s.held ++ more)

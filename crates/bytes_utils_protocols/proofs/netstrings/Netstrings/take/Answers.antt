@@ -1,11 +1,11 @@
 use Rattle.std.proofs.Common.{◌≡◌, ◌≤◌, rules, refl, ap, subst, arith, [], ◌∷◌, length}
 use Rattle.std.proofs.lemmas.Result.{err_from_is_err_and}
 use Rattle.std.specs.List.{concat}
-use Rattle.bytes_utils_codec.specs.Cursor.{unread}
+use Rattle.bytes_utils_codec.specs.Cursor.{CursorHasNoFrameWithin, unread}
 use Rattle.bytes_utils_codec.specs.Decoding.{decoding}
 use Rattle.bytes_utils_codec.specs.Frames.{HasFrameWithin, TakesFrame}
 use Rattle.bytes_utils_protocols.specs.Digits.{WriteNumber, colon}
-use Rattle.bytes_utils_protocols.proofs.NetstringsLemmas.{no_comma, no_number, refused_after_colon, too_few, wrong_comma}
+use Rattle.bytes_utils_protocols.proofs.NetstringsLemmas.{no_comma, no_number, refused_by_colon, too_few, wrong_comma}
 use Rattle.bytes_utils_protocols.proofs.netstrings.Netstrings.take.Goals as goal
 
 pub returns-in_default-number-clause-err : goal.returns-in_default-number-clause-err
@@ -55,7 +55,9 @@ returns-in_err-digits-clause-err c =
     let s = decoding c.args.self c.args.held.now in
     let out = err_from_is_err_and c.from_residual.result c.from_residual.ensures.1 in
     let all : unread c.new-cursor.result ≡ s.held = ap unread (rw c.as_segmented.ensures at c.new-cursor.ensures) in
-    rw (out.1, out.2) (refused_after_colon s c.in_err-digits.field-0.0 (λ is. subst (HasFrameWithin 20 (colon ∷ [])) all (c.in_err-digits.ensures.due is)), refl)
+    let due = λ is. subst (HasFrameWithin 20 (colon ∷ [])) all (c.in_err-digits.ensures.due is) in
+    let long = λ is. subst (CursorHasNoFrameWithin 20 (colon ∷ [])) all (c.in_err-digits.ensures.too_long is) in
+    rw (out.1, out.2) (refused_by_colon s c.in_err-digits.field-0.0 due long, refl)
 
 pub returns-in_err-text-clause-err : goal.returns-in_err-text-clause-err
 returns-in_err-text-clause-err c =
@@ -65,4 +67,4 @@ returns-in_err-text-clause-err c =
     let number : WriteNumber c.in-Some.digits c.in-Some-number.len = search rules in
     let few : length c.in-Some.digits ≤ 20 = rw c.in-Some.is at c.in_ok-digits.ensures.within in
     let has : HasFrameWithin 20 (colon ∷ []) s.held = (record { frame = c.in-Some.digits; rest = unread c.take_until_within.new.self; takes = front; some = number.0.0 }, few) in
-    rw (out.1, out.2) (refused_after_colon s c.in_err-text.field-0.0 (λ _. has), refl)
+    rw (out.1, out.2) (refused_by_colon s c.in_err-text.field-0.0 (λ _. has) (λ is. search (rules, is, c.in_err-text.ensures.reason)), refl)
