@@ -86,7 +86,5 @@ fn program_with_a_late_failing_writer(rt: HostRuntime) {
         },
     };
     let given = script(rt.alloc(), &mut input.as_slice(), &mut writer);
-    assert!(rt;
-        given == Err(Fault::Io) && writer.calls.made == 4 && writer.held.len() == 5_005
-    );
+    assert!(rt; given == Err(Fault::Io) && writer.calls.made == 4 && writer.held.len() == 5_005);
 }

@@ -55,9 +55,12 @@ returns-in_err-digits-clause-err c =
     let s = decoding c.args.self c.args.held.now in
     let out = err_from_is_err_and c.from_residual.result c.from_residual.ensures.1 in
     let all : unread c.new-cursor.result ≡ s.held = ap unread (rw c.as_segmented.ensures at c.new-cursor.ensures) in
-    rw (out.1, out.2) (refused_by_colon s c.in_err-digits.field-0.0
-    (λ is. subst (HasFrameWithin 20 (colon ∷ [])) all (c.in_err-digits.ensures.due is))
-    (λ is. subst (CursorHasNoFrameWithin 20 (colon ∷ [])) all (c.in_err-digits.ensures.too_long is)), refl)
+    rw (out.1, out.2) (
+      refused_by_colon s c.in_err-digits.field-0.0
+          (λ is. subst (HasFrameWithin 20 (colon ∷ [])) all (c.in_err-digits.ensures.due is))
+          (λ is. subst (CursorHasNoFrameWithin 20 (colon ∷ [])) all (c.in_err-digits.ensures.too_long is)),
+      refl,
+    )
 
 pub returns-in_err-text-clause-err : goal.returns-in_err-text-clause-err
 returns-in_err-text-clause-err c =
