@@ -33,7 +33,7 @@ class Caller:
 
     def reply_to_each(self, said):
         """The reply to each of these, which is said once the reply to the one before has come."""
-        with self.called() as line, line.makefile("rb") as replies:
+        with self.called() as line, line.makefile("rb") as replies, contextlib.suppress(ConnectionError):
             for it in said:
                 line.sendall(it)
                 yield replies.readline()
@@ -67,7 +67,7 @@ def crowd(caller, said, wanted):
     caller.judge(f"100 callers, of which half are silent, vanish or never read: {most:.2f} s, within 2", most < 2)
 
 
-def lengths(caller, end):
+def of_many_lengths(caller, end):
     """Lines or frames of many lengths, so that a round number of bytes is held when each ends."""
     sizes = [it - len(end) for it in range(10_000, MOST, 10_000)]
     wanted = [b"%d\n" % it for it in sizes]
@@ -102,7 +102,7 @@ def lines(judge, room, at, chat):
     caller.judge("a line of a MiB", caller.reply(bytes(MOST) + b"\n") == b"%d\n" % MOST)
     caller.judge("a line of one byte more", caller.reply(b"one\n", bytes(MOST + 1) + b"\n") in (b"3\n", b""))
     caller.judge("a line of 64 MiB", caller.reply(b"one\n", bytes(64 * MOST)) in (b"3\n", b""))
-    lengths(caller, b"\n")
+    of_many_lengths(caller, b"\n")
     crowd(caller, b"four\n", b"4\n")
     memory(caller, chat, bytes(100_000) + b"\n")
 
@@ -118,7 +118,7 @@ def frames(judge, room, at, chat):
     caller.judge("a frame of one byte more", caller.reply(b"one;;", bytes(MOST + 1) + b";;") in (b"3\n", b""))
     many = b";;".join(b"a" * (i % 50) for i in range(20_000)) + b";;"
     caller.judge("20,000 frames at once", caller.reply(many) == "".join(f"{i % 50}\n" for i in range(20_000)).encode())
-    lengths(caller, b";;")
+    of_many_lengths(caller, b";;")
     crowd(caller, b"four;;", b"4\n")
     memory(caller, chat, bytes(100_000) + b";;")
 
