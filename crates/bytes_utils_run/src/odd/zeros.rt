@@ -38,8 +38,12 @@ impl Zeros {
 }
 
 fn zero_bytes(alloc: Global, count: usize) -> Result<Bytes, AllocError>
-    ensures { IfOk result (λ bytes. bytes ≡ replicate count 0) }
+    ensures value { IfOk result (λ bytes. bytes ≡ replicate count 0) }
+    ensures none { count ≡ 0 → IsOk result }
 {
+    if count == 0 {
+        return Ok(Bytes::new());
+    }
     Ok(Bytes::from_vec(vec![in alloc; 0; count]?)?)
 }
 
