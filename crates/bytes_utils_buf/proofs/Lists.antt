@@ -1,13 +1,13 @@
 -- Lists of lists, seen from the front.
-use Rattle.std.proofs.Common.{◌≡◌, nat_lt, lt-ltb, cond, true, inl, inr, ℕ, ◌+◌, ◌-◌, ◌<◌, ◌≤◌, List, [], ◌∷◌, ◌++◌, zero, suc, length, take, drop, map, get_or, set, replicate, ap, ◌∙◌, sym, refl, arith, length-append, append_assoc, length-drop}
-use Rattle.std.proofs.lemmas.List.{take_more, drop-append-le, drop-drop, take-append-drop, drop_all, get_or-map, map-append}
+use Rattle.std.proofs.Common.{◌≡◌, nat_lt, lt-ltb, cond, true, inl, inr, ◌⊎◌, ℕ, ◌+◌, ◌-◌, ◌<◌, ◌≤◌, List, [], ◌∷◌, ◌++◌, zero, suc, length, take, drop, map, get_or, set, replicate, ap, ◌∙◌, sym, refl, arith, length-append, append_assoc, length-drop}
+use Rattle.std.proofs.lemmas.List.{take_more, drop-append-le, drop-drop, take-append-drop, take_all, drop_all, get_or-map, map-append}
 use Rattle.std.proofs.lemmas.List.Folds.{concat-append}
 use Rattle.std.proofs.lemmas.Bool.{cases_lt}
 use Rattle.std.proofs.Math.Seq.{drop-append-add}
 use Rattle.std.proofs.lemmas.List.Elements.{All-nil, All-cons, All-tail, All-same, All-drop, All-append}
 use Rattle.std.specs.List.{concat, filter, AllZip}
 use Rattle.bytes.proofs.Chunks.{concat_push}
-use Rattle.bytes_utils_buf.specs.Segments.{IsPlace, cut_front_segment, cut_segment_at, count_unread_segments, front_segment, unread_segments, NoSegmentEmpty, FrontSegmentUnread, SkipsSegments}
+use Rattle.bytes_utils_buf.specs.Segments.{IsInOneSegment, IsPlace, cut_front_segment, cut_segment_at, count_unread_segments, front_segment, unread_segments, NoSegmentEmpty, FrontSegmentUnread, SkipsSegments}
 
 -- ---- joined bytes
 
@@ -29,6 +29,16 @@ concat_split n xs = ap concat (sym (take-append-drop n xs)) ∙ concat-append (t
 pub concat-map_parts : {X : Type 0} (f : X → List ℕ) (xs ys all : List X) → xs ++ ys ≡ all → concat (map f all) ≡ concat (map f xs) ++ concat (map f ys)
 concat-map_parts f xs ys all parts =
     ap (λ l. concat (map f l)) (sym parts) ∙ ap concat (map-append f xs ys) ∙ concat-append (map f xs) (map f ys)
+
+-- more lists have at least as many bytes
+pub length-concat-take_le : (xs : List (List ℕ)) (i j : ℕ) → i ≤ j
+    → length (concat (take i xs)) ≤ length (concat (take j xs))
+length-concat-take_le xs zero j h = omega arith
+length-concat-take_le [] (suc i) j h = omega arith
+length-concat-take_le (x ∷ xs) (suc i) zero h = absurd (omega arith)
+length-concat-take_le (x ∷ xs) (suc i) (suc j) h =
+    let less = length-concat-take_le xs i j (omega arith) in
+    omega (arith, less, length-append x (concat (take i xs)), length-append x (concat (take j xs)))
 
 pub drop-append_past : (xs ys : List ℕ) (n m : ℕ) → m ≡ length xs + n → drop m (xs ++ ys) ≡ drop n ys
 drop-append_past xs ys n m e = rw e (drop-append-add xs ys n)
@@ -255,22 +265,40 @@ length-concat-cut_le (x ∷ xs) zero k =
     omega (arith, length-append x (concat xs), length-append (drop k x) (concat xs), length-drop k x)
 length-concat-cut_le (x ∷ xs) (suc p) k = omega (arith, length-append x (concat xs), length-concat-cut_le xs p k)
 
--- bytes of the first list after the skipped ones are still in the first list
-pub front_segment_skips : (n m : ℕ) (xs ys : List (List ℕ)) → SkipsSegments n xs ys → 0 < m → n + m ≤ length (front_segment xs) → m ≤ length (front_segment ys)
-front_segment_skips n m [] ys s some within = absurd (omega (arith, some, within))
-front_segment_skips n m (x ∷ xs) ys s some within = by s.passed s.rest
-  where
-    left : length (concat ys) + n ≡ length x + length (concat xs)
-    left = omega (arith, within, ap length s.bytes, length-drop n (x ++ concat xs), length-append x (concat xs))
+-- ---- all bytes of a range in one list
 
-    by : (p : ℕ) → ys ≡ cut_front_segment s.cut (drop p (x ∷ xs)) → m ≤ length (front_segment ys)
-    by zero rest =
-        let first = ap (λ l. length (front_segment l)) rest in
-        let whole = ap (λ l. length (concat l)) rest in
-        omega (arith, left, within, first, whole, length-append (drop s.cut x) (concat xs))
-    by (suc p) rest =
-        let whole = ap (λ l. length (concat l)) rest in
-        absurd (omega (arith, left, some, within, whole, length-concat-cut_le xs p s.cut))
+pub IsInOneSegment-front : (start end : ℕ) (xs : List (List ℕ)) → end ≤ length (front_segment xs)
+    → IsInOneSegment start end xs
+IsInOneSegment-front start end [] within = record { before = 0; from = omega arith; to = within }
+IsInOneSegment-front start end (x ∷ xs) within =
+    record { before = 0; from = omega arith; to = omega (arith, within, length-append x []) }
+
+length-front_segment_from : (xs : List (List ℕ)) (index offset : ℕ)
+    → length (front_segment (cut_front_segment offset (drop index xs))) ≡ length (get_or xs index []) - offset
+length-front_segment_from [] zero offset = omega arith
+length-front_segment_from [] (suc index) offset = omega arith
+length-front_segment_from (x ∷ xs) zero offset = length-drop offset x
+length-front_segment_from (x ∷ xs) (suc index) offset = length-front_segment_from xs index offset
+
+-- the list at the place of the first byte is the one that has them
+pub front_segment_at_place : (xs : List (List ℕ)) (start end index offset : ℕ) → IsPlace start index offset xs
+    → start < end → end ≤ length (concat xs) → IsInOneSegment start end xs
+    → end - start ≤ length (front_segment (cut_front_segment offset (drop index xs)))
+front_segment_at_place xs start end index offset at some within one =
+    by (cases_lt index (length xs)) (cases_lt index one.before)
+  where
+    by : (index < length xs) ⊎ (length xs ≤ index) → (index < one.before) ⊎ (one.before ≤ index)
+        → end - start ≤ length (front_segment (cut_front_segment offset (drop index xs)))
+    by (inr past) which =
+        absurd (omega (arith, some, within, at.before, ap (λ l. length (concat l)) (take_all index xs past)))
+    by (inl here) (inl sooner) =
+        let least = length-concat-take_le xs (index + 1) one.before (omega (arith, sooner)) in
+        let size = length-concat-take_more xs index here in
+        absurd (omega (arith, least, size, one.from, at.before, at.inside here))
+    by (inl here) (inr later) =
+        let least = length-concat-take_le xs (one.before + 1) (index + 1) (omega (arith, later)) in
+        let size = length-concat-take_more xs index here in
+        omega (arith, least, size, one.to, at.before, length-front_segment_from xs index offset)
 
 -- at most as many lists lose their last byte as bytes are lost
 count_unread_segments-cut : (xs : List (List ℕ)) (p k n : ℕ) → length (concat xs) ≤ length (concat (cut_front_segment k (drop p xs))) + n

@@ -62,6 +62,12 @@ pub record IsPlace (place index offset : ℕ) (segments : List (List ℕ)) : Typ
   pub before : length (concat (take index segments)) + offset ≡ place
   pub inside : index < length segments → offset < length (get_or segments index [])
 
+-- one list has all bytes of this range of the joined bytes: the list that comes after `before` others
+pub record IsInOneSegment (start end : ℕ) (segments : List (List ℕ)) : Type 0 where
+  pub before : ℕ
+  pub from : length (concat (take before segments)) ≤ start
+  pub to : end ≤ length (concat (take (before + 1) segments))
+
 -- the place is inside that list, or after all of them
 abbrev pub IsInsideSegment : ℕ → ℕ → List (List ℕ) → Type 0
 IsInsideSegment passed offset segments = offset ≤ length (get_or segments passed [])

@@ -1,5 +1,5 @@
 //! Held buffers that read as one.
-ghost use Rattle.std.specs.Prelude.{◌≡◌, ◌+◌, ◌^◌, ◌<◌, ◌≤◌, List, [], ◌∷◌, length, map, drop, Some, IsTrue, ◌↔◌, IsErr, IfOk, IfErr};
+ghost use Rattle.std.specs.Prelude.{◌≡◌, ◌+◌, ◌^◌, ◌<◌, ◌≤◌, List, [], ◌∷◌, length, map, drop, Some, IsTrue, ◌↔◌, IsOk, IsErr, IfOk, IfErr};
 ghost use Rattle.std.specs.Iterator.{IsFinite, Drains, YieldsThen};
 ghost use Rattle.std.specs.List.{concat};
 ghost use Rattle.bytes_utils_buf.specs.Lent.{as_lent};
@@ -220,12 +220,16 @@ impl<B: Buf + Drop> SegmentedBuf<B> {
 
 impl<B: Buf + Clone> SegmentedBuf<B> {
     /// Clones the held segments, with a tally of their own. Requires that a clone has the same
-    /// unread bytes. Fails with `OutOfMemory` if memory is refused.
+    /// unread bytes. Fails with `OutOfMemory` if memory is refused, never for no segments.
     pub fn try_clone(&self) -> Result<SegmentedBuf<B>, Reason>
         requires { (x y : B) → B.is_clone x y → B.unread y ≡ B.unread x }
         ensures ok { IfOk result (λ all. all ≡ newly_held self.now.segments) }
         ensures err { IfErr result (λ reason. reason ≡ Reason.OutOfMemory) }
+        ensures empty { self.now.segments ≡ [] → IsOk result }
     {
+        if self.segments.is_empty() {
+            return Ok(SegmentedBuf::new(*self.segments.allocator()));
+        }
         let Ok(segments) = self.segments.clone() else {
             return Err(Reason::OutOfMemory);
         };

@@ -121,13 +121,14 @@ impl PackedBuf {
     }
 
     /// Returns the held segments, each as a `Bytes` that shares its block, with a tally of their
-    /// own. Fails with `OutOfMemory` if memory is refused; then the value comes back, with the same
-    /// bytes, but blocks may be frozen.
+    /// own. Fails with `OutOfMemory` if memory is refused, never for no segments; then the value
+    /// comes back, with the same bytes, but blocks may be frozen.
     pub fn into_shared(self, alloc: Global) -> Result<SegmentedBuf<Bytes>, Refused<PackedBuf>>
         ensures ok { IfOk result (λ all. all ≡ newly_held self.held.segments) }
         ensures bytes { IfOk result (λ all. concat all.segments ≡ concat self.held.segments) }
         ensures back { IfErr result (λ e. e.back ≡ self) }
         ensures reason { IfErr result (λ e. e.reason ≡ Reason.OutOfMemory) }
+        ensures empty { self.held.segments ≡ [] → IsOk result }
     {
         match self.held.into_shared(alloc) {
             Ok(all) => Ok(all),

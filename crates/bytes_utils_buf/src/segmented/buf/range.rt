@@ -2,7 +2,7 @@
 ghost use Rattle.std.specs.Prelude.{◌≡◌, ◌+◌, ◌-◌, ◌≤◌, List, ℕ, length, slice_range, IsTrue, ◌↔◌, IsOk, IfOk, IfErr};
 ghost use Rattle.std.specs.List.{concat, slice_get};
 ghost use Rattle.std.specs.Cow.{cow_slice_items};
-ghost use Rattle.bytes_utils_buf.specs.Segments.{front_segment, newly_held, SkipsSegments, take_from_segments};
+ghost use Rattle.bytes_utils_buf.specs.Segments.{front_segment, IsInOneSegment, newly_held, SkipsSegments, take_from_segments};
 
 use super::SegmentedBuf;
 use crate::Reason;
@@ -91,7 +91,7 @@ impl<B: ContiguousBuf + Drop> SegmentedBuf<B> {
     }
 
     /// As `copy_range`, for bytes that are only read: they are borrowed if one segment has them all,
-    /// and else copied into one `Vec`. Nothing is shared. A range within the first segment never fails.
+    /// and else copied into one `Vec`. Nothing is shared. A range within one segment never fails.
     pub fn read_range(&self, alloc: Global, range: Range<usize>) -> Result<CowSlice<'_, u8>, Reason>
         requires ordered { range.start ≤ range.end }
         requires within { range.end ≤ length (concat self.now.segments) }
@@ -99,6 +99,7 @@ impl<B: ContiguousBuf + Drop> SegmentedBuf<B> {
             ≡ slice_range (concat self.now.segments) range.start range.end) }
         ensures reason { IfErr result (λ reason. reason ≡ Reason.OutOfMemory) }
         ensures none { range.start ≡ range.end → IsOk result }
+        ensures one { IsInOneSegment range.start range.end self.now.segments → IsOk result }
         ensures first { range.end ≤ length (front_segment self.now.segments) → IsOk result }
     {
         let len = range.end - range.start;

@@ -1,5 +1,5 @@
 //! Blocks that become shared bytes.
-ghost use Rattle.std.specs.Prelude.{◌≡◌, map, IfOk, IfErr};
+ghost use Rattle.std.specs.Prelude.{◌≡◌, [], map, IsOk, IfOk, IfErr};
 ghost use Rattle.std.specs.List.{concat};
 ghost use Rattle.bytes_utils_buf.specs.Packing.{packed_bytes};
 ghost use Rattle.bytes_utils_buf.specs.Segments.{newly_held};
@@ -13,8 +13,8 @@ use std::mem::replace;
 
 impl SegmentedBuf<EitherBuf<Bytes, BytesMut>> {
     /// Returns the segments, each as a `Bytes` that shares its block, with a tally of their own.
-    /// Fails with `OutOfMemory` if memory is refused; then the value comes back, with the same
-    /// bytes, but blocks may be frozen.
+    /// Fails with `OutOfMemory` if memory is refused, never for no segments; then the value comes
+    /// back, with the same bytes, but blocks may be frozen.
     pub fn into_shared(
         mut self,
         alloc: Global,
@@ -23,6 +23,7 @@ impl SegmentedBuf<EitherBuf<Bytes, BytesMut>> {
         ensures bytes { IfOk result (λ all. concat all.segments ≡ concat self.segments) }
         ensures back { IfErr result (λ e. e.back ≡ self) }
         ensures reason { IfErr result (λ e. e.reason ≡ Reason.OutOfMemory) }
+        ensures empty { self.segments ≡ [] → IsOk result }
     {
         match self.share(alloc) {
             Ok(all) => Ok(all),
@@ -35,6 +36,7 @@ impl SegmentedBuf<EitherBuf<Bytes, BytesMut>> {
         ensures ok { IfOk result (λ all. all ≡ newly_held self.old.segments) }
         ensures same { self.new ≡ self.old }
         ensures reason { IfErr result (λ reason. reason ≡ Reason.OutOfMemory) }
+        ensures empty { self.old.segments ≡ [] → IsOk result }
     {
         share_all(&mut self.segments)?;
         self.prefix(alloc, self.remaining)
@@ -45,6 +47,7 @@ impl SegmentedBuf<EitherBuf<Bytes, BytesMut>> {
 fn share_all(pieces: &mut VecDeque<EitherBuf<Bytes, BytesMut>>) -> Result<(), Reason>
     ensures same { map packed_bytes pieces.new.items ≡ map packed_bytes pieces.old.items }
     ensures reason { IfErr result (λ reason. reason ≡ Reason.OutOfMemory) }
+    ensures empty { map packed_bytes pieces.old.items ≡ [] → IsOk result }
 {
     for place in 0..pieces.len() {
         share_piece(&mut pieces[place])?;

@@ -38,7 +38,7 @@ impl<B: ContiguousBuf + Drop> SegmentedBuf<B> {
 impl SegmentedBuf<Bytes> {
     /// Keeps the first `at` bytes, and returns those after them. A segment that is cut is shared by
     /// both. Requires that `at` is at most `remaining()` (test: `remaining`). Fails with
-    /// `OutOfMemory` if memory is refused; then nothing has changed.
+    /// `OutOfMemory` if memory is refused; then nothing has changed. With `at` 0 it never fails.
     pub fn split_off(&mut self, alloc: Global, at: usize) -> Result<SegmentedBuf<Bytes>, Reason>
         requires { at ≤ length (concat self.old.segments) }
 
