@@ -8,7 +8,7 @@ pub record Tallied : Type 0 where
   pub dropped : ℕ
   -- counted calls
   pub calls : ℕ
-  -- runs of the body of a loop that steps past segments
+  -- segments passed, each by one turn
   pub turns : ℕ
 
 -- the tally of a new value

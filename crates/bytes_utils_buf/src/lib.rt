@@ -3,11 +3,11 @@
 //! [`SegmentedBuf`](segmented::SegmentedBuf) holds its buffers, and
 //! [`SegmentedSlice`](segmented::SegmentedSlice) borrows them.
 //! [`PackedBuf`](segmented::PackedBuf) holds pieces, and copies small ones together. [`EitherBuf`]
-//! is a buffer of one of two types. [`BufParts`](parts::BufParts) and
-//! [`ContiguousBuf`](contiguous::ContiguousBuf) are the traits of buffers that copy their bytes out
-//! or show them as slices.
-//! [`write_all_of`](write::write_all_of) writes a buffer in few calls. Errors are a [`Reason`], a
-//! [`Refused`], which gives back a value, or a [`CopyRefused`](parts::CopyRefused).
+//! is a buffer of one of two types. [`BufParts`](parts::BufParts) is the trait of buffers that copy
+//! their bytes out and show them as slices, and [`ContiguousBuf`](contiguous::ContiguousBuf) that of
+//! those whose bytes are one slice. [`write_all_of`](write::write_all_of) writes a buffer in few calls.
+//! Errors are an `io::Error` of reads and writes, a [`Reason`], a [`Refused`], which gives back a
+//! value, or a [`CopyRefused`](parts::CopyRefused).
 #![tactic(auto)]
 
 mod buffers;

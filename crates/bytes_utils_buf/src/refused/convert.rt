@@ -41,7 +41,7 @@ impl<T: Drop> From<AllocFailed<T>> for Reason {
     }
 }
 
-/// Keeps the reason as a kind: `OutOfMemory`, or `FileTooLarge` for a sum of lengths.
+/// Keeps the reason as a kind: `OutOfMemory`, or `FileTooLarge` for `TooLong`.
 impl From<Reason> for io::Error {
     ghost use Rattle.std.specs.IoError.{error_kind};
     ghost use Rattle.bytes_utils_buf.specs.Refusals.{refusal_kind};

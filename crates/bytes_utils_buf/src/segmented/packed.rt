@@ -79,7 +79,7 @@ impl PackedBuf {
         }
     }
 
-    /// Sets the room that `read_from` has, at least: `room` bytes, or 1 for 0. It is 512 before.
+    /// Sets the room that `read_from` has, at least: `room` bytes, or 1 for 0. Until then it is 512.
     pub fn set_read_room(&mut self, room: usize)
         ensures { self.new ≡ self.old }
     {

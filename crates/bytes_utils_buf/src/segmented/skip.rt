@@ -1,5 +1,5 @@
-//! The only loops that step past segments. Each run of their bodies steps past one segment, and is
-//! a turn of the tally.
+//! Loops that step past segments. Each run of their bodies steps past one segment, and is a turn of
+//! the tally.
 ghost use Rattle.std.specs.Prelude.{◌≡◌, ◌+◌, ◌<◌, ◌≤◌, [], length, map, take, drop, replicate, slice_index_or, ◌++◌, IfSome, IfNone};
 ghost use Rattle.std.specs.List.{concat};
 ghost use Rattle.bytes_utils_buf.specs.Segments.{cut_front_segment, cut_segment_at, front_segment, SkipsSegments};

@@ -60,7 +60,7 @@ impl Tally {
         self.log = Snapshot::of(&Log::Called(before));
     }
 
-    /// Counts a turn: one more run of the body of a loop that steps past segments.
+    /// Counts a turn: a segment is passed.
     pub(crate) fn turn(&mut self)
         ensures { self.new ≡ record self.old { turns = self.old.turns + 1 } }
     {

@@ -11,7 +11,7 @@ use bytes::Buf;
 use std::collections::VecDeque;
 
 impl<B: Buf + Drop> SegmentedBuf<B> {
-    /// Appends `buf`. An empty buffer is dropped, and never fails. Requires that
+    /// Appends `buf`. An empty buffer is dropped, and never refused. Requires that
     /// `remaining() + buf.remaining()` fits `usize` (test: `fits`). Fails with `OutOfMemory` if
     /// memory is refused; then nothing has changed and `buf` comes back.
     #[inline(always)]
@@ -128,7 +128,7 @@ impl<B: Buf + Drop> SegmentedBuf<B> {
         Ok(())
     }
 
-    /// Puts `buf` before the held segments. An empty buffer is dropped, and never fails. Requires
+    /// Puts `buf` before the held segments. An empty buffer is dropped, and never refused. Requires
     /// that `remaining() + buf.remaining()` fits `usize` (test: `fits`). Fails with `OutOfMemory`
     /// if memory is refused; then nothing has changed and `buf` comes back.
     pub fn prepend(&mut self, buf: B) -> Result<(), Refused<B>>
