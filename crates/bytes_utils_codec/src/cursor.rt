@@ -55,8 +55,8 @@ impl Error for Mismatch {}
 /// came.advance(passed);
 /// ```
 ///
-/// Where what is wanted has not come yet, a call returns `None`. Then, and with each error for
-/// memory, the cursor stays where it is.
+/// Where what is wanted has not come yet, a call returns `None`. Then, and with each error, the
+/// cursor stays where it is.
 ///
 /// The buffer is a [`SegmentedBuf`], or what a `PackedBuf` holds (`as_segmented`), as that of
 /// [`Framed::pieces`](crate::decode::Framed::pieces). Each call steps over the segments between the

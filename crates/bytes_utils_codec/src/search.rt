@@ -23,8 +23,8 @@ use std::marker::Model;
 /// ```
 ///
 /// While the needle isn't there no byte is looked at twice, but for the last ones, fewer than the
-/// needle has, in which it may begin; and no segment before them is stepped over. After bytes are
-/// taken from the front, call `restart`.
+/// needle has, in which it may begin. Each call steps over the segments between these and the nearer
+/// end. After bytes are taken from the front, call `restart`.
 #[derive(Debug, Drop)]
 pub struct Search {
     finder: Finder<'static>,

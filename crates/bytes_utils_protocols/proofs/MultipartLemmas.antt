@@ -2,7 +2,7 @@
 use Rattle.std.proofs.Common.{IfSome, IfNone, option_map, IsTrue, ◌↔◌, not, Bool, ◌≡◌, ◌≢◌, ℕ, ◌+◌, ◌<◌, ◌≤◌, List, [], ◌∷◌, ◌++◌, length, take, drop, get_or, ap, ◌∙◌, sym, refl, subst, arith, length-append, length-drop, ◌-◌, append_assoc, append-nil, ⊎_elim, inl, inr, true, false, ◌⊎◌, All, Option, None, Some, MatchOption, Result, Ok, Err, OnOk, OnErr}
 use Rattle.std.proofs.lemmas.Bool.{cases_lt, false≢true}
 use Rattle.std.proofs.lemmas.List.Elements.{All-nil, All-push}
-use Rattle.std.proofs.lemmas.List.{append_cancel_left, length-take-le}
+use Rattle.std.proofs.lemmas.List.{append_cancel_left, length-take, length-take-le, take-append-le}
 use Rattle.std.specs.Bool.{MatchBool}
 use Rattle.std.specs.List.{concat}
 use Rattle.std.specs.Str.Lines.{lines}
@@ -13,7 +13,7 @@ use Rattle.bytes_utils_codec.specs.Pushing.{IsPush}
 use Rattle.bytes_utils_buf.specs.declared.refused.Refused.{Refused}
 use Rattle.bytes_utils_codec.proofs.FramesLemmas.{TakesFrame-more, TakesFrame-same}
 use Rattle.bytes_utils.proofs.OccurrenceLemmas.{OccursAt-front}
-use Rattle.bytes_utils_protocols.specs.Multipart.{AreMultipartFields, IsMultipartFieldLine, FewWaitInMultipart, IsMultipartIdle, MultipartReading, multipart_appended, multipart_closed, multipart_line_end, multipart_dashes, multipart_head_end, MultipartBytes, multipart_bytes, IsMultipartHead, IsMultipartPart, TakesMultipart, IsMultipartDue, HasNextInMultipart, IsMultipartSearchFault, EachMultipart, NoMultipart, ClosesMultipart, LacksNextInMultipart, held_in_multipart_sections, AreMultipartSectionsApart, multipart_sections_have_ended, held_by_multipart, IsMultipartDivided, SameMultipartSections, AfterMultipartSearch, HasMultipartDisposition, IsFirstMultipartDisposition, IsMultipartDisposition, IsMultipartFolded, NoMultipartDisposition, ReadsMultipartDisposition}
+use Rattle.bytes_utils_protocols.specs.Multipart.{AreMultipartFields, IsMultipartFieldLine, FewWaitInMultipart, IsMultipartIdle, MultipartReading, multipart_appended, multipart_closed, multipart_line_end, multipart_dashes, multipart_head_end, MultipartBytes, multipart_bytes, IsMultipartHead, IsMultipartPart, TakesMultipart, IsMultipartDue, AsksForMultipart, HasNextInMultipart, IsMultipartSearchFault, EachMultipart, NoMultipart, ClosesMultipart, LacksNextInMultipart, held_in_multipart_sections, AreMultipartSectionsApart, multipart_sections_have_ended, held_by_multipart, IsMultipartDivided, SameMultipartSections, AfterMultipartSearch, HasMultipartDisposition, IsFirstMultipartDisposition, IsMultipartDisposition, IsMultipartFolded, NoMultipartDisposition, ReadsMultipartDisposition}
 use Rattle.bytes_utils_protocols.specs.MultipartWaiting.{MultipartWaiting}
 use Rattle.bytes_utils_protocols.specs.declared.multipart.limits.Limits.{Limits}
 use Rattle.bytes_utils_protocols.specs.declared.multipart.limits.PartError.{PartError}
@@ -36,6 +36,12 @@ module _ (d p w : List ℕ) (begins : TakesFrame d (p ++ (d ++ w)) p w) where
   -- the next delimiter has not come
   pub lacks_next : (¬ Occurs d w) → LacksNextInMultipart d (p ++ (d ++ w))
   lacks_next none preamble after takes occurs = none (subst (Occurs d) (sym (TakesFrame-same d (p ++ (d ++ w)) p preamble w after begins takes).1) occurs)
+
+-- where no dashes begin the bytes, none begin what is before the next delimiter and that
+pub no_dashes_before : (d w f v : List ℕ) → TakesFrame d w f v → take 2 w ≢ multipart_dashes → take 2 (f ++ d) ≢ multipart_dashes
+no_dashes_before d w f v takes other two =
+    let long : 2 ≤ length (f ++ d) = omega (arith, ap length two, length-take 2 (f ++ d)) in
+    other (ap (take 2) (takes.bytes ∙ sym (append_assoc f d v)) ∙ take-append-le 2 (f ++ d) v long ∙ two)
 
 -- what is before the next delimiter has almost as many bytes as have come, or more
 pub long_frame : (d bytes more frame rest : List ℕ) → (¬ Occurs d bytes) → TakesFrame d (bytes ++ more) frame rest → length bytes < length frame + length d
@@ -129,10 +135,21 @@ module _ (s : Sections) (waiting : s.stage ≡ Waiting) (divided : IsMultipartDi
       subst (λ (l : Sections). AfterMultipartSearch l.stage s l) (sym same)
       (subst (λ stage. AfterMultipartSearch stage s s) (sym waiting) (record { delimiter = refl; ended = refl; held = refl }, none, not_closed, lacks))
 
+  -- what is before the next delimiter was found
+  pub found_apart : (f v : List ℕ) → TakesFrame s.waiting.delimiter s.waiting.held f v → take 2 s.waiting.held ≢ multipart_dashes → AreMultipartSectionsApart Found s.waiting.delimiter s.preamble f v
+  found_apart f v takes other =
+      let d = s.waiting.delimiter in (
+        subst (λ w. TakesFrame d (s.preamble ++ (d ++ w)) s.preamble w) takes.bytes begins,
+        apart d s.waiting.held f v takes,
+        no_dashes_before d s.waiting.held f v takes other,
+      )
+
   -- memory is refused for what is before the next delimiter
-  pub due_before_next : HasNextInMultipart s.waiting.delimiter s.waiting.held → (limits : Limits) → length s.preamble ≤ limits.head + limits.body → IsMultipartDue s.waiting.delimiter limits (held_by_multipart s)
-  due_before_next next limits few =
-      of_waiting (IsMultipartDue s.waiting.delimiter limits) (record { preamble = s.preamble; after = s.waiting.held; begins = begins; raw = next.0; next = next.1; ends = next.2; few = few })
+  pub asks_before_next : HasNextInMultipart s.waiting.delimiter s.waiting.held → take 2 s.waiting.held ≢ multipart_dashes → (limits : Limits) → length s.preamble ≤ limits.head + limits.body → AsksForMultipart s.waiting.delimiter limits (held_by_multipart s)
+  asks_before_next next other limits few =
+      let goes_on = no_dashes_before s.waiting.delimiter s.waiting.held next.0 next.1 next.2 other in
+      of_waiting (AsksForMultipart s.waiting.delimiter limits)
+      (record { preamble = s.preamble; after = s.waiting.held; begins = begins; raw = next.0; next = next.1; ends = next.2; goes_on = goes_on; few = few }, next.3)
 
 module _ (s : Sections) (is_found : s.stage ≡ Found) (divided : IsMultipartDivided s) where
   both : AreMultipartSectionsApart Found s.waiting.delimiter s.preamble (concat s.found.segments) s.waiting.held
@@ -155,7 +172,13 @@ module _ (s : Sections) (is_found : s.stage ≡ Found) (divided : IsMultipartDiv
     pub due_in_found : length s.preamble ≤ limits.head + limits.body → IsMultipartDue s.waiting.delimiter limits (held_by_multipart s)
     due_in_found few =
         of_found (IsMultipartDue s.waiting.delimiter limits)
-        (record { preamble = s.preamble; after = concat s.found.segments ++ (s.waiting.delimiter ++ s.waiting.held); begins = both.0; raw = concat s.found.segments; next = s.waiting.held; ends = both.1; few = few })
+        (record { preamble = s.preamble; after = concat s.found.segments ++ (s.waiting.delimiter ++ s.waiting.held); begins = both.0; raw = concat s.found.segments; next = s.waiting.held; ends = both.1; goes_on = both.2; few = few })
+
+    -- memory is refused for what was found
+    pub asks_in_found : 0 < length (concat s.found.segments) → length s.preamble ≤ limits.head + limits.body → AsksForMultipart s.waiting.delimiter limits (held_by_multipart s)
+    asks_in_found some few =
+        of_found (AsksForMultipart s.waiting.delimiter limits)
+        (record { preamble = s.preamble; after = concat s.found.segments ++ (s.waiting.delimiter ++ s.waiting.held); begins = both.0; raw = concat s.found.segments; next = s.waiting.held; ends = both.1; goes_on = both.2; few = few }, some)
 
     -- what is true of each part that was found is true of each that is there
     pub each_in_found : (P : MultipartBytes → Type 0) → ((part : MultipartBytes) → IsMultipartPart limits (concat s.found.segments) part → P part) → (more : List ℕ)
@@ -174,6 +197,7 @@ apart_more Found d p f w piece on parts =
     let begins = TakesFrame-more d (p ++ (d ++ (f ++ (d ++ w)))) p (f ++ (d ++ w)) piece parts.0 in (
       apart d ((p ++ (d ++ (f ++ (d ++ w)))) ++ piece) p (f ++ (d ++ (w ++ piece))) (subst (TakesFrame d ((p ++ (d ++ (f ++ (d ++ w)))) ++ piece) p) joined begins),
       apart d ((f ++ (d ++ w)) ++ piece) f (w ++ piece) (TakesFrame-more d (f ++ (d ++ w)) f w piece parts.1),
+      parts.2,
     )
 apart_more Ended d p f w piece on parts = cc
 
@@ -387,12 +411,17 @@ pub due_of_same : (old new : Sections) → SameMultipartSections old new → (li
 due_of_same old new same limits due =
     subst (λ d. IsMultipartDue d limits (held_by_multipart old)) same.delimiter (subst (IsMultipartDue new.waiting.delimiter limits) same.held due)
 
+-- memory is asked for where the same bytes are held
+pub asks_of_same : (old new : Sections) → SameMultipartSections old new → (limits : Limits) → AsksForMultipart new.waiting.delimiter limits (held_by_multipart new) → AsksForMultipart old.waiting.delimiter limits (held_by_multipart old)
+asks_of_same old new same limits asks =
+    subst (λ d. AsksForMultipart d limits (held_by_multipart old)) same.delimiter (subst (AsksForMultipart new.waiting.delimiter limits) same.held asks)
+
 -- but for one that is too large, a part is due
 pub due_by_fault : (e : PartError) (d : List ℕ) (limits : Limits) (held : List ℕ) → IsMultipartSearchFault e d limits held → e ≢ TooLarge → IsMultipartDue d limits held
 due_by_fault Malformed d limits held why not_large = absurd why
 due_by_fault NotUtf8 d limits held why not_large = absurd why
 due_by_fault TooLarge d limits held why not_large = absurd (not_large refl)
-due_by_fault (RefusedPart reason) d limits held why not_large = why.1
+due_by_fault (RefusedPart reason) d limits held why not_large = why.1.0
 
 -- ---- what is in a raw part
 

@@ -14,7 +14,7 @@ use Rattle.bytes_utils_codec.proofs.FramesLemmas.{TakesFrame-more, TakesFrame-sa
 use Rattle.bytes_utils_codec.proofs.SearchLemmas.{NoneBeginsInSearch-missed, first_of_all, frame_of_all, nowhere_left}
 use Rattle.bytes_utils_protocols.specs.Multipart.{AreMultipartFields, HasMultipartParameter, IsMultipartHead, multipart_dashes, multipart_file_name, multipart_head_end, multipart_name}
 use Rattle.bytes_utils_protocols.specs.MultipartWaiting.{IsAheadOfNeedle, IsSearchWithin, MultipartWaiting}
-use Rattle.bytes_utils_protocols.specs.MultipartStream.{PartStreaming, DropsPreamble, PassesPreamble, AfterPreamble, TakesPartHead, NoPartFieldsCome, NoPartHeadComes, HasPartHeadNotUtf8, AwaitsPartHead, HasPartHeadEnd, HasPartPiece, GivesPartHead, GivesPartPiece, GivesPartEnd, GivesPartEvent, IsPartStreamCall, IsPartAwaited, IsPartStreamFault, IsPartStreamStep, IsPartStreamReturn, IsPartHeadFault, PartStreamAsks, PassesPartRoom, has_part_stream_ended, part_stream_appended, part_streaming}
+use Rattle.bytes_utils_protocols.specs.MultipartStream.{PartStreaming, DropsPreamble, PassesPreamble, AfterPreamble, TakesPartHead, NoPartFieldsCome, NoPartHeadComes, HasPartHeadNotUtf8, AwaitsPartHead, HasPartHeadEnd, HasPartPiece, IsWithinPartRoom, GivesPartHead, GivesPartPiece, GivesPartEnd, GivesPartEvent, IsPartStreamCall, IsPartAwaited, IsPartStreamFault, IsPartStreamStep, IsPartStreamReturn, IsPartHeadFault, PartStreamAsks, PassesPartRoom, has_part_stream_ended, part_stream_appended, part_streaming}
 use Rattle.bytes_utils_protocols.specs.declared.multipart.event.PartEvent.{PartEvent}
 use Rattle.bytes_utils_protocols.specs.declared.multipart.event.PartEvent.TheVariants.{Head, Body, End}
 use Rattle.bytes_utils_protocols.specs.declared.multipart.head.PartHead.{PartHead}
@@ -284,11 +284,17 @@ module _ (old : Progress) (ahead : Ahead) (is : IsAheadOfNeedle old.waiting.deli
       let delimiter_old = subst (λ (q : Progress). w.delimiter ≡ q.waiting.delimiter) same delimiter in
       rw (left, same) (piece_taken piece w place front_old some most delimiter_old)
 
+  -- no more bytes are before the next delimiter than there is room for
+  within_room : (come : Bool) → ahead.has_come ≡ come → IsWithinPartRoom (part_streaming old)
+  within_room true come =
+      inl (take ahead.len old.waiting.held, drop (ahead.len + length old.waiting.delimiter) old.waiting.held, is.here come, omega (arith, fits, front_len))
+  within_room false lacks = inr (omega (arith, is.few lacks, fits))
+
   -- the memory for a piece is refused
   pub asks_in_body : old.place ≡ InBody → 0 < ahead.len → PartStreamAsks old.place (part_streaming old)
   asks_in_body place some =
       let come : HasPartPiece old.waiting.delimiter old.waiting.held = (omega (arith, some, is.within), NoneBegins-fewer old.waiting.delimiter old.waiting.held ahead.len 1 some is.apart) in
-      subst (λ place. PartStreamAsks place (part_streaming old)) (sym place) come
+      subst (λ place. PartStreamAsks place (part_streaming old)) (sym place) (come, within_room ahead.has_come refl)
 
   -- the body has ended
   pub end_given : (p : Progress) (w : MultipartWaiting) → p ≡ old → old.place ≡ InBody → ahead.len ≡ 0 → ahead.has_come ≡ true → w ≡ without_front (ahead.len + length p.waiting.delimiter) p.waiting

@@ -1,5 +1,5 @@
 -- Parts between boundaries: multipart/form-data (RFC 2046, 5.1.1; RFC 7578).
-use Rattle.std.specs.Prelude.{◌≡◌, ◌⊎◌, ℕ, ◌+◌, ◌<◌, ◌≤◌, ◌==◌, ◌||◌, not, Bool, true, false, List, [], ◌∷◌, ◌++◌, length, codes, Option, None, Some, MatchOption, All, if◌then◌else◌}
+use Rattle.std.specs.Prelude.{◌≡◌, ◌≢◌, ◌⊎◌, ℕ, ◌+◌, ◌<◌, ◌≤◌, ◌==◌, ◌||◌, not, Bool, true, false, List, [], ◌∷◌, ◌++◌, length, take, codes, Option, None, Some, MatchOption, All, if◌then◌else◌}
 use Rattle.std.specs.Bool.{MatchBool}
 use Rattle.std.specs.List.{AllPass, concat, prefix_len, position_or_len, before_first, after_first, flat_map}
 use Rattle.std.specs.Option.{option_to_list}
@@ -80,7 +80,8 @@ pub record TakesMultipart (delimiter : List ℕ) (limits : Limits) (old : List �
   pub few : length preamble ≤ limits.head + limits.body
   pub left : rest ≡ delimiter ++ next
 
--- the delimiters before and after the next part have come, and the bytes before the first of them are within the limits
+-- The delimiters before and after the next part have come, and the bytes before the first of them are within the limits. That one is no close
+-- delimiter: no two dashes follow it.
 pub record IsMultipartDue (delimiter : List ℕ) (limits : Limits) (bytes : List ℕ) : Type 0 where
   pub preamble : List ℕ
   pub after : List ℕ
@@ -88,11 +89,16 @@ pub record IsMultipartDue (delimiter : List ℕ) (limits : Limits) (bytes : List
   pub raw : List ℕ
   pub next : List ℕ
   pub ends : TakesFrame delimiter after raw next
+  pub goes_on : take (length multipart_dashes) (raw ++ delimiter) ≢ multipart_dashes
   pub few : length preamble ≤ limits.head + limits.body
 
--- the next delimiter has come
+-- When a call asks for memory: the next part is due, and some bytes are between the delimiters.
+abbrev pub AsksForMultipart : List ℕ → Limits → List ℕ → Type 0
+AsksForMultipart delimiter limits bytes = (due : IsMultipartDue delimiter limits bytes) × (0 < length due.raw)
+
+-- the next delimiter has come, after some bytes
 abbrev pub HasNextInMultipart : List ℕ → List ℕ → Type 0
-HasNextInMultipart delimiter bytes = (frame : List ℕ) × (rest : List ℕ) × TakesFrame delimiter bytes frame rest
+HasNextInMultipart delimiter bytes = (frame : List ℕ) × (rest : List ℕ) × TakesFrame delimiter bytes frame rest × (0 < length frame)
 
 -- `P` is true of each part that is in the bytes
 abbrev pub EachMultipart : (MultipartBytes → Type 0) → List ℕ → Limits → List ℕ → Type 0
@@ -196,13 +202,15 @@ held_in_multipart_sections Waiting delimiter preamble found waiting = preamble +
 held_in_multipart_sections Found delimiter preamble found waiting = preamble ++ (delimiter ++ (found ++ (delimiter ++ waiting)))
 held_in_multipart_sections Ended delimiter preamble found waiting = []
 
--- Each delimiter is the first one there. Before the first one, and after the close delimiter, nothing else is kept.
+-- Each delimiter is the first one there, and no dashes follow it where the next one was found. Before the first one, and after the close delimiter,
+-- nothing else is kept.
 abbrev pub AreMultipartSectionsApart : Stage → List ℕ → List ℕ → List ℕ → List ℕ → Type 0
 AreMultipartSectionsApart Preamble delimiter preamble found waiting = preamble ≡ []
 AreMultipartSectionsApart Waiting delimiter preamble found waiting = TakesFrame delimiter (preamble ++ (delimiter ++ waiting)) preamble waiting
 AreMultipartSectionsApart Found delimiter preamble found waiting =
     TakesFrame delimiter (preamble ++ (delimiter ++ (found ++ (delimiter ++ waiting)))) preamble (found ++ (delimiter ++ waiting))
     × TakesFrame delimiter (found ++ (delimiter ++ waiting)) found waiting
+    × (take (length multipart_dashes) (found ++ delimiter) ≢ multipart_dashes)
 AreMultipartSectionsApart Ended delimiter preamble found waiting = (preamble ≡ []) × (waiting ≡ [])
 
 abbrev pub multipart_sections_have_ended : Stage → Bool
@@ -237,7 +245,7 @@ abbrev pub IsMultipartSearchFault : PartError → List ℕ → Limits → List �
 IsMultipartSearchFault Malformed delimiter limits held = ⊥
 IsMultipartSearchFault NotUtf8 delimiter limits held = ⊥
 IsMultipartSearchFault TooLarge delimiter limits held = (more : List ℕ) → NoMultipart delimiter limits (held ++ more)
-IsMultipartSearchFault (Refused reason) delimiter limits held = (reason ≡ OutOfMemory) × IsMultipartDue delimiter limits held
+IsMultipartSearchFault (Refused reason) delimiter limits held = (reason ≡ OutOfMemory) × AsksForMultipart delimiter limits held
 
 -- ---- a run of calls
 

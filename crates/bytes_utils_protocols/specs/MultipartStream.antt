@@ -186,11 +186,17 @@ PassesPartRoom s = (more frame rest : List ℕ) → TakesFrame s.delimiter (s.he
 abbrev pub HasPartPiece : List ℕ → List ℕ → Type 0
 HasPartPiece delimiter held = (0 < length held) × NoneBeginsInSearch delimiter held 1
 
--- When a call asks for memory: a head that no dashes begin has come with its end, or a piece of a body has come. A call that waits asks for none.
+-- No more bytes have come before the next delimiter than the limits allow: it has come after so few, or fewer wait than these and a delimiter have.
+abbrev pub IsWithinPartRoom : PartStreaming → Type 0
+IsWithinPartRoom s =
+    ((frame : List ℕ) × (rest : List ℕ) × TakesFrame s.delimiter s.held frame rest × (length frame ≤ s.room)) ⊎ (length s.held < s.room + length s.delimiter)
+
+-- When a call asks for memory: a head that no dashes begin has come with its end, or a piece of a body that isn't over its limit. A call that waits
+-- asks for none.
 abbrev pub PartStreamAsks : Place → PartStreaming → Type 0
 PartStreamAsks Preamble s = ⊥
 PartStreamAsks AtHead s = (take (length multipart_dashes) s.held ≢ multipart_dashes) × (len : ℕ) × HasPartHeadEnd s.delimiter s.limits s.held len
-PartStreamAsks InBody s = HasPartPiece s.delimiter s.held
+PartStreamAsks InBody s = HasPartPiece s.delimiter s.held × IsWithinPartRoom s
 PartStreamAsks Ended s = ⊥
 
 -- why a call fails, after the preamble

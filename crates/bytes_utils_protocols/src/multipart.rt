@@ -3,7 +3,7 @@
 ghost use Rattle.std.specs.Prelude.{◌≡◌, ◌≢◌, ◌+◌, ◌-◌, ◌^◌, ◌<◌, ◌≤◌, ◌↔◌, ℕ, List, [], ◌++◌, length, false, true, IsUtf8, IsOk, IsTrue, IfOk, IfErr, IfSome, IfNone, OnOk, OnErr};
 ghost use Rattle.bytes_utils_codec.specs.Pushing.{IsPush};
 ghost use Rattle.bytes_utils_protocols.specs.Disposition.{SameDispositionParameterLaw};
-ghost use Rattle.bytes_utils_protocols.specs.Multipart.{AreMultipartFields, FewWaitInMultipart, HasMultipartParameter, IsMultipartDivided, IsMultipartIdle, IsMultipartDue, NoMultipart, NoMultipartWithFields, MultipartBytes, MultipartLaw, SameMultipartLaw, TakesMultipart, multipart_appended, bytes_of_multipart, multipart_delimiter, multipart_file_name, held_by_multipart, multipart_line_end, multipart_name};
+ghost use Rattle.bytes_utils_protocols.specs.Multipart.{AreMultipartFields, AsksForMultipart, FewWaitInMultipart, HasMultipartParameter, IsMultipartDivided, IsMultipartIdle, IsMultipartDue, NoMultipart, NoMultipartWithFields, MultipartBytes, MultipartLaw, SameMultipartLaw, TakesMultipart, multipart_appended, bytes_of_multipart, multipart_delimiter, multipart_file_name, held_by_multipart, multipart_line_end, multipart_name};
 
 mod delimiter;
 mod disposition;
@@ -64,8 +64,8 @@ pub struct Part {
 /// line; and the body up to the next delimiter. What is before the first delimiter is dropped, and
 /// so is all that comes after the close delimiter, which two dashes follow.
 ///
-/// The pieces of a body that came with more than 512 bytes are shared. Pieces that wait for a
-/// delimiter are not searched again.
+/// The pieces of a body that came with more than 512 bytes are shared. Bytes that wait for a
+/// delimiter are not searched again, but for the last ones, in which it may begin.
 #[derive(Debug, Drop)]
 pub struct PartReader {
     alloc: Global,
@@ -159,7 +159,8 @@ impl PartReader {
     /// whatever comes after them, with `TooLarge` if they begin with none within the limits, with
     /// `NotUtf8` if the head isn't UTF-8, and with `Refused` if memory is refused; then nothing has
     /// changed. Each but `TooLarge` comes only after the delimiter at the end of the part, and only if
-    /// what is before the first delimiter is within the limits: no other call asks for memory.
+    /// what is before the first delimiter is within the limits. Memory is asked for only then, and only
+    /// if some bytes are between the delimiters.
     pub fn next_part(&mut self) -> Result<Option<Part>, PartError>
         ensures part { IfOk result (λ next. IfSome next (λ part. TakesMultipart self.old.delimiter
             self.old.limits self.old.held (bytes_of_multipart part) self.new.held)) }
@@ -192,6 +193,8 @@ impl PartReader {
             × (¬ IsUtf8 part.head)) }
         ensures reason { IfErr result (λ e. (reason : _) → e ≡ PartError.Refused reason
             → reason ≡ Reason.OutOfMemory) }
+        ensures asks { IfErr result (λ e. (reason : _) → e ≡ PartError.Refused reason
+            → AsksForMultipart self.old.delimiter self.old.limits self.old.held) }
     {
         self.sections.search(self.alloc, self.limits)?;
         if self.sections.is_over(most_multipart_bytes(self.limits)) {
@@ -241,6 +244,8 @@ fn take_part(sections: &mut Sections, alloc: Global, limits: Limits) -> Result<P
         × (¬ IsUtf8 part.head)) }
     ensures reason { IfErr result (λ e. (reason : _) → e ≡ PartError.Refused reason
         → reason ≡ Reason.OutOfMemory) }
+    ensures asks { IfErr result (λ e. (reason : _) → e ≡ PartError.Refused reason
+        → AsksForMultipart sections.old.waiting.delimiter limits (held_by_multipart sections.old)) }
 {
     let (head, start) = read_head(&sections.found, alloc, limits)?;
     let PartHead {

@@ -42,7 +42,7 @@ type Head = Result<Bytes, FrameTooLong>;
 /// requests.push(piece)?;                     // `PUT / ..`, `Content-Length: 5`, and some of the body
 /// let Some(head) = requests.next_head()? else { .. };
 /// let len = body_len(&head?)?;               // 5
-/// requests.next_body(len)?                   // `None`, until five bytes more have come
+/// requests.next_body(len)?                   // `None`, until all five bytes have come
 /// ```
 #[derive(Drop)]
 pub struct Requests {

@@ -1,5 +1,5 @@
 //! The head of a part.
-ghost use Rattle.std.specs.Prelude.{◌≡◌, ◌≢◌, ◌≤◌, ℕ, List, length, drop, IsUtf8, IfOk, IfErr, IfSome, IfNone};
+ghost use Rattle.std.specs.Prelude.{◌≡◌, ◌≢◌, ◌<◌, ◌≤◌, ℕ, List, length, drop, IsUtf8, IfOk, IfErr, IfSome, IfNone};
 ghost use Rattle.std.specs.List.{concat};
 ghost use Rattle.bytes_utils.specs.Occurrence.{Occurs};
 ghost use Rattle.bytes_utils_protocols.specs.Multipart.{AreMultipartFields, HasMultipartParameter, IsMultipartHead, IsMultipartPart, MultipartBytes, multipart_bytes, multipart_file_name, multipart_head_end, multipart_name};
@@ -56,6 +56,8 @@ pub(super) fn read_head(
         × IsMultipartPart limits (concat raw.now.segments) part × (¬ IsUtf8 part.head)) }
     ensures reason { IfErr result (λ e. (reason : _) → e ≡ PartError.Refused reason
         → reason ≡ Reason.OutOfMemory) }
+    ensures some { IfErr result (λ e. (reason : _) → e ≡ PartError.Refused reason
+        → 0 < length (concat raw.now.segments)) }
 {
     let all = raw.remaining();
     let Some(len) = find(raw, HEAD_END) else {

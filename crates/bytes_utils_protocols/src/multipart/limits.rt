@@ -6,7 +6,7 @@ use bytes_utils::Reason;
 /// What a peer may send.
 #[derive(Clone, Copy, Debug)]
 pub struct Limits {
-    /// The most bytes before a body, from the delimiter on: spaces, the head, and its line ends.
+    /// The most bytes between a delimiter and the body: spaces, the head, and its line ends.
     pub head: usize,
     /// The most bytes of a body. Before the first delimiter there may be as many bytes as both
     /// limits allow together, less two.

@@ -1,5 +1,6 @@
 //! How far the parts of a stream were given.
-ghost use Rattle.std.specs.Prelude.{◌≡◌, ◌<◌, ◌≤◌, length, IfOk, IfErr, OnOk, OnErr};
+ghost use Rattle.std.specs.Prelude.{◌≡◌, ◌≢◌, ◌<◌, ◌≤◌, length, take, IfOk, IfErr, OnOk, OnErr};
+ghost use Rattle.bytes_utils_protocols.specs.Multipart.{multipart_dashes};
 ghost use Rattle.bytes_utils_protocols.specs.MultipartStream.{AfterPreamble, FindsPartHead, IsHeadSearchWithin, IsPartStreamReturn, IsPartStreamStep, PassesPartRoom, part_streaming};
 ghost use Rattle.bytes_utils_protocols.specs.MultipartWaiting.{IsAheadOfNeedle};
 
@@ -109,11 +110,22 @@ impl Progress {
         ensures head_end { IsHeadSearchWithin self.new }
         ensures step { IsPartStreamStep (part_streaming self.old) result (part_streaming self.new) }
     {
-        if self.waiting.starts_with(DASHES) {
+        if self.waiting.strip_prefix(DASHES) {
             self.waiting.clear(alloc);
             self.place = Place::Ended;
             return Ok(None);
         }
+        self.take_head(alloc)
+    }
+
+    /// Gives the head at the front. Requires that no two dashes are there.
+    fn take_head(&mut self, alloc: Global) -> Result<Option<PartEvent>, PartError>
+        requires head_end { IsHeadSearchWithin self.old }
+        requires place { self.old.place ≡ Place.AtHead }
+        requires goes_on { take (length multipart_dashes) self.old.waiting.held ≢ multipart_dashes }
+        ensures head_end { IsHeadSearchWithin self.new }
+        ensures step { IsPartStreamStep (part_streaming self.old) result (part_streaming self.new) }
+    {
         let Some(len) = self.head_len()? else {
             return Ok(None);
         };

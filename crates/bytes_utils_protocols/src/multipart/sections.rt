@@ -3,7 +3,7 @@ ghost use Rattle.std.specs.Prelude.{◌≡◌, ◌≢◌, ◌↔◌, ◌+◌, �
 ghost use Rattle.std.specs.List.{concat};
 ghost use Rattle.bytes_utils.specs.Occurrence.{Occurs};
 ghost use Rattle.bytes_utils_codec.specs.Frames.{TakesFrame};
-ghost use Rattle.bytes_utils_protocols.specs.Multipart.{AfterMultipartSearch, HasNextInMultipart, IsMultipartDivided, IsMultipartDue, IsMultipartSearchFault, SameMultipartSections, held_by_multipart};
+ghost use Rattle.bytes_utils_protocols.specs.Multipart.{AfterMultipartSearch, AsksForMultipart, HasNextInMultipart, IsMultipartDivided, IsMultipartSearchFault, SameMultipartSections, held_by_multipart};
 
 use super::limits::{Limits, PartError, most_multipart_bytes};
 use super::preamble::Preamble;
@@ -124,11 +124,11 @@ impl Sections {
         ensures shorter { OnOk result (length self.new.preamble ≤ length self.old.preamble) }
         ensures err { OnErr result (SameMultipartSections self.old self.new) }
         ensures delimiter { self.new.waiting.delimiter ≡ self.old.waiting.delimiter }
-        ensures due { OnErr result ((limits : Limits) → length self.old.preamble ≤ limits.head + limits.body
-            → IsMultipartDue self.old.waiting.delimiter limits (held_by_multipart self.old)) }
+        ensures asks { OnErr result ((limits : Limits) → length self.old.preamble ≤ limits.head + limits.body
+            → AsksForMultipart self.old.waiting.delimiter limits (held_by_multipart self.old)) }
         ensures reason { IfErr result (λ reason. reason ≡ Reason.OutOfMemory) }
     {
-        if self.waiting.starts_with(DASHES) {
+        if self.waiting.strip_prefix(DASHES) {
             self.end(alloc);
             return Ok(());
         }
@@ -152,7 +152,7 @@ impl Sections {
             (λ next. IfNone next (¬ Occurs self.old.waiting.delimiter self.old.waiting.held)) }
         ensures none { IfOk result (λ next. IfNone next (self.new ≡ self.old)) }
         ensures err { OnErr result (self.new ≡ self.old) }
-        ensures due { OnErr result
+        ensures asks { OnErr result
             (HasNextInMultipart self.old.waiting.delimiter self.old.waiting.held) }
         ensures reason { IfErr result (λ reason. reason ≡ Reason.OutOfMemory) }
     {
@@ -175,7 +175,7 @@ impl Sections {
         self.stage = Stage::Ended;
     }
 
-    /// Whether more bytes than these wait for a delimiter, without the bytes of one.
+    /// Whether more than `most` bytes wait, beyond the length of a delimiter.
     pub(super) fn is_over(&self, most: usize) -> bool
         ensures over { IsTrue result ↔ ((self.now.stage ≢ Stage.Found)
             × (most + length self.now.waiting.delimiter < length self.now.waiting.held)) }

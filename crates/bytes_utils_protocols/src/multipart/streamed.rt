@@ -38,7 +38,8 @@ use std::marker::Model;
 /// bytes.
 ///
 /// What is before the first delimiter is dropped as it comes, and so is all that comes after the close
-/// delimiter. Bytes that wait are not searched again.
+/// delimiter. Bytes that wait are not searched again, but for the last ones, in which a delimiter may
+/// begin.
 #[derive(Debug, Drop)]
 pub struct PartStream {
     alloc: Global,

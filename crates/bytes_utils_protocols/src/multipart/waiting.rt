@@ -1,5 +1,5 @@
 //! Bytes of a stream that wait for the next delimiter.
-ghost use Rattle.std.specs.Prelude.{◌≡◌, ◌↔◌, ◌+◌, ◌-◌, ◌^◌, ◌<◌, ◌≤◌, [], ◌++◌, length, take, drop, IsOk, IsTrue, OnOk, OnErr, IfOk, IfErr};
+ghost use Rattle.std.specs.Prelude.{◌≡◌, ◌↔◌, ◌+◌, ◌-◌, ◌^◌, ◌<◌, ◌≤◌, [], ◌++◌, false, length, take, drop, IsOk, IsTrue, OnOk, OnErr, IfOk, IfErr};
 ghost use Rattle.std.specs.List.{concat};
 ghost use Rattle.bytes_utils_codec.specs.Pushing.{IsPush};
 ghost use Rattle.bytes_utils_protocols.specs.MultipartWaiting.{IsAheadOfNeedle, IsSearchWithin};
@@ -94,11 +94,18 @@ impl Waiting {
         self.delimiter.needle().len()
     }
 
-    /// Returns whether the bytes begin with `prefix`.
-    pub(super) fn starts_with(&self, prefix: &[u8]) -> bool
-        ensures { IsTrue result ↔ (take (length prefix.now) self.now.held ≡ prefix.now) }
+    /// Drops `prefix` off the front, and returns whether the bytes began with it.
+    pub(super) fn strip_prefix(&mut self, prefix: &[u8]) -> bool
+        ensures began { IsTrue result ↔ (take (length prefix.now) self.old.held ≡ prefix.now) }
+        ensures stripped { IsTrue result
+            → self.new ≡ record self.old { held = drop (length prefix.now) self.old.held } }
+        ensures same { result ≡ false → self.new ≡ self.old }
     {
-        self.pieces.as_segmented().starts_with(prefix)
+        if !self.pieces.as_segmented().starts_with(prefix) {
+            return false;
+        }
+        self.advance(prefix.len());
+        true
     }
 
     /// Looks for the next delimiter, from where the last call stopped.
@@ -170,6 +177,7 @@ impl Waiting {
           held = drop (len + length self.old.delimiter) self.old.held;
         }) }
         ensures err { OnErr result (self.new ≡ self.old) }
+        ensures none { len ≡ 0 → IsOk result }
         ensures reason { IfErr result (λ reason. reason ≡ Reason.OutOfMemory) }
     {
         let front = self.pieces.split_to(alloc, len)?;

@@ -1,7 +1,7 @@
 use Rattle.std.proofs.Common.{◌∙◌, sym}
 use Rattle.std.proofs.lemmas.Result.{err_from_is_err_and}
 use Rattle.bytes_utils_protocols.specs.Multipart.{AreMultipartFields}
-use Rattle.bytes_utils_protocols.proofs.MultipartLemmas.{due_in_found, each_in_found, part_in_found}
+use Rattle.bytes_utils_protocols.proofs.MultipartLemmas.{asks_in_found, due_in_found, each_in_found, part_in_found}
 use Rattle.bytes_utils_protocols.proofs.multipart.take_part.Goals as goal
 
 pub returns-in_err-head-clause-malformed : goal.returns-in_err-head-clause-malformed
@@ -19,6 +19,12 @@ returns-in_err-head-clause-due c =
     let s = c.args.sections.now in
     let out = err_from_is_err_and c.from_residual.result c.from_residual.ensures.1 in
     rw out.1 (λ is. due_in_found s c.requires.found c.requires.divided c.args.limits c.requires.few)
+
+pub returns-in_err-head-clause-asks : goal.returns-in_err-head-clause-asks
+returns-in_err-head-clause-asks c =
+    let s = c.args.sections.now in
+    let out = err_from_is_err_and c.from_residual.result c.from_residual.ensures.1 in
+    rw out.1 (λ reason is. asks_in_found s c.requires.found c.requires.divided c.args.limits (c.in_err-head.ensures.some reason (sym out.2 ∙ is)) c.requires.few)
 
 pub returns-in_err-head-clause-not_utf8 : goal.returns-in_err-head-clause-not_utf8
 returns-in_err-head-clause-not_utf8 c =

@@ -2,7 +2,7 @@ use Rattle.std.proofs.Common.{arith, ◌<◌, ◌≤◌, ◌+◌, ◌∙◌, sym
 use Rattle.std.proofs.lemmas.Bool.{false≢true}
 use Rattle.std.proofs.lemmas.Result.{err_from_is_err_and}
 use Rattle.bytes_utils_protocols.specs.Multipart.{AfterMultipartSearch, AreMultipartFields, IsMultipartSearchFault, held_by_multipart}
-use Rattle.bytes_utils_protocols.proofs.MultipartLemmas.{due_by_fault, due_of_same, few_wait, idle_after, none_after, each_of_same, over_limits}
+use Rattle.bytes_utils_protocols.proofs.MultipartLemmas.{asks_of_same, due_by_fault, due_of_same, few_wait, idle_after, none_after, each_of_same, over_limits}
 use Rattle.bytes_utils_protocols.proofs.multipart.PartReader.next_part.Goals as goal
 
 pub returns-in_err-search-clause-malformed : goal.returns-in_err-search-clause-malformed
@@ -36,6 +36,13 @@ returns-in_err-search-clause-reason c =
     let out = err_from_is_err_and c.from_residual.result c.from_residual.ensures.1 in
     rw out.1 (λ reason is. (subst (λ e. IsMultipartSearchFault e s.waiting.delimiter c.self.inside.limits (held_by_multipart s)) (sym out.2 ∙ is) c.in_err-search.ensures.fault).0)
 
+pub returns-in_err-search-clause-asks : goal.returns-in_err-search-clause-asks
+returns-in_err-search-clause-asks c =
+    let s = c.self.inside.sections in
+    let out = err_from_is_err_and c.from_residual.result c.from_residual.ensures.1 in
+    rw (← c.self.view_is)
+    (rw out.1 (λ reason is. (subst (λ e. IsMultipartSearchFault e s.waiting.delimiter c.self.inside.limits (held_by_multipart s)) (sym out.2 ∙ is) c.in_err-search.ensures.fault).1))
+
 pub returns-then-is_over-clause-too_large : goal.returns-then-is_over-clause-too_large
 returns-then-is_over-clause-too_large c _ =
     let new = c.search.new.self in
@@ -64,6 +71,13 @@ returns-in_err-take_part-in-Found-clause-too_large c =
     let out = err_from_is_err_and c.from_residual-in_err-take_part-in-Found.result c.from_residual-in_err-take_part-in-Found.ensures.1 in
     rw (← c.self.view_is) (rw out.1 (λ is more.
     each_of_same (λ _. ⊥) c.self.inside.sections c.search.new.self same c.self.inside.limits more (c.in_err-take_part-in-Found.ensures.too_large (sym out.2 ∙ is) more)))
+
+pub returns-in_err-take_part-in-Found-clause-asks : goal.returns-in_err-take_part-in-Found-clause-asks
+returns-in_err-take_part-in-Found-clause-asks c =
+    let same = subst (λ stage. AfterMultipartSearch stage c.self.inside.sections c.search.new.self) c.in-Found.is c.in_ok-search.ensures.ok in
+    let out = err_from_is_err_and c.from_residual-in_err-take_part-in-Found.result c.from_residual-in_err-take_part-in-Found.ensures.1 in
+    rw (← c.self.view_is) (rw out.1 (λ reason is.
+    asks_of_same c.self.inside.sections c.search.new.self same c.self.inside.limits (c.in_err-take_part-in-Found.ensures.asks reason (sym out.2 ∙ is))))
 
 pub returns-in_default-clause-waits : goal.returns-in_default-clause-waits
 returns-in_default-clause-waits c =
