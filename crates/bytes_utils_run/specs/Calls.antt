@@ -29,18 +29,19 @@ pub record AreCallSlices (n : ℕ) (slices : List (List ℕ)) (unread : List ℕ
 abbrev pub lost_of_segments : (ℕ → ℕ → Type 0) → ℕ → ℕ → Type 0
 lost_of_segments loses n taken = (taken ≡ 0) ⊎ (taken ≡ n) ⊎ loses n taken
 
--- the reply to a read of these unread bytes; `loses` says how many bytes a refused copy may have taken
+-- The reply to a read of these unread bytes. Memory is refused only for some bytes, or for places for them. `loses` says how many bytes a refused copy
+-- may have taken.
 abbrev pub IsReply : (ℕ → ℕ → Type 0) → ReadCall → List ℕ → Reply → Type 0
 IsReply loses Remaining unread (Number n) = n ≡ length unread
 IsReply loses Chunk unread (Shown chunk) = IsChunkOf chunk.items unread
-IsReply loses Chunk unread NoMemory = ⊤
+IsReply loses Chunk unread NoMemory = 0 < length unread
 IsReply loses (Advance n) unread Done = n ≤ length unread
 IsReply loses (Advance n) unread PastEnd = length unread < n
 IsReply loses (CopyOut n) unread (Piece piece) = (n ≤ length unread) × (piece ≡ take n unread)
-IsReply loses (CopyOut n) unread (CopyStopped taken) = (n ≤ length unread) × (taken ≤ n) × loses n taken
+IsReply loses (CopyOut n) unread (CopyStopped taken) = (0 < n) × (n ≤ length unread) × (taken ≤ n) × loses n taken
 IsReply loses (CopyOut n) unread PastEnd = length unread < n
 IsReply loses (Chunks n) unread (Slices slices) = AreCallSlices n (map (λ s. s.items) slices.items) unread
-IsReply loses (Chunks n) unread NoMemory = ⊤
+IsReply loses (Chunks n) unread NoMemory = (0 < n) × (0 < length unread)
 IsReply loses call unread reply = ⊥
 
 -- how many bytes a read with this reply skipped, or `None` if it left the buffer as it was

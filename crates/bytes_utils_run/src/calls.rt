@@ -1,5 +1,5 @@
 //! Lists of calls on a buffer, with one reply for each call.
-ghost use Rattle.std.specs.Prelude.{◌≡◌, [], Some, IfNone, OnSome, IfSome};
+ghost use Rattle.std.specs.Prelude.{◌≡◌, [], Some, IsNone, IfNone, OnSome, IfSome};
 ghost use Rattle.bytes_utils_buf.specs.Segments.{IsPaid};
 ghost use Rattle.bytes_utils_buf.specs.Tally.{IsBalanced, IsCovered};
 ghost use Rattle.bytes_utils_run.specs.Calls.{IsCall, IsRead, IsRunOfCalls, lists_for_calls};
@@ -42,7 +42,7 @@ impl Replies {
 
 /// Makes these calls on `buf`, one after another, and returns a reply for each. Memory for the
 /// replies is reserved first. If it is refused, no call is made, and `refused` has the reason
-/// `OutOfMemory`.
+/// `OutOfMemory`. For no calls none is asked for.
 pub fn drive<B: BufParts + Drop>(
     alloc: Global,
     buf: &mut SegmentedBuf<B>,
@@ -52,6 +52,7 @@ pub fn drive<B: BufParts + Drop>(
         (IsRunOfCalls (IsCall B.unread B.loses) calls.items buf.old result.given.items buf.new) }
     ensures refused { IfSome result.refused (λ reason. reason ≡ WhyRefused.OutOfMemory) }
     ensures none { OnSome result.refused (result.given.items ≡ []) }
+    ensures empty { calls.items ≡ [] → IsNone result.refused }
     ensures same { OnSome result.refused (buf.new ≡ buf.old) }
 
     // Each segment that was ever given was dropped at once, was passed by one turn, or is left. So
@@ -82,6 +83,7 @@ pub fn read_calls<B: BufParts>(alloc: Global, buf: &mut B, calls: Vec<ReadCall>)
         result.given.items (lists_for_calls (B.unread buf.new))) }
     ensures refused { IfSome result.refused (λ reason. reason ≡ WhyRefused.OutOfMemory) }
     ensures none { OnSome result.refused (result.given.items ≡ []) }
+    ensures empty { calls.items ≡ [] → IsNone result.refused }
     ensures same { OnSome result.refused (buf.new ≡ buf.old) }
     ensures kept { B.kept buf.new ≡ B.kept buf.old }
 {

@@ -1,5 +1,5 @@
 //! Copies of the bytes that a buffer shows.
-ghost use Rattle.std.specs.Prelude.{◌≡◌, map, IfOk};
+ghost use Rattle.std.specs.Prelude.{◌≡◌, ◌<◌, length, map, IfOk, IfErr};
 ghost use Rattle.bytes_utils_run.specs.Calls.{AreCallSlices, IsReply};
 ghost use Rattle.bytes_utils_run.specs.declared.calls.call.ReadCall.{ReadCall as Reading};
 
@@ -12,7 +12,11 @@ use std::alloc::{AllocError, Global};
 pub(super) fn show_chunk<B: BufParts>(alloc: Global, buf: &B) -> Reply
     ensures { IsReply B.loses Reading.Chunk (B.unread buf.now) result }
 {
-    match buf.chunk().to_vec(alloc) {
+    let chunk = buf.chunk();
+    if chunk.is_empty() {
+        return Reply::Shown(Vec::new(alloc));
+    }
+    match chunk.to_vec(alloc) {
         Ok(copy) => Reply::Shown(copy),
         Err(_) => Reply::NoMemory,
     }
@@ -37,9 +41,15 @@ fn shown_slices<B: BufParts>(
 ) -> Result<Vec<Vec<u8>>, AllocError>
     ensures { IfOk result
         (λ slices. AreCallSlices places (map (λ s. s.items) slices.items) (B.unread buf.now)) }
+    ensures places { IfErr result (λ _. 0 < places) }
+    ensures bytes { IfErr result (λ _. 0 < length (B.unread buf.now)) }
 {
     let empty: &[u8] = &[];
-    let mut table = vec![in alloc; empty; places.min(buf.remaining())]?;
+    let places = places.min(buf.remaining());
+    if places == 0 {
+        return Ok(Vec::new(alloc));
+    }
+    let mut table = vec![in alloc; empty; places]?;
     let filled = buf.chunks_into(&mut table);
     shown_copies(alloc, &table[..filled])
 }
