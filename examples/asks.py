@@ -4,7 +4,7 @@ import contextlib, ctypes, os, re, resource, socket, struct, subprocess, tempfil
 
 # how many bytes a program may take beyond those of its start where memory is refused, and by how many clients at most
 ROOM, MOST_CALLERS = 8 << 20, 3_000
-# how many eighths of half of something the clients of each crowd say
+# how many eighths of half a request the clients of each crowd say
 CROWDS = 8, 4, 7, 1, 8
 # the system's call for a descriptor of another process
 PIDFD_GETFD = 438
@@ -56,8 +56,8 @@ def is_soon(holds):
     return held
 
 
-def refused(judge, command, said, reply, silent, *_):
-    """Clients that say a part of something, until memory is refused: the others are served. Crowd after crowd says
+def refused(judge, command, said, reply, half, *_):
+    """Clients that say a part of a request, until memory is refused: the others are served. Crowd after crowd says
     another part, so that each takes other memory than what the one before has left."""
     many = [*command, f"connections={MOST_CALLERS}", f"peer={MOST_CALLERS}"]
     with tempfile.TemporaryFile() as log, started(many, log) as (running, at), contextlib.ExitStack() as callers:
@@ -72,7 +72,7 @@ def refused(judge, command, said, reply, silent, *_):
             return sum(int(count) for _, count, error in lines if error == b"not accepted: out of memory")
 
         for eighths in CROWDS:
-            part, before = silent[: len(silent) * eighths // 8], refusals()
+            part, before = half[: len(half) * eighths // 8], refusals()
             with contextlib.ExitStack() as others:
                 count = call_until(lambda: refusals() > before, talk, others, part)
                 is_refused = is_soon(lambda: refusals() > before)
@@ -210,9 +210,10 @@ def unread(judge, command, said, reply, half, long, whole, page=None, figure=b""
             is_served = talk.is_served(line)
         took = time.monotonic() - began
         judge(f"a full log and 2,000 clients that vanish: {took:.2f} s for another, within 1", is_served and took < 1)
-        with talk.call() if page else contextlib.nullcontext() as line:
-            dropped = page and ask_once(line, page, figure)
-            judge(f"lines of the log that were dropped: {dropped}", not page or int(dropped) > 0)
+        if page:
+            with talk.call() as line:
+                dropped = ask_once(line, page, figure)
+            judge(f"lines of the log that were dropped: {dropped}", int(dropped) > 0)
         log.read(1 << 16)
         os.set_blocking(reading, False)
 

@@ -48,7 +48,7 @@ fn json_value_of(alloc: Global, json: &str) -> Result<Value, JsonRefused>
     }
 }
 
-/// The byte that a member of a list is, if it is one.
+/// Returns the member as a byte, if it is a whole number below 256.
 fn json_byte(member: &Value) -> Option<u8>
     ensures some { IfSome result (λ byte. view member.now ≡ json_number byte) }
     ensures in_range { IfSome result (λ byte. byte < 256) }
@@ -57,7 +57,7 @@ fn json_byte(member: &Value) -> Option<u8>
     u8::try_from(member.as_u64()?).ok()
 }
 
-/// The bytes that the members of a list are.
+/// Returns the members as bytes.
 fn json_bytes<S: StorageMut>(alloc: Global, members: &[Value]) -> Result<S, JsonRefused>
     ensures ok { IfOk result (λ bytes. map view members.now ≡ map json_number (S.stored bytes)) }
     ensures in_range { IfOk result (λ bytes. All (λ b. b < 256) (S.stored bytes)) }

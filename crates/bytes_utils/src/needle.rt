@@ -6,8 +6,7 @@ use memchr::arch::all::is_prefix;
 use memchr::memmem::Finder;
 use memchr::{memchr, memchr_iter};
 
-/// At how many places of its first byte a needle is looked for where a search begins: it is often
-/// near.
+/// How many places of a needle's first byte are tried before a `Finder` searches: it is often near.
 pub const NEAR_LOOKS: usize = 4;
 
 /// The first place of the needle in a piece, looked for by its first byte. Requires that the needle

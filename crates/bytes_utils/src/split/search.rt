@@ -12,7 +12,7 @@ use memchr::memmem::{self, Finder, FinderRev};
 use memchr::memrchr;
 
 /// The search for one separator from one end: prepared once for all steps of a splitter. A separator
-/// of two bytes and more is searched for by one of them first.
+/// of two bytes or more is searched for by its first or last byte first.
 #[derive(Drop)]
 pub(super) enum SeparatorSearch<'s> {
     First(Finder<'s>),

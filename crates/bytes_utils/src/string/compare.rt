@@ -21,7 +21,7 @@ impl<S: Storage> StrInner<S> {
         self.as_str() == other
     }
 
-    /// Compares the text with `other` by their bytes, which is by their code points too.
+    /// Compares the text with `other` by their bytes, which is the order of their code points.
     pub fn cmp_str(&self, other: &str) -> Ordering
         // As `cmp` of two texts.
         ensures { result ≡ slice_cmp nat_cmp self.now other.now }
