@@ -1,6 +1,6 @@
 //! Joining parts with a separator between them.
-ghost use Rattle.std.specs.Prelude.{◌≡◌, ℕ, List, map, ◌⊎◌, IfOk, IfErr};
-ghost use Rattle.std.specs.Iterator.{IsFinite, Drains};
+ghost use Rattle.std.specs.Prelude.{◌≡◌, ℕ, List, [], map, ◌⊎◌, IfOk, IfErr};
+ghost use Rattle.std.specs.Iterator.{IsFinite, Drains, HoldsAlong};
 ghost use Rattle.bytes_utils.specs.Parts.{join};
 ghost use denote.Ref.{Bor};
 
@@ -26,6 +26,8 @@ where
         requires ends { IsFinite (I.remaining parts) }
         ensures ok { IfOk result (λ text. (items : List (Bor (List ℕ))) × Drains I.next_gives parts items
             × (text ≡ join separator.now (map (λ part. part.now) items))) }
+        ensures empty { HoldsAlong I.next_gives parts (λ items. join separator.now (map (λ part. part.now) items) ≡ [])
+            → IfErr result (λ reason. S.refuses_empty reason ⊎ S.Creator.refuses_empty reason) }
         ensures reason { IfErr result (λ reason. S.refuses reason ⊎ S.Creator.refuses reason) }
     {
         let mut text = StrInner::<S::Creator>::new(alloc)?;
