@@ -19,7 +19,7 @@ where
     S::Creator: StorageMut,
 {
     /// Concatenates the characters. Requires that `chars` ends, that its `next` may be called, and
-    /// what `from_str` requires. Fails as `from_str`.
+    /// what `from_str` requires. Fails as `from_str`, and as for an empty text if no character comes.
     pub fn from_chars<I: Iterator<Item = char> + Drop>(
         alloc: Global,
         chars: I,
@@ -39,7 +39,7 @@ where
     }
 
     /// Concatenates the items. Requires that `strs` ends, that its `next` may be called, and what
-    /// `from_str` requires. Fails as `from_str`.
+    /// `from_str` requires. Fails as `from_str`, and as for an empty text if only empty items come.
     pub fn from_strs<'s, I: Iterator<Item = &'s str> + Drop>(
         alloc: Global,
         strs: I,
@@ -59,7 +59,7 @@ where
     }
 
     /// Concatenates the items. Requires that `strings` ends, that its `next` may be called, and what
-    /// `from_str` requires. Fails as `from_str`.
+    /// `from_str` requires. Fails as `from_str`, and as for an empty text if only empty items come.
     pub fn from_strings<I: Iterator<Item = String> + Drop>(
         alloc: Global,
         strings: I,
