@@ -1,6 +1,6 @@
 -- Joined lists of parts.
 use Rattle.std.proofs.Common.{◌≡◌, refl, sym, ap, ◌∙◌, ℕ, suc, ◌+◌, ◌<◌, get_or, List, [], ◌∷◌, ◌++◌, length, map, take, drop, arith, append_assoc}
-use Rattle.std.proofs.lemmas.List.{map_push, take_more, take_at, drop_at}
+use Rattle.std.proofs.lemmas.List.{append-nil, map_push, take_more, take_at, drop_at, take-append-drop}
 use Rattle.bytes_utils.specs.Parts.{join}
 
 pub join-append : {X : Type 0} (p : List X) (xs ys : List (List X)) → 0 < length xs → 0 < length ys → join p (xs ++ ys) ≡ join p xs ++ (p ++ join p ys)
@@ -46,3 +46,37 @@ gap-next p (first ∷ xs) i inside = ap (λ n. gap p (take n (first ∷ xs))) (o
   where
     one_more : (i : ℕ) → suc i ≡ i + 1
     one_more i = omega arith
+
+-- both halves of an empty list are empty
+pub empty_front : {X : Type 0} (a b : List X) → a ++ b ≡ [] → a ≡ []
+empty_front [] b none = refl
+empty_front (x ∷ a) b none = cc
+
+pub empty_back : {X : Type 0} (a b : List X) → a ++ b ≡ [] → b ≡ []
+empty_back [] b none = none
+empty_back (x ∷ a) b none = cc
+
+-- the first parts of what is empty when joined are so too
+pub join-front_empty : {X : Type 0} (p : List X) (xs ys : List (List X)) → join p (xs ++ ys) ≡ [] → join p xs ≡ []
+join-front_empty p [] ys none = refl
+join-front_empty p (x ∷ xs) [] none = ap (join p) (sym (append-nil (x ∷ xs))) ∙ none
+join-front_empty p (x ∷ xs) (y ∷ ys) none =
+    empty_front _ _ (sym (join-append p (x ∷ xs) (y ∷ ys) (omega arith) (omega arith)) ∙ none)
+
+-- where nothing is in the joined items and one more, nothing is in the separator before it and in itself
+pub gap-empty : {X Y : Type 0} (p : List X) (f : Y → List X) (ys : List Y) (y : Y) → join p (map f (ys ++ y ∷ [])) ≡ [] → gap p (map f ys) ≡ []
+gap-empty p f ys y none = empty_back _ _ (empty_front _ _ (join-more p f ys y ∙ none))
+
+pub item-empty : {X Y : Type 0} (p : List X) (f : Y → List X) (ys : List Y) (y : Y) → join p (map f (ys ++ y ∷ [])) ≡ [] → f y ≡ []
+item-empty p f ys y none = empty_back _ _ (join-more p f ys y ∙ none)
+
+-- the same for the first elements of a list and the next one
+joined_next : {X : Type 0} (p : List X) (xs : List (List X)) (i : ℕ) → join p xs ≡ [] → join p (take (i + 1) xs) ≡ []
+joined_next p xs i none = join-front_empty p (take (i + 1) xs) (drop (i + 1) xs) (ap (join p) (take-append-drop (i + 1) xs) ∙ none)
+
+pub gap_next-empty : {X : Type 0} (p : List X) (xs : List (List X)) (i : ℕ) (x : List X) → i < length xs → x ≡ get_or xs i x → join p xs ≡ [] → gap p (take i xs) ≡ []
+gap_next-empty p xs i x inside is none =
+    empty_back _ _ (empty_front _ _ (join-next p xs i x inside is ∙ joined_next p xs i none))
+
+pub item_next-empty : {X : Type 0} (p : List X) (xs : List (List X)) (i : ℕ) (x : List X) → i < length xs → x ≡ get_or xs i x → join p xs ≡ [] → x ≡ []
+item_next-empty p xs i x inside is none = empty_back _ _ (join-next p xs i x inside is ∙ joined_next p xs i none)

@@ -36,4 +36,5 @@ pub mod WhiteSpace
 pub mod WordsLemmas
 pub mod Chunks
 pub mod Building
+pub mod NoText
 pub mod AsciiCase

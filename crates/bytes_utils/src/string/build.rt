@@ -26,9 +26,6 @@ impl<S: StorageMut> StrInner<S> {
         ensures empty { s.now ≡ [] → IsOk result }
         ensures reason { IfErr result S.refuses }
     {
-        if s.is_empty() {
-            return Ok(());
-        }
         self.storage.push_slice(s.as_bytes())?;
         Ok(())
     }
@@ -50,10 +47,13 @@ where
     S::Creator: StorageMut,
 {
     /// Copies `s` into a new text. Requires that a creator's bytes are those of its text, as for
-    /// `Str` and `StrMut`. Fails with the storage's reason (`OutOfMemory` for `Str` and `StrMut`).
+    /// `Str` and `StrMut`. Fails with the storage's reason (`OutOfMemory` for `Str` and `StrMut`,
+    /// never for an empty `s`).
     pub fn from_str(alloc: Global, s: &str) -> Result<Self, Reason>
         requires creator { (c : S.Creator) → S.created c ≡ S.Creator.stored c }
         ensures ok { IfOk result (λ text. text ≡ s.now) }
+        ensures empty { s.now ≡ []
+            → IfErr result (λ reason. S.refuses_empty reason ⊎ S.Creator.refuses_empty reason) }
         ensures reason { IfErr result (λ reason. S.refuses reason ⊎ S.Creator.refuses reason) }
     {
         let mut text = StrInner::<S::Creator>::new(alloc)?;
@@ -65,6 +65,7 @@ where
     pub(super) fn from_built(text: StrInner<S::Creator>) -> Result<Self, Reason>
         requires creator { (c : S.Creator) → S.created c ≡ S.Creator.stored c }
         ensures ok { IfOk result (λ made. made ≡ text) }
+        ensures empty { text ≡ [] → IfErr result S.refuses_empty }
         ensures reason { IfErr result S.refuses }
     {
         match S::from_creator(text.into_inner()) {

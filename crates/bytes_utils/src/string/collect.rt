@@ -1,8 +1,8 @@
 //! Texts from the items of an iterator that ends. `collect` builds a `String`, whose block becomes the
 //! text's.
-ghost use Rattle.std.specs.Prelude.{◌≡◌, ℕ, List, map, String, string_bytes, ◌⊎◌, IfOk, IfErr};
+ghost use Rattle.std.specs.Prelude.{◌≡◌, ℕ, List, [], map, String, string_bytes, ◌⊎◌, IfOk, IfErr};
 ghost use Rattle.std.specs.Global.{Global};
-ghost use Rattle.std.specs.Iterator.{IsFinite, Drains};
+ghost use Rattle.std.specs.Iterator.{IsFinite, Drains, HoldsAlong};
 ghost use Rattle.std.specs.List.{concat};
 ghost use Rattle.std.specs.Str.{encode_utf8_all};
 ghost use denote.Ref.{Bor};
@@ -19,7 +19,7 @@ where
     S::Creator: StorageMut,
 {
     /// Concatenates the characters. Requires that `chars` ends, that its `next` may be called, and
-    /// what `from_str` requires. Fails as `from_str`.
+    /// what `from_str` requires. Fails as `from_str`, and as for an empty text if no character comes.
     pub fn from_chars<I: Iterator<Item = char> + Drop>(
         alloc: Global,
         chars: I,
@@ -29,6 +29,8 @@ where
         requires ends { IsFinite (I.remaining chars) }
         ensures ok { IfOk result (λ text. (items : List ℕ) × Drains I.next_gives chars items
             × (text ≡ encode_utf8_all items)) }
+        ensures empty { HoldsAlong I.next_gives chars (λ items. items ≡ [])
+            → IfErr result (λ reason. S.refuses_empty reason ⊎ S.Creator.refuses_empty reason) }
         ensures reason { IfErr result (λ reason. S.refuses reason ⊎ S.Creator.refuses reason) }
     {
         let mut text = StrInner::<S::Creator>::new(alloc)?;
@@ -37,7 +39,7 @@ where
     }
 
     /// Concatenates the items. Requires that `strs` ends, that its `next` may be called, and what
-    /// `from_str` requires. Fails as `from_str`.
+    /// `from_str` requires. Fails as `from_str`, and as for an empty text if only empty items come.
     pub fn from_strs<'s, I: Iterator<Item = &'s str> + Drop>(
         alloc: Global,
         strs: I,
@@ -47,6 +49,8 @@ where
         requires ends { IsFinite (I.remaining strs) }
         ensures ok { IfOk result (λ text. (items : List (Bor (List ℕ))) × Drains I.next_gives strs items
             × (text ≡ concat (map (λ s. s.now) items))) }
+        ensures empty { HoldsAlong I.next_gives strs (λ items. concat (map (λ s. s.now) items) ≡ [])
+            → IfErr result (λ reason. S.refuses_empty reason ⊎ S.Creator.refuses_empty reason) }
         ensures reason { IfErr result (λ reason. S.refuses reason ⊎ S.Creator.refuses reason) }
     {
         let mut text = StrInner::<S::Creator>::new(alloc)?;
@@ -55,7 +59,7 @@ where
     }
 
     /// Concatenates the items. Requires that `strings` ends, that its `next` may be called, and what
-    /// `from_str` requires. Fails as `from_str`.
+    /// `from_str` requires. Fails as `from_str`, and as for an empty text if only empty items come.
     pub fn from_strings<I: Iterator<Item = String> + Drop>(
         alloc: Global,
         strings: I,
@@ -65,6 +69,8 @@ where
         requires ends { IsFinite (I.remaining strings) }
         ensures ok { IfOk result (λ text. (items : List (String Global)) × Drains I.next_gives strings items
             × (text ≡ concat (map string_bytes items))) }
+        ensures empty { HoldsAlong I.next_gives strings (λ items. concat (map string_bytes items) ≡ [])
+            → IfErr result (λ reason. S.refuses_empty reason ⊎ S.Creator.refuses_empty reason) }
         ensures reason { IfErr result (λ reason. S.refuses reason ⊎ S.Creator.refuses reason) }
     {
         let mut text = StrInner::<S::Creator>::new(alloc)?;

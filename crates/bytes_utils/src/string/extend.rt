@@ -1,6 +1,6 @@
 //! A text that is extended by the items of an iterator that ends. `Extend`, for `StrMut`, drops an item
 //! that is refused.
-ghost use Rattle.std.specs.Prelude.{◌≡◌, ◌++◌, ℕ, List, map, Some, String, string_bytes, IfErr, OnOk};
+ghost use Rattle.std.specs.Prelude.{◌≡◌, ◌≢◌, ◌++◌, ℕ, List, [], map, Some, String, string_bytes, IfErr, OnOk};
 ghost use Rattle.std.specs.Global.{Global};
 ghost use Rattle.std.specs.Iterator.{IsFinite, Drains, YieldsThen};
 ghost use Rattle.std.specs.List.{concat, flat_map};
@@ -42,9 +42,9 @@ impl<S: StorageMut> StrInner<S> {
     }
 
     /// Appends the items. Requires that `iter` ends, and that its `next` may be called. Fails with
-    /// the first refused item and the storage's reason (`OutOfMemory` for `StrMut`); then those
-    /// before it are in the text. Those after it are dropped with `iter`, but an iterator passed as
-    /// `&mut iter` continues right after the refused item.
+    /// the first refused item, never an empty one, and the storage's reason (`OutOfMemory` for
+    /// `StrMut`); then those before it are in the text. Those after it are dropped with `iter`, but
+    /// an iterator passed as `&mut iter` continues right after the refused item.
     #[tactic(auto, using(crate::proofs::Building::texts_push))]
     pub fn extend_strs<'s, I: Iterator<Item = &'s str> + Drop>(
         &mut self,
@@ -59,6 +59,7 @@ impl<S: StorageMut> StrInner<S> {
         ensures err { IfErr result (λ e. (items : List (Bor (List ℕ))) × (rest : I)
             × YieldsThen I.next_gives iter items (Some e.back) rest
             × (self.new ≡ self.old ++ concat (map (λ s. s.now) items))) }
+        ensures empty { IfErr result (λ e. e.back.now ≢ []) }
         ensures reason { IfErr result (λ e. S.refuses e.reason) }
     {
         for s in iter {
@@ -70,9 +71,9 @@ impl<S: StorageMut> StrInner<S> {
     }
 
     /// Appends the items. Requires that `iter` ends, and that its `next` may be called. Fails with
-    /// the first refused item and the storage's reason (`OutOfMemory` for `StrMut`); then those
-    /// before it are in the text. Those after it are dropped with `iter`, but an iterator passed as
-    /// `&mut iter` continues right after the refused item.
+    /// the first refused item, never an empty one, and the storage's reason (`OutOfMemory` for
+    /// `StrMut`); then those before it are in the text. Those after it are dropped with `iter`, but
+    /// an iterator passed as `&mut iter` continues right after the refused item.
     #[tactic(auto, using(crate::proofs::Building::texts_push))]
     pub fn extend_strings<I: Iterator<Item = String> + Drop>(
         &mut self,
@@ -87,6 +88,7 @@ impl<S: StorageMut> StrInner<S> {
         ensures err { IfErr result (λ e. (items : List (String Global)) × (rest : I)
             × YieldsThen I.next_gives iter items (Some e.back) rest
             × (self.new ≡ self.old ++ concat (map string_bytes items))) }
+        ensures empty { IfErr result (λ e. string_bytes e.back ≢ []) }
         ensures reason { IfErr result (λ e. S.refuses e.reason) }
     {
         for s in iter {

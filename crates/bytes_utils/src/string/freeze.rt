@@ -12,11 +12,13 @@ where
 {
     /// Turns built text into the storage that its own is made into: a `StrMut` into a `Str`.
     /// Requires that the creator's bytes are those of the text, as for `StrMut`. Fails with the new
-    /// storage's reason (`OutOfMemory` for `StrMut`); then the text comes back in `Refused::back`.
+    /// storage's reason (`OutOfMemory` for `StrMut`, never for an empty one); then the text comes
+    /// back in `Refused::back`.
     pub fn freeze(self) -> Result<StrInner<S::Immutable>, Refused<Self>>
         requires creator { (c : S) → S.Immutable.created c ≡ S.stored c }
         ensures ok { IfOk result (λ frozen. frozen ≡ self) }
         ensures err { IfErr result (λ e. e.back ≡ self) }
+        ensures empty { self ≡ [] → IfErr result (λ e. S.Immutable.refuses_empty e.reason) }
         ensures reason { IfErr result (λ e. S.Immutable.refuses e.reason) }
     {
         let StrInner { storage } = self;
@@ -54,6 +56,7 @@ impl StrInner<Bytes> {
     pub fn from_mut(text: StrMut) -> Result<Str, Refused<StrMut>>
         ensures ok { IfOk result (λ frozen. frozen ≡ text) }
         ensures err { IfErr result (λ e. e.back ≡ text) }
+        ensures empty { text ≡ [] → IsOk result }
         ensures reason { IfErr result (λ e. e.reason ≡ Reason.OutOfMemory) }
     {
         text.freeze()

@@ -9,8 +9,8 @@ use std::alloc::Global;
 
 impl StrInner<Bytes> {
     /// Joins texts with `separator` between neighbours, as `join` of a slice. One text is shared,
-    /// and no texts give the empty text, which takes no memory. Fails with `OutOfMemory` if memory
-    /// is refused.
+    /// and no texts give the empty text. Fails with `OutOfMemory` if memory is refused, never if the
+    /// joined text is empty.
     ///
     /// ```text
     /// let parts = [Str::from_static("usr"), Str::from_static("bin")];
@@ -18,7 +18,7 @@ impl StrInner<Bytes> {
     /// ```
     pub fn join_texts(alloc: Global, texts: &[Str], separator: &str) -> Result<Str, Reason>
         ensures ok { IfOk result (λ text. text ≡ join separator.now texts.now) }
-        ensures none { texts.now ≡ [] → IsOk result }
+        ensures none { join separator.now texts.now ≡ [] → IsOk result }
         ensures reason { IfErr result (λ reason. reason ≡ Reason.OutOfMemory) }
     {
         match texts {
@@ -32,6 +32,7 @@ impl StrInner<Bytes> {
 /// Copies the texts, with the separator between neighbours, into a block of their own.
 fn copy_joined_texts(alloc: Global, texts: &[Str], separator: &str) -> Result<Str, Reason>
     ensures ok { IfOk result (λ text. text ≡ join separator.now texts.now) }
+    ensures none { join separator.now texts.now ≡ [] → IsOk result }
     ensures reason { IfErr result (λ reason. reason ≡ Reason.OutOfMemory) }
 {
     let mut joined = StrMut::new(alloc)?;
