@@ -14,7 +14,7 @@ use Rattle.bytes_utils_codec.specs.Decoding.{AreItems, Decoding, Item, Last, Dec
 use Rattle.bytes_utils_codec.specs.Delimited.{Delimiting, StopsDelimitedAt, delimited_begun, delimiting, gives_delimited, delimited_left, ready_delimited, delimited_within}
 use Rattle.bytes_utils_codec.specs.DelimitedLaws.{delimited_keeps_threshold}
 use Rattle.bytes_utils_codec.specs.Frames.{AreFrames}
-use Rattle.bytes_utils_codec.specs.LineReading.{AreLineItemsOf, IsLineItemOf, IsLastLineOf, IsLeftLine, IsLineOf, IsTextLineItem, LineItem, LineReadingLaw, LineReading, TakesLastLine, TakesLineItem, WholeLineReadingLaw, begun_line, fails_line, frames_of_lines, gives_line, keeps_line, ready_line}
+use Rattle.bytes_utils_codec.specs.LineReading.{AreLineItemsOf, IsLineItemOf, IsLastLineOf, IsLeftLine, IsLineOf, IsTextLineItem, LineItem, LineReadingLaw, LineReading, TakesLastLine, TakesLineItem, WholeLineReadingLaw, begun_line, fails_line, fails_line_at_end, frames_of_lines, gives_line, keeps_line, ready_line}
 use Rattle.bytes_utils_codec.specs.Search.{NoneBeginsInSearch}
 use Rattle.bytes_utils_codec.specs.Skipping.{skipping_ended}
 use Rattle.bytes_utils_codec.specs.StreamLines.{AreFirstStreamLines, last_stream_line}
@@ -57,7 +57,7 @@ module _ (s mid t : Decoding LineReading) (took : TakesLineItem s (Ok None) mid)
     subst (λ b. IsLastLineOf b line (delimited_left mid.decoder.frames.skipping mid.held)) took.2.1 end.0,
   )
 
-  pub ends_line : (r : Result (Option LineItem) Reason) → TakesLastLine mid r t → DecodesAtEnd gives_line fails_line keeps_line s r t
+  pub ends_line : (r : Result (Option LineItem) Reason) → TakesLastLine mid r t → DecodesAtEnd gives_line fails_line fails_line_at_end keeps_line s r t
   ends_line (Ok (Some item)) end = inr (last (Some item) end)
   ends_line (Ok None) end = last None end
   ends_line (Err reason) end = (

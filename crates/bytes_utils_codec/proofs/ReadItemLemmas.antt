@@ -1,5 +1,5 @@
 -- Bytes from a reader, and the items taken from them.
-use Rattle.std.proofs.Common.{◌≡◌, refl, sym, subst, ◌∙◌, ℕ, List, [], ◌∷◌, ◌++◌, Option, None, Some, Result, Ok, Err, inr}
+use Rattle.std.proofs.Common.{◌≡◌, refl, sym, subst, ◌∙◌, ℕ, List, [], ◌∷◌, ◌++◌, Option, None, Some, Result, Ok, Err, inl, inr}
 use Rattle.std.proofs.KnownBytes.{Consumes-nil, Consumes-trans, Consumes-whole}
 use Rattle.std.specs.Prelude.{◌⊎◌, IfOk, IfErr, IfSome, IfNone, OnErr}
 use Rattle.std.specs.Io.KnownBytes.{Consumes, IsAtEnd, Keeps}
@@ -64,41 +64,46 @@ module _ {D A : Type 0} (gives : Gives D A) where
     held_same (Io e) took = absurd took
     held_same TooManyReads took = absurd took
 
-    pub held_due : (e : ReadItemError E) → ReadItemTakesHeld gives fails s (Err e) t → IsItemDue gives fails t e
-    held_due (Decoder e) took = (s, took.0, took.1)
-    held_due (Io e) took = absurd took
-    held_due TooManyReads took = absurd took
+    pub held_due : (fails_at_end : Decoding D → E → Type 0) (left : Option (List ℕ)) (e : ReadItemError E) → ReadItemTakesHeld gives fails s (Err e) t
+        → IsItemDue gives fails fails_at_end left t e
+    held_due fails_at_end left (Decoder e) took = (s, inl took.0, took.1)
+    held_due fails_at_end left (Io e) took = absurd took
+    held_due fails_at_end left TooManyReads took = absurd took
 
+  module _ {E : Type 0} (fails fails_at_end : Decoding D → E → Type 0) (s t : Decoding D) where
     module _ {a b : Option (List ℕ)} {old : Decoding D} (reads : ReadsMore gives a b old s) where
-      pub last_some : IsAtEnd b → (r : Result (Option A) (ReadItemError E)) → ReadItemTakesLast gives fails s r t
+      pub last_some : IsAtEnd b → (r : Result (Option A) (ReadItemError E)) → ReadItemTakesLast gives fails fails_at_end s r t
           → IfOk r (λ next. IfSome next (λ item. ReadsNext gives a b old (Item item) t ⊎ (IsAtEnd b × ReadsNext gives a b old (Last (Some item)) t)))
       last_some ends (Ok (Some item)) took = inr (ends, ReadsNext-taken reads (Last (Some item)) t took)
       last_some ends (Ok None) took = tt
       last_some ends (Err e) took = tt
 
-      pub last_none : IsAtEnd b → (r : Result (Option A) (ReadItemError E)) → ReadItemTakesLast gives fails s r t
+      pub last_none : IsAtEnd b → (r : Result (Option A) (ReadItemError E)) → ReadItemTakesLast gives fails fails_at_end s r t
           → IfOk r (λ next. IfNone next (IsAtEnd b × ReadsNext gives a b old (Last None) t))
       last_none ends (Ok (Some item)) took = tt
       last_none ends (Ok None) took = (ends, ReadsNext-taken reads (Last None) t took)
       last_none ends (Err e) took = tt
 
-      pub last_lost : (r : Result (Option A) (ReadItemError E)) → ReadItemTakesLast gives fails s r t → OnErr r (ReadsMore gives a b old t)
+      pub last_lost : (r : Result (Option A) (ReadItemError E)) → ReadItemTakesLast gives fails fails_at_end s r t → OnErr r (ReadsMore gives a b old t)
       last_lost (Ok last) took = tt
       last_lost (Err (Decoder e)) took = ReadsMore-same reads t took.1
       last_lost (Err (Io e)) took = absurd took
       last_lost (Err TooManyReads) took = absurd took
 
-    pub last_due : (r : Result (Option A) (ReadItemError E)) → ReadItemTakesLast gives fails s r t → IfErr r (IsItemDue gives fails t)
-    last_due (Ok last) took = tt
-    last_due (Err (Decoder e)) took = (s, took.0, took.1)
-    last_due (Err (Io e)) took = absurd took
-    last_due (Err TooManyReads) took = absurd took
+    pub last_due : (left : Option (List ℕ)) → IsAtEnd left → (r : Result (Option A) (ReadItemError E)) → ReadItemTakesLast gives fails fails_at_end s r t
+        → IfErr r (IsItemDue gives fails fails_at_end left t)
+    last_due left ends (Ok last) took = tt
+    last_due left ends (Err (Decoder e)) (inl fault, same) = (s, inl fault, same)
+    last_due left ends (Err (Decoder e)) (inr fault, same) = (s, inr (ends, fault), same)
+    last_due left ends (Err (Io e)) took = absurd took
+    last_due left ends (Err TooManyReads) took = absurd took
 
   -- a read failed while no item was held
-  pub read_due : {E : Type 0} (fails : Decoding D → E → Type 0) (s : Decoding D) → LacksItem gives s → (e : ReadItemError E) → IsReadDue e → IsItemDue gives fails s e
-  read_due fails s lacks (Decoder e) due = absurd due
-  read_due fails s lacks (Io e) due = (lacks, due)
-  read_due fails s lacks TooManyReads due = lacks
+  pub read_due : {E : Type 0} (fails fails_at_end : Decoding D → E → Type 0) (left : Option (List ℕ)) (s : Decoding D) → LacksItem gives s
+      → (e : ReadItemError E) → IsReadDue e → IsItemDue gives fails fails_at_end left s e
+  read_due fails fails_at_end left s lacks (Decoder e) due = absurd due
+  read_due fails fails_at_end left s lacks (Io e) due = (lacks, due)
+  read_due fails fails_at_end left s lacks TooManyReads due = lacks
 
   -- ---- runs
 

@@ -55,11 +55,12 @@ Decodes gives waits fails keeps old (Ok (Some item)) new = gives old (Item item)
 Decodes gives waits fails keeps old (Ok None) new = waits old × keeps old new
 Decodes gives waits fails keeps old (Err error) new = fails old error × keeps old new
 
--- the same of a call at the end of the stream
-abbrev pub DecodesAtEnd : {D A E : Type 0} → Gives D A → (Decoding D → E → Type 0) → (Decoding D → Decoding D → Type 0) → Decoding D → Result (Option A) E → Decoding D → Type 0
-DecodesAtEnd gives fails keeps old (Ok (Some item)) new = gives old (Item item) new ⊎ gives old (Last (Some item)) new
-DecodesAtEnd gives fails keeps old (Ok None) new = gives old (Last None) new
-DecodesAtEnd gives fails keeps old (Err error) new = fails old error × keeps old new
+-- The same of a call at the end of the stream. It fails for what has come, or for what this end alone ends.
+abbrev pub DecodesAtEnd : {D A E : Type 0} → Gives D A → (Decoding D → E → Type 0) → (Decoding D → E → Type 0) → (Decoding D → Decoding D → Type 0)
+    → Decoding D → Result (Option A) E → Decoding D → Type 0
+DecodesAtEnd gives fails fails_at_end keeps old (Ok (Some item)) new = gives old (Item item) new ⊎ gives old (Last (Some item)) new
+DecodesAtEnd gives fails fails_at_end keeps old (Ok None) new = gives old (Last None) new
+DecodesAtEnd gives fails fails_at_end keeps old (Err error) new = (fails old error ⊎ fails_at_end old error) × keeps old new
 
 -- the first bytes are gone, and the decoder begins at the front of those after them
 abbrev pub passed : {D : Type 0} → (D → D) → ℕ → Decoding D → Decoding D

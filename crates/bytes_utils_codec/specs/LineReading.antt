@@ -11,7 +11,7 @@ use Rattle.bytes_utils.specs.Lines.{IsWithoutReturn, line_feed, lines}
 use Rattle.bytes_utils.specs.Occurrence.{Occurs}
 use Rattle.bytes_utils_codec.specs.Decoding.{Decoding, Gives, Item, Last, AreItems, fed, starting}
 use Rattle.bytes_utils_codec.specs.Skipping.{skipping_ended}
-use Rattle.bytes_utils_codec.specs.Delimited.{AwaitsDelimitedFrame, Delimiting, StopsDelimited, delimiting, fails_delimited, gives_delimited, keeps_delimited, delimited_left, ready_delimited}
+use Rattle.bytes_utils_codec.specs.Delimited.{AwaitsDelimitedFrame, Delimiting, StopsDelimited, delimiting, gives_delimited, keeps_delimited, delimited_left, ready_delimited}
 use Rattle.bytes_utils_codec.specs.Frames.{AreFrames}
 use Rattle.bytes_utils_codec.specs.Search.{NoneBeginsInSearch}
 use Rattle.bytes_utils_codec.specs.StreamLines.{AreFirstStreamLines, last_stream_line}
@@ -81,10 +81,18 @@ AwaitsLine s = AwaitsDelimitedFrame (frames_of_lines s)
 abbrev pub HasLastLine : Decoding LineReading → Type 0
 HasLastLine s = (mid : Decoding Delimiting) × gives_delimited (frames_of_lines s) (Last None) mid × (0 < length mid.held)
 
--- Memory was refused: for a line that has come, is within the limit and isn't empty, or at the end of the stream for
--- the bytes that are left.
+-- a line within the limit has come that isn't empty
+abbrev pub HasLine : Decoding LineReading → Type 0
+HasLine s = (frame : List ℕ) × (after : Decoding Delimiting) × gives_delimited (frames_of_lines s) (Item (Ok frame)) after
+    × ((line : List ℕ) × IsWithoutReturn line frame × (0 < length line))
+
+-- memory was refused for a line that has come, is within the limit and isn't empty
 abbrev pub fails_line : Decoding LineReading → Reason → Type 0
-fails_line s reason = fails_delimited (frames_of_lines s) reason ⊎ ((reason ≡ OutOfMemory) × HasLastLine s)
+fails_line s reason = (reason ≡ OutOfMemory) × HasLine s
+
+-- memory was refused at the end of the stream, for the bytes that are left
+abbrev pub fails_line_at_end : Decoding LineReading → Reason → Type 0
+fails_line_at_end s reason = (reason ≡ OutOfMemory) × HasLastLine s
 
 -- what a call that gives no item leaves, as of the frames
 abbrev pub keeps_line : Decoding LineReading → Decoding LineReading → Type 0
@@ -94,7 +102,7 @@ keeps_line old new = keeps_delimited (frames_of_lines old) (frames_of_lines new)
 abbrev pub TakesLineItem : Decoding LineReading → Result (Option LineItem) Reason → Decoding LineReading → Type 0
 TakesLineItem old (Ok (Some item)) new = gives_line old (Item item) new
 TakesLineItem old (Ok None) new = StopsDelimited (frames_of_lines old) (frames_of_lines new) × AwaitsLine old × keeps_line old new
-TakesLineItem old (Err reason) new = fails_delimited (frames_of_lines old) reason × keeps_line old new
+TakesLineItem old (Err reason) new = fails_line old reason × keeps_line old new
 
 -- what a call for the last line did, by what it returned
 abbrev pub TakesLastLine : Decoding LineReading → Result (Option LineItem) Reason → Decoding LineReading → Type 0

@@ -68,9 +68,9 @@ module _ {D A E : Type 0} (Takes : Taking D A) (waits : Decoding D → Type 0) (
   decodes_by (Ok None) takes none err = none
   decodes_by (Err error) takes none err = err
 
-  pub ends_by : (r : Result (Option A) E) → IfOk r (λ next. IfSome next (λ item. Takes old item new))
+  pub ends_by : (fails_at_end : Decoding D → E → Type 0) (r : Result (Option A) E) → IfOk r (λ next. IfSome next (λ item. Takes old item new))
       → IfOk r (λ next. IfNone next (waits old × (new ≡ old))) → IfErr r (λ error. fails old error × (new ≡ old))
-      → DecodesAtEnd (gives_by Takes waits) fails keeps_same old r new
-  ends_by (Ok (Some item)) takes none err = inl takes
-  ends_by (Ok None) takes none err = none
-  ends_by (Err error) takes none err = err
+      → DecodesAtEnd (gives_by Takes waits) fails fails_at_end keeps_same old r new
+  ends_by fails_at_end (Ok (Some item)) takes none err = inl takes
+  ends_by fails_at_end (Ok None) takes none err = none
+  ends_by fails_at_end (Err error) takes none err = (inl err.0, err.1)

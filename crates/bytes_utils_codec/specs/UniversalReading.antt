@@ -135,9 +135,13 @@ HasUniversalLine s = (mid : Decoding UniversalReading) × ReachesUniversal s mid
 abbrev pub HasUniversalRest : Decoding UniversalReading → Type 0
 HasUniversalRest s = (mid : Decoding UniversalReading) × ReachesUniversal s mid × AwaitsUniversalEnd mid × (0 < length mid.held)
 
--- memory was refused: for a line that has come, is within the limit and isn't empty, or at the end of the stream for the bytes that are left
+-- memory was refused for a line that has come, is within the limit and isn't empty
 abbrev pub fails_universal : Decoding UniversalReading → Reason → Type 0
-fails_universal s reason = (reason ≡ OutOfMemory) × (HasUniversalLine s ⊎ HasUniversalRest s)
+fails_universal s reason = (reason ≡ OutOfMemory) × HasUniversalLine s
+
+-- memory was refused at the end of the stream, for the bytes that are left
+abbrev pub fails_universal_at_end : Decoding UniversalReading → Reason → Type 0
+fails_universal_at_end s reason = (reason ≡ OutOfMemory) × HasUniversalRest s
 
 -- all held bytes are searched
 abbrev pub all_universal_searched : Decoding UniversalReading → Decoding UniversalReading

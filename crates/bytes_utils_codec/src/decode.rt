@@ -62,8 +62,11 @@ pub trait Decoder: Sized + Drop {
     // What is true when more bytes have to come.
     ghost waits: { Decoding Self → Type 0 };
 
-    // Why an error comes.
+    // Why an error comes, at the end of the stream too.
     ghost fails: { Decoding Self → Self.Error → Type 0 };
+
+    // Why an error comes at the end of the stream alone. By default none does.
+    ghost fails_at_end: { Decoding Self → Self.Error → Type 0 } = { λ old error. ⊥ };
 
     // What a call that gives no item leaves: the state before it, and the one after it.
     ghost keeps: { Decoding Self → Decoding Self → Type 0 };
@@ -89,7 +92,7 @@ pub trait Decoder: Sized + Drop {
         alloc: Global,
         held: &mut PackedBuf,
     ) -> Result<Option<Self::Item>, Self::Error>
-        ensures step { DecodesAtEnd gives fails keeps (decoding self.old held.old) result
+        ensures step { DecodesAtEnd gives fails fails_at_end keeps (decoding self.old held.old) result
             (decoding self.new held.new) };
 
     /// Begins at the front of the held bytes, some of which the caller has taken.

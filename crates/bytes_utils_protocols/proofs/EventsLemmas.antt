@@ -1,8 +1,10 @@
 -- Event streams.
 use Rattle.std.proofs.Common.{◌≡◌, ◌≢◌, ℕ, ◌+◌, ◌-◌, ◌==◌, ◌<◌, ◌≤◌, List, [], ◌∷◌, ◌++◌, inl, inr, Bool, true, false, length, take, drop, Option, None, Some, Ok, Err, ap, ◌∙◌, sym, refl, subst, arith, append_assoc, length-append, if◌then◌else◌, IsUtf8, unwrap_or}
-use Rattle.std.specs.Prelude.{IfNone, MatchOption, nat_eq, nat_lt, ◌^◌, ◌&&◌}
+use Rattle.std.specs.Prelude.{IfNone, IsSome, MatchOption, codes, nat_eq, nat_lt, not, ◌^◌, ◌&&◌}
+use Rattle.std.specs.Cmp.Lexicographic.{pointwise}
+use Rattle.std.specs.Option.{option_or}
 use Rattle.std.specs.Char.{digit_value}
-use Rattle.std.specs.List.{after_first, list_all, position_or_len, starts_with}
+use Rattle.std.specs.List.{after_first, list_all, list_any, position_or_len, starts_with}
 use Rattle.std.specs.Str.Parse.{AllDigits, digits_value}
 use Rattle.std.specs.Str.{IsCharBoundary}
 use Rattle.std.proofs.Math.Seq.{drop-append_seam}
@@ -18,7 +20,7 @@ use Rattle.bytes_utils_codec.specs.UniversalReadingLaws.{universal_same, univers
 use Rattle.bytes_utils_codec.specs.declared.decode.lines.LineFault.{LineFault}
 use Rattle.bytes_utils_codec.specs.declared.decode.lines.LineFault.TheVariants.{NotUtf8 as NotText, TooLong}
 use Rattle.bytes_utils_codec.proofs.StreamRunsLemmas.{AreFirstOfRun-next}
-use Rattle.bytes_utils_protocols.specs.Events.{DoesEventLine, Eventing, GivesEvent, IsEndOfEventLine, IsEventTooLarge, KeepsEvents, LosesNoEvent, PassesEventFault, ReadsEventLines, ReadsEventLine, TakesNextEventLine, EventBuffers, WaitsWithEventTooLarge, event_error_of, events_left_to_read, waiting_event_lines, after_event_field, after_event_line, event_byte_order_mark, event_content, event_field_name, event_field_value, is_event_colon, is_event_number, event_number_of, event_text_len, event_value_of}
+use Rattle.bytes_utils_protocols.specs.Events.{AsksForEventData, AsksForEventField, AsksForEventLine, AsksForEventText, DoesEventLine, Eventing, GivesEvent, IsEndOfEventLine, IsEventTooLarge, KeepsEvents, LosesNoEvent, PassesEventFault, ReadsEventLines, ReadsEventLine, TakesNextEventLine, EventBuffers, WaitsWithEventTooLarge, event_error_of, events_left_to_read, waiting_event_lines, after_event_field, after_event_line, event_byte_order_mark, event_content, event_field_name, event_field_value, is_event_colon, is_event_number, event_name_of, event_number_of, event_text_len, event_value_of, with_event_line}
 use Rattle.bytes_utils_protocols.specs.Digits.{WriteNumber}
 use Rattle.bytes_utils_protocols.specs.declared.events.Event.{Event}
 use Rattle.bytes_utils_protocols.specs.declared.events.EventError.TheVariants.{NotUtf8}
@@ -54,6 +56,54 @@ pub field_too_large : (old : Eventing) (line text : List ℕ) → text ≡ event
 field_too_large old line text is some large =
     let buffers : old.max_data < event_text_len (after_event_line old.buffers text).text = subst (λ (t : EventBuffers). old.max_data < event_text_len t.text) (sym (buffers_after_field old.buffers text some)) large in
     ((λ e. some (is ∙ e)), subst (λ t. old.max_data < event_text_len (after_event_line old.buffers t).text) is buffers)
+
+-- a field with which the data is not too large
+pub field_not_large : (old : Eventing) (line text : List ℕ) → text ≡ event_content old.at_start line → text ≢ []
+    → event_text_len (after_event_field old.buffers (event_field_name text) (event_field_value text)).text ≤ old.max_data → ¬ IsEventTooLarge old line
+field_not_large old line text is some small large =
+    let here = subst (λ t. old.max_data < event_text_len (after_event_line old.buffers t).text) (sym is) large.1 in
+    let buffers = subst (λ (t : EventBuffers). old.max_data < event_text_len t.text) (buffers_after_field old.buffers text some) here in
+    omega (arith, small, buffers)
+
+-- only a field of data changes the text
+pub text_after_other : (buffers : EventBuffers) (name value : List ℕ) → pointwise nat_eq name (codes "data") ≡ false
+    → (after_event_field buffers name value).text ≡ buffers.text
+text_after_other buffers name value other =
+    ap (λ (t : EventBuffers). t.text) (cond-false (pointwise nat_eq name (codes "data")) (record buffers { text = Some (with_event_line buffers.text value) }) rest other)
+    ∙ by (pointwise nat_eq name (codes "event")) (pointwise nat_eq name (codes "id") && not (list_any (λ c. nat_eq c 0) value)) (pointwise nat_eq name (codes "retry"))
+  where
+    after : Bool → Bool → Bool → EventBuffers
+    after is_name is_id is_time =
+        if is_name then record buffers { name = event_name_of value }
+        else if is_id then record buffers { id = Some value }
+        else if is_time then record buffers { retry = option_or (event_number_of value) buffers.retry }
+        else buffers
+
+    rest : EventBuffers
+    rest = after (pointwise nat_eq name (codes "event")) (pointwise nat_eq name (codes "id") && not (list_any (λ c. nat_eq c 0) value)) (pointwise nat_eq name (codes "retry"))
+
+    by : (a b c : Bool) → (after a b c).text ≡ buffers.text
+    by true b c = refl
+    by false true c = refl
+    by false false true = refl
+    by false false false = refl
+
+-- a line that is no field asks for memory where there is data
+pub asks_empty : (old : Eventing) (line text : List ℕ) → text ≡ event_content old.at_start line → text ≡ [] → IsSome old.buffers.text → AsksForEventLine old line
+asks_empty old line text is empty some = subst (AsksForEventText old.buffers) (sym empty ∙ is) some
+
+pub asks_field : (old : Eventing) (line text : List ℕ) → text ≡ event_content old.at_start line → text ≢ []
+    → AsksForEventField old.buffers (event_field_name text) (event_field_value text) → AsksForEventLine old line
+asks_field old line text is some asks = subst (AsksForEventText old.buffers) is (by text some asks)
+  where
+    by : (t : List ℕ) → t ≢ [] → AsksForEventField old.buffers (event_field_name t) (event_field_value t) → AsksForEventText old.buffers t
+    by [] none asks = absurd (none refl)
+    by (c ∷ t) none asks = asks
+
+-- data that is too large is not empty, or comes after other data
+pub large_asks : (text : Option (List ℕ)) (line : List ℕ) (limit : ℕ) → limit < length (with_event_line text line) → AsksForEventData text line
+large_asks None line limit large = omega (arith, large)
+large_asks (Some before) line limit large = tt
 
 -- a field
 pub does_field : (old mid : Eventing) (line : List ℕ) → IsUtf8 line → event_content old.at_start line ≢ []

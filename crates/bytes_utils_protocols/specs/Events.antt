@@ -1,5 +1,5 @@
 -- Event streams, as the HTML standard defines them (sections 9.2.5 and 9.2.6, https://html.spec.whatwg.org/multipage/server-sent-events.html).
-use Rattle.std.specs.Prelude.{◌≡◌, ◌≢◌, ℕ, ◌+◌, Bool, false, ◌<◌, ◌≤◌, ◌⊎◌, ◌==◌, ◌&&◌, not, if◌then◌else◌, nat_eq, nat_lt, ◌^◌, List, [], ◌∷◌, ◌++◌, length, drop, codes, Option, None, Some, MatchOption, Result, Ok, Err, IsUtf8, true}
+use Rattle.std.specs.Prelude.{◌≡◌, ◌≢◌, ℕ, ◌+◌, Bool, false, ◌<◌, ◌≤◌, ◌⊎◌, ◌==◌, ◌&&◌, not, if◌then◌else◌, nat_eq, nat_lt, ◌^◌, List, [], ◌∷◌, ◌++◌, length, drop, codes, Option, None, Some, IsSome, MatchOption, Result, Ok, Err, IsUtf8, true, ⊤}
 use Rattle.std.specs.Cmp.Lexicographic.{pointwise}
 use Rattle.std.specs.Char.{digit_value}
 use Rattle.std.specs.List.{after_first, before_first, list_all, list_any, starts_with, flat_map}
@@ -176,9 +176,40 @@ ReadsNoEventLine old new = KeepsEvents old new ⊎ AwaitsEventLine old new
 abbrev pub LosesNoEvent : Eventing → Eventing → Type 0
 LosesNoEvent old new = (mid : Eventing) × ReadsEventLines old mid × ReadsNoEventLine mid new
 
--- Memory is refused: some lines are read, none of which ends an event. Some bytes of the next one have come, or it was taken, and waits.
+-- the line is not empty, and the data with it passes its limit
+abbrev pub IsEventTooLarge : Eventing → List ℕ → Type 0
+IsEventTooLarge old line = (event_content old.at_start line ≢ []) × (old.max_data < event_text_len (after_event_line old.buffers (event_content old.at_start line)).text)
+
+-- One more line of data asks for memory, unless it is empty and the first one.
+abbrev pub AsksForEventData : Option (List ℕ) → List ℕ → Type 0
+AsksForEventData None line = 0 < length line
+AsksForEventData (Some before) line = ⊤
+
+-- A field asks for memory: data, or a name or an identifier that isn't empty.
+abbrev pub AsksForEventField : EventBuffers → List ℕ → List ℕ → Type 0
+AsksForEventField buffers name value =
+    ((name ≡ codes "data") × AsksForEventData buffers.text value)
+    ⊎ ((name ≡ codes "event") × (0 < length value))
+    ⊎ ((name ≡ codes "id") × (0 < length value))
+
+-- A line asks for memory: such a field, or the empty line that ends an event. A comment, a field of another name and a time to wait ask for none.
+abbrev pub AsksForEventText : EventBuffers → List ℕ → Type 0
+AsksForEventText buffers [] = IsSome buffers.text
+AsksForEventText buffers (c ∷ t) = AsksForEventField buffers (event_field_name (c ∷ t)) (event_field_value (c ∷ t))
+
+abbrev pub AsksForEventLine : Eventing → List ℕ → Type 0
+AsksForEventLine old line = AsksForEventText old.buffers (event_content old.at_start line)
+
+-- the next line is taken, and waits: it asks for memory, and the data with it is within its limit
+pub record RefusesTakenEventLine (old new : Eventing) : Type 0 where
+  pub awaits : AwaitsEventLine old new
+  pub asks : AsksForEventLine awaits.taken awaits.line
+  pub small : ¬ IsEventTooLarge awaits.taken awaits.line
+
+-- Memory is refused: some lines are read, none of which ends an event. The end of the next one has come, and it isn't empty; or it was taken, and waits.
 abbrev pub RefusesEventLine : Eventing → Eventing → Type 0
-RefusesEventLine old new = (mid : Eventing) × ReadsEventLines old mid × ((KeepsEvents mid new × fails_universal mid.lines OutOfMemory) ⊎ AwaitsEventLine mid new)
+RefusesEventLine old new = (mid : Eventing) × ReadsEventLines old mid
+    × ((KeepsEvents mid new × fails_universal mid.lines OutOfMemory) ⊎ RefusesTakenEventLine mid new)
 
 -- some lines are read, none of which ends an event, and the end of the next one has not come
 abbrev pub WaitsForEventLine : Eventing → Eventing → Type 0
@@ -205,10 +236,6 @@ PassesEventFault old error new = (mid : Eventing) × ReadsEventLines old mid × 
 abbrev pub GivesEventItem : Eventing → Result Event EventError → Eventing → Type 0
 GivesEventItem old (Ok event) new = GivesEvent old event new
 GivesEventItem old (Err error) new = PassesEventFault old error new
-
--- the line is not empty, and the data with it passes its limit
-abbrev pub IsEventTooLarge : Eventing → List ℕ → Type 0
-IsEventTooLarge old line = (event_content old.at_start line ≢ []) × (old.max_data < event_text_len (after_event_line old.buffers (event_content old.at_start line)).text)
 
 -- a line waits that can't be read, whatever comes after it
 abbrev pub WaitsWithEventTooLarge : Eventing → Type 0

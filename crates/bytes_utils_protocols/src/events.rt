@@ -1,11 +1,11 @@
 //! Server-sent events, of a stream that comes in pieces.
-ghost use Rattle.std.specs.Prelude.{◌≡◌, ◌≢◌, ◌+◌, ◌^◌, ◌<◌, ◌≤◌, ◌⊎◌, ◌↔◌, [], ◌++◌, ◌∷◌, true, false, length, string_bytes, IfOk, IfErr, IfSome, IfNone, IsOk, IsTrue, IsUtf8, None, OnOk, OnErr, Some};
+ghost use Rattle.std.specs.Prelude.{◌≡◌, ◌≢◌, ◌+◌, ◌^◌, ◌<◌, ◌≤◌, ◌⊎◌, ◌↔◌, [], ◌++◌, ◌∷◌, true, false, length, string_bytes, IfOk, IfErr, IfSome, IfNone, IsOk, IsSome, IsTrue, IsUtf8, None, OnOk, OnErr, Some};
 ghost use Rattle.std.specs.Option.{option_or};
 ghost use Rattle.bytes_utils.specs.Lines.{line_feed};
 ghost use Rattle.bytes_utils_codec.specs.Pushing.{IsPush};
 ghost use Rattle.bytes_utils_codec.specs.UniversalReading.{AwaitsUniversal, fails_universal};
 ghost use Rattle.bytes_utils_protocols.specs.EventData.{event_data_if_any, event_data_text};
-ghost use Rattle.bytes_utils_protocols.specs.Events.{DoesEventLine, EndsEvent, EventRunLaw, GivesEvent, IsEndOfEventLine, IsEventTooLarge, KeepsEvents, LargeEventLaw, LosesNoEvent, NoEventLaw, PassesEventFault, RefusesEventLine, SameEventLaw, TakesEventFault, TakesNextEventLine, WaitsForEventLine, WaitsWithEventTooLarge, after_event_field, event_content, event_field_name, event_field_value, event_name_of, event_number_of, event_text_len, event_value_of, events_left_to_read, no_event_bytes_held, pushed_to_events, with_event_line};
+ghost use Rattle.bytes_utils_protocols.specs.Events.{AsksForEventData, AsksForEventField, AsksForEventLine, DoesEventLine, EndsEvent, EventRunLaw, GivesEvent, IsEndOfEventLine, IsEventTooLarge, KeepsEvents, LargeEventLaw, LosesNoEvent, NoEventLaw, PassesEventFault, RefusesEventLine, SameEventLaw, TakesEventFault, TakesNextEventLine, WaitsForEventLine, WaitsWithEventTooLarge, after_event_field, event_content, event_field_name, event_field_value, event_name_of, event_number_of, event_text_len, event_value_of, events_left_to_read, no_event_bytes_held, pushed_to_events, with_event_line};
 
 use crate::number::number;
 use bytes::Bytes;
@@ -167,8 +167,10 @@ impl EventReader {
     }
 
     /// Returns the next event, or `None` if the empty line that ends it has not come yet. Fails with
-    /// `Refused` if memory is refused, which is asked for only if some bytes of the next line have
-    /// come; then nothing is lost, and the same call can be made again.
+    /// `Refused` if memory is refused; then nothing is lost, and the same call can be made again.
+    /// Memory is asked for only to take a line whose end has come, never for an empty one, and to
+    /// read it: for data within its limit, for a name or an identifier that isn't empty, and for the
+    /// empty line that ends an event, never for a comment or another field.
     /// Fails with `NotUtf8` if a line within its limit is not UTF-8, and with `TooLarge` if a line
     /// passes its limit, whether it is UTF-8 or not; then that line is passed over, and the next call
     /// continues after it. (A browser puts U+FFFD for the bytes that are no character, and reads the
@@ -272,6 +274,9 @@ impl EventReader {
         ensures err { OnErr result (self.new ≡ self.old) }
         ensures too_large { IfErr result (λ e. e ≡ EventError.TooLarge
             → IsEventTooLarge self.old line.now) }
+        ensures asks { OnErr result (AsksForEventLine self.old line.now) }
+        ensures small { IfErr result (λ e. (reason : _) → e ≡ EventError.Refused reason
+            → ¬ IsEventTooLarge self.old line.now) }
         ensures utf8 { IfErr result (λ e. e ≢ EventError.NotUtf8) }
         ensures reason { IfErr result (λ e. (reason : _) → e ≡ EventError.Refused reason
             → reason ≡ Reason.OutOfMemory) }
@@ -299,6 +304,7 @@ impl EventReader {
         ensures after { IfOk result (λ event. IfSome event (λ event.
             self.new ≡ record self.old { buffers = record self.old.buffers { name = None; text = None } })) }
         ensures err { OnErr result (self.new ≡ self.old) }
+        ensures data { OnErr result (IsSome self.old.buffers.text) }
         ensures reason { IfErr result (λ reason. reason ≡ Reason.OutOfMemory) }
     {
         let Some(data) = self.text.take() else {
@@ -327,6 +333,11 @@ impl EventReader {
         ensures err { OnErr result (self.new ≡ self.old) }
         ensures too_large { IfErr result (λ e. e ≡ EventError.TooLarge → self.old.max_data
             < event_text_len (after_event_field self.old.buffers (event_field_name text.now) (event_field_value text.now)).text) }
+        ensures asks { OnErr result (AsksForEventField self.old.buffers
+            (event_field_name text.now) (event_field_value text.now)) }
+        ensures small { IfErr result (λ e. (reason : _) → e ≡ EventError.Refused reason
+            → event_text_len (after_event_field self.old.buffers (event_field_name text.now) (event_field_value text.now)).text
+            ≤ self.old.max_data) }
         ensures utf8 { IfErr result (λ e. e ≢ EventError.NotUtf8) }
         ensures reason { IfErr result (λ e. (reason : _) → e ≡ EventError.Refused reason
             → reason ≡ Reason.OutOfMemory) }
@@ -356,6 +367,9 @@ impl EventReader {
         ensures err { OnErr result (self.new ≡ self.old) }
         ensures too_large { IfErr result (λ e. e ≡ EventError.TooLarge
             → self.old.max_data < length (with_event_line self.old.buffers.text value.now)) }
+        ensures asks { OnErr result (AsksForEventData self.old.buffers.text value.now) }
+        ensures small { IfErr result (λ e. (reason : _) → e ≡ EventError.Refused reason
+            → length (with_event_line self.old.buffers.text value.now) ≤ self.old.max_data) }
         ensures utf8 { IfErr result (λ e. e ≢ EventError.NotUtf8) }
         ensures reason { IfErr result (λ e. (reason : _) → e ≡ EventError.Refused reason
             → reason ≡ Reason.OutOfMemory) }
@@ -399,6 +413,7 @@ fn add_line(alloc: Global, so_far: &mut Option<Data>, line: &Str, value: &str) -
     ensures ok { OnOk result
         (event_data_if_any so_far.new ≡ Some (with_event_line (event_data_if_any so_far.old) value.now)) }
     ensures err { OnErr result (event_data_if_any so_far.new ≡ event_data_if_any so_far.old) }
+    ensures asks { OnErr result (AsksForEventData (event_data_if_any so_far.old) value.now) }
     ensures reason { IfErr result (λ reason. reason ≡ Reason.OutOfMemory) }
 {
     let more = match so_far {
@@ -481,6 +496,7 @@ fn event_value_of(text: &str) -> &str
 fn event_name_of(line: &Str, end: &str) -> Result<Option<Str>, Reason>
     requires { IsEndOfEventLine line.now end.now }
     ensures ok { IfOk result (λ name. name ≡ event_name_of end.now) }
+    ensures some { OnErr result (0 < length end.now) }
     ensures reason { IfErr result (λ reason. reason ≡ Reason.OutOfMemory) }
 {
     if end.is_empty() {
@@ -493,6 +509,7 @@ fn event_name_of(line: &Str, end: &str) -> Result<Option<Str>, Reason>
 fn end_of_event_line(line: &Str, end: &str) -> Result<Str, Reason>
     requires { IsEndOfEventLine line.now end.now }
     ensures ok { IfOk result (λ text. text ≡ end.now) }
+    ensures some { OnErr result (0 < length end.now) }
     ensures reason { IfErr result (λ reason. reason ≡ Reason.OutOfMemory) }
 {
     line.slice_from(line.len() - end.len())

@@ -132,7 +132,7 @@ impl<D: Decoder> Framed<D> {
     /// Returns the next item at the end of the stream: also one that is ended by that alone. Returns
     /// `None` if there is none. Fails as the decoder does; then the call can be made again.
     pub fn last_item(&mut self) -> Result<Option<D::Item>, D::Error>
-        ensures step { DecodesAtEnd D.gives D.fails D.keeps self.old result self.new }
+        ensures step { DecodesAtEnd D.gives D.fails D.fails_at_end D.keeps self.old result self.new }
     {
         self.decoder.decode_eof(self.alloc, &mut self.held)
     }

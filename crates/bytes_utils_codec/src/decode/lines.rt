@@ -1,11 +1,10 @@
 //! Lines as texts.
-ghost use Rattle.std.specs.Prelude.{◌≡◌, ◌↔◌, ◌+◌, ◌<◌, ◌≤◌, [], length, take, drop, slice_index, false, true, Ok, IfErr, IfOk, IsOk, IsTrue, IsUtf8, OnErr, OnOk};
+ghost use Rattle.std.specs.Prelude.{◌≡◌, ◌↔◌, ◌+◌, ◌<◌, ◌≤◌, ℕ, List, [], length, take, drop, slice_index, false, true, Ok, IfErr, IfOk, IsOk, IsTrue, IsUtf8, OnErr, OnOk};
 ghost use Rattle.std.specs.List.{concat};
 ghost use Rattle.std.specs.Str.Lossy.{utf8_lossy};
 ghost use Rattle.bytes_utils.specs.Lines.{IsWithoutReturn, carriage_return};
-ghost use Rattle.bytes_utils_codec.specs.Decoding.{Decodes, decoding, passed};
-ghost use Rattle.bytes_utils_codec.specs.Delimited.{fails_delimited};
-ghost use Rattle.bytes_utils_codec.specs.LineReading.{AwaitsLine, IsLastLineOf, IsLineOf, IsTextLineItem, LineReadingLaw, TakesLastLine, TakesLineItem, WholeLineReadingLaw, fails_line, frames_of_lines, gives_line, keeps_line, line_reading, ready_line};
+ghost use Rattle.bytes_utils_codec.specs.Decoding.{decoding, passed};
+ghost use Rattle.bytes_utils_codec.specs.LineReading.{AwaitsLine, IsLastLineOf, IsLineOf, IsTextLineItem, LineReadingLaw, TakesLastLine, TakesLineItem, WholeLineReadingLaw, fails_line, fails_line_at_end, gives_line, keeps_line, line_reading, ready_line};
 ghost use Rattle.bytes_utils_codec.specs.StreamLines.{FirstStreamLinesLaw, SameStreamLinesLaw, TextStreamLinesLaw};
 ghost use Rattle.bytes_utils_codec.specs.LineReadingLaws.{line_same, line_single, line_stable, line_waits};
 
@@ -89,7 +88,7 @@ pub(crate) type Line = Result<Str, LineFault>;
 /// While it waits, bytes are not searched again, and no memory is asked for. A line that lies in
 /// one segment shares it, wherever its end is: a piece of more than 512 bytes, or a block of copied
 /// ones. Any other is copied into one block. `OutOfMemory` comes only for a line within the limit
-/// that has come, or at the end of the stream for the last one.
+/// that has come and isn't empty, or at the end of the stream for the last one.
 #[derive(Debug, Drop)]
 pub struct Lines {
     frames: Delimited,
@@ -166,7 +165,8 @@ impl Lines {
             ≡ passed ready_line (len + length self.old.frames.separator)
             (decoding self.old held.old)) }
         ensures err { OnErr result (decoding self.new held.new ≡ decoding self.old held.old) }
-        ensures some { OnErr result (0 < len) }
+        ensures some { OnErr result ((line : List ℕ)
+            × IsWithoutReturn line (take len (concat held.old.held.segments)) × (0 < length line)) }
         ensures reason { IfErr result (λ reason. reason ≡ Reason.OutOfMemory) }
     {
         let text_len = len_without_return(held, len);
@@ -202,18 +202,13 @@ impl Decoder for Lines {
 
     ghost fails = { fails_line };
 
+    ghost fails_at_end = { fails_line_at_end };
+
     ghost keeps = { keeps_line };
 
     ghost restarted = { ready_line };
 
-    fn decode(&mut self, alloc: Global, held: &mut PackedBuf) -> Result<Option<Line>, Reason>
-        ensures step { Decodes gives_line AwaitsLine fails_line keeps_line
-            (decoding self.old held.old) result (decoding self.new held.new) }
-
-        // Before the end of the stream memory is asked for only for a line that has come.
-        ensures before_end { IfErr result
-            (fails_delimited (frames_of_lines (decoding self.old held.old))) }
-    {
+    fn decode(&mut self, alloc: Global, held: &mut PackedBuf) -> Result<Option<Line>, Reason> {
         self.take_line(alloc, held)
     }
 

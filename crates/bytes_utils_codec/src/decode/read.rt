@@ -31,7 +31,8 @@ impl<D: Decoder> Framed<D> {
             (R.remaining input.old) (R.remaining input.new) self.old (Last None) self.new)) }
         ensures none_lost { OnErr result (ReadsMore D.gives
             (R.remaining input.old) (R.remaining input.new) self.old self.new) }
-        ensures due { IfErr result (IsItemDue D.gives D.fails self.new) }
+        ensures due { IfErr result
+            (IsItemDue D.gives D.fails D.fails_at_end (R.remaining input.new) self.new) }
 
         // If an item is held, nothing is read, and the only error is the decoder's.
         ensures unread { (item : D.Item) (after : Decoding D)
@@ -81,7 +82,7 @@ impl<D: Decoder> Framed<D> {
     /// Returns the item that the end of the input ends.
     fn end_item(&mut self) -> Result<Option<D::Item>, ReadItemError<D::Error>>
         requires { LacksItem D.gives self.old }
-        ensures { ReadItemTakesLast D.gives D.fails self.old result self.new }
+        ensures { ReadItemTakesLast D.gives D.fails D.fails_at_end self.old result self.new }
     {
         match self.last_item() {
             Ok(last) => Ok(last),

@@ -1,8 +1,8 @@
 //! Lines as texts, each ended by a line feed, a carriage return, or both.
-ghost use Rattle.std.specs.Prelude.{◌≡◌, ◌<◌, true, IfErr, IfOk, IfNone, IfSome, MatchBool, OnErr, OnOk, length, take, drop, slice_index};
+ghost use Rattle.std.specs.Prelude.{◌≡◌, ◌<◌, true, IfOk, IfNone, IfSome, MatchBool, OnErr, OnOk, length, take, drop, slice_index};
 ghost use Rattle.std.specs.List.{concat};
 ghost use Rattle.bytes_utils_codec.specs.Decoding.{Decodes, decoding};
-ghost use Rattle.bytes_utils_codec.specs.UniversalReading.{AwaitsUniversal, UniversalReadingFinds, HasUniversalLine, IsUniversalComing, PassesLongUniversal, SkipsUniversal, StopsUniversal, TakesUniversal, UniversalReadingLaw, WholeUniversalReadingLaw, after_universal_end, after_universal_feed, dropped_universal, fails_universal, gives_universal, keeps_universal, ready_universal, skipping_universal, universal_reading};
+ghost use Rattle.bytes_utils_codec.specs.UniversalReading.{AwaitsUniversal, UniversalReadingFinds, IsUniversalComing, PassesLongUniversal, SkipsUniversal, StopsUniversal, TakesUniversal, UniversalReadingLaw, WholeUniversalReadingLaw, after_universal_end, after_universal_feed, dropped_universal, fails_universal, fails_universal_at_end, gives_universal, keeps_universal, ready_universal, skipping_universal, universal_reading};
 ghost use Rattle.bytes_utils_codec.specs.UniversalReadingLaws.{universal_same, universal_single, universal_stable, universal_waits};
 ghost use Rattle.bytes_utils_codec.specs.UniversalLines.{AllUniversalLinesLaw, SameUniversalLinesLaw, TextUniversalLinesLaw};
 
@@ -248,6 +248,8 @@ impl Decoder for UniversalLines {
 
     ghost fails = { fails_universal };
 
+    ghost fails_at_end = { fails_universal_at_end };
+
     ghost keeps = { keeps_universal };
 
     ghost restarted = { ready_universal };
@@ -255,9 +257,6 @@ impl Decoder for UniversalLines {
     fn decode(&mut self, alloc: Global, held: &mut PackedBuf) -> Result<Option<Line>, Reason>
         ensures step { Decodes gives_universal AwaitsUniversal fails_universal keeps_universal
             (decoding self.old held.old) result (decoding self.new held.new) }
-
-        // Before the end of the stream memory is asked for only for a line that has come.
-        ensures before_end { IfErr result (λ reason. HasUniversalLine (decoding self.old held.old)) }
 
         // Of bytes that wait each was searched.
         ensures stops { IfOk result (λ next. IfNone next

@@ -59,10 +59,14 @@ returns-in-Err-clause-due c reason is = (
   c.loop-line.self,
   c.loop-line.invariant,
   inr (record {
-    line = c.in-Some.line;
-    taken = c.next_line.new.self;
-    takes = rw c.in-Some.is at c.in_ok-line.ensures.line;
-    utf8 = rw c.in-Some.is at c.in_ok-line.ensures.utf8;
-    waits = ap (λ (r : Eventing). record r { waiting = Some c.in-Some.line }) (c.self.view_is ∙ c.in-Err.ensures.err);
+    awaits = record {
+      line = c.in-Some.line;
+      taken = c.next_line.new.self;
+      takes = rw c.in-Some.is at c.in_ok-line.ensures.line;
+      utf8 = rw c.in-Some.is at c.in_ok-line.ensures.utf8;
+      waits = ap (λ (r : Eventing). record r { waiting = Some c.in-Some.line }) (c.self.view_is ∙ c.in-Err.ensures.err);
+    };
+    asks = c.in-Err.ensures.asks;
+    small = c.in-Err.ensures.small reason is;
   }),
 )

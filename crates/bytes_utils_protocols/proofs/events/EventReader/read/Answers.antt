@@ -3,7 +3,7 @@ use Rattle.std.proofs.lemmas.Bool.{false≢true}
 use Rattle.std.proofs.lemmas.List.{nil_from_length}
 use Rattle.std.proofs.lemmas.Result.{err_from_is_err_and}
 use Rattle.bytes_utils_protocols.specs.Events.{Eventing, IsEndOfEventLine, event_content}
-use Rattle.bytes_utils_protocols.proofs.EventsLemmas.{content_end, does_empty, does_field, field_too_large, if_none}
+use Rattle.bytes_utils_protocols.proofs.EventsLemmas.{asks_empty, asks_field, content_end, does_empty, does_field, field_not_large, field_too_large, if_none}
 use Rattle.bytes_utils_protocols.proofs.events.EventReader.read.Goals as goal
 use Rattle.bytes_utils_protocols.proofs.events.EventReader.read.Goals.{then-is_empty+in_ok-event, else-is_empty+in_ok-read_field}
 
@@ -41,3 +41,47 @@ returns-in_err-read_field-clause-too_large c =
     let some : text ≢ [] = λ empty. false≢true (sym c.if-is_empty.false ∙ c.is_empty.ensures ∙ ap (λ l. length l == 0) empty) in
     let out = err_from_is_err_and c.from_residual-in_err-read_field.result c.from_residual-in_err-read_field.ensures.1 in
     rw out.1 (λ is. field_too_large old line text is_content some (c.in_err-read_field.ensures.too_large (sym out.2 ∙ is)))
+
+pub returns-in_err-event-clause-asks : goal.returns-in_err-event-clause-asks
+returns-in_err-event-clause-asks c =
+    let old = c.args.self.now in
+    let line = c.args.line.now in
+    let text = c.event_content-text.result.now in
+    let is_content : text ≡ event_content old.at_start line =
+    c.event_content-text.ensures ∙ ap (event_content c.self.inside.at_start) c.as_str.ensures.value ∙ ap (λ (r : Eventing). event_content r.at_start line) c.self.view_is in
+    let zero : length text ≡ 0 = search (rules, tests) in
+    let out = err_from_is_err_and c.from_residual.result c.from_residual.ensures.1 in
+    rw out.1 (asks_empty old line text is_content (nil_from_length _ zero) c.in_err-event.ensures.data)
+
+pub returns-in_err-event-clause-small : goal.returns-in_err-event-clause-small
+returns-in_err-event-clause-small c =
+    let old = c.args.self.now in
+    let line = c.args.line.now in
+    let text = c.event_content-text.result.now in
+    let is_content : text ≡ event_content old.at_start line =
+    c.event_content-text.ensures ∙ ap (event_content c.self.inside.at_start) c.as_str.ensures.value ∙ ap (λ (r : Eventing). event_content r.at_start line) c.self.view_is in
+    let zero : length text ≡ 0 = search (rules, tests) in
+    let out = err_from_is_err_and c.from_residual.result c.from_residual.ensures.1 in
+    rw out.1 (λ reason is large. large.0 (sym is_content ∙ nil_from_length _ zero))
+
+pub returns-in_err-read_field-clause-asks : goal.returns-in_err-read_field-clause-asks
+returns-in_err-read_field-clause-asks c =
+    let old = c.args.self.now in
+    let line = c.args.line.now in
+    let text = c.event_content-text.result.now in
+    let is_content : text ≡ event_content old.at_start line =
+    c.event_content-text.ensures ∙ ap (event_content c.self.inside.at_start) c.as_str.ensures.value ∙ ap (λ (r : Eventing). event_content r.at_start line) c.self.view_is in
+    let some : text ≢ [] = λ empty. false≢true (sym c.if-is_empty.false ∙ c.is_empty.ensures ∙ ap (λ l. length l == 0) empty) in
+    let out = err_from_is_err_and c.from_residual-in_err-read_field.result c.from_residual-in_err-read_field.ensures.1 in
+    rw out.1 (asks_field old line text is_content some c.in_err-read_field.ensures.asks)
+
+pub returns-in_err-read_field-clause-small : goal.returns-in_err-read_field-clause-small
+returns-in_err-read_field-clause-small c =
+    let old = c.args.self.now in
+    let line = c.args.line.now in
+    let text = c.event_content-text.result.now in
+    let is_content : text ≡ event_content old.at_start line =
+    c.event_content-text.ensures ∙ ap (event_content c.self.inside.at_start) c.as_str.ensures.value ∙ ap (λ (r : Eventing). event_content r.at_start line) c.self.view_is in
+    let some : text ≢ [] = λ empty. false≢true (sym c.if-is_empty.false ∙ c.is_empty.ensures ∙ ap (λ l. length l == 0) empty) in
+    let out = err_from_is_err_and c.from_residual-in_err-read_field.result c.from_residual-in_err-read_field.ensures.1 in
+    rw out.1 (λ reason is. field_not_large old line text is_content some (c.in_err-read_field.ensures.small reason (sym out.2 ∙ is)))

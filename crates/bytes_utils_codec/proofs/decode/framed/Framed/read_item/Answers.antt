@@ -11,7 +11,8 @@ returns-in_err-held-clause-none_lost g c =
 
 pub returns-in_err-held-clause-due : goal.returns-in_err-held-clause-due
 returns-in_err-held-clause-due g c =
-    let due = held_due g.D.Decoder.gives g.D.Decoder.fails c.args.self.now c.held_item.new.self c.in_err-held.field-0.0 c.in_err-held.ensures in search rules
+    let due = held_due g.D.Decoder.gives g.D.Decoder.fails c.args.self.now c.held_item.new.self g.D.Decoder.fails_at_end (g.R.Read.remaining c.args.input.now)
+    c.in_err-held.field-0.0 c.in_err-held.ensures in search rules
 
 pub loop-init : goal.loop-init
 loop-init g c =
@@ -33,24 +34,26 @@ returns-then-not-branch-clause-item g c =
     let gives = g.D.Decoder.gives in
     let reads = ReadsMore-read gives c.loop.invariant.reads (g.R.Read.remaining c.read_more.new.input) c.read_more.new.self c.read_more.ensures.read in
     let ends : IsAtEnd (g.R.Read.remaining c.read_more.new.input) = search rules in
-    last_some gives g.D.Decoder.fails c.read_more.new.self c.end_item.new.self reads ends c.end_item.result c.end_item.ensures
+    last_some gives g.D.Decoder.fails g.D.Decoder.fails_at_end c.read_more.new.self c.end_item.new.self reads ends c.end_item.result c.end_item.ensures
 
 pub returns-then-not-branch-clause-end : goal.returns-then-not-branch-clause-end
 returns-then-not-branch-clause-end g c =
     let gives = g.D.Decoder.gives in
     let reads = ReadsMore-read gives c.loop.invariant.reads (g.R.Read.remaining c.read_more.new.input) c.read_more.new.self c.read_more.ensures.read in
     let ends : IsAtEnd (g.R.Read.remaining c.read_more.new.input) = search rules in
-    last_none gives g.D.Decoder.fails c.read_more.new.self c.end_item.new.self reads ends c.end_item.result c.end_item.ensures
+    last_none gives g.D.Decoder.fails g.D.Decoder.fails_at_end c.read_more.new.self c.end_item.new.self reads ends c.end_item.result c.end_item.ensures
 
 pub returns-then-not-branch-clause-none_lost : goal.returns-then-not-branch-clause-none_lost
 returns-then-not-branch-clause-none_lost g c =
     let gives = g.D.Decoder.gives in
     let reads = ReadsMore-read gives c.loop.invariant.reads (g.R.Read.remaining c.read_more.new.input) c.read_more.new.self c.read_more.ensures.read in
-    last_lost gives g.D.Decoder.fails c.read_more.new.self c.end_item.new.self reads c.end_item.result c.end_item.ensures
+    last_lost gives g.D.Decoder.fails g.D.Decoder.fails_at_end c.read_more.new.self c.end_item.new.self reads c.end_item.result c.end_item.ensures
 
 pub returns-then-not-branch-clause-due : goal.returns-then-not-branch-clause-due
 returns-then-not-branch-clause-due g c =
-    last_due g.D.Decoder.gives g.D.Decoder.fails c.read_more.new.self c.end_item.new.self c.end_item.result c.end_item.ensures
+    let ends : IsAtEnd (g.R.Read.remaining c.read_more.new.input) = search rules in
+    last_due g.D.Decoder.gives g.D.Decoder.fails g.D.Decoder.fails_at_end c.read_more.new.self c.end_item.new.self (g.R.Read.remaining c.read_more.new.input) ends
+    c.end_item.result c.end_item.ensures
 
 pub returns-in_err-item-clause-none_lost : goal.returns-in_err-item-clause-none_lost
 returns-in_err-item-clause-none_lost g c =
@@ -61,7 +64,8 @@ returns-in_err-item-clause-none_lost g c =
 
 pub returns-in_err-item-clause-due : goal.returns-in_err-item-clause-due
 returns-in_err-item-clause-due g c =
-    let due = held_due g.D.Decoder.gives g.D.Decoder.fails c.read_more.new.self c.held_item-in-loop.new.self c.in_err-item.field-0.0 c.in_err-item.ensures in
+    let due = held_due g.D.Decoder.gives g.D.Decoder.fails c.read_more.new.self c.held_item-in-loop.new.self g.D.Decoder.fails_at_end (g.R.Read.remaining c.read_more.new.input)
+    c.in_err-item.field-0.0 c.in_err-item.ensures in
     search rules
 
 pub loop-preserved : goal.loop-preserved
