@@ -39,7 +39,7 @@ fn shown_slices<B: BufParts>(
     buf: &B,
     places: usize,
 ) -> Result<Vec<Vec<u8>>, AllocError>
-    ensures { IfOk result
+    ensures slices { IfOk result
         (λ slices. AreCallSlices places (map (λ s. s.items) slices.items) (B.unread buf.now)) }
     ensures places { IfErr result (λ _. 0 < places) }
     ensures bytes { IfErr result (λ _. 0 < length (B.unread buf.now)) }
