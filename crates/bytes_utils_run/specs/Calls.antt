@@ -1,7 +1,7 @@
 -- Lists of calls on a buffer, and the replies to them. The lists of bytes below are the unread bytes of each segment of
 -- a `SegmentedBuf`, first segment first. For `read_calls` every buffer, segmented or not, is one list, or none if it is
 -- empty.
-use Rattle.std.specs.Prelude.{◌≡◌, ◌⊎◌, ℕ, ◌+◌, ◌^◌, ◌<◌, ◌≤◌, List, [], ◌∷◌, Option, None, Some, Bool, true, false, length, map, take, ⊤}
+use Rattle.std.specs.Prelude.{◌≡◌, ◌⊎◌, ℕ, ◌+◌, ◌^◌, ◌<◌, ◌≤◌, List, [], ◌∷◌, Option, None, Some, Bool, true, false, length, map, take}
 use Rattle.std.specs.List.{concat}
 use Rattle.bytes.specs.Unread.{IsChunkOf}
 use Rattle.bytes_utils_buf.specs.Copies.{CountsCopy}

@@ -45,11 +45,11 @@ fn shown_slices<B: BufParts>(
     ensures bytes { IfErr result (λ _. 0 < length (B.unread buf.now)) }
 {
     let empty: &[u8] = &[];
-    let places = places.min(buf.remaining());
-    if places == 0 {
+    let len = places.min(buf.remaining());
+    if len == 0 {
         return Ok(Vec::new(alloc));
     }
-    let mut table = vec![in alloc; empty; places]?;
+    let mut table = vec![in alloc; empty; len]?;
     let filled = buf.chunks_into(&mut table);
     shown_copies(alloc, &table[..filled])
 }
