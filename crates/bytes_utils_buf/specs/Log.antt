@@ -9,4 +9,4 @@ counted_in_log Start = nothing_counted
 counted_in_log (Given' count dropped m before) =
     let t = counted_in_log before in record { given = t.given + count; dropped = t.dropped + dropped; calls = t.calls; turns = t.turns }
 counted_in_log (Called' m before) = let t = counted_in_log before in record { given = t.given; dropped = t.dropped; calls = t.calls + 1; turns = t.turns }
-counted_in_log (Turned' m before) = let t = counted_in_log before in record { given = t.given; dropped = t.dropped; calls = t.calls; turns = t.turns + 1 }
+counted_in_log (Turned' count m before) = let t = counted_in_log before in record { given = t.given; dropped = t.dropped; calls = t.calls; turns = t.turns + count }

@@ -13,7 +13,7 @@ enum Log {
     Start,
     Given(usize, usize, Snapshot<Log>),
     Called(Snapshot<Log>),
-    Turned(Snapshot<Log>),
+    Turned(usize, Snapshot<Log>),
 }
 
 /// Counts of segments given, of those dropped at once, of calls and of turns. It has no bytes at
@@ -64,8 +64,15 @@ impl Tally {
     pub(crate) fn turn(&mut self)
         ensures { self.new ≡ record self.old { turns = self.old.turns + 1 } }
     {
+        self.turns(1);
+    }
+
+    /// Counts a turn for each of `count` segments that are passed at once.
+    pub(crate) fn turns(&mut self, count: usize)
+        ensures { self.new ≡ record self.old { turns = self.old.turns + count } }
+    {
         let before = replace(&mut self.log, Snapshot::of(&Log::Start));
-        self.log = Snapshot::of(&Log::Turned(before));
+        self.log = Snapshot::of(&Log::Turned(count, before));
     }
 }
 
