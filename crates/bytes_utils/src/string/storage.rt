@@ -23,7 +23,7 @@ pub trait Storage: Sized + Drop {
     // The reasons for which it may refuse.
     ghost refuses: { Reason → Type 0 } = { λ _. ⊤ };
 
-    // Those for which it may refuse what stores no bytes: to be made of none, or to be split at its start.
+    // Those for which it may refuse what stores no bytes: to be made of none, or to be split at an end.
     ghost refuses_empty: { Reason → Type 0 } = { λ _. ⊤ };
 
     // Those for which it may refuse to return one side alone.
@@ -49,13 +49,14 @@ pub trait Storage: Sized + Drop {
 
     /// Splits the storage into the bytes before `at` and those from `at` on. Requires that `at` is
     /// at most the number of bytes (test: `as_bytes().len()`). Fails with a reason that `refuses`
-    /// allows, and at 0 `refuses_empty` too; then the storage comes back.
+    /// allows, and at 0 or at the number of bytes `refuses_empty` too; then the storage comes back.
     fn split_at(self, at: usize) -> Result<(Self, Self), Refused<Self>>
         requires { at ≤ length (stored self) }
         ensures left { IfOk result (λ pieces. stored pieces.0 ≡ take at (stored self)) }
         ensures right { IfOk result (λ pieces. stored pieces.1 ≡ drop at (stored self)) }
         ensures err { IfErr result (λ e. stored e.back ≡ stored self) }
         ensures none { at ≡ 0 → IfErr result (λ e. refuses_empty e.reason) }
+        ensures all { at ≡ length (stored self) → IfErr result (λ e. refuses_empty e.reason) }
         ensures reason { IfErr result (λ e. refuses e.reason) };
 
     /// Returns the bytes before `at` alone: the first piece of `split_at`, or a cheaper way. Requires

@@ -98,7 +98,7 @@ impl<S: Storage> StrInner<S> {
 
     /// Splits the text into the text before byte `at` and the text from it on. Requires that `at`
     /// is a character boundary (test: `as_str().is_char_boundary`). Fails with the storage's reason
-    /// (`OutOfMemory` for `Str` and `StrMut`, never at 0); then the text comes back.
+    /// (`OutOfMemory` for `Str` and `StrMut`, never at 0 or at the end); then the text comes back.
     #[inline]
     #[tactic(auto, using(crate::proofs::Building::pieces))]
     pub fn split_at_bytes(self, at: usize) -> Result<(Self, Self), Refused<Self>>
@@ -107,6 +107,7 @@ impl<S: Storage> StrInner<S> {
         ensures right { IfOk result (λ halves. halves.1 ≡ drop at self) }
         ensures err { IfErr result (λ e. e.back ≡ self) }
         ensures none { at ≡ 0 → IfErr result (λ e. S.refuses_empty e.reason) }
+        ensures all { at ≡ length self → IfErr result (λ e. S.refuses_empty e.reason) }
         ensures reason { IfErr result (λ e. S.refuses e.reason) }
     {
         let StrInner { storage } = self;

@@ -43,6 +43,11 @@ impl Storage for BytesMut {
 
     #[inline]
     fn split_at(mut self, at: usize) -> Result<(Self, Self), Refused<Self>> {
+        if at == self.len() {
+            // The room for more bytes stays with those that are there.
+            let alloc = *self.allocator();
+            return Ok((self, BytesMut::new(alloc)));
+        }
         match self.split_to(at) {
             Ok(left) => Ok((left, self)),
             Err(_) => Err(Refused {
