@@ -1,5 +1,5 @@
 //! Texts as JSON: written as a JSON string, and read from a string or from a list of bytes.
-ghost use Rattle.std.specs.Prelude.{◌≡◌, ◌≢◌, ◌⊎◌, Ok, Err, ◌↔◌, ℕ, ◌<◌, List, All, map, Some, IfOk, IfErr, IfSome, IfNone, string_bytes, encode_utf8_all};
+ghost use Rattle.std.specs.Prelude.{◌≡◌, ◌≢◌, ◌⊎◌, Ok, Err, ◌↔◌, ℕ, ◌<◌, List, [], All, map, Some, IfOk, IfErr, IfSome, IfNone, string_bytes, encode_utf8_all};
 ghost use Rattle.std.specs.Str.{chars};
 ghost use Rattle.serde_json.specs.Read.{read};
 ghost use Rattle.serde_json.specs.View.{view};
@@ -40,6 +40,7 @@ fn json_value_of(alloc: Global, json: &str) -> Result<Value, JsonRefused>
     ensures ok { IfOk result (λ value. read json.now ≡ Some (view value)) }
     ensures err { IfErr result
         (λ e. (e ≡ JsonRefused.OutOfMemory) ⊎ ((e ≡ JsonRefused.NotJson) × IsNotJson json.now)) }
+    ensures empty { json.now ≡ [] → result ≡ Err JsonRefused.NotJson }
 {
     match Value::from_str(alloc, json) {
         Ok(value) => Ok(value),
@@ -95,7 +96,7 @@ where
     /// Reads a text from JSON (RFC 8259): from a string, or from a list of the bytes of its UTF-8.
     /// The JSON is what `serde_json` reads as one value over the whole text. Requires that a
     /// creator's bytes are those of its text, as for `Str` and `StrMut`. Fails with a
-    /// `JsonRefused`.
+    /// `JsonRefused`; for an empty `json` always with `NotJson`.
     pub fn from_json(alloc: Global, json: &str) -> Result<Self, JsonRefused>
         requires creator { (c : S.Creator) → S.created c ≡ S.Creator.stored c }
         ensures ok { IfOk result (λ text. JsonHoldsText json.now text) }
@@ -110,6 +111,9 @@ where
             → ((result ≡ Err JsonRefused.NotText) ↔ JsonHoldsNoBytes json.now) }
         ensures not_utf8 { result ≢ Err JsonRefused.OutOfMemory
             → ((result ≡ Err JsonRefused.NotUtf8) ↔ JsonHoldsOtherBytes json.now) }
+
+        // No bytes are no JSON, and need no memory.
+        ensures empty { json.now ≡ [] → result ≡ Err JsonRefused.NotJson }
     {
         let value = json_value_of(alloc, json)?;
         Self::from_json_value(alloc, &value)
