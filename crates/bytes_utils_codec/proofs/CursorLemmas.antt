@@ -63,6 +63,14 @@ module _ (p old : List ℕ) where
   pub HasFrameWithin-first : (most n : ℕ) → n + length p ≤ length old → OccursFirstAt p old n → 0 < n → n ≤ most → HasFrameWithin most p old
   HasFrameWithin-first most n fits first some within = HasFrameWithin-taken most p old n fits (TakesFrame-first n fits first) some within
 
+  -- a needle within the limit ends a front within it
+  pub found_within : (most n : ℕ) → 0 < length p → OccursFirstAt p old n → n ≤ most → ¬ CursorHasNoFrameWithin most p old
+  found_within most n some first within none =
+      let fits = OccursAt-fits p old n some first.here in
+      let rest = drop (n + length p) old in
+      let takes = subst (λ bytes. TakesFrame p bytes (take n old) rest) (sym (append-nil old)) (TakesFrame-first n fits first) in
+      omega (arith, within, length-take-le n old (omega (arith, fits)), none [] (take n old) rest takes)
+
   module _ (most : ℕ) (some : 0 < length p) (none : (n : ℕ) → OccursAt p old n → most < n) where
     -- all places within the limit have come, and the needle begins at none of them
     pub CursorHasNoFrameWithin-none : most + length p ≤ length old → CursorHasNoFrameWithin most p old

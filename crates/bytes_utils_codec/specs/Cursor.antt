@@ -1,7 +1,7 @@
 -- Reading on in held bytes, which stay held.
 use Rattle.std.specs.Prelude.{◌≡◌, ◌≢◌, ℕ, ◌+◌, ◌<◌, ◌≤◌, List, [], ◌∷◌, ◌++◌, length, take, drop, Option, None, Some, Result, IfOk, IfSome, IfNone, OnErr}
 use Rattle.std.specs.List.{concat}
-use Rattle.bytes_utils_buf.specs.Segments.{HeldSegments, SkipsSegments, newly_held, take_from_segments}
+use Rattle.bytes_utils_buf.specs.Segments.{HeldSegments, IsInOneSegment, SkipsSegments, newly_held, take_from_segments}
 use Rattle.bytes_utils.specs.Occurrence.{OccursAt, OccursFirstAt}
 use Rattle.bytes_utils_codec.specs.Frames.{TakesFrame}
 use Rattle.bytes_utils_codec.specs.StreamLines.{TakesStreamLine}
@@ -24,6 +24,10 @@ pub record AreNextSegments (len : ℕ) (reading : CursorReading) (part : HeldSeg
   pub rest : List (List ℕ)
   pub skips : SkipsSegments reading.at reading.segments rest
   pub are : part ≡ newly_held (take_from_segments len rest)
+
+-- one segment has all of the next n bytes
+abbrev pub AreInOneSegment : ℕ → CursorReading → Type 0
+AreInOneSegment n reading = IsInOneSegment reading.at (reading.at + n) reading.segments
 
 -- the old bytes are a front of this length, and the rest
 pub record CursorTakesFirst (len : ℕ) (old front rest : List ℕ) : Type 0 where

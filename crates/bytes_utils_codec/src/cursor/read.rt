@@ -1,7 +1,7 @@
 //! Bytes at a cursor that are only read: borrowed from the buffer where they are in one segment.
-ghost use Rattle.std.specs.Prelude.{◌≡◌, ◌+◌, ◌<◌, ◌≤◌, length, take, IsOk, IfOk, IfErr, IfSome, IfNone, OnErr};
+ghost use Rattle.std.specs.Prelude.{◌≡◌, ℕ, ◌+◌, ◌<◌, ◌≤◌, length, take, IsOk, IfOk, IfErr, IfSome, IfNone, OnErr};
 ghost use Rattle.std.specs.Cow.{cow_slice_items};
-ghost use Rattle.bytes_utils_codec.specs.Cursor.{CursorHasNoFrameWithin, CursorReadsPart, CursorTakesFirst, passed_on, unread};
+ghost use Rattle.bytes_utils_codec.specs.Cursor.{AreInOneSegment, CursorHasNoFrameWithin, CursorReadsPart, CursorTakesFirst, passed_on, unread};
 ghost use Rattle.bytes_utils_codec.specs.Frames.{HasFrame, HasFrameWithin, TakesFrame};
 ghost use Rattle.bytes_utils.specs.Occurrence.{Occurs, OccursFirstAt};
 
@@ -12,12 +12,13 @@ use std::borrow::CowSlice;
 
 impl<'a, B: ContiguousBuf + Drop> Cursor<'a, B> {
     /// As `take`, for bytes that are only read, as those of a length. They are borrowed from the
-    /// buffer if one segment has them all, and else copied into one `Vec`.
+    /// buffer if one segment has them all, and else copied into one `Vec`. Only a copy can fail.
     pub fn read(&mut self, len: usize) -> Result<Option<CowSlice<'a, u8>>, Reason>
         ensures gives { CursorReadsPart (λ part old new. CursorTakesFirst len old (cow_slice_items part) new)
             (λ bytes. length bytes < len) self.old self.new result }
         ensures reason { IfErr result (λ reason. reason ≡ Reason.OutOfMemory) }
         ensures none { len ≡ 0 → IsOk result }
+        ensures one { AreInOneSegment len self.old → IsOk result }
         ensures due { OnErr result (len ≤ length (unread self.old)) }
     {
         if self.remaining() < len {
@@ -34,6 +35,8 @@ impl<'a, B: ContiguousBuf + Drop> Cursor<'a, B> {
             (λ bytes. ¬ Occurs needle.now bytes) self.old self.new result }
         ensures reason { IfErr result (λ reason. reason ≡ Reason.OutOfMemory) }
         ensures due { OnErr result (HasFrame needle.now (unread self.old)) }
+        ensures one { (n : ℕ) → OccursFirstAt needle.now (unread self.old) n
+            → AreInOneSegment n self.old → IsOk result }
     {
         let Some(len) = self.find(needle) else {
             return Ok(None);
@@ -58,6 +61,8 @@ impl<'a, B: ContiguousBuf + Drop> Cursor<'a, B> {
             → CursorHasNoFrameWithin most needle.now (unread self.old)) }
         ensures due { IfErr result (λ reason. reason ≡ Reason.OutOfMemory
             → HasFrameWithin most needle.now (unread self.old)) }
+        ensures one { (n : ℕ) → OccursFirstAt needle.now (unread self.old) n → n ≤ most
+            → AreInOneSegment n self.old → IsOk result }
     {
         let Some(len) = self.find_within(needle, most)? else {
             return Ok(None);
@@ -76,6 +81,7 @@ impl<'a, B: ContiguousBuf + Drop> Cursor<'a, B> {
         ensures err { OnErr result (self.new ≡ self.old) }
         ensures reason { IfErr result (λ reason. reason ≡ Reason.OutOfMemory) }
         ensures some { OnErr result (0 < len) }
+        ensures one { AreInOneSegment len self.old → IsOk result }
     {
         let front = self.read_bytes(len)?;
         self.advance(needle.len());
@@ -91,6 +97,7 @@ impl<'a, B: ContiguousBuf + Drop> Cursor<'a, B> {
         ensures err { OnErr result (self.new ≡ self.old) }
         ensures reason { IfErr result (λ reason. reason ≡ Reason.OutOfMemory) }
         ensures none { len ≡ 0 → IsOk result }
+        ensures one { AreInOneSegment len self.old → IsOk result }
     {
         let bytes = self.buf.read_range(self.alloc, self.at..self.at + len)?;
         self.at += len;
