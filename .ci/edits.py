@@ -4,7 +4,7 @@ import re
 from collections import namedtuple
 from pathlib import Path
 
-from kit import CRATES, EXAMPLES, FOLDERS, ROOT, files_of
+from kit import CRATES, EXAMPLES, FOLDERS, ROOT, files_of, text_of
 from uses import below
 
 # what is said of a goal that stays open. Else a term of a proof file no longer fits, as it also may for a right body
@@ -25,7 +25,7 @@ TYPE = re.compile(r"^(?:pub(?:\([^)]*\))? )?(?:struct|enum|trait) (\w+)", re.M)
 ONLY_TAKES_APART = [("bytes_utils", "into_inner")]
 # a program's files are texts by their paths, and its folder is that of its edits; a pair is an old text and a new one
 Program = namedtuple("Program", "name uses files folder functions")
-Edit = namedtuple("Edit", "program name file functions test breaks pairs")
+Edit = namedtuple("Edit", "program name file functions test ladder breaks pairs")
 
 
 def program_of(name):
@@ -41,9 +41,10 @@ def edits_of(program, part=""):
 
 
 def edit_of(program, name, text):
-    file, test, breaks = ("".join(re.findall(rf"^{it}: (.*)$", text, re.M)) for it in ("file", "# test", "# breaks"))
+    said = lambda word: "".join(re.findall(rf"^{word}: (.*)$", text, re.M))
+    file, caught = said("file"), (said("# test"), said("# ladder"), said("# breaks"))
     pairs = re.findall(r"^old: (.+)\nnew: ?(.*)$", text, re.M)
-    return Edit(program, f"{program.name}/{name}", file, changed_by(program, file, pairs), test, breaks, pairs)
+    return Edit(program, f"{program.name}/{name}", file, changed_by(program, file, pairs), *caught, pairs)
 
 
 def files_with(edits):
@@ -104,6 +105,8 @@ def fault_of(edit):
         return f"an old text isn't in {edit.file} once, or is the new one"
     if edit.test:
         return "" if re.search(rf"\bfn {edit.test.split('::')[-1]}\b", test_of(edit)[1]) else "there is no such test"
+    if edit.ladder:
+        return "" if edit.ladder in re.split(r",?\n|, ", text_of("bench/ladder/table.txt")) else "there is no such rung"
     return "" if edit.functions else "it changes no function"
 
 
