@@ -2,7 +2,6 @@
 //! looked at, and what is left after memory is refused.
 mod buffers;
 mod contiguous;
-mod either_buf;
 mod fixtures;
 mod parts;
 mod refused;

@@ -54,7 +54,7 @@ pub(crate) fn slices_of_texts(
 }
 
 /// `JOINED` in a block of its own.
-pub(crate) fn block(rt: &(impl Abort + Alloc<A = Global>)) -> Bytes {
+fn block(rt: &(impl Abort + Alloc<A = Global>)) -> Bytes {
     Bytes::copy_from_slice(rt.alloc(), JOINED.as_bytes()).expect(rt, "memory")
 }
 

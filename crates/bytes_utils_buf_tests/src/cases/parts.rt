@@ -3,16 +3,11 @@ mod memory;
 
 use crate::cases::fixtures::odd::OddZeros;
 use crate::cases::fixtures::reading::assert_reads;
-use crate::cases::fixtures::{assert_that, block, long};
-use bytes::{Buf, Bytes};
+use crate::cases::fixtures::{assert_that, long};
+use bytes::Buf;
 use bytes_utils_buf::parts::copy_out_of;
 use std::alloc::Global;
 use std::process::Abort;
-
-#[test]
-fn buf_parts_of_bytes_are_shared(rt: HostRuntime) {
-    assert_reads(&rt, &mut block(&rt), "share Hello");
-}
 
 // No copy of many bytes is refused while there is memory.
 #[test]

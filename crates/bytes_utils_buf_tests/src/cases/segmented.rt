@@ -13,4 +13,3 @@ mod random;
 mod range;
 mod rows;
 mod slice;
-mod split;

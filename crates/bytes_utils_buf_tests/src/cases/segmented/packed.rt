@@ -1,4 +1,4 @@
-//! Pieces of a `PackedBuf`: which become one segment, what is shared, and how large a block is.
+//! Pieces of a `PackedBuf`: which become one segment, and how large a block is.
 pub(super) mod rows;
 
 use crate::cases::fixtures::reading::assert_reads;
@@ -176,33 +176,6 @@ fn packed_blocks(rt: HostRuntime) {
     assert_packed_rows(&rt, LATER_BLOCKS);
     assert_packed_rows(&rt, READ_BLOCKS);
     assert_packed_rows(&rt, MOVED);
-}
-
-// Pieces of more than the threshold are shared. Bytes taken out of one segment share it, and those of
-// two segments are copied. What is split off a block is copied. `into_shared` copies nothing.
-const SHARED: &str = "\
-0: give Hello_World 1 shared
-10: give Hello_World 1 shared
-11: give Hello_World 1 alone
-18446744073709551615: give Hello_World 1 alone
-11: give Hello_World 1, take Hel 1 shared, take lo_ 1 shared
-512: copy x*70000 1, take x*69999 1 shared
-10: give Hello_World 1, take Hel 1 shared, advance lo_Worl 1, push alongerpiece 2, take dal 1 alone
-11: give Hello_World 1, split Hel 1 alone
-10: give Hello_World 1, split Hel 1 shared
-11: give Hello_World 1, take Hel 1 = dropped lo_World
-10: give Hello_World 1, take Hel 1 = dropped lo_World
-4: push Hello 1, push _ 2, push World 3 = segments Hello|_|World";
-
-// The room of a block that was read to its end is kept for the next message, but not that of a large
-// block.
-const MESSAGES: &str = "\
-512: copy one 1, take one 0 shared, copy two 1, take two 0 shared, copy x*20000 1, take x*20000 0 alone";
-
-#[test]
-fn packed_blocks_are_shared(rt: HostRuntime) {
-    assert_packed_rows(&rt, SHARED);
-    assert_packed_rows(&rt, MESSAGES);
 }
 
 /// `Hello` and `World` as they came, and a block of one byte between them.

@@ -1,7 +1,6 @@
-//! What becomes of buffers that are passed, read to the end, or empty.
-use super::rows::assert_segmented_rows;
+//! What becomes of borrowed buffers that are passed.
 use crate::cases::fixtures::odd::OddCounter;
-use crate::cases::fixtures::{assert_that, hold, lend, shared, skip, take_out};
+use crate::cases::fixtures::{assert_that, hold, lend, skip, take_out};
 use std::alloc::Global;
 use std::process::Abort;
 
@@ -49,48 +48,6 @@ fn passed_segments_come_back_in_their_order(rt: HostRuntime) {
     assert_passed_come_back(&rt, "a|b|c|d", 1, 3);
     assert_passed_come_back(&rt, "||c|d", 0, 1);
     assert_passed_come_back(&rt, "a||c|d", 0, 1);
-}
-
-// A segment is dropped with its last byte, and not before. Empty ones are dropped by either call that
-// accepts one.
-const DROPPED: &str = "\
-give Hello_World Hello_World, advance Hello_Worl d held, advance d - free
-spend Hello - free, spend_first Hello - free
-from_vec a|b|c a|b|c, spend Hello a|b|c free";
-
-// A first segment that is taken out whole, and a chunk that comes back from a queue, have the same
-// block: a copy would have a block of its own, and a clone would be one more owner.
-const MOVED: &str = "\
-give Hello_World Hello_World, copy_out Hello_World - held, keep - - free
-give Hello_World Hello_World, drain_into_queue Hello_World - held, \
-append_queue Hello_World Hello_World held, drain_into_queue Hello_World - held, clear_queue - - free";
-
-// The first and the second piece are of one block. A part is held, and the block with it, when others
-// were taken out; and it is let go with the part.
-const PARTS: &str = "\
-give Hello|_World Hello|_World, prefix Hello|_W, slice 3/lo|_W, peek_bytes Hel, copy_range 3/lo, \
-split_to He llo|_World, split_off rld llo|_Wo, copy_to_bytes l lo|_Wo, pop lo _Wo, \
-keep _Wo _Wo held, from_vec - - free";
-
-#[test]
-fn passed_blocks_are_let_go(rt: HostRuntime) {
-    assert_segmented_rows(&rt, DROPPED);
-    assert_segmented_rows(&rt, MOVED);
-    assert_segmented_rows(&rt, PARTS);
-}
-
-// A copy would be a block of its own.
-#[test]
-fn passed_whole_front_is_moved(rt: HostRuntime) {
-    let (front, other) = shared(&rt);
-    let mut bufs = [front];
-    let taken = take_out(rt.alloc(), &mut lend(&rt, &mut bufs), other.len());
-    assert_that(
-        &rt,
-        matches!(&taken, Some(front) if *front == other) && !other.is_unique(),
-    );
-    drop(taken);
-    assert_that(&rt, other.is_unique());
 }
 
 // A segment is dropped unread: the buffers that it borrowed still have all of their bytes.

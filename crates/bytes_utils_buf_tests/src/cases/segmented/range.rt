@@ -8,13 +8,7 @@ from_vec Hello||_||World Hello|_|World, keep Hello_World, holds_at 3/lo_W, byte_
 from_vec Hello|_|World Hello|_|World, peek Hello_W, segment 2/World
 from_vec Hello|_|World Hello|_|World, read_range 1/ell . borrowed, read_range 3/lo_Wo . owned";
 
-// A range shares the segments in which it is, and a copy of it does if it is in one segment.
-const SHARED: &str = "\
-give Hello Hello, give _World Hello|_World, slice 3/lo|_Wo . all shared, copy_range 1/ell . shared, \
-copy_range 1/ello_W . alone";
-
 #[test]
 fn ranges_of_segments(rt: HostRuntime) {
     assert_segmented_rows(&rt, SEEN);
-    assert_segmented_rows(&rt, SHARED);
 }

@@ -12,12 +12,9 @@
 //! | `from_vec`, `from_deque`, `from_iter` | `ab\|c` | a buffer of these pieces takes the place of the one before |
 //! | `push`, `try_push`, `prepend` | `ab` | a piece is put in |
 //! | `extend`, `append` | `ab\|c` | pieces are put in |
-//! | `give` | `ab\|c` | pieces of one block are put in; the row keeps a share of it |
-//! | `spend`, `spend_first` | `ab` | a piece that was read to its end is put last or first; the row keeps a share |
 //! | `drain_into_queue`, `append_queue` | `abc` | all bytes, which are these, are moved to a queue, or back from it |
-//! | `clear_queue` | `-` | the queue is emptied |
 //! | `keep` | `abc` | nothing is done: these bytes are held |
-//! | `pop`, `copy_to_bytes`, `copy_out` | `ab` | these bytes come out |
+//! | `copy_out` | `ab` | these bytes come out |
 //! | `advance` | `ab` | they are passed |
 //! | `split_to`, `split_off` | `ab\|c` | these segments come off |
 //! | `rejoin` | `-` | the segments that came last are appended |
@@ -41,16 +38,11 @@
 //!
 //! | wanted | |
 //! |---|---|
-//! | `held`, `free` | the share that the row keeps has another owner of its block, or none |
-//! | `shared`, `alone` | the bytes that came have another owner, or none |
-//! | `all shared` | each of the segments that came has another owner |
 //! | `20 pieces` | twenty segments came |
 //! | `few places` | one came, in a deque with room for fewer than a hundred |
 //! | `borrowed`, `owned` | the range is borrowed, or a copy |
 use super::packed::rows::packed_row_means;
-use crate::cases::fixtures::{
-    assert_row, bytes_of_texts, fills, is_next, put, put_first, skip, take_out,
-};
+use crate::cases::fixtures::{assert_row, bytes_of_texts, fills, is_next, put, skip, take_out};
 use bytes::{Buf, Bytes, BytesQueue};
 use bytes_utils_buf::Reason;
 use bytes_utils_buf::segmented::SegmentedBuf;
@@ -71,17 +63,6 @@ fn segmented_row_len(word: &'static str) -> usize {
 /// Prints which call was refused, and returns whether it was for memory.
 fn segmented_row_refuses(rt: &impl Print, name: &str, reason: Reason) -> bool {
     println!(rt; "refused SegmentedBuf::{name}").is_ok() && reason == Reason::OutOfMemory
-}
-
-/// A block of the bytes of a word, and a share of it.
-fn segmented_row_block(alloc: Global, word: &str) -> Option<(Bytes, Bytes)> {
-    let mut bytes = Vec::new(alloc);
-    for text in word.split('|') {
-        bytes.extend_from_slice(text.as_bytes()).ok()?;
-    }
-    let block = Bytes::from_vec(bytes).ok()?;
-    let share = block.clone().ok()?;
-    Some((block, share))
 }
 
 /// Whether the chunks of a buffer are these texts, or, if not `are_all`, only the first of them.
@@ -127,10 +108,6 @@ struct SegmentedRow {
     /// What is held.
     held: &'static str,
     queue: BytesQueue,
-    /// A share of the block that was given last.
-    share: Bytes,
-    /// The bytes that came.
-    piece: Bytes,
     /// The segments that came.
     pieces: VecDeque<Bytes>,
     is_borrowed: bool,
@@ -158,40 +135,6 @@ impl SegmentedRow {
                 Err(segmented_row_refuses(rt, name, refused.reason) & is_back)
             }
         }
-    }
-
-    /// Puts pieces of one block in.
-    fn give(&mut self, alloc: Global, word: &str) -> bool {
-        let Some((mut block, share)) = segmented_row_block(alloc, word) else {
-            return false;
-        };
-        self.share = share;
-        for text in word.split('|') {
-            let is_put = match take_out(alloc, &mut block, text.len()) {
-                Some(piece) => self.buf.try_push(piece).is_ok(),
-                None => false,
-            };
-            if !is_put {
-                return false;
-            }
-        }
-        true
-    }
-
-    /// Puts a piece in that was read to its end, and still has a share of its block.
-    fn spend(&mut self, alloc: Global, is_first: bool, word: &str) -> bool {
-        let Some((mut piece, share)) = segmented_row_block(alloc, word) else {
-            return false;
-        };
-        self.share = share;
-        let is_read = skip(&mut piece, word.len()) && piece.remaining() == 0;
-        let has_owner = !self.share.is_unique();
-        let is_put = if is_first {
-            put_first(&mut self.buf, piece)
-        } else {
-            put(&mut self.buf, piece)
-        };
-        is_read & has_owner & is_put
     }
 
     /// Makes a buffer of pieces.
@@ -308,19 +251,18 @@ impl SegmentedRow {
         self.are_moved(is_drained, bytes, true)
     }
 
-    /// Keeps the bytes that came of a call, and compares them.
+    /// Compares the bytes that came of a call.
     fn piece_comes(
-        &mut self,
+        &self,
         rt: &impl Print,
         name: &str,
         answer: Result<Bytes, Reason>,
         word: &'static str,
     ) -> Made {
         match answer {
-            Ok(piece) => self.piece = piece,
-            Err(reason) => return Err(segmented_row_refuses(rt, name, reason)),
+            Ok(piece) => Ok(packed_row_means(word) == Some(piece.as_slice())),
+            Err(reason) => Err(segmented_row_refuses(rt, name, reason)),
         }
-        Ok(packed_row_means(word) == Some(self.piece.as_slice()))
     }
 
     /// Keeps the segments that came of a call, and compares them.
@@ -361,13 +303,8 @@ impl SegmentedRow {
             "split_to" => self.buf.split_to(alloc, len),
             "split_off" => self.buf.split_off(alloc, all - len),
             _ => {
-                let piece = match name {
-                    "pop" => self.buf.pop(),
-                    "copy_out" => take_out(alloc, &mut self.buf, len),
-                    _ => self.buf.copy_to_bytes(alloc, len).ok(),
-                };
-                self.piece = piece.unwrap_or(Bytes::new());
-                return Ok(packed_row_means(word) == Some(self.piece.as_slice()));
+                let piece = take_out(alloc, &mut self.buf, len).unwrap_or(Bytes::new());
+                return Ok(packed_row_means(word) == Some(piece.as_slice()));
             }
         };
         self.pieces_come(rt, name, answer, word)
@@ -451,21 +388,13 @@ impl SegmentedRow {
                 self.gathers(rt, name, word)
             }
             "push" | "try_push" | "prepend" => self.put(rt, name, bytes),
-            "give" => Ok(self.give(rt.alloc(), word)),
-            "spend" | "spend_first" => Ok(self.spend(rt.alloc(), name == "spend_first", word)),
             "drain_into_queue" | "append_queue" => Ok(self.moves(rt, name, bytes)),
             "rejoin" => self.rejoin(rt),
-            "pop" | "copy_to_bytes" | "copy_out" | "advance" | "split_to" | "split_off" => {
-                self.takes(rt, name, word)
-            }
+            "copy_out" | "advance" | "split_to" | "split_off" => self.takes(rt, name, word),
             "prefix" | "try_clone" | "slice" | "peek_bytes" | "copy_range" => {
                 self.shows(rt, name, (start, word))
             }
             "read_range" => self.read_range(rt, start, bytes),
-            "clear_queue" => {
-                self.queue.clear();
-                Ok(true)
-            }
             _ => Ok(self.sees(name, start, bytes)),
         }
     }
@@ -481,7 +410,6 @@ impl SegmentedRow {
             Some((start, word)) => (start.parse().unwrap_or(usize::MAX), word),
             None => (0, word),
         };
-        self.piece = Bytes::new();
         if name != "rejoin" {
             self.pieces = VecDeque::new(rt.alloc());
         }
@@ -495,24 +423,10 @@ impl SegmentedRow {
         }
     }
 
-    fn are_shared(&self) -> bool {
-        for piece in self.pieces.iter() {
-            if piece.is_unique() {
-                return false;
-            }
-        }
-        true
-    }
-
     /// Whether what is wanted besides is so.
     fn is_so(&self, wanted: &str) -> bool {
         match wanted {
             "" => true,
-            "held" => !self.share.is_unique(),
-            "free" => self.share.is_unique(),
-            "shared" => !self.piece.is_unique(),
-            "alone" => self.piece.is_unique(),
-            "all shared" => self.are_shared(),
             "few places" => self.pieces.len() == 1 && self.pieces.capacity() < 100,
             "borrowed" => self.is_borrowed,
             "owned" => !self.is_borrowed,
@@ -559,8 +473,6 @@ fn is_segmented_row(rt: &(impl Print + Alloc<A = Global>), row: &'static str) ->
         buf: SegmentedBuf::new(rt.alloc()),
         held: "-",
         queue: BytesQueue::new(rt.alloc()),
-        share: Bytes::new(),
-        piece: Bytes::new(),
         pieces: VecDeque::new(rt.alloc()),
         is_borrowed: false,
     };

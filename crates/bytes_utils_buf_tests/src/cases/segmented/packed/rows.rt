@@ -9,12 +9,11 @@
 //! | name | |
 //! |---|---|
 //! | `push` | a piece is pushed |
-//! | `give` | the same of a piece with a block of its own, of which the row keeps a share |
 //! | `copy` | `push_slice` |
 //! | `read` | one call of `read_from`, which reads all of the bytes |
 //! | `wide` | the same after `set_read_room` of 10,000 bytes |
 //! | `reads` | calls of `read_from`, until one reads nothing since the reader has ended |
-//! | `take`, `split` | `take_bytes`, `split_to`; the row keeps the first piece that comes |
+//! | `take`, `split` | `take_bytes`, `split_to` |
 //! | `advance` | the bytes are passed |
 //! | `push/3` | the call is made for each three of the bytes |
 //!
@@ -26,8 +25,6 @@
 //!
 //! | wanted | |
 //! |---|---|
-//! | `shared` | the piece that the row keeps has another owner of its block |
-//! | `alone` | it has none |
 //! | `3 pieces` | the call took off three |
 //! | another text | the name that is printed if the call is refused; without it the whole call is |
 //!
@@ -37,7 +34,6 @@
 //! | `shared ab\|c` | `into_shared` returns these segments |
 //! | `shared 20 of 64` | `into_shared` returns twenty segments, of 64 bytes in all |
 //! | `segments ab\|c` | `into_shared` of the held segments returns these |
-//! | `dropped ab` | as `shared`; and the piece that the row keeps is of their block, until they are dropped |
 use crate::cases::fixtures::refusals::{prints_buffer_refusal, reports_buffer_refusal};
 use crate::cases::fixtures::{assert_row, fills, long, skip};
 use bytes::{Buf, Bytes, BytesMut};
@@ -96,8 +92,6 @@ pub(super) struct PackedRow {
     given: Vec<u8>,
     /// How many of the given bytes were taken off.
     read: usize,
-    /// A share of the last piece that was given, or the last piece that came.
-    kept: Bytes,
     /// How many pieces came.
     pieces: usize,
 }
@@ -108,7 +102,6 @@ impl PackedRow {
             buf: PackedBuf::new(alloc, threshold),
             given,
             read: 0,
-            kept: Bytes::new(),
             pieces: 0,
         }
     }
@@ -124,26 +117,12 @@ impl PackedRow {
         }
     }
 
-    fn give(&mut self, alloc: Global, bytes: &[u8]) -> Result<bool, bool> {
-        let Ok(piece) = Bytes::copy_from_slice(alloc, bytes) else {
-            return Ok(false);
-        };
-        match piece.clone() {
-            Ok(share) => self.kept = share,
-            Err(_) => return Ok(false),
-        }
-        self.push(alloc, piece, bytes)
-    }
-
     fn take(&mut self, alloc: Global, bytes: &[u8]) -> Result<bool, bool> {
         if bytes.len() > self.buf.remaining() {
             return Ok(false);
         }
         match self.buf.take_bytes(alloc, bytes.len()) {
-            Ok(taken) => {
-                self.kept = taken;
-                Ok(self.kept.as_slice() == bytes)
-            }
+            Ok(taken) => Ok(taken.as_slice() == bytes),
             Err(reason) => Err(reason == Reason::OutOfMemory),
         }
     }
@@ -153,11 +132,9 @@ impl PackedRow {
             return Ok(false);
         }
         match self.buf.split_to(alloc, bytes.len()) {
-            Ok(mut front) => {
-                let is_front = front.eq_bytes(bytes);
+            Ok(front) => {
                 self.pieces = front.segments();
-                self.kept = front.pop().unwrap_or(Bytes::new());
-                Ok(is_front)
+                Ok(front.eq_bytes(bytes))
             }
             Err(reason) => Err(reason == Reason::OutOfMemory),
         }
@@ -168,7 +145,6 @@ impl PackedRow {
     fn make(&mut self, alloc: Global, name: &str, bytes: &'static [u8]) -> Result<bool, bool> {
         match name {
             "push" => self.push(alloc, Bytes::from_static(bytes), bytes),
-            "give" => self.give(alloc, bytes),
             "copy" => match self.buf.push_slice(alloc, bytes) {
                 Ok(()) => Ok(true),
                 Err(reason) => Err(reason == Reason::OutOfMemory),
@@ -233,13 +209,9 @@ impl PackedRow {
 
     /// Whether what is wanted of the pieces is so.
     fn is_so(&self, wanted: &str) -> bool {
-        match wanted {
-            "shared" => !self.kept.is_unique(),
-            "alone" => self.kept.is_unique(),
-            _ => match wanted.strip_suffix(" pieces") {
-                Some(count) => count.parse() == Ok(self.pieces),
-                None => true,
-            },
+        match wanted.strip_suffix(" pieces") {
+            Some(count) => count.parse() == Ok(self.pieces),
+            None => true,
         }
     }
 
@@ -280,11 +252,6 @@ impl PackedRow {
             "shared" => is_packed_row_shared(&packed_row_shares(rt, self.buf, wanted), wanted),
             "segments" => is_packed_row_shared(
                 &packed_row_shares_segments(rt, self.buf, wanted),
-                wanted,
-            ),
-            "dropped" => is_packed_row_dropped(
-                packed_row_shares(rt, self.buf, wanted),
-                &self.kept,
                 wanted,
             ),
             _ => end.is_empty(),
@@ -361,13 +328,6 @@ fn is_packed_row_shared(all: &Option<SegmentedBuf<Bytes>>, wanted: &str) -> bool
         }
         None => fills(all, 10, wanted),
     }
-}
-
-/// Whether these segments were returned, and `kept` is of their block until they are dropped.
-fn is_packed_row_dropped(all: Option<SegmentedBuf<Bytes>>, kept: &Bytes, wanted: &str) -> bool {
-    let is_kept = is_packed_row_shared(&all, wanted) && !kept.is_unique();
-    drop(all);
-    is_kept && kept.is_unique()
 }
 
 /// Makes the calls of a row, and returns whether each was right. There is room for what is given.
