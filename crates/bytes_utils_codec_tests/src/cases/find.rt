@@ -168,13 +168,6 @@ pub(super) fn assert_find_rows<R: Abort + Print + AllocGlobal>(
     }
 }
 
-/// What is before each needle, and what is left. A front in one segment is shared, and one in two is copied.
-#[test]
-fn find_shares_a_front_in_one_segment(rt: HostRuntime) {
-    let row = "-: +ab-cd, +e-f, take_until &ab, take_until *cde, take_until none, =f";
-    assert_find_rows(&rt, &[], row);
-}
-
 /// 40,000 bytes and a needle of 65,536 bytes, in pieces of 1,000 bytes and a last one of 536.
 fn body_to_find_in(alloc: Global, needle: &[u8]) -> Result<SegmentedBuf<Bytes>, Reason> {
     let mut body = SegmentedBuf::new(alloc);

@@ -1,6 +1,6 @@
-//! Frames that a separator ends, out of pieces: worked cases, limits, and what is shared.
+//! Frames that a separator ends, out of pieces: worked cases and limits.
 use super::cuts::assert_cuts;
-use super::rows::{assert_decode_row_lets_go, assert_decode_rows};
+use super::rows::assert_decode_rows;
 use crate::cases::fixtures::{assert_that, debugs, says};
 use bytes_utils_codec::decode::{Delimited, FrameTooLong, decoder_laws};
 
@@ -69,29 +69,4 @@ const LONG: &str = "\
 #[test]
 fn long_delimited_frame_within_a_limit(rt: HostRuntime) {
     assert_decode_rows::<Delimited, _>(&rt, &[b'a'; 1_000], LONG);
-}
-
-/// Rows of pieces of such a length. A piece of more than 512 bytes is held as it came, and its frames share it. One of
-/// 512 bytes is copied. A frame in two pieces is one block.
-const SHARED: [(usize, &str); 4] = [
-    (512, "any -: &, piece alone, &a, =#510"),
-    (
-        513,
-        "any -: &, piece shared, &a, =#511, advance 511, piece alone",
-    ),
-    (
-        100_002,
-        "any -: &, piece shared, &a, =#100000, advance 100000, piece alone",
-    ),
-    (513, "any -: &, &a, &, *#512, =#511"),
-];
-
-#[test]
-fn delimited_frame_in_one_piece_is_shared(rt: HostRuntime) {
-    let mut piece = [b'b'; 100_002];
-    piece[..2].copy_from_slice(b"a-");
-    for (len, row) in SHARED {
-        let piece = piece.get(..len).unwrap_or(b"");
-        assert_decode_row_lets_go::<Delimited, _>(&rt, piece, row);
-    }
 }

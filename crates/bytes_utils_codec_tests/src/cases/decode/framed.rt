@@ -1,26 +1,9 @@
-//! What a reader holds, lets go and shares, and the bytes that are taken off it as they are.
-use super::rows::{are_decode_calls_right, assert_decode_row_lets_go, assert_decode_rows};
+//! What a reader holds, and the bytes that are taken off it as they are.
+use super::rows::{are_decode_calls_right, assert_decode_rows};
 use crate::cases::fixtures::assert_that;
 use bytes_utils_codec::decode::{Delimited, Framed, LengthPrefixed};
 use std::io::Print;
 use std::process::Abort;
-
-/// First bytes share the first piece if they lie in it. In segments all that were held as they came are shared.
-const SHARED: &str = "\
-4 --: &, piece shared
-4 --: &, &, starts_with aab, take_bytes 3 &aab, starts_with aaa, starts_with ab not, take_bytes 600 *#600, =#597
-4 --: &, &, advance 1193, starts_with aaaaaaa, starts_with aaaaaaaa not, advance 7, =, piece alone
-4 --: &, &, split_to 700 &#700 in 2, =#500, advance 500, piece alone
-";
-
-#[test]
-fn framed_pieces_are_let_go(rt: HostRuntime) {
-    let mut bytes = [b'a'; 600];
-    bytes[2] = b'b';
-    for row in SHARED.lines() {
-        assert_decode_row_lets_go::<Delimited, _>(&rt, &bytes, row);
-    }
-}
 
 /// Pieces of at most three bytes are copied together, and a longer one is held as it came.
 #[test]

@@ -1,6 +1,6 @@
-//! Frames after their lengths, out of pieces: worked cases, and what is shared.
+//! Frames after their lengths, out of pieces: worked cases.
 use super::cuts::assert_cuts;
-use super::rows::{assert_decode_row_lets_go, assert_decode_rows};
+use super::rows::assert_decode_rows;
 use bytes_utils_codec::decode::LengthPrefixed;
 
 /// Three frames, of which one is empty, and the beginning of a fourth; and what comes of them.
@@ -88,12 +88,4 @@ fn length_prefixed_frames_after_each_piece(rt: HostRuntime) {
     for rows in [SINGLE, ENDLESS] {
         assert_decode_rows::<LengthPrefixed, _>(&rt, b"", rows);
     }
-}
-
-/// A frame of a piece of 600 bytes shares its block with what follows it.
-#[test]
-fn length_prefixed_frame_in_one_piece_is_shared(rt: HostRuntime) {
-    let mut piece = [b'a'; 600];
-    piece[..4].copy_from_slice(b"\0\0\0\x01");
-    assert_decode_row_lets_go::<LengthPrefixed, _>(&rt, &piece, "1 width 4: &, &a, =#595");
 }

@@ -1,4 +1,4 @@
-//! Lines as texts, out of pieces: worked cases, limits, and what is shared.
+//! Lines as texts, out of pieces: worked cases and limits.
 use super::cuts::{assert_cuts, cuts_give};
 use super::made::Made;
 use super::rows::{assert_decode_row_lets_go, assert_decode_rows};
@@ -168,35 +168,6 @@ fn all_lines_of_texts(rt: HostRuntime) {
     let decoder = Lines::new(rt.alloc()).expect(&rt, "no memory");
     let holds = are_lines_of_texts(&mut Framed::new(rt.alloc(), decoder));
     assert_that(&rt, holds);
-}
-
-/// A line in a block of copied bytes shares it, one in two segments has a block of its own, and one
-/// in a long piece shares that. A line in one piece and a last one in one share their pieces, and one in two
-/// pieces does not. A line that is a whole piece shares it, if its end comes in others. A row
-/// has the first bytes of a piece of 600.
-const SHARED: [(&[u8; 6], &str); 10] = [
-    (b"b\r\nab\n", "any text: +ab.a, &ab, &, *ab, &ab"),
-    (b"b\r\nab\n", "any lossy: +ab.a, &ab, &, *ab, &ab"),
-    (b"ab\r\ndd", "599 text: &, &, &#2, *#598, $&#596"),
-    (b"ab\r\ndd", "any text: &, &, &#2, *#598, $&#596"),
-    (b"dddddd", "any text: &, -, +<.ab.a, &d#600, &ab, $a"),
-    (b"dddddd", "any text: &, -, +<, -, &, -, +., *#1201, $-"),
-    (b"dddddd", "any text: &, -, own <, -, own ., &d#600, $-"),
-    (b"dddddd", "any lossy: &, -, +<.ab, &d#600, $ab"),
-    (b"dddddd", "600 text: &, -, +<., long, $-"),
-    (
-        b"dddddd",
-        "601 text: &, -, +., &d#600, &, -, +<., &d#600, $-",
-    ),
-];
-
-#[test]
-fn a_line_in_one_segment_is_shared(rt: HostRuntime) {
-    for (front, row) in SHARED {
-        let mut piece = [b'd'; 600];
-        piece[..6].copy_from_slice(front);
-        assert_decode_row_lets_go::<Lines, _>(&rt, &piece, row);
-    }
 }
 
 /// A line of 200,000 bytes in 201 pieces, and a last one of the same length in 200. A limit may be the length of the

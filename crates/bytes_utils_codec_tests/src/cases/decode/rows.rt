@@ -6,14 +6,12 @@
 //! | `own ab` | pushes them as a piece of their own |
 //! | `&` | pushes a share of the piece that comes with the row |
 //! | `copy` | pushes a copy of it |
-//! | `piece shared`, `piece alone` | it has another owner, or none |
 //! | `ab` | the next item has these bytes |
 //! | `-`, `empty`, `long` | there is no next item; it has no bytes; it is over the limit |
 //! | `$ab`, `$-` | the last item, in any of these ways |
 //! | `=ab`, `/2` | these bytes, or two segments, are held |
 //! | `take_bytes 2 ab`, `split_to 2 ab in 1` | the first two bytes are taken off, and are these |
 //! | `advance 2` | they are dropped |
-//! | `starts_with ab`, `starts_with ab not` | the held bytes start so, or don't |
 //! | `read_item ab` | reads the next item of the input that comes with the row |
 //! | `read_item fails`, `read_item gives up` | fails with the error of that input, or after too many reads |
 //! | `read_from 2`, `read_from fails` | makes one read, of two bytes, or fails so |
@@ -197,11 +195,6 @@ impl<D: Made> DecodeRun<'_, '_, '_, D> {
         let (shortest, longest) = self.input.rooms;
         match (name, rest.split_once(' ')) {
             ("own", _) => named_row_call("Framed::", "push", self.push(Some(rest))),
-            ("piece", _) => Ok(self.piece.is_unique() == (rest == "alone")),
-            ("starts_with", Some((bytes, "not"))) => {
-                Ok(!self.reader.starts_with(meant_by_signs(bytes).as_slice()))
-            }
-            ("starts_with", _) => Ok(self.reader.starts_with(meant_by_signs(rest).as_slice())),
             ("read_item", _) => self.read_item(rest),
             ("read_from", _) => self.read_from(rest),
             ("room", Some((room, want))) => {

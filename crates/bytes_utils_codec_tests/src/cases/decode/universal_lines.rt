@@ -57,19 +57,6 @@ fn universal_lines_after_each_piece(rt: HostRuntime) {
     assert_decode_rows::<UniversalLines, _>(&rt, b"", CALLS);
 }
 
-/// A line in one piece shares that piece's block with what is left of it. The piece begins with the
-/// rest of an end.
-#[test]
-fn universal_line_in_one_piece_is_shared(rt: HostRuntime) {
-    let mut piece = [b'd'; 600];
-    piece[..4].copy_from_slice(b"\nb\r\n");
-    assert_decode_row_lets_go::<UniversalLines, _>(
-        &rt,
-        &piece,
-        "any text: +<, empty, &, &b, $&#596",
-    );
-}
-
 /// A line of 200,000 bytes in many pieces, many lines in a row, and a last one of the same length.
 const LONG: &str = "any text: \
     2000 times: own aaaaaaaaaaaaaaaaaaaaaaaaaaaaaaaaaaaaaaaaaaaaaaaaaa\
