@@ -1,5 +1,5 @@
 //! The tests, a file for each protocol, `dispositions` for the names in parts of forms, and
-//! `part_streams` for parts that are given as they come (`joined`); `long`, `memory`, `shared` and
+//! `part_streams` for parts that are given as they come (`joined`); `long`, `memory` and
 //! `written` span several. Most are tables of rows (`rows`, `notation`), along
 //! which `walks` takes the reader of any protocol (`readers`).
 mod dispositions;
@@ -16,6 +16,5 @@ mod records;
 mod redis;
 mod requests;
 mod rows;
-mod shared;
 mod walks;
 mod written;

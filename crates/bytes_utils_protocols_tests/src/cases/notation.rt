@@ -51,7 +51,7 @@ fn escaped_notation(letter: u8) -> &'static [u8] {
 }
 
 /// A text, with what it repeats, or `None` if memory is refused.
-pub(super) fn repeated_notation(alloc: Global, written: &str) -> Option<Vec<u8>> {
+fn repeated_notation(alloc: Global, written: &str) -> Option<Vec<u8>> {
     let mut text = Vec::new(alloc);
     append_repeated_notation(&mut text, written)?;
     Some(text)

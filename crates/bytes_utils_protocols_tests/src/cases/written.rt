@@ -5,7 +5,6 @@
 use super::notation::bytes_of_notation;
 use super::readers::Protocol;
 use super::rows::Row;
-use super::shared::number_not_shared;
 use super::walks::{Way, assert_walk_of_row};
 use bytes::Bytes;
 use bytes_utils::SegmentedBuf;
@@ -129,47 +128,5 @@ fn written_messages(rt: HostRuntime) {
         let holds = are_written_as(rt.alloc(), protocol, words, row);
         assert!(rt; holds, "{words}");
         assert_walk_of_row(&rt, rt.alloc(), protocol, row, PIECES);
-    }
-}
-
-/// The number of segments of a message, and of the words that it doesn't share.
-fn segments_and_copies(
-    alloc: Global,
-    protocol: Protocol,
-    words: &[Bytes],
-) -> Option<(usize, usize)> {
-    match written_message(alloc, protocol, words) {
-        Some(whole) => {
-            let found = (whole.segments(), number_not_shared(words));
-            drop(whole);
-            Some(found)
-        }
-        None => None,
-    }
-}
-
-/// Whether a message has these numbers, and lets all words go.
-fn is_shared_so(alloc: Global, protocol: Protocol, written: &str, wanted: (usize, usize)) -> bool {
-    match words_to_write(alloc, written) {
-        Some(words) => {
-            let found = segments_and_copies(alloc, protocol, &words);
-            (found == Some(wanted)) & (number_not_shared(&words) == words.len())
-        }
-        None => false,
-    }
-}
-
-/// A text is always shared, a word of a command if it has more than 512 bytes. What is copied side by
-/// side is one segment.
-#[test]
-fn written_messages_share_words(rt: HostRuntime) {
-    for (protocol, words, segments, copies) in [
-        (NETSTRINGS, "a|", 3, 0),
-        (REDIS, "SET|a|b|", 1, 3),
-        (REDIS, "SET|<512 k>|<513 v>|", 3, 2),
-        (REDIS, "<513 a>|<513 b>|", 5, 0),
-    ] {
-        let holds = is_shared_so(rt.alloc(), protocol, words, (segments, copies));
-        assert!(rt; holds, "{words}");
     }
 }
