@@ -4,7 +4,6 @@ mod closure;
 mod long;
 mod memory;
 mod places;
-mod shared;
 mod size_hint;
 mod slice_ref;
 mod split_counts;
