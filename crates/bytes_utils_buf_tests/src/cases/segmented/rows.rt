@@ -116,6 +116,19 @@ struct SegmentedRow {
 /// Whether a call did what it should, or, as an error, whether it was refused as it should be.
 type Made = Result<bool, bool>;
 
+/// Compares the bytes that came of a call.
+fn segmented_row_gives(
+    rt: &impl Print,
+    name: &str,
+    answer: Result<Bytes, Reason>,
+    word: &'static str,
+) -> Made {
+    match answer {
+        Ok(piece) => Ok(packed_row_means(word) == Some(piece.as_slice())),
+        Err(reason) => Err(segmented_row_refuses(rt, name, reason)),
+    }
+}
+
 impl SegmentedRow {
     /// Puts a piece in, which comes back if it is refused.
     fn put(&mut self, rt: &impl Print, name: &str, bytes: &'static [u8]) -> Made {
@@ -251,20 +264,6 @@ impl SegmentedRow {
         self.are_moved(is_drained, bytes, true)
     }
 
-    /// Compares the bytes that came of a call.
-    fn piece_comes(
-        &self,
-        rt: &impl Print,
-        name: &str,
-        answer: Result<Bytes, Reason>,
-        word: &'static str,
-    ) -> Made {
-        match answer {
-            Ok(piece) => Ok(packed_row_means(word) == Some(piece.as_slice())),
-            Err(reason) => Err(segmented_row_refuses(rt, name, reason)),
-        }
-    }
-
     /// Keeps the segments that came of a call, and compares them.
     fn pieces_come(
         &mut self,
@@ -327,11 +326,11 @@ impl SegmentedRow {
             "slice" => self.buf.slice(alloc, start..end),
             "peek_bytes" => {
                 let answer = self.buf.peek_bytes(alloc, end);
-                return self.piece_comes(rt, name, answer, word);
+                return segmented_row_gives(rt, name, answer, word);
             }
             _ => {
                 let answer = self.buf.copy_range(alloc, start..end);
-                return self.piece_comes(rt, name, answer, word);
+                return segmented_row_gives(rt, name, answer, word);
             }
         };
         self.pieces_come(rt, name, answer, word)
