@@ -4,8 +4,8 @@ ghost use Rattle.std.specs.Iterator.{IsFinite};
 pub(crate) mod refusals;
 pub(crate) mod storage;
 
+use bytes_utils::Reason;
 use bytes_utils::string::{Storage, StrInner};
-use bytes_utils::{Reason, Str};
 use std::alloc::{AllocError, Global};
 use std::convert::AsStr;
 use std::error::Error;
@@ -44,14 +44,6 @@ pub(crate) fn is_text<T: AsStr + Drop>(text: Option<T>, want: &str) -> bool {
     match text {
         Some(text) => text.as_str() == want,
         None => false,
-    }
-}
-
-/// Whether a text was made, is this one, and shares its bytes with another one.
-pub(crate) fn is_shared<E: Drop>(made: Result<Str, E>, want: &str) -> bool {
-    match made {
-        Ok(text) => text.eq_str(want) && !text.inner().is_unique(),
-        Err(_) => false,
     }
 }
 

@@ -1,5 +1,4 @@
-//! What no clause says: that calls succeed with enough memory, what is shared, printed text, and
-//! worked cases.
+//! What no clause says: that calls succeed with enough memory, printed text, and worked cases.
 mod calls;
 mod compare;
 mod convert;
@@ -11,5 +10,4 @@ mod memory;
 mod show;
 mod slice;
 mod steps;
-mod storage;
 mod utf8_error;

@@ -1,11 +1,11 @@
 //! Owned parts for borrowed ones.
-use crate::cases::fixtures::{assert_row, assert_that, is_shared};
+use crate::cases::fixtures::{assert_row, assert_that, is_text};
 use bytes_utils::Str;
 
-/// Whether the text has this part, which shares its bytes.
+/// Whether the text has this part.
 fn slice_ref_has_part(text: &Str, part: &str, want: &str) -> bool {
     match text.slice_ref(part) {
-        Ok(part) => is_shared(part.ok_or(()), want),
+        Ok(part) => is_text(part, want),
         Err(_) => false,
     }
 }
