@@ -25,7 +25,7 @@ TYPE = re.compile(r"^(?:pub(?:\([^)]*\))? )?(?:struct|enum|trait) (\w+)", re.M)
 ONLY_TAKES_APART = [("bytes_utils", "into_inner")]
 # a program's files are texts by their paths, and its folder is that of its edits; a pair is an old text and a new one
 Program = namedtuple("Program", "name uses files folder functions")
-Edit = namedtuple("Edit", "program name file functions test ladder breaks pairs")
+Edit = namedtuple("Edit", "program name file functions test ladder breaks is_right pairs")
 
 
 def program_of(name):
@@ -42,7 +42,7 @@ def edits_of(program, part=""):
 
 def edit_of(program, name, text):
     said = lambda word: "".join(re.findall(rf"^{word}: (.*)$", text, re.M))
-    file, caught = said("file"), (said("# test"), said("# ladder"), said("# breaks"))
+    file, caught = said("file"), (said("# test"), said("# ladder"), said("# breaks"), bool(said("# right")))
     pairs = re.findall(r"^old: (.+)\nnew: ?(.*)$", text, re.M)
     return Edit(program, f"{program.name}/{name}", file, changed_by(program, file, pairs), *caught, pairs)
 
@@ -113,7 +113,8 @@ def fault_of(edit):
 def unchanged(program):
     """The public functions of a crate, of more than one line, in which no wrong body is, nor in a private function by
     which they work."""
-    wrong, found, calls, changed = {name for it in edits_of(program) for name in it.functions}, [], {}, set()
+    wrong = {name for it in edits_of(program) if not it.is_right for name in it.functions}
+    found, calls, changed = [], {}, set()
     for _, it, head, name in program.functions:
         is_seen = is_public(it[0], head)
         calls[name if is_seen else it[2]] = re.findall(r"\b(\w+)\(", it[3])
