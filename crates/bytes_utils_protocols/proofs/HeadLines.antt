@@ -98,6 +98,12 @@ pub so_far_unequal : (lines others : List (List ℕ)) (line : List ℕ) (known r
 so_far_unequal lines others line known reported error h report apart =
     so_far_fault lines others line known error h (inr (apart.0, unequal h.before line known reported h.reports report apart.1))
 
+-- these lines are left to an iterator, and this is known of the lines before them
+pub record LeavesLines {S A : Type 0} (steps : S → Option A → S → Type 0) (v : A → List ℕ) (iterator : S) (KnownBefore : List (List ℕ) → Type 0) : Type 0 where
+  pub left : List (List ℕ)
+  pub coming : YieldsList steps v iterator left
+  pub so_far : KnownBefore left
+
 -- one call of an iterator that gives a list
 pub next_given : {S A : Type 0} (steps : S → Option A → S → Type 0) (v : A → List ℕ) (s t : S) (x : A) (left : List (List ℕ)) → YieldsList steps v s left
     → steps s (Some x) t → (others : List (List ℕ)) × (left ≡ v x ∷ others) × YieldsList steps v t others

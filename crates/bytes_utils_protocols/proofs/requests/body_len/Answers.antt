@@ -12,31 +12,35 @@ pub loop-line-init : goal.loop-line-init
 loop-line-init c = record {
   can_next = grind serving;
   is_finite = search rules;
-  left = request_header_lines c.args.head.now;
-  coming = rw c.into_iter-line-iterator.ensures.into_iter_gives (YieldsList-from_skip 1
-      (YieldsList-from_slice_split _ (λ b. b == line_feed) c.args.head.now (search rules) (search rules) (search rules) (λ x b q k. search rules))
-      c.skip-line-items.ensures.count);
-  so_far = so_far_none (request_header_lines c.args.head.now);
+  left = record {
+    left = request_header_lines c.args.head.now;
+    coming = rw c.into_iter-line-iterator.ensures.into_iter_gives (YieldsList-from_skip 1
+        (YieldsList-from_slice_split _ (λ b. b == line_feed) c.args.head.now (search rules) (search rules) (search rules) (λ x b q k. search rules))
+        c.skip-line-items.ensures.count);
+    so_far = so_far_none (request_header_lines c.args.head.now);
+  };
 }
 
 pub loop-line-preserved : goal.loop-line-preserved
 loop-line-preserved c =
-    let now = c.loop-line.invariant in
+    let now = c.loop-line.invariant.left in
     let next = next_given _ _ c.loop-line.line-iterator c.next.new.self c.in-Some.line now.left now.coming c.in-Some.ensures.steps in
     record {
       can_next = search rules;
       is_finite = search rules;
-      left = next.0;
-      coming = next.2;
-      so_far = so_far_more _ _ c.in-Some.line.now _ c.in_ok-reported_request_len.field-0 _
-          (subst (λ left. SoFar (request_header_lines c.args.head.now) left c.loop-line.known) next.1 now.so_far)
-          (rw c.in_ok-reported_request_len.was at c.reported_request_len.ensures) c.in_ok-known.ensures.ok;
+      left = record {
+        left = next.0;
+        coming = next.2;
+        so_far = so_far_more _ _ c.in-Some.line.now _ c.in_ok-reported_request_len.field-0 _
+            (subst (λ left. SoFar (request_header_lines c.args.head.now) left c.loop-line.known) next.1 now.so_far)
+            (rw c.in_ok-reported_request_len.was at c.reported_request_len.ensures) c.in_ok-known.ensures.ok;
+      };
     }
 
 -- the line reports an error
 line_error : (c : goal.After-from_residual) → ReportRequestError (request_header_lines c.args.head.now) c.in_err-reported_request_len.field-0.0
 line_error c =
-    let now = c.loop-line.invariant in
+    let now = c.loop-line.invariant.left in
     let next = next_given _ _ c.loop-line.line-iterator c.next.new.self c.in-Some.line now.left now.coming c.in-Some.ensures.steps in
     so_far_error _ _ c.in-Some.line.now _ _ (subst (λ left. SoFar (request_header_lines c.args.head.now) left c.loop-line.known) next.1 now.so_far)
     (rw c.in_err-reported_request_len.was at c.reported_request_len.ensures)
@@ -52,7 +56,7 @@ returns-in_err-reported_request_len-clause-err c =
 -- the line reports another length than one before it
 unequal_lengths : (c : goal.After-from_residual-in_err-known) → ReportRequestError (request_header_lines c.args.head.now) c.in_err-known.field-0.0
 unequal_lengths c =
-    let now = c.loop-line.invariant in
+    let now = c.loop-line.invariant.left in
     let next = next_given _ _ c.loop-line.line-iterator c.next.new.self c.in-Some.line now.left now.coming c.in-Some.ensures.steps in
     so_far_unequal _ _ c.in-Some.line.now _ c.in_ok-reported_request_len.field-0 _
     (subst (λ left. SoFar (request_header_lines c.args.head.now) left c.loop-line.known) next.1 now.so_far)
@@ -69,7 +73,7 @@ returns-in_err-known-clause-err c =
 -- no line is left
 all_lines : (c : goal.After-unwrap_or) → ReportRequestLength (request_header_lines c.args.head.now) c.unwrap_or.result
 all_lines c =
-    let now = c.loop-line.invariant in
+    let now = c.loop-line.invariant.left in
     let none = none_given _ _ _ _ now.left now.coming c.in-None.ensures.steps in
     rw c.unwrap_or.ensures (so_far_all (request_header_lines c.args.head.now) c.loop-line.known
     (subst (λ left. SoFar (request_header_lines c.args.head.now) left c.loop-line.known) none now.so_far))

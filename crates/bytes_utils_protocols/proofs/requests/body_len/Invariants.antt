@@ -1,7 +1,5 @@
-use Rattle.std.proofs.Common.{List, ℕ}
-use Rattle.std.proofs.lemmas.Iterator.{YieldsList}
 use Rattle.bytes_utils_protocols.specs.Requests.{request_header_lines}
-use Rattle.bytes_utils_protocols.proofs.HeadLines.{SoFar}
+use Rattle.bytes_utils_protocols.proofs.HeadLines.{LeavesLines, SoFar}
 use Rattle.bytes_utils_protocols.proofs.requests.body_len.Given as goal
 
 -- these lines are left
@@ -9,7 +7,5 @@ abbrev pub invariant-loop-line : goal.invariant-loop-line
 invariant-loop-line l = record {
   can_next : (goal.iterator-loop-line).can_next l.line-iterator;
   is_finite : (goal.iterator-loop-line).is_finite l.line-iterator;
-  left : List (List ℕ);
-  coming : YieldsList (goal.iterator-loop-line).next_gives (λ line. line.now) l.line-iterator left;
-  so_far : SoFar (request_header_lines l.fn.head) left l.known;
+  left : LeavesLines (goal.iterator-loop-line).next_gives (λ line. line.now) l.line-iterator (λ left. SoFar (request_header_lines l.fn.head) left l.known);
 }

@@ -31,57 +31,47 @@ returns-clause-none c =
           rw w.event-is (does_field old _ line (subst IsUtf8 c.as_str.ensures.value c.as_str.ensures.utf8) some (rw is_content at is) c.self-2.invariant)
     ]
 
-pub returns-in_err-read_field-clause-too_large : goal.returns-in_err-read_field-clause-too_large
-returns-in_err-read_field-clause-too_large c =
-    let old = c.args.self.now in
+-- an error of an empty line is about no text
+no_text : (c : goal.After-from_residual) → (c.event_content-text.result.now ≡ event_content c.args.self.now.at_start c.args.line.now) × (c.event_content-text.result.now ≡ [])
+no_text c =
     let line = c.args.line.now in
-    let text = c.event_content-text.result.now in
-    let is_content : text ≡ event_content old.at_start line =
-    c.event_content-text.ensures ∙ ap (event_content c.self.inside.at_start) c.as_str.ensures.value ∙ ap (λ (r : Eventing). event_content r.at_start line) c.self.view_is in
-    let some : text ≢ [] = λ empty. false≢true (sym c.if-is_empty.false ∙ c.is_empty.ensures ∙ ap (λ l. length l == 0) empty) in
-    let out = err_from_is_err_and c.from_residual-in_err-read_field.result c.from_residual-in_err-read_field.ensures.1 in
-    rw out.1 (λ is. field_too_large old line text is_content some (c.in_err-read_field.ensures.too_large (sym out.2 ∙ is)))
+    let zero : length c.event_content-text.result.now ≡ 0 = search (rules, tests) in
+    let start = ap (event_content c.self.inside.at_start) c.as_str.ensures.value ∙ ap (λ (r : Eventing). event_content r.at_start line) c.self.view_is in
+    (c.event_content-text.ensures ∙ start, nil_from_length _ zero)
+
+-- an error of a field is about some text
+some_text : (c : goal.After-from_residual-in_err-read_field) → (c.event_content-text.result.now ≡ event_content c.args.self.now.at_start c.args.line.now) × (c.event_content-text.result.now ≢ [])
+some_text c =
+    let line = c.args.line.now in
+    let start = ap (event_content c.self.inside.at_start) c.as_str.ensures.value ∙ ap (λ (r : Eventing). event_content r.at_start line) c.self.view_is in
+    (c.event_content-text.ensures ∙ start, λ empty. false≢true (sym c.if-is_empty.false ∙ c.is_empty.ensures ∙ ap (λ l. length l == 0) empty))
 
 pub returns-in_err-event-clause-asks : goal.returns-in_err-event-clause-asks
 returns-in_err-event-clause-asks c =
-    let old = c.args.self.now in
-    let line = c.args.line.now in
-    let text = c.event_content-text.result.now in
-    let is_content : text ≡ event_content old.at_start line =
-    c.event_content-text.ensures ∙ ap (event_content c.self.inside.at_start) c.as_str.ensures.value ∙ ap (λ (r : Eventing). event_content r.at_start line) c.self.view_is in
-    let zero : length text ≡ 0 = search (rules, tests) in
+    let none = no_text c in
     let out = err_from_is_err_and c.from_residual.result c.from_residual.ensures.1 in
-    rw out.1 (asks_empty old line text is_content (nil_from_length _ zero) c.in_err-event.ensures.data)
+    rw out.1 (asks_empty c.args.self.now c.args.line.now _ none.0 none.1 c.in_err-event.ensures.data)
 
 pub returns-in_err-event-clause-small : goal.returns-in_err-event-clause-small
 returns-in_err-event-clause-small c =
-    let old = c.args.self.now in
-    let line = c.args.line.now in
-    let text = c.event_content-text.result.now in
-    let is_content : text ≡ event_content old.at_start line =
-    c.event_content-text.ensures ∙ ap (event_content c.self.inside.at_start) c.as_str.ensures.value ∙ ap (λ (r : Eventing). event_content r.at_start line) c.self.view_is in
-    let zero : length text ≡ 0 = search (rules, tests) in
+    let none = no_text c in
     let out = err_from_is_err_and c.from_residual.result c.from_residual.ensures.1 in
-    rw out.1 (λ reason is large. large.0 (sym is_content ∙ nil_from_length _ zero))
+    rw out.1 (λ reason is large. large.0 (sym none.0 ∙ none.1))
+
+pub returns-in_err-read_field-clause-too_large : goal.returns-in_err-read_field-clause-too_large
+returns-in_err-read_field-clause-too_large c =
+    let some = some_text c in
+    let out = err_from_is_err_and c.from_residual-in_err-read_field.result c.from_residual-in_err-read_field.ensures.1 in
+    rw out.1 (λ is. field_too_large c.args.self.now c.args.line.now _ some.0 some.1 (c.in_err-read_field.ensures.too_large (sym out.2 ∙ is)))
 
 pub returns-in_err-read_field-clause-asks : goal.returns-in_err-read_field-clause-asks
 returns-in_err-read_field-clause-asks c =
-    let old = c.args.self.now in
-    let line = c.args.line.now in
-    let text = c.event_content-text.result.now in
-    let is_content : text ≡ event_content old.at_start line =
-    c.event_content-text.ensures ∙ ap (event_content c.self.inside.at_start) c.as_str.ensures.value ∙ ap (λ (r : Eventing). event_content r.at_start line) c.self.view_is in
-    let some : text ≢ [] = λ empty. false≢true (sym c.if-is_empty.false ∙ c.is_empty.ensures ∙ ap (λ l. length l == 0) empty) in
+    let some = some_text c in
     let out = err_from_is_err_and c.from_residual-in_err-read_field.result c.from_residual-in_err-read_field.ensures.1 in
-    rw out.1 (asks_field old line text is_content some c.in_err-read_field.ensures.asks)
+    rw out.1 (asks_field c.args.self.now c.args.line.now _ some.0 some.1 c.in_err-read_field.ensures.asks)
 
 pub returns-in_err-read_field-clause-small : goal.returns-in_err-read_field-clause-small
 returns-in_err-read_field-clause-small c =
-    let old = c.args.self.now in
-    let line = c.args.line.now in
-    let text = c.event_content-text.result.now in
-    let is_content : text ≡ event_content old.at_start line =
-    c.event_content-text.ensures ∙ ap (event_content c.self.inside.at_start) c.as_str.ensures.value ∙ ap (λ (r : Eventing). event_content r.at_start line) c.self.view_is in
-    let some : text ≢ [] = λ empty. false≢true (sym c.if-is_empty.false ∙ c.is_empty.ensures ∙ ap (λ l. length l == 0) empty) in
+    let some = some_text c in
     let out = err_from_is_err_and c.from_residual-in_err-read_field.result c.from_residual-in_err-read_field.ensures.1 in
-    rw out.1 (λ reason is. field_not_large old line text is_content some (c.in_err-read_field.ensures.small reason (sym out.2 ∙ is)))
+    rw out.1 (λ reason is. field_not_large c.args.self.now c.args.line.now _ some.0 some.1 (c.in_err-read_field.ensures.small reason (sym out.2 ∙ is)))
