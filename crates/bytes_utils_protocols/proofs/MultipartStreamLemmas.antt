@@ -1,6 +1,7 @@
 -- Bytes that wait for a delimiter, and what is given of a part.
 use Rattle.std.proofs.Common.{◌≡◌, ◌≢◌, ◌⊎◌, ℕ, ◌+◌, ◌-◌, ◌<◌, ◌≤◌, max, List, [], ◌++◌, length, take, drop, Option, None, Some, Result, Ok, Err, OnErr, IfOk, IfErr, IfSome, IfNone, IsUtf8, Bool, not, true, false, ap, ◌∙◌, sym, refl, subst, arith, inl, inr, append_assoc, append-nil, length-append, length-drop, take-append-drop}
 use Rattle.std.proofs.lemmas.List.{drop-append-le, drop-drop, drop_at, take_at, length-take-le}
+use Rattle.std.proofs.lemmas.List.Elements.{All-nil}
 use Rattle.std.proofs.lemmas.Bool.{false≢true}
 use Rattle.memchr.specs.Find.{FindsNeedle}
 use Rattle.bytes_utils_buf.specs.declared.refused.Reason.{Reason}
@@ -12,9 +13,9 @@ use Rattle.bytes_utils_codec.specs.Frames.{TakesFrame}
 use Rattle.bytes_utils_codec.specs.Search.{NoneBeginsInSearch, Searching}
 use Rattle.bytes_utils_codec.proofs.FramesLemmas.{TakesFrame-more, TakesFrame-same}
 use Rattle.bytes_utils_codec.proofs.SearchLemmas.{NoneBeginsInSearch-missed, first_of_all, frame_of_all, nowhere_left}
-use Rattle.bytes_utils_protocols.specs.Multipart.{AreMultipartFields, HasMultipartParameter, IsMultipartHead, multipart_dashes, multipart_file_name, multipart_head_end, multipart_name}
+use Rattle.bytes_utils_protocols.specs.Multipart.{AreMultipartFields, HasMultipartParameter, IsMultipartFieldLine, IsMultipartHead, IsMultipartPadding, NoMultipartDisposition, multipart_dashes, multipart_file_name, multipart_head_end, multipart_name}
 use Rattle.bytes_utils_protocols.specs.MultipartWaiting.{IsAheadOfNeedle, IsSearchWithin, MultipartWaiting}
-use Rattle.bytes_utils_protocols.specs.MultipartStream.{PartStreaming, DropsPreamble, PassesPreamble, AfterPreamble, TakesPartHead, NoPartFieldsCome, NoPartHeadComes, HasPartHeadNotUtf8, AwaitsPartHead, HasPartHeadEnd, HasPartPiece, IsWithinPartRoom, GivesPartHead, GivesPartPiece, GivesPartEnd, GivesPartEvent, IsPartStreamCall, IsPartAwaited, IsPartStreamFault, IsPartStreamStep, IsPartStreamReturn, IsPartHeadFault, PartStreamAsks, PassesPartRoom, has_part_stream_ended, part_stream_appended, part_streaming}
+use Rattle.bytes_utils_protocols.specs.MultipartStream.{PartStreaming, DropsPreamble, PassesPreamble, AfterPreamble, TakesPartHead, NoPartFieldsCome, NoPartHeadComes, HasPartHeadNotUtf8, AwaitsPartHead, HasPartHeadEnd, HasPartPiece, IsWithinPartRoom, GivesPartPiece, GivesPartEnd, GivesPartEvent, IsPartStreamCall, IsPartAwaited, IsPartStreamFault, IsPartStreamStep, IsPartStreamReturn, IsPartHeadFault, PartStreamAsks, PassesPartRoom, has_part_stream_ended, part_stream_appended, part_streaming}
 use Rattle.bytes_utils_protocols.specs.declared.multipart.event.PartEvent.{PartEvent}
 use Rattle.bytes_utils_protocols.specs.declared.multipart.event.PartEvent.TheVariants.{Head, Body, End}
 use Rattle.bytes_utils_protocols.specs.declared.multipart.head.PartHead.{PartHead}
@@ -359,10 +360,11 @@ pub awaits_step : (old : Progress) (new : PartStreaming) → old.place ≡ AtHea
 awaits_step old new place on same awaits = rw same (inl refl, subst (λ place. IsPartAwaited place (part_streaming old)) (sym place) (on, awaits))
 
 -- a head has come
-pub head_given : (old p : Progress) (search : Searching) (w : MultipartWaiting) (len : ℕ) (head : PartHead) → p ≡ record old { head_end = search } → old.place ≡ AtHead → HasPartHeadEnd old.waiting.delimiter old.limits old.waiting.held len
-    → IsMultipartHead (take len old.waiting.held) head.text → AreMultipartFields head.text → HasMultipartParameter multipart_name head.text head.name → HasMultipartParameter multipart_file_name head.text head.file_name
-    → w ≡ without_front (len + length multipart_head_end) p.waiting → GivesPartHead (part_streaming old) head (part_streaming (record p { waiting = w; place = InBody; room = p.limits.body }))
-head_given old p search w len head same place found is fields name file_name waits = rw (waits, same) (record {
+pub head_given : (old p new : Progress) (search : Searching) (len : ℕ) (head : PartHead) (event : PartEvent) → p ≡ record old { head_end = search } → old.place ≡ AtHead
+    → HasPartHeadEnd old.waiting.delimiter old.limits old.waiting.held len → IsMultipartHead (take len old.waiting.held) head.text → AreMultipartFields head.text
+    → HasMultipartParameter multipart_name head.text head.name → HasMultipartParameter multipart_file_name head.text head.file_name → event ≡ Head head
+    → new ≡ record p { waiting = without_front (len + length multipart_head_end) p.waiting; place = InBody; room = p.limits.body } → IsPartStreamStep (part_streaming old) (Ok (Some event)) (part_streaming new)
+head_given old p new search len head event same place found is fields name file_name gives passed = rw (passed, same, gives) (record {
   place = place;
   takes = takes_head old.waiting.delimiter old.limits old.waiting.held len found head.text is;
   fields = fields;
@@ -371,19 +373,32 @@ head_given old p search w len head same place found is fields name file_name wai
   next = refl;
 })
 
+-- an empty head has come
+pub empty_head_given : (old p new : Progress) (search : Searching) (len : ℕ) (event : PartEvent) (head : PartHead) → p ≡ record old { head_end = search } → old.place ≡ AtHead
+    → HasPartHeadEnd old.waiting.delimiter old.limits old.waiting.held len → IsMultipartPadding (take len old.waiting.held) → head ≡ record { text = []; name = None; file_name = None } → event ≡ Head head
+    → new ≡ record p { waiting = without_front (len + length multipart_head_end) p.waiting; place = InBody; room = p.limits.body } → IsPartStreamStep (part_streaming old) (Ok (Some event)) (part_streaming new)
+empty_head_given old p new search len event head same place found padding empty gives passed =
+    head_given old p new search len (record { text = []; name = None; file_name = None }) event same place found (inl (padding, refl)) no_fields (no_parameter multipart_name) (no_parameter multipart_file_name) (gives ∙ ap Head empty) passed
+  where
+    no_fields : AreMultipartFields []
+    no_fields = record { first = λ folded. omega (arith, folded); each = All-nil IsMultipartFieldLine }
+
+    no_parameter : (name : List ℕ) → HasMultipartParameter name [] None
+    no_parameter name = (None, All-nil NoMultipartDisposition, refl)
+
 -- the memory for a head is refused
 pub asks_at_head : (old : Progress) (len : ℕ) → old.place ≡ AtHead → take (length multipart_dashes) old.waiting.held ≢ multipart_dashes → HasPartHeadEnd old.waiting.delimiter old.limits old.waiting.held len
-    → PartStreamAsks old.place (part_streaming old)
-asks_at_head old len place on found = subst (λ place. PartStreamAsks place (part_streaming old)) (sym place) (on, len, found)
+    → (¬ IsMultipartPadding (take len old.waiting.held)) → PartStreamAsks old.place (part_streaming old)
+asks_at_head old len place on found some = subst (λ place. PartStreamAsks place (part_streaming old)) (sym place) (on, len, found, some)
 
 -- the head that has come is none
-pub parse_fault : (old : Progress) (len : ℕ) → old.place ≡ AtHead → take (length multipart_dashes) old.waiting.held ≢ multipart_dashes → HasPartHeadEnd old.waiting.delimiter old.limits old.waiting.held len → (e : PartError)
-    → (e ≡ Malformed → (head : List ℕ) → IsMultipartHead (take len old.waiting.held) head → ¬ AreMultipartFields head) → e ≢ TooLarge
+pub parse_fault : (old : Progress) (len : ℕ) → old.place ≡ AtHead → take (length multipart_dashes) old.waiting.held ≢ multipart_dashes → HasPartHeadEnd old.waiting.delimiter old.limits old.waiting.held len
+    → (¬ IsMultipartPadding (take len old.waiting.held)) → (e : PartError) → (e ≡ Malformed → (head : List ℕ) → IsMultipartHead (take len old.waiting.held) head → ¬ AreMultipartFields head) → e ≢ TooLarge
     → (e ≡ NotUtf8 → (head : List ℕ) × IsMultipartHead (take len old.waiting.held) head × (¬ IsUtf8 head)) → ((reason : Reason) → e ≡ Refused reason → reason ≡ OutOfMemory) → IsPartStreamFault e (part_streaming old)
-parse_fault old len place on found Malformed malformed large not_text want = (place, no_fields_come old.waiting.delimiter old.limits old.waiting.held len found (malformed refl))
-parse_fault old len place on found NotUtf8 malformed large not_text want = (place, not_utf8_come old.waiting.delimiter old.limits old.waiting.held len found (not_text refl))
-parse_fault old len place on found TooLarge malformed large not_text want = absurd (large refl)
-parse_fault old len place on found (Refused reason) malformed large not_text want = (want reason refl, asks_at_head old len place on found)
+parse_fault old len place on found some Malformed malformed large not_text want = (place, no_fields_come old.waiting.delimiter old.limits old.waiting.held len found (malformed refl))
+parse_fault old len place on found some NotUtf8 malformed large not_text want = (place, not_utf8_come old.waiting.delimiter old.limits old.waiting.held len found (not_text refl))
+parse_fault old len place on found some TooLarge malformed large not_text want = absurd (large refl)
+parse_fault old len place on found some (Refused reason) malformed large not_text want = (want reason refl, asks_at_head old len place on found some)
 
 -- ---- what a call returned
 

@@ -91,13 +91,17 @@ is_event_number digits = nat_lt 0 (length digits) && (list_all (λ c. nat_lt (di
 abbrev pub event_number_of : List ℕ → Option ℕ
 event_number_of digits = if is_event_number digits then Some (digits_value 10 digits) else None
 
+-- the value has a zero
+abbrev pub has_event_zero : List ℕ → Bool
+has_event_zero value = list_any (λ c. nat_eq c 0) value
+
 -- What a field of this name and value makes of what was said. An identifier with a zero, and a time that is no number, change nothing, and neither does
 -- a field of any other name.
 abbrev pub after_event_field : EventBuffers → List ℕ → List ℕ → EventBuffers
 after_event_field buffers name value =
     if pointwise nat_eq name (codes "data") then record buffers { text = Some (with_event_line buffers.text value) }
     else if pointwise nat_eq name (codes "event") then record buffers { name = event_name_of value }
-    else if pointwise nat_eq name (codes "id") && not (list_any (λ c. nat_eq c 0) value) then record buffers { id = Some value }
+    else if pointwise nat_eq name (codes "id") && not (has_event_zero value) then record buffers { id = Some value }
     else if pointwise nat_eq name (codes "retry") then record buffers { retry = option_or (event_number_of value) buffers.retry }
     else buffers
 
@@ -185,12 +189,12 @@ abbrev pub AsksForEventData : Option (List ℕ) → List ℕ → Type 0
 AsksForEventData None line = 0 < length line
 AsksForEventData (Some before) line = ⊤
 
--- A field asks for memory: data, or a name or an identifier that isn't empty.
+-- A field asks for memory: data, a name that isn't empty, or an identifier that isn't empty and has no zero.
 abbrev pub AsksForEventField : EventBuffers → List ℕ → List ℕ → Type 0
 AsksForEventField buffers name value =
     ((name ≡ codes "data") × AsksForEventData buffers.text value)
     ⊎ ((name ≡ codes "event") × (0 < length value))
-    ⊎ ((name ≡ codes "id") × (0 < length value))
+    ⊎ ((name ≡ codes "id") × (0 < length value) × (has_event_zero value ≡ false))
 
 -- A line asks for memory: such a field, or the empty line that ends an event. A comment, a field of another name and a time to wait ask for none.
 abbrev pub AsksForEventText : EventBuffers → List ℕ → Type 0

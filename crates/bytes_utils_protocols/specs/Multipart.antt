@@ -56,9 +56,13 @@ multipart_bytes head body = record { head = head; body = body }
 abbrev pub bytes_of_multipart : Part → MultipartBytes
 bytes_of_multipart part = multipart_bytes part.head (concat part.body.segments)
 
+-- padding: spaces and tabs
+abbrev pub IsMultipartPadding : List ℕ → Type 0
+IsMultipartPadding front = without_header_blanks front ≡ []
+
 -- between a delimiter and the end of the head: padding, a line end and the head, or padding alone, if there is no header
 abbrev pub IsMultipartHead : List ℕ → List ℕ → Type 0
-IsMultipartHead front head = ((without_header_blanks front ≡ []) × (head ≡ [])) ⊎ (without_header_blanks front ≡ multipart_line_end ++ head)
+IsMultipartHead front head = (IsMultipartPadding front × (head ≡ [])) ⊎ (without_header_blanks front ≡ multipart_line_end ++ head)
 
 -- what is between two delimiters: up to the first empty line the head, and after it the body
 pub record IsMultipartPart (limits : Limits) (raw : List ℕ) (part : MultipartBytes) : Type 0 where

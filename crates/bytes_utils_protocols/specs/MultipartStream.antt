@@ -6,7 +6,7 @@ use Rattle.bytes_utils_codec.specs.Frames.{TakesFrame}
 use Rattle.bytes_utils_codec.specs.Search.{NoneBeginsInSearch}
 use Rattle.bytes_utils_codec.specs.StreamRuns.{StreamEvent, IsRunOver, AreFirstOfRun, pushed_in_stream, given_in_stream}
 use Rattle.bytes_utils_buf.specs.declared.refused.Reason.TheVariants.{OutOfMemory}
-use Rattle.bytes_utils_protocols.specs.Multipart.{AreMultipartFields, ClosesMultipart, HasMultipartParameter, IsMultipartHead, MultipartBytes, NoMultipart, TakesMultipart, multipart_bytes, multipart_dashes, multipart_file_name, multipart_head_end, multipart_line_end, multipart_name}
+use Rattle.bytes_utils_protocols.specs.Multipart.{AreMultipartFields, ClosesMultipart, HasMultipartParameter, IsMultipartHead, IsMultipartPadding, MultipartBytes, NoMultipart, TakesMultipart, multipart_bytes, multipart_dashes, multipart_file_name, multipart_head_end, multipart_line_end, multipart_name}
 use Rattle.bytes_utils_protocols.specs.declared.multipart.event.PartEvent.{PartEvent}
 use Rattle.bytes_utils_protocols.specs.declared.multipart.event.PartEvent.TheVariants.{Head, Body, End}
 use Rattle.bytes_utils_protocols.specs.declared.multipart.head.PartHead.{PartHead}
@@ -191,11 +191,12 @@ abbrev pub IsWithinPartRoom : PartStreaming → Type 0
 IsWithinPartRoom s =
     ((frame : List ℕ) × (rest : List ℕ) × TakesFrame s.delimiter s.held frame rest × (length frame ≤ s.room)) ⊎ (length s.held < s.room + length s.delimiter)
 
--- When a call asks for memory: a head that no dashes begin has come with its end, or a piece of a body that isn't over its limit. A call that waits
--- asks for none.
+-- When a call asks for memory: a head that isn't empty and that no dashes begin has come with its end, or a piece of a body that isn't over its limit.
+-- A call that waits asks for none.
 abbrev pub PartStreamAsks : Place → PartStreaming → Type 0
 PartStreamAsks Preamble s = ⊥
-PartStreamAsks AtHead s = (take (length multipart_dashes) s.held ≢ multipart_dashes) × (len : ℕ) × HasPartHeadEnd s.delimiter s.limits s.held len
+PartStreamAsks AtHead s =
+    (take (length multipart_dashes) s.held ≢ multipart_dashes) × (len : ℕ) × HasPartHeadEnd s.delimiter s.limits s.held len × (¬ IsMultipartPadding (take len s.held))
 PartStreamAsks InBody s = HasPartPiece s.delimiter s.held × IsWithinPartRoom s
 PartStreamAsks Ended s = ⊥
 

@@ -169,8 +169,9 @@ impl EventReader {
     /// Returns the next event, or `None` if the empty line that ends it has not come yet. Fails with
     /// `Refused` if memory is refused; then nothing is lost, and the same call can be made again.
     /// Memory is asked for only to take a line whose end has come, never for an empty one, and to
-    /// read it: for data within its limit, for a name or an identifier that isn't empty, and for the
-    /// empty line that ends an event, never for a comment or another field.
+    /// read it: for data within its limit, for a name that isn't empty, for an identifier that isn't
+    /// empty and has no NUL, and for the empty line that ends an event, never for a comment or another
+    /// field.
     /// Fails with `NotUtf8` if a line within its limit is not UTF-8, and with `TooLarge` if a line
     /// passes its limit, whether it is UTF-8 or not; then that line is passed over, and the next call
     /// continues after it. (A browser puts U+FFFD for the bytes that are no character, and reads the

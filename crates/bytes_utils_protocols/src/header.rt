@@ -45,7 +45,7 @@ pub(crate) fn header_blanks_len(text: &[u8]) -> usize
 }
 
 /// Whether the byte is a space or a tab.
-fn is_header_blank(byte: u8) -> bool
+pub(crate) fn is_header_blank(byte: u8) -> bool
     ensures { result ≡ is_header_blank byte }
 {
     matches!(byte, b' ' | b'\t')

@@ -1,5 +1,5 @@
 //! The head of a part.
-ghost use Rattle.std.specs.Prelude.{◌≡◌, ◌≢◌, ◌<◌, ◌≤◌, ℕ, List, length, drop, IsUtf8, IfOk, IfErr, IfSome, IfNone};
+ghost use Rattle.std.specs.Prelude.{◌≡◌, ◌≢◌, ◌<◌, ◌≤◌, ℕ, List, [], length, drop, None, IsUtf8, IfOk, IfErr, IfSome, IfNone};
 ghost use Rattle.std.specs.List.{concat};
 ghost use Rattle.bytes_utils.specs.Occurrence.{Occurs};
 ghost use Rattle.bytes_utils_protocols.specs.Multipart.{AreMultipartFields, HasMultipartParameter, IsMultipartHead, IsMultipartPart, MultipartBytes, multipart_bytes, multipart_file_name, multipart_head_end, multipart_name};
@@ -31,6 +31,19 @@ pub struct PartHead {
     pub name: Option<Str>,
     /// The file name, as that of a `Part`.
     pub file_name: Option<Str>,
+}
+
+impl PartHead {
+    /// The head of a part that has no header fields.
+    pub(super) fn empty() -> PartHead
+        ensures { result ≡ record { text = []; name = None; file_name = None } }
+    {
+        PartHead {
+            text: Str::empty(),
+            name: None,
+            file_name: None,
+        }
+    }
 }
 
 /// The head of a part, and the place of its body.

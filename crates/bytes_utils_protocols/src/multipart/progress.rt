@@ -1,11 +1,11 @@
 //! How far the parts of a stream were given.
-ghost use Rattle.std.specs.Prelude.{◌≡◌, ◌≢◌, ◌<◌, ◌≤◌, length, take, IfOk, IfErr, OnOk, OnErr};
-ghost use Rattle.bytes_utils_protocols.specs.Multipart.{multipart_dashes};
+ghost use Rattle.std.specs.Prelude.{◌≡◌, ◌≢◌, ◌+◌, ◌<◌, ◌≤◌, length, take, drop, IfOk, IfErr, OnOk, OnErr};
+ghost use Rattle.bytes_utils_protocols.specs.Multipart.{multipart_dashes, multipart_head_end};
 ghost use Rattle.bytes_utils_protocols.specs.MultipartStream.{AfterPreamble, FindsPartHead, IsHeadSearchWithin, IsPartStreamReturn, IsPartStreamStep, PassesPartRoom, part_streaming};
 ghost use Rattle.bytes_utils_protocols.specs.MultipartWaiting.{IsAheadOfNeedle};
 
 use super::event::PartEvent;
-use super::head::{HEAD_END, found_head, parse_head};
+use super::head::{HEAD_END, PartHead, found_head, parse_head};
 use super::limits::{Limits, PartError};
 use super::waiting::{Ahead, DASHES, Waiting};
 use bytes_utils_codec::search::Search;
@@ -129,11 +129,32 @@ impl Progress {
         let Some(len) = self.head_len()? else {
             return Ok(None);
         };
+        if self.waiting.begins_with_padding(len) {
+            return Ok(Some(self.pass_head(len, PartHead::empty())));
+        }
         let head = parse_head(alloc, self.waiting.peek(alloc, len)?)?;
-        self.waiting.advance(len + HEAD_END.len());
+        Ok(Some(self.pass_head(len, head)))
+    }
+
+    /// Gives a head, and drops the `len` bytes before its end, and that end. Requires that these have
+    /// come.
+    fn pass_head(&mut self, len: usize, head: PartHead) -> PartEvent
+        requires { len + length multipart_head_end ≤ length self.old.waiting.held }
+        ensures head_end { IsHeadSearchWithin self.old → IsHeadSearchWithin self.new }
+        ensures event { result ≡ PartEvent.Head head }
+        ensures passed { self.new ≡ record self.old {
+          waiting = record self.old.waiting {
+            held = drop (len + length multipart_head_end) self.old.waiting.held;
+          };
+          place = Place.InBody;
+          room = self.old.limits.body;
+        } }
+    {
+        self.waiting.advance(len);
+        self.waiting.advance(HEAD_END.len());
         self.place = Place::InBody;
         self.room = self.limits.body;
-        Ok(Some(PartEvent::Head(head)))
+        PartEvent::Head(head)
     }
 
     /// Returns how many bytes are before the end of a head at the front, or `None` while that end, or

@@ -1,9 +1,12 @@
 //! Bytes of a stream that wait for the next delimiter.
-ghost use Rattle.std.specs.Prelude.{◌≡◌, ◌↔◌, ◌+◌, ◌-◌, ◌^◌, ◌<◌, ◌≤◌, [], ◌++◌, false, length, take, drop, IsOk, IsTrue, OnOk, OnErr, IfOk, IfErr};
+ghost use Rattle.std.specs.Prelude.{◌≡◌, ◌↔◌, ◌+◌, ◌-◌, ◌^◌, ◌<◌, ◌≤◌, [], ◌++◌, false, length, get_or, take, drop, IsOk, IsTrue, OnOk, OnErr, IfOk, IfErr};
 ghost use Rattle.std.specs.List.{concat};
 ghost use Rattle.bytes_utils_codec.specs.Pushing.{IsPush};
+ghost use Rattle.bytes_utils_protocols.specs.Headers.{is_header_blank};
+ghost use Rattle.bytes_utils_protocols.specs.Multipart.{IsMultipartPadding};
 ghost use Rattle.bytes_utils_protocols.specs.MultipartWaiting.{IsAheadOfNeedle, IsSearchWithin};
 
+use crate::header::is_header_blank;
 use bytes::{Buf, Bytes};
 use bytes_utils::segmented::PackedBuf;
 use bytes_utils::{Reason, Refused, SegmentedBuf};
@@ -106,6 +109,31 @@ impl Waiting {
         }
         self.advance(prefix.len());
         true
+    }
+
+    /// Returns whether the first `len` bytes are padding, which is spaces and tabs. Requires that `len`
+    /// is at most `len()`.
+    pub(super) fn begins_with_padding(&self, len: usize) -> bool
+        requires { len ≤ length self.now.held }
+        ensures { IsTrue result ↔ IsMultipartPadding (take len self.now.held) }
+    {
+        for place in 0..len {
+            if !self.has_blank_at(place) {
+                return false;
+            }
+        }
+        true
+    }
+
+    /// Returns whether the byte at `place` is a space or a tab. Requires that `place` is below `len()`.
+    fn has_blank_at(&self, place: usize) -> bool
+        requires { place < length self.now.held }
+        ensures { result ≡ is_header_blank (get_or self.now.held place 0) }
+    {
+        match self.pieces.as_segmented().byte_at(place) {
+            Some(byte) => is_header_blank(byte),
+            None => false,
+        }
     }
 
     /// Looks for the next delimiter, from where the last call stopped.
