@@ -6,6 +6,7 @@ use Rattle.std.specs.List.{after_first, before_first, list_all, list_any, starts
 use Rattle.std.specs.Option.{option_or, option_to_list}
 use Rattle.std.specs.Str.Parse.{digits_value}
 use Rattle.bytes_utils.specs.Lines.{line_feed}
+use Rattle.bytes_utils_buf.specs.Refusals.{refusal_text}
 use Rattle.bytes_utils_buf.specs.declared.refused.Reason.TheVariants.{OutOfMemory}
 use Rattle.bytes_utils_codec.specs.Decoding.{Decoding, HasSameNext, Item, fed, starting}
 use Rattle.bytes_utils_codec.specs.StreamRuns.{AreFirstOfRun, IsRunOver, SameFirstOfRunLaw, StreamEvent, given_in_stream, pushed_in_stream}
@@ -14,7 +15,7 @@ use Rattle.bytes_utils_codec.specs.declared.decode.lines.LineFault.{LineFault}
 use Rattle.bytes_utils_codec.specs.declared.decode.lines.LineFault.TheVariants.{NotUtf8 as NotText, TooLong}
 use Rattle.bytes_utils_protocols.specs.declared.events.Event.{Event}
 use Rattle.bytes_utils_protocols.specs.declared.events.EventError.{EventError}
-use Rattle.bytes_utils_protocols.specs.declared.events.EventError.TheVariants.{NotUtf8, TooLarge}
+use Rattle.bytes_utils_protocols.specs.declared.events.EventError.TheVariants.{NotUtf8, Refused, TooLarge}
 use Rattle.bytes_utils_protocols.specs.declared.events.Limits.{Limits}
 
 -- What the lines since the last event said of the next one: its name, and its text, which is the lines of data, joined. The identifier and the time
@@ -223,6 +224,12 @@ WaitsForEventLine old new = (mid : Eventing) × ReadsEventLines old mid × Await
 abbrev pub event_error_of : LineFault → EventError
 event_error_of TooLong = TooLarge
 event_error_of (NotText fault) = NotUtf8
+
+-- what an error prints
+abbrev pub event_error_text : EventError → List ℕ
+event_error_text (Refused reason) = refusal_text reason
+event_error_text NotUtf8 = codes "the line is not UTF-8"
+event_error_text TooLarge = codes "the line or the data is too large"
 
 -- the next line of the stream is passed over, for this error: it passes its limit, or is within it and not UTF-8
 pub record TakesEventFault (old : Eventing) (error : EventError) (new : Eventing) : Type 0 where

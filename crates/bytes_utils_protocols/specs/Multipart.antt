@@ -5,6 +5,7 @@ use Rattle.std.specs.List.{AllPass, concat, prefix_len, position_or_len, before_
 use Rattle.std.specs.Option.{option_to_list}
 use Rattle.std.specs.Str.{str_to_ascii_lowercase}
 use Rattle.std.specs.Str.Lines.{lines}
+use Rattle.bytes_utils_buf.specs.Refusals.{refusal_text}
 use Rattle.bytes_utils_buf.specs.declared.refused.Reason.TheVariants.{OutOfMemory}
 use Rattle.bytes_utils_codec.specs.Frames.{TakesFrame}
 use Rattle.bytes_utils.specs.Occurrence.{Occurs}
@@ -243,6 +244,13 @@ AfterMultipartSearch Waiting old new =
     SameMultipartSections old new × (¬ Occurs old.waiting.delimiter new.waiting.held) × (¬ ClosesMultipart old.waiting.delimiter (held_by_multipart old)) × LacksNextInMultipart old.waiting.delimiter (held_by_multipart old)
 AfterMultipartSearch Found old new = SameMultipartSections old new
 AfterMultipartSearch Ended old new = (old.stage ≡ Ended) ⊎ ClosesMultipart old.waiting.delimiter (held_by_multipart old)
+
+-- what an error prints
+abbrev pub part_error_text : PartError → List ℕ
+part_error_text (Refused reason) = refusal_text reason
+part_error_text Malformed = codes "the part is malformed"
+part_error_text NotUtf8 = codes "the head is not UTF-8"
+part_error_text TooLarge = codes "the part is too large"
 
 -- why a search fails: no part within the limits comes, or memory is refused for what is between two delimiters
 abbrev pub IsMultipartSearchFault : PartError → List ℕ → Limits → List ℕ → Type 0

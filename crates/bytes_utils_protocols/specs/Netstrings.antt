@@ -1,5 +1,6 @@
 -- Netstrings (http://cr.yp.to/proto/netstrings.txt): a length in decimal digits, a colon, as many bytes, and a comma.
-use Rattle.std.specs.Prelude.{◌≡◌, ◌<◌, ◌⊎◌, ℕ, List, [], ◌∷◌, ◌++◌, length, decimal}
+use Rattle.std.specs.Prelude.{◌≡◌, ◌<◌, ◌⊎◌, ℕ, List, [], ◌∷◌, ◌++◌, length, codes, decimal}
+use Rattle.bytes_utils_buf.specs.Refusals.{refusal_text}
 use Rattle.bytes_utils_buf.specs.declared.refused.Reason.TheVariants.{OutOfMemory, TooLong}
 use Rattle.bytes_utils_codec.specs.Cursor.{CursorHasNoFrameWithin}
 use Rattle.bytes_utils_codec.specs.Frames.{HasFrameWithin, TakesFrame}
@@ -9,6 +10,11 @@ use Rattle.bytes_utils_protocols.specs.Digits.{WriteNumber, colon}
 use Rattle.bytes_utils_protocols.specs.declared.netstrings.Netstrings.{Netstrings}
 use Rattle.bytes_utils_protocols.specs.declared.netstrings.NetstringError.{NetstringError}
 use Rattle.bytes_utils_protocols.specs.declared.netstrings.NetstringError.TheVariants.{Refused, Malformed}
+
+-- what an error prints
+abbrev pub netstring_error_text : NetstringError → List ℕ
+netstring_error_text (Refused reason) = refusal_text reason
+netstring_error_text Malformed = codes "the netstring is malformed"
 
 -- the code of a comma
 abbrev pub netstring_comma : ℕ

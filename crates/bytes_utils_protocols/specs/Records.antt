@@ -10,6 +10,11 @@ use Rattle.bytes_utils_protocols.specs.declared.records.RecordFault.TheVariants.
 abbrev pub record_end : List ℕ
 record_end = codes "\r\n\r\n"
 
+-- what a fault prints
+abbrev pub record_fault_text : RecordFault → List ℕ
+record_fault_text TooLong = codes "the record is too long"
+record_fault_text (NotUtf8 bytes) = codes "the record is not UTF-8"
+
 -- the record of a frame: its bytes as a text, or that they are none, or that the frame is longer than the limit
 abbrev pub IsRecordOf : Result (List ℕ) FrameTooLong → Result (List ℕ) RecordFault → Type 0
 IsRecordOf (Ok bytes) (Ok text) = (text ≡ bytes) × IsUtf8 bytes

@@ -1,20 +1,29 @@
 -- Replies of the Redis protocol, version 2 (https://redis.io/docs/latest/develop/reference/protocol-spec/).
-use Rattle.std.specs.Prelude.{◌≡◌, ◌≢◌, ◌⊎◌, ⊤, ℕ, ℤ, ◌+◌, ◌-◌, ◌<◌, ◌≤◌, List, [], ◌∷◌, ◌++◌, length, Option, None, Some, option_map, FitsSigned}
+use Rattle.std.specs.Prelude.{◌≡◌, ◌≢◌, ◌⊎◌, ⊤, ℕ, ℤ, ◌+◌, ◌-◌, ◌<◌, ◌≤◌, List, [], ◌∷◌, ◌++◌, length, codes, Option, None, Some, option_map, FitsSigned}
 use Rattle.std.specs.Int.{w64}
 use Rattle.std.specs.Str.Parse.{IsNumeral, signed_digits_value, without_leading_sign}
 use Rattle.memchr.specs.Find.{Nowhere, Passes, is_byte2}
 use Rattle.bytes_utils_codec.specs.Frames.{TakesFrame}
 use Rattle.bytes_utils.specs.Lines.{carriage_return, line_feed}
 use Rattle.bytes_utils_codec.specs.StreamRuns.{AreFirstOfRun}
+use Rattle.bytes_utils_buf.specs.Refusals.{refusal_text}
 use Rattle.bytes_utils_protocols.specs.Digits.{WriteNumber}
 use Rattle.bytes_utils_protocols.specs.declared.redis.item.Item.{Item}
 use Rattle.bytes_utils_protocols.specs.declared.redis.item.Item.TheVariants.{Simple, Error, Integer, Bulk, Array}
 use Rattle.bytes_utils_protocols.specs.declared.redis.limits.Limits.{Limits}
+use Rattle.bytes_utils_protocols.specs.declared.redis.limits.ReplyError.{ReplyError}
+use Rattle.bytes_utils_protocols.specs.declared.redis.limits.ReplyError.TheVariants.{Malformed, Refused, TooLarge}
 
 -- what clauses see of a `ReplyReader`
 pub record RedisReplying : Type 0 where
   pub held : List ℕ
   pub limits : Limits
+
+-- what an error prints
+abbrev pub reply_error_text : ReplyError → List ℕ
+reply_error_text (Refused reason) = refusal_text reason
+reply_error_text Malformed = codes "the reply is malformed"
+reply_error_text TooLarge = codes "the reply is too large"
 
 -- the end of each line
 abbrev pub redis_line_end : List ℕ

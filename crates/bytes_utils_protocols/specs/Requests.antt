@@ -12,6 +12,13 @@ use Rattle.bytes_utils_protocols.specs.declared.requests.LengthError.TheVariants
 abbrev pub request_head_end : List ℕ
 request_head_end = codes "\r\n\r\n"
 
+-- what an error prints
+abbrev pub length_error_text : LengthError → List ℕ
+length_error_text NotAHeader = codes "a line is no header"
+length_error_text NotANumber = codes "a length is no number"
+length_error_text Unequal = codes "two lengths differ"
+length_error_text UnknownFraming = codes "the framing is unknown"
+
 -- the lines of a head after its first: a line ends at each line feed (RFC 9112, 2.2)
 abbrev pub request_header_lines : List ℕ → List (List ℕ)
 request_header_lines head = drop 1 (slice_split (λ b. b == line_feed) head)

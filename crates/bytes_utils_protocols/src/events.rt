@@ -12,6 +12,8 @@ use bytes::Bytes;
 use bytes_utils::{Reason, Refused, Str};
 use bytes_utils_codec::decode::{Framed, LineFault, UniversalLines};
 use std::alloc::Global;
+use std::error::Error;
+use std::fmt;
 use std::marker::Model;
 
 /// What may be at the start of a stream, and is no part of its first line.
@@ -71,6 +73,26 @@ impl From<Reason> for EventError {
         EventError::Refused(reason)
     }
 }
+
+/// Writes its reason, `the line is not UTF-8` or `the line or the data is too large`.
+impl fmt::Display for EventError {
+    ghost use Rattle.std.specs.Prelude.{Some};
+    ghost use Rattle.bytes_utils_protocols.specs.Events.{event_error_text};
+
+    ghost output = { λ error. Some (event_error_text error) };
+
+    ghost styled_output = { λ error _. Some (event_error_text error) };
+
+    fn fmt<W: fmt::Write>(&self, f: &mut fmt::Formatter<W>) -> fmt::Result {
+        match self {
+            EventError::Refused(reason) => fmt::Display::fmt(reason, f),
+            EventError::NotUtf8 => f.write_str("the line is not UTF-8"),
+            EventError::TooLarge => f.write_str("the line or the data is too large"),
+        }
+    }
+}
+
+impl Error for EventError {}
 
 /// Lines of data, joined. One line shares its bytes.
 #[derive(Drop)]

@@ -15,6 +15,8 @@ use bytes_utils_codec::cursor::Cursor;
 use bytes_utils_codec::decode::Decoder;
 use itoa::Buffer;
 use std::alloc::Global;
+use std::error::Error;
+use std::fmt;
 
 /// Why there is no text.
 #[derive(Clone, Copy, Debug, Eq, PartialEq)]
@@ -35,6 +37,25 @@ impl From<Reason> for NetstringError {
         NetstringError::Refused(reason)
     }
 }
+
+/// Writes its reason, or `the netstring is malformed`.
+impl fmt::Display for NetstringError {
+    ghost use Rattle.std.specs.Prelude.{Some};
+    ghost use Rattle.bytes_utils_protocols.specs.Netstrings.{netstring_error_text};
+
+    ghost output = { λ error. Some (netstring_error_text error) };
+
+    ghost styled_output = { λ error _. Some (netstring_error_text error) };
+
+    fn fmt<W: fmt::Write>(&self, f: &mut fmt::Formatter<W>) -> fmt::Result {
+        match self {
+            NetstringError::Refused(reason) => fmt::Display::fmt(reason, f),
+            NetstringError::Malformed => f.write_str("the netstring is malformed"),
+        }
+    }
+}
+
+impl Error for NetstringError {}
 
 /// The next text, or `None` if more bytes have to come.
 type Next = Result<Option<Bytes>, NetstringError>;

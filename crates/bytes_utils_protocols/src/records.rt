@@ -9,6 +9,8 @@ use bytes::Bytes;
 use bytes_utils::{Reason, Refused, Str};
 use bytes_utils_codec::decode::{Delimited, FrameTooLong, Framed};
 use std::alloc::Global;
+use std::error::Error;
+use std::fmt;
 use std::marker::Model;
 
 /// Why there is no text of a record. The next one is that after it.
@@ -19,6 +21,25 @@ pub enum RecordFault {
     /// The record is not UTF-8. These are its bytes.
     NotUtf8(Bytes),
 }
+
+/// Writes `the record is too long` or `the record is not UTF-8`.
+impl fmt::Display for RecordFault {
+    ghost use Rattle.std.specs.Prelude.{Some};
+    ghost use Rattle.bytes_utils_protocols.specs.Records.{record_fault_text};
+
+    ghost output = { λ fault. Some (record_fault_text fault) };
+
+    ghost styled_output = { λ fault _. Some (record_fault_text fault) };
+
+    fn fmt<W: fmt::Write>(&self, f: &mut fmt::Formatter<W>) -> fmt::Result {
+        match self {
+            RecordFault::TooLong => f.write_str("the record is too long"),
+            RecordFault::NotUtf8(_) => f.write_str("the record is not UTF-8"),
+        }
+    }
+}
+
+impl Error for RecordFault {}
 
 /// A record, or why there is no text of it.
 type Record = Result<Str, RecordFault>;

@@ -88,6 +88,14 @@ impl ReplyReader {
         self.pending.push_slice(self.alloc, piece)
     }
 
+    /// Returns the number of held bytes: those that came after the replies that were returned. Bytes of
+    /// items that were read count too.
+    pub fn remaining(&self) -> usize
+        ensures { result ≡ length self.now.held }
+    {
+        self.pending.len()
+    }
+
     /// Returns the next reply, as its items in order, or `None` while the held bytes are only a
     /// beginning of one within the limits. A bulk item in one piece of more than 512 bytes is
     /// shared. Fails with `Malformed` if they begin with no reply, whatever comes after them, with

@@ -16,6 +16,8 @@ use bytes::Bytes;
 use bytes_utils::{Reason, Refused, SegmentedBuf};
 use bytes_utils_codec::decode::{Delimited, FrameTooLong, Framed};
 use std::alloc::Global;
+use std::error::Error;
+use std::fmt;
 use std::marker::Model;
 
 /// Why the length of a body isn't known.
@@ -31,6 +33,28 @@ pub enum LengthError {
     /// A `Transfer-Encoding` frames the body, in a way that isn't known here.
     UnknownFraming,
 }
+
+/// Writes `a line is no header`, `a length is no number`, `two lengths differ` or
+/// `the framing is unknown`.
+impl fmt::Display for LengthError {
+    ghost use Rattle.std.specs.Prelude.{Some};
+    ghost use Rattle.bytes_utils_protocols.specs.Requests.{length_error_text};
+
+    ghost output = { λ error. Some (length_error_text error) };
+
+    ghost styled_output = { λ error _. Some (length_error_text error) };
+
+    fn fmt<W: fmt::Write>(&self, f: &mut fmt::Formatter<W>) -> fmt::Result {
+        match self {
+            LengthError::NotAHeader => f.write_str("a line is no header"),
+            LengthError::NotANumber => f.write_str("a length is no number"),
+            LengthError::Unequal => f.write_str("two lengths differ"),
+            LengthError::UnknownFraming => f.write_str("the framing is unknown"),
+        }
+    }
+}
+
+impl Error for LengthError {}
 
 /// A head, or that it is too long.
 type Head = Result<Bytes, FrameTooLong>;
@@ -112,6 +136,16 @@ impl Requests {
             return Ok(None);
         }
         Ok(Some(self.heads.split_to(len)?))
+    }
+
+    /// Returns the number of bytes that came and weren't taken or dropped.
+    pub fn remaining(&self) -> usize
+        ensures value { result ≡ length self.now.held }
+
+        // True of every value, after any calls.
+        ensures separator { self.now.decoder.separator ≡ request_head_end }
+    {
+        self.heads.remaining()
     }
 }
 

@@ -1,8 +1,9 @@
 //! The tests, a file for each protocol, `dispositions` for the names in parts of forms, and
-//! `part_streams` for parts that are given as they come (`joined`); `long`, `memory` and `written`
-//! span several. Most are tables of rows (`rows`, `notation`), along which `walks` takes the reader
-//! of any protocol (`readers`).
+//! `part_streams` for parts that are given as they come (`joined`); `errors`, `long`, `memory`
+//! and `written` span several. Most are tables of rows (`rows`, `notation`), along
+//! which `walks` takes the reader of any protocol (`readers`).
 mod dispositions;
+mod errors;
 mod events;
 mod joined;
 mod long;

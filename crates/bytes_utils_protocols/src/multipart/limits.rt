@@ -2,6 +2,8 @@
 ghost use Rattle.std.specs.Prelude.{◌≡◌, ◌+◌, ◌-◌, ◌^◌, min};
 
 use bytes_utils::Reason;
+use std::error::Error;
+use std::fmt;
 
 /// What a peer may send.
 #[derive(Clone, Copy, Debug)]
@@ -35,6 +37,27 @@ impl From<Reason> for PartError {
         PartError::Refused(reason)
     }
 }
+
+/// Writes its reason, `the part is malformed`, `the head is not UTF-8` or `the part is too large`.
+impl fmt::Display for PartError {
+    ghost use Rattle.std.specs.Prelude.{Some};
+    ghost use Rattle.bytes_utils_protocols.specs.Multipart.{part_error_text};
+
+    ghost output = { λ error. Some (part_error_text error) };
+
+    ghost styled_output = { λ error _. Some (part_error_text error) };
+
+    fn fmt<W: fmt::Write>(&self, f: &mut fmt::Formatter<W>) -> fmt::Result {
+        match self {
+            PartError::Refused(reason) => fmt::Display::fmt(reason, f),
+            PartError::Malformed => f.write_str("the part is malformed"),
+            PartError::NotUtf8 => f.write_str("the head is not UTF-8"),
+            PartError::TooLarge => f.write_str("the part is too large"),
+        }
+    }
+}
+
+impl Error for PartError {}
 
 /// The most bytes between two delimiters, or before the first one.
 pub(super) fn most_multipart_bytes(limits: Limits) -> usize

@@ -2,6 +2,8 @@
 ghost use Rattle.std.specs.Prelude.{◌≡◌};
 
 use bytes_utils::Reason;
+use std::error::Error;
+use std::fmt;
 
 /// What a peer may send.
 #[derive(Clone, Copy, Debug)]
@@ -34,3 +36,23 @@ impl From<Reason> for ReplyError {
         ReplyError::Refused(reason)
     }
 }
+
+/// Writes its reason, `the reply is malformed` or `the reply is too large`.
+impl fmt::Display for ReplyError {
+    ghost use Rattle.std.specs.Prelude.{Some};
+    ghost use Rattle.bytes_utils_protocols.specs.Redis.{reply_error_text};
+
+    ghost output = { λ error. Some (reply_error_text error) };
+
+    ghost styled_output = { λ error _. Some (reply_error_text error) };
+
+    fn fmt<W: fmt::Write>(&self, f: &mut fmt::Formatter<W>) -> fmt::Result {
+        match self {
+            ReplyError::Refused(reason) => fmt::Display::fmt(reason, f),
+            ReplyError::Malformed => f.write_str("the reply is malformed"),
+            ReplyError::TooLarge => f.write_str("the reply is too large"),
+        }
+    }
+}
+
+impl Error for ReplyError {}

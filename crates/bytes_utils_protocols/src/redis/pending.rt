@@ -99,6 +99,14 @@ impl Pending {
         self.pieces.push_slice(alloc, piece)
     }
 
+    /// The number of held bytes.
+    pub(super) fn len(&self) -> usize
+        requires { length (held_by_pending self.now) < 2 ^ 64 }
+        ensures { result ≡ length (held_by_pending self.now) }
+    {
+        self.passed.len() + self.pieces.remaining()
+    }
+
     /// Whether the number of held bytes and `len` is a `usize`.
     fn fits(&self, len: usize) -> bool
         requires { length (held_by_pending self.now) < 2 ^ 64 }
