@@ -11,7 +11,8 @@ from table import Rung, said
 
 CRATES = ["bytes_utils_buf", "bytes_utils", "bytes_utils_codec", "bytes_utils_protocols"]
 # the cases on which a wrong body is tried
-FEW = [(n, k, 0) for n in (0, 1, 16, 513, 4_097) for k in (1, 2, 3) if k <= max(n, 1)] + [(4_097, 200, 0), (65_537, 3, 0)]
+FEW = [(n, k, 0) for n in (0, 1, 16, 513, 4_097) for k in (1, 2, 3) if k <= max(n, 1)]
+FEW += [(4_097, 200, 0), (65_537, 3, 0)]
 # what the heap and then the program print of a rung
 ROW = re.compile(r"^(\d+) (\d+) (-?\d+) (\w+) (.+)$", re.M)
 
@@ -26,7 +27,8 @@ def rungs(lists, crates=f"{ROOT}/crates", only=r"\w+"):
         heap = [f"{room}/heap.o", *(it for it in C_CODE if "liblibc" not in it)]
         program = ["ladder_bench", ["std", *CRATES, "bytes"], source("ladder/ours", room)]
         main = Path(program[2], "src/main.rt")
-        main.write_text(re.sub(rf"^ +(?!{only}::)\w+::climb\(.*\n", "", main.read_text(), flags=re.M))
+        others = re.compile(rf"^ +(?!{only}::)\w+::climb\(.*\n", re.M)
+        main.write_text(others.sub("", main.read_text("utf-8")), "utf-8")
         given = [[(map(str, chain(*cases)), b"", None)] for cases in lists]
         ended = each(lambda it: [*tried_on(it, *program, c_code=heap, crates=crates)], given)
     for cases, [(status, wrote)] in zip(lists, ended):
@@ -45,9 +47,9 @@ def rungs(lists, crates=f"{ROOT}/crates", only=r"\w+"):
 
 def module_of(call):
     """The module of the program that makes a call. It has the call's name, or that without the type."""
-    names = f'"{call}"', f'"::{call.partition("::")[2]}"'
-    files = {it.name.partition(".")[0]: it.read_text("utf-8") for it in Path(ROOT, "bench/ladder/ours").glob("*.rt.txt")}
-    return next((module for name in names for module, text in files.items() if name in text), "")
+    names, files = (f'"{call}"', f'"::{call.partition("::")[2]}"'), [*Path(ROOT, "bench/ladder/ours").glob("*.rt.txt")]
+    found = [it for name in names for it in files if name in it.read_text("utf-8")]
+    return found[0].name.partition(".")[0] if found else ""
 
 
 @functools.cache
@@ -57,8 +59,8 @@ def few_rungs(module, crates=f"{ROOT}/crates"):
 
 
 def changed_rungs(call, crates):
-    """The rungs of a call that differ over the crates in a folder: in the value, in what is asked for, or in what is held
-    at the end. There are none if the program doesn't end well."""
+    """The rungs of a call that differ over the crates in a folder: in the value, in what is asked for, or in what is
+    held at the end. There are none if the program doesn't end well."""
     found, right = few_rungs(module_of(call), crates), few_rungs(module_of(call))
     return [it for it in found[call] if it not in right[call] and "the program" not in found]
 
