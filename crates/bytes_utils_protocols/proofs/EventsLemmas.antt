@@ -1,8 +1,8 @@
 -- Event streams.
 use Rattle.std.proofs.Common.{◌≡◌, ◌≢◌, ℕ, ◌+◌, ◌-◌, ◌==◌, ◌<◌, ◌≤◌, List, [], ◌∷◌, ◌++◌, inl, inr, Bool, true, false, length, take, drop, Option, None, Some, Ok, Err, ap, ◌∙◌, sym, refl, subst, arith, append_assoc, length-append, if◌then◌else◌, IsUtf8, unwrap_or}
-use Rattle.std.specs.Prelude.{IfNone, IsSome, MatchOption, codes, nat_eq, nat_lt, not, ◌^◌, ◌&&◌}
+use Rattle.std.specs.Prelude.{IfNone, MatchOption, codes, nat_eq, nat_lt, not, ◌^◌, ◌&&◌}
 use Rattle.std.specs.Cmp.Lexicographic.{pointwise}
-use Rattle.std.specs.Option.{option_or}
+use Rattle.std.specs.Option.{IsSomeAnd, option_or}
 use Rattle.std.specs.Char.{digit_value}
 use Rattle.std.specs.List.{after_first, list_all, list_any, position_or_len, starts_with}
 use Rattle.std.specs.Str.Parse.{AllDigits, digits_value}
@@ -20,7 +20,7 @@ use Rattle.bytes_utils_codec.specs.UniversalReadingLaws.{universal_same, univers
 use Rattle.bytes_utils_codec.specs.declared.decode.lines.LineFault.{LineFault}
 use Rattle.bytes_utils_codec.specs.declared.decode.lines.LineFault.TheVariants.{NotUtf8 as NotText, TooLong}
 use Rattle.bytes_utils_codec.proofs.StreamRunsLemmas.{AreFirstOfRun-next}
-use Rattle.bytes_utils_protocols.specs.Events.{AsksForEventData, AsksForEventField, AsksForEventLine, AsksForEventText, DoesEventLine, Eventing, GivesEvent, IsEndOfEventLine, IsEventTooLarge, KeepsEvents, LosesNoEvent, PassesEventFault, ReadsEventLines, ReadsEventLine, TakesNextEventLine, EventBuffers, WaitsWithEventTooLarge, event_error_of, events_left_to_read, waiting_event_lines, after_event_field, after_event_line, event_byte_order_mark, event_content, event_field_name, event_field_value, is_event_colon, is_event_number, event_name_of, event_number_of, event_text_len, event_value_of, with_event_line}
+use Rattle.bytes_utils_protocols.specs.Events.{AsksForEventData, AsksForEventEnd, AsksForEventField, AsksForEventLine, AsksForEventText, DoesEventLine, Eventing, GivesEvent, IsEndOfEventLine, IsEventTooLarge, KeepsEvents, LosesNoEvent, PassesEventFault, ReadsEventLines, ReadsEventLine, TakesNextEventLine, EventBuffers, WaitsWithEventTooLarge, event_error_of, events_left_to_read, waiting_event_lines, after_event_field, after_event_line, event_byte_order_mark, event_content, event_field_name, event_field_value, is_event_colon, is_event_number, event_name_of, event_number_of, event_text_len, event_value_of, with_event_line}
 use Rattle.bytes_utils_protocols.specs.Digits.{WriteNumber}
 use Rattle.bytes_utils_protocols.specs.declared.events.Event.{Event}
 use Rattle.bytes_utils_protocols.specs.declared.events.EventError.TheVariants.{NotUtf8}
@@ -88,9 +88,10 @@ text_after_other buffers name value other =
     by false false true = refl
     by false false false = refl
 
--- a line that is no field asks for memory where there is data
-pub asks_empty : (old : Eventing) (line text : List ℕ) → text ≡ event_content old.at_start line → text ≡ [] → IsSome old.buffers.text → AsksForEventLine old line
-asks_empty old line text is empty some = subst (AsksForEventText old.buffers) (sym empty ∙ is) some
+-- a line that is no field asks for memory where the end of the event does
+pub asks_empty : (old : Eventing) (line text : List ℕ) → text ≡ event_content old.at_start line → text ≡ []
+    → IsSomeAnd old.buffers.text (λ before. AsksForEventEnd before old.buffers.id) → AsksForEventLine old line
+asks_empty old line text is empty asks = subst (AsksForEventText old.buffers) (sym empty ∙ is) asks
 
 pub asks_field : (old : Eventing) (line text : List ℕ) → text ≡ event_content old.at_start line → text ≢ []
     → AsksForEventField old.buffers (event_field_name text) (event_field_value text) → AsksForEventLine old line

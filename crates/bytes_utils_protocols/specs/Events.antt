@@ -1,9 +1,9 @@
 -- Event streams, as the HTML standard defines them (sections 9.2.5 and 9.2.6, https://html.spec.whatwg.org/multipage/server-sent-events.html).
-use Rattle.std.specs.Prelude.{◌≡◌, ◌≢◌, ℕ, ◌+◌, Bool, false, ◌<◌, ◌≤◌, ◌⊎◌, ◌==◌, ◌&&◌, not, if◌then◌else◌, nat_eq, nat_lt, ◌^◌, List, [], ◌∷◌, ◌++◌, length, drop, codes, Option, None, Some, IsSome, MatchOption, Result, Ok, Err, IsUtf8, true, ⊤}
+use Rattle.std.specs.Prelude.{◌≡◌, ◌≢◌, ℕ, ◌+◌, Bool, false, ◌<◌, ◌≤◌, ◌⊎◌, ◌==◌, ◌&&◌, not, if◌then◌else◌, nat_eq, nat_lt, ◌^◌, List, [], ◌∷◌, ◌++◌, length, drop, codes, Option, None, Some, MatchOption, Result, Ok, Err, IsUtf8, true, ⊤}
 use Rattle.std.specs.Cmp.Lexicographic.{pointwise}
 use Rattle.std.specs.Char.{digit_value}
-use Rattle.std.specs.List.{after_first, before_first, list_all, list_any, starts_with, flat_map}
-use Rattle.std.specs.Option.{option_or, option_to_list}
+use Rattle.std.specs.List.{Contains, after_first, before_first, list_all, list_any, starts_with, flat_map}
+use Rattle.std.specs.Option.{IsSomeAnd, option_or, option_to_list}
 use Rattle.std.specs.Str.Parse.{digits_value}
 use Rattle.bytes_utils.specs.Lines.{line_feed}
 use Rattle.bytes_utils_buf.specs.Refusals.{refusal_text}
@@ -197,9 +197,13 @@ AsksForEventField buffers name value =
     ⊎ ((name ≡ codes "event") × (0 < length value))
     ⊎ ((name ≡ codes "id") × (0 < length value) × (has_event_zero value ≡ false))
 
--- A line asks for memory: such a field, or the empty line that ends an event. A comment, a field of another name and a time to wait ask for none.
+-- The end of an event asks for memory if its data has a line feed, as data of several lines has, or if there is an identifier that isn't empty.
+abbrev pub AsksForEventEnd : List ℕ → Option (List ℕ) → Type 0
+AsksForEventEnd text id = Contains text line_feed ⊎ IsSomeAnd id (λ id. 0 < length id)
+
+-- A line asks for memory: such a field, or an empty line that is such an end. A comment, a field of another name and a time to wait ask for none.
 abbrev pub AsksForEventText : EventBuffers → List ℕ → Type 0
-AsksForEventText buffers [] = IsSome buffers.text
+AsksForEventText buffers [] = IsSomeAnd buffers.text (λ text. AsksForEventEnd text buffers.id)
 AsksForEventText buffers (c ∷ t) = AsksForEventField buffers (event_field_name (c ∷ t)) (event_field_value (c ∷ t))
 
 abbrev pub AsksForEventLine : Eventing → List ℕ → Type 0

@@ -1,11 +1,12 @@
 //! Server-sent events, of a stream that comes in pieces.
-ghost use Rattle.std.specs.Prelude.{◌≡◌, ◌≢◌, ◌+◌, ◌^◌, ◌<◌, ◌≤◌, ◌⊎◌, ◌↔◌, [], ◌++◌, ◌∷◌, true, false, length, string_bytes, IfOk, IfErr, IfSome, IfNone, IsOk, IsSome, IsTrue, IsUtf8, None, OnOk, OnErr, Some};
+ghost use Rattle.std.specs.Prelude.{◌≡◌, ◌≢◌, ◌+◌, ◌^◌, ◌<◌, ◌≤◌, ◌⊎◌, ◌↔◌, [], ◌++◌, ◌∷◌, true, false, length, string_bytes, IfOk, IfErr, IfSome, IfNone, IsOk, IsSomeAnd, IsTrue, IsUtf8, None, OnOk, OnErr, Some};
+ghost use Rattle.std.specs.List.{Contains};
 ghost use Rattle.std.specs.Option.{option_or};
 ghost use Rattle.bytes_utils.specs.Lines.{line_feed};
 ghost use Rattle.bytes_utils_codec.specs.Pushing.{IsPush};
 ghost use Rattle.bytes_utils_codec.specs.UniversalReading.{AwaitsUniversal, fails_universal};
 ghost use Rattle.bytes_utils_protocols.specs.EventData.{event_data_if_any, event_data_text};
-ghost use Rattle.bytes_utils_protocols.specs.Events.{AsksForEventData, AsksForEventField, AsksForEventLine, DoesEventLine, EndsEvent, EventRunLaw, GivesEvent, IsEndOfEventLine, IsEventTooLarge, KeepsEvents, LargeEventLaw, LosesNoEvent, NoEventLaw, PassesEventFault, RefusesEventLine, SameEventLaw, TakesEventFault, TakesNextEventLine, WaitsForEventLine, WaitsWithEventTooLarge, after_event_field, event_content, event_field_name, event_field_value, event_name_of, event_number_of, event_text_len, event_value_of, events_left_to_read, no_event_bytes_held, pushed_to_events, with_event_line};
+ghost use Rattle.bytes_utils_protocols.specs.Events.{AsksForEventData, AsksForEventEnd, AsksForEventField, AsksForEventLine, DoesEventLine, EndsEvent, EventRunLaw, GivesEvent, IsEndOfEventLine, IsEventTooLarge, KeepsEvents, LargeEventLaw, LosesNoEvent, NoEventLaw, PassesEventFault, RefusesEventLine, SameEventLaw, TakesEventFault, TakesNextEventLine, WaitsForEventLine, WaitsWithEventTooLarge, after_event_field, event_content, event_field_name, event_field_value, event_name_of, event_number_of, event_text_len, event_value_of, events_left_to_read, no_event_bytes_held, pushed_to_events, with_event_line};
 
 use crate::number::number;
 use bytes::Bytes;
@@ -98,7 +99,69 @@ impl Error for EventError {}
 #[derive(Drop)]
 enum Data {
     One(Str),
-    More(String),
+    More(JoinedLines),
+}
+
+/// Two lines of data or more, joined with line feeds.
+#[derive(Drop)]
+struct JoinedLines {
+    text: String,
+}
+
+impl Model for JoinedLines {
+    ghost use Rattle.std.specs.Prelude.{ℕ, List, string_bytes};
+    ghost use Rattle.std.specs.List.{Contains};
+    ghost use Rattle.bytes_utils.specs.Lines.{line_feed};
+
+    ghost Value = { List ℕ };
+
+    ghost view = { λ lines. string_bytes lines.text };
+
+    ghost invariant = { λ lines. Contains (string_bytes lines.text) line_feed };
+}
+
+impl JoinedLines {
+    /// Joins two lines.
+    fn new(alloc: Global, first: &str, second: &str) -> Result<JoinedLines, Reason>
+        ensures ok { IfOk result (λ lines. lines ≡ first.now ++ line_feed ∷ second.now) }
+        ensures reason { IfErr result (λ reason. reason ≡ Reason.OutOfMemory) }
+    {
+        let mut text = String::from_str(alloc, first)?;
+        push_event_line(&mut text, second)?;
+        Ok(JoinedLines { text })
+    }
+
+    /// Adds a line. Fails with `OutOfMemory`; then nothing has changed.
+    fn push(&mut self, line: &str) -> Result<(), Reason>
+        ensures ok { OnOk result (self.new ≡ self.old ++ line_feed ∷ line.now) }
+        ensures err { OnErr result (self.new ≡ self.old) }
+        ensures reason { IfErr result (λ reason. reason ≡ Reason.OutOfMemory) }
+    {
+        push_event_line(&mut self.text, line)
+    }
+
+    /// Returns the number of bytes.
+    fn len(&self) -> usize
+        ensures { result ≡ length self.now }
+    {
+        self.text.len()
+    }
+
+    /// Makes one text of the lines. If memory is refused, they come back.
+    fn into_text(self, alloc: Global) -> Result<Str, Refused<JoinedLines>>
+        ensures ok { IfOk result (λ text. text ≡ self) }
+        ensures back { IfErr result (λ e. e.back ≡ self) }
+        ensures asks { OnErr result (Contains self line_feed) }
+        ensures reason { IfErr result (λ e. e.reason ≡ Reason.OutOfMemory) }
+    {
+        match Str::from_string(alloc, self.text) {
+            Ok(text) => Ok(text),
+            Err(Refused { reason, back }) => Err(Refused {
+                reason,
+                back: JoinedLines { text: back },
+            }),
+        }
+    }
 }
 
 /// A stream that comes in pieces, and the events in it.
@@ -193,7 +256,8 @@ impl EventReader {
     /// Memory is asked for only to take a line whose end has come, never for an empty one, and to
     /// read it: for data within its limit, for a name that isn't empty, for an identifier that isn't
     /// empty and has no NUL, and for the empty line that ends an event, never for a comment or another
-    /// field.
+    /// field. That empty line asks for memory only if there is an identifier that isn't empty, or if
+    /// the data has a line feed, as data of several lines has.
     /// Fails with `NotUtf8` if a line within its limit is not UTF-8, and with `TooLarge` if a line
     /// passes its limit, whether it is UTF-8 or not; then that line is passed over, and the next call
     /// continues after it. (A browser puts U+FFFD for the bytes that are no character, and reads the
@@ -327,7 +391,8 @@ impl EventReader {
         ensures after { IfOk result (λ event. IfSome event (λ event.
             self.new ≡ record self.old { buffers = record self.old.buffers { name = None; text = None } })) }
         ensures err { OnErr result (self.new ≡ self.old) }
-        ensures data { OnErr result (IsSome self.old.buffers.text) }
+        ensures asks { OnErr result (IsSomeAnd self.old.buffers.text
+            (λ text. AsksForEventEnd text self.old.buffers.id)) }
         ensures reason { IfErr result (λ reason. reason ≡ Reason.OutOfMemory) }
     {
         let Some(data) = self.text.take() else {
@@ -424,7 +489,7 @@ fn has_room_in_event(so_far: &Option<Data>, line: &str, limit: usize) -> bool
 {
     let len = match so_far {
         Some(Data::One(text)) => text.len(),
-        Some(Data::More(text)) => text.len(),
+        Some(Data::More(lines)) => lines.len(),
         None => return line.len() <= limit,
     };
     len < limit && line.len() < limit - len
@@ -440,8 +505,8 @@ fn add_line(alloc: Global, so_far: &mut Option<Data>, line: &Str, value: &str) -
     ensures reason { IfErr result (λ reason. reason ≡ Reason.OutOfMemory) }
 {
     let more = match so_far {
-        Some(Data::More(text)) => return push_event_line(text, value),
-        Some(Data::One(first)) => Data::More(joined_event_lines(alloc, first.as_str(), value)?),
+        Some(Data::More(lines)) => return lines.push(value),
+        Some(Data::One(first)) => Data::More(JoinedLines::new(alloc, first.as_str(), value)?),
         None => Data::One(end_of_event_line(line, value)?),
     };
     *so_far = Some(more);
@@ -457,6 +522,7 @@ fn event_data_and_id(
     ensures text { IfOk result (λ both. both.0 ≡ event_data_text so_far) }
     ensures id { IfOk result (λ both. both.1 ≡ id.now) }
     ensures back { IfErr result (λ e. event_data_text e.back ≡ event_data_text so_far) }
+    ensures asks { OnErr result (AsksForEventEnd (event_data_text so_far) id.now) }
     ensures reason { IfErr result (λ e. e.reason ≡ Reason.OutOfMemory) }
 {
     let id = match same_event_id(id) {
@@ -468,7 +534,7 @@ fn event_data_and_id(
     };
     match so_far {
         Data::One(text) => Ok((text, id)),
-        Data::More(text) => match Str::from_string(alloc, text) {
+        Data::More(lines) => match lines.into_text(alloc) {
             Ok(text) => Ok((text, id)),
             Err(Refused { reason, back }) => Err(Refused {
                 reason,
@@ -481,6 +547,7 @@ fn event_data_and_id(
 /// The same text once more, if there is one.
 fn same_event_id(text: &Option<Str>) -> Result<Option<Str>, Reason>
     ensures ok { IfOk result (λ copy. copy ≡ text.now) }
+    ensures some { OnErr result (IsSomeAnd text.now (λ id. 0 < length id)) }
     ensures reason { IfErr result (λ reason. reason ≡ Reason.OutOfMemory) }
 {
     match text {
@@ -545,17 +612,6 @@ fn set_event_retry(number_so_far: &mut Option<u64>, text: &str)
     if let Some(n) = number(text.as_bytes()) {
         *number_so_far = Some(n as u64);
     }
-}
-
-/// Two lines as one text.
-fn joined_event_lines(alloc: Global, first: &str, second: &str) -> Result<String, Reason>
-    ensures ok { IfOk result
-        (λ text. string_bytes text ≡ first.now ++ line_feed ∷ second.now) }
-    ensures reason { IfErr result (λ reason. reason ≡ Reason.OutOfMemory) }
-{
-    let mut text = String::from_str(alloc, first)?;
-    push_event_line(&mut text, second)?;
-    Ok(text)
 }
 
 /// Appends a line feed and a line. Fails with `OutOfMemory`; then nothing has changed.

@@ -50,7 +50,7 @@ pub returns-in_err-event-clause-asks : goal.returns-in_err-event-clause-asks
 returns-in_err-event-clause-asks c =
     let none = no_text c in
     let out = err_from_is_err_and c.from_residual.result c.from_residual.ensures.1 in
-    rw out.1 (asks_empty c.args.self.now c.args.line.now _ none.0 none.1 c.in_err-event.ensures.data)
+    rw out.1 (asks_empty c.args.self.now c.args.line.now _ none.0 none.1 c.in_err-event.ensures.asks)
 
 pub returns-in_err-event-clause-small : goal.returns-in_err-event-clause-small
 returns-in_err-event-clause-small c =
