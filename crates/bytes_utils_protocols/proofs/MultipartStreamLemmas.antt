@@ -108,19 +108,19 @@ module _ (d held : List ℕ) (from : ℕ) (some : 0 < length d) (none : NoneBegi
         here = λ _. frame_of_all d held from some none at found;
         fits = λ _. fits;
         lacks = λ e. absurd (false≢true (sym e));
-        few = λ e. absurd (false≢true (sym e));
+        most = λ e. absurd (false≢true (sym e));
         some = some;
       }
 
   -- it has not
-  pub ahead_missed : (n : ℕ) → n ≡ max from (length held - (length d - 1)) → from ≤ length held → FindsNeedle held d from None → IsAheadOfNeedle d held (record { len = n; has_come = false })
+  pub ahead_missed : (n : ℕ) → n ≡ max from (length held - (length d - 1)) → from ≤ length held - (length d - 1) → FindsNeedle held d from None → IsAheadOfNeedle d held (record { len = n; has_come = false })
   ahead_missed n is within missed = record {
     within = omega (arith, is, within);
     apart = subst (NoneBeginsInSearch d held) (sym is) (NoneBeginsInSearch-missed d held from some none missed);
     here = λ e. absurd (false≢true e);
     fits = λ e. absurd (false≢true e);
     lacks = λ _. nowhere_left d held from some none missed;
-    few = λ _. omega (arith, is, some);
+    most = λ _. omega (arith, is, within);
     some = some;
   }
 
@@ -185,17 +185,27 @@ module _ (d held : List ℕ) (some : 0 < length d) where
         none = is.lacks lacks;
         short = λ front rest takes.
             let same = ap length (TakesFrame-same multipart_head_end held front (take len held) rest (drop (len + length multipart_head_end) held) takes cut).0 in
-            omega (arith, is.few lacks, late, same, size, ap length takes.bytes, length-append front (multipart_head_end ++ rest), length-append multipart_head_end rest);
-        few = omega (arith, is.few lacks, late, small);
+            omega (arith, is.most lacks, some, late, same, size, ap length takes.bytes, length-append front (multipart_head_end ++ rest), length-append multipart_head_end rest);
+        few = omega (arith, is.most lacks, some, late, small);
       }
 
-      pub head_end_found : len + length multipart_head_end ≤ ahead.len → len + length multipart_head_end ≤ limits.head → HasPartHeadEnd d limits held len
-      head_end_found early small = record {
-        within = within;
-        cut = cut;
-        apart = NoneBegins-fewer d held ahead.len (len + length multipart_head_end) early is.apart;
-        small = small;
-      }
+      -- it is certain
+      head_is_certain : len + length multipart_head_end ≤ ahead.len → (come : Bool) → ahead.has_come ≡ come → ¬ AwaitsPartHead d limits held
+      head_is_certain early true come awaits = awaits.none (ahead.len, come_at come)
+      head_is_certain early false lacks awaits =
+          let rest = drop (len + length multipart_head_end) held in
+          omega (arith, awaits.short (take len held) rest cut, is.most lacks, early, length-drop (len + length multipart_head_end) held)
+
+      pub head_end_found : len + length multipart_head_end ≤ ahead.len → len + length multipart_head_end ≤ limits.head → HasPartHeadEnd d limits held len × (¬ AwaitsPartHead d limits held)
+      head_end_found early small = (
+        record {
+          within = within;
+          cut = cut;
+          apart = NoneBegins-fewer d held ahead.len (len + length multipart_head_end) early is.apart;
+          small = small;
+        },
+        head_is_certain early ahead.has_come refl,
+      )
 
 module _ (d : List ℕ) (limits : Limits) (held : List ℕ) (len : ℕ) (found : HasPartHeadEnd d limits held len) where
   front_size : length (take len held) ≡ len
@@ -256,7 +266,7 @@ module _ (old : Progress) (ahead : Ahead) (is : IsAheadOfNeedle old.waiting.deli
   preamble_dropped p w room same place waits left = rw (waits, left, same) (inr (inl (drops place)))
 
   pub preamble_awaits : (p : Progress) (w : MultipartWaiting) → p ≡ old → ahead.has_come ≡ false → w ≡ without_front ahead.len p.waiting → length w.held < length w.delimiter
-  preamble_awaits p w same lacks waits = rw (waits, same) (omega (arith, is.few lacks, is.within, length-drop ahead.len old.waiting.held))
+  preamble_awaits p w same lacks waits = rw (waits, same) (omega (arith, is.most lacks, is.some, is.within, length-drop ahead.len old.waiting.held))
 
   -- the delimiter is dropped too
   passes : old.place ≡ Preamble → ahead.has_come ≡ true → PassesPreamble (part_streaming old) (at_waiting old.limits AtHead old.room (without_front (ahead.len + length old.waiting.delimiter) old.waiting))
@@ -289,13 +299,23 @@ module _ (old : Progress) (ahead : Ahead) (is : IsAheadOfNeedle old.waiting.deli
   within_room : (come : Bool) → ahead.has_come ≡ come → IsWithinPartRoom (part_streaming old)
   within_room true come =
       inl (take ahead.len old.waiting.held, drop (ahead.len + length old.waiting.delimiter) old.waiting.held, is.here come, omega (arith, fits, front_len))
-  within_room false lacks = inr (omega (arith, is.few lacks, fits))
+  within_room false lacks = inr (omega (arith, is.most lacks, is.some, fits))
 
   -- the memory for a piece is refused
   pub asks_in_body : old.place ≡ InBody → 0 < ahead.len → PartStreamAsks old.place (part_streaming old)
   asks_in_body place some =
       let come : HasPartPiece old.waiting.delimiter old.waiting.held = (omega (arith, some, is.within), NoneBegins-fewer old.waiting.delimiter old.waiting.held ahead.len 1 some is.apart) in
       subst (λ place. PartStreamAsks place (part_streaming old)) (sym place) (come, within_room ahead.has_come refl)
+
+  -- a piece is given: the call does not wait
+  piece_is_certain : 0 < ahead.len → (come : Bool) → ahead.has_come ≡ come → length old.waiting.delimiter ≤ length old.waiting.held
+  piece_is_certain some true come = omega (arith, is.fits come)
+  piece_is_certain some false lacks = omega (arith, is.most lacks, some)
+
+  pub no_wait_in_body : old.place ≡ InBody → 0 < ahead.len → ¬ IsPartAwaited old.place (part_streaming old)
+  no_wait_in_body place some awaits =
+      let few : length old.waiting.held < length old.waiting.delimiter = subst (λ place. IsPartAwaited place (part_streaming old)) place awaits in
+      omega (arith, few, piece_is_certain some ahead.has_come refl)
 
   -- the body has ended
   pub end_given : (p : Progress) (w : MultipartWaiting) → p ≡ old → old.place ≡ InBody → ahead.len ≡ 0 → ahead.has_come ≡ true → w ≡ without_front (ahead.len + length p.waiting.delimiter) p.waiting
@@ -312,7 +332,7 @@ module _ (old : Progress) (ahead : Ahead) (is : IsAheadOfNeedle old.waiting.deli
 
   pub body_awaits : (p : Progress) → p ≡ old → old.place ≡ InBody → ahead.len ≡ 0 → ahead.has_come ≡ false → IsPartStreamStep (part_streaming old) (Ok None) (part_streaming p)
   body_awaits p same place none lacks =
-      let few : length old.waiting.held < length old.waiting.delimiter = omega (arith, none, is.few lacks) in
+      let few : length old.waiting.held < length old.waiting.delimiter = omega (arith, none, is.most lacks, is.some) in
       rw same (inl refl, subst (λ place. IsPartAwaited place (part_streaming old)) (sym place) few)
 
 -- nothing comes before the first delimiter or after the last one
@@ -335,8 +355,8 @@ failed_step old new result e is same why = rw (is, same) (refl, why)
 
 -- the step fails, as memory is refused
 pub refused_step : (old new : PartStreaming) (result : Result (Option PartEvent) PartError) (e : PartError) (reason : Reason) → result ≡ Err e → e ≡ Refused reason → reason ≡ OutOfMemory → PartStreamAsks old.place old
-    → new ≡ old → IsPartStreamStep old result new
-refused_step old new result e reason is refused want asks same = failed_step old new result e is same (rw refused (want, asks))
+    → (¬ IsPartAwaited old.place old) → new ≡ old → IsPartStreamStep old result new
+refused_step old new result e reason is refused want asks goes_on same = failed_step old new result e is same (rw refused (want, asks, goes_on))
 
 -- too many bytes are before the next delimiter
 pub over_step : (s : PartStreaming) (e : PartError) → (s.place ≡ Preamble) ⊎ (s.place ≡ InBody) → e ≡ TooLarge → PassesPartRoom s → IsPartStreamFault e s
@@ -391,14 +411,17 @@ pub asks_at_head : (old : Progress) (len : ℕ) → old.place ≡ AtHead → tak
     → (¬ IsMultipartPadding (take len old.waiting.held)) → PartStreamAsks old.place (part_streaming old)
 asks_at_head old len place on found some = subst (λ place. PartStreamAsks place (part_streaming old)) (sym place) (on, len, found, some)
 
+pub no_wait_at_head : (old : Progress) → old.place ≡ AtHead → (¬ AwaitsPartHead old.waiting.delimiter old.limits old.waiting.held) → ¬ IsPartAwaited old.place (part_streaming old)
+no_wait_at_head old place certain awaits = certain (subst (λ place. IsPartAwaited place (part_streaming old)) place awaits).1
+
 -- the head that has come is none
-pub parse_fault : (old : Progress) (len : ℕ) → old.place ≡ AtHead → take (length multipart_dashes) old.waiting.held ≢ multipart_dashes → HasPartHeadEnd old.waiting.delimiter old.limits old.waiting.held len
+pub parse_fault : (old : Progress) (len : ℕ) → old.place ≡ AtHead → take (length multipart_dashes) old.waiting.held ≢ multipart_dashes → HasPartHeadEnd old.waiting.delimiter old.limits old.waiting.held len × (¬ AwaitsPartHead old.waiting.delimiter old.limits old.waiting.held)
     → (¬ IsMultipartPadding (take len old.waiting.held)) → (e : PartError) → (e ≡ Malformed → (head : List ℕ) → IsMultipartHead (take len old.waiting.held) head → ¬ AreMultipartFields head) → e ≢ TooLarge
     → (e ≡ NotUtf8 → (head : List ℕ) × IsMultipartHead (take len old.waiting.held) head × (¬ IsUtf8 head)) → ((reason : Reason) → e ≡ Refused reason → reason ≡ OutOfMemory) → IsPartStreamFault e (part_streaming old)
-parse_fault old len place on found some Malformed malformed large not_text want = (place, no_fields_come old.waiting.delimiter old.limits old.waiting.held len found (malformed refl))
-parse_fault old len place on found some NotUtf8 malformed large not_text want = (place, not_utf8_come old.waiting.delimiter old.limits old.waiting.held len found (not_text refl))
+parse_fault old len place on found some Malformed malformed large not_text want = (place, no_fields_come old.waiting.delimiter old.limits old.waiting.held len found.0 (malformed refl))
+parse_fault old len place on found some NotUtf8 malformed large not_text want = (place, not_utf8_come old.waiting.delimiter old.limits old.waiting.held len found.0 (not_text refl))
 parse_fault old len place on found some TooLarge malformed large not_text want = absurd (large refl)
-parse_fault old len place on found some (Refused reason) malformed large not_text want = (want reason refl, asks_at_head old len place on found some)
+parse_fault old len place on found some (Refused reason) malformed large not_text want = (want reason refl, asks_at_head old len place on found.0 some, no_wait_at_head old place found.1)
 
 -- ---- what a call returned
 

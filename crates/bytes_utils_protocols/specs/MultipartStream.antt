@@ -119,8 +119,9 @@ IsPartHeadFault TooLarge delimiter limits held = NoPartHeadComes delimiter limit
 IsPartHeadFault NotUtf8 delimiter limits held = HasPartHeadNotUtf8 delimiter limits held
 IsPartHeadFault (Refused reason) delimiter limits held = ⊥
 
+-- what is found of a head: how many bytes are before its end, and then no more are awaited; that more are awaited; or why there is none
 abbrev pub FindsPartHead : List ℕ → Limits → List ℕ → Result (Option ℕ) PartError → Type 0
-FindsPartHead delimiter limits held (Ok (Some len)) = HasPartHeadEnd delimiter limits held len
+FindsPartHead delimiter limits held (Ok (Some len)) = HasPartHeadEnd delimiter limits held len × (¬ AwaitsPartHead delimiter limits held)
 FindsPartHead delimiter limits held (Ok None) = AwaitsPartHead delimiter limits held
 FindsPartHead delimiter limits held (Err e) = IsPartHeadFault e delimiter limits held
 
@@ -191,8 +192,7 @@ abbrev pub IsWithinPartRoom : PartStreaming → Type 0
 IsWithinPartRoom s =
     ((frame : List ℕ) × (rest : List ℕ) × TakesFrame s.delimiter s.held frame rest × (length frame ≤ s.room)) ⊎ (length s.held < s.room + length s.delimiter)
 
--- When a call asks for memory: a head that isn't empty and that no dashes begin has come with its end, or a piece of a body that isn't over its limit.
--- A call that waits asks for none.
+-- When a call asks for memory: a head that isn't empty and that no dashes begin has come with its end, or a piece of a body that isn't over its limit
 abbrev pub PartStreamAsks : Place → PartStreaming → Type 0
 PartStreamAsks Preamble s = ⊥
 PartStreamAsks AtHead s =
@@ -200,13 +200,13 @@ PartStreamAsks AtHead s =
 PartStreamAsks InBody s = HasPartPiece s.delimiter s.held × IsWithinPartRoom s
 PartStreamAsks Ended s = ⊥
 
--- why a call fails, after the preamble
+-- Why a call fails, after the preamble. A call that waits asks for no memory.
 abbrev pub IsPartStreamFault : PartError → PartStreaming → Type 0
 IsPartStreamFault Malformed s = (s.place ≡ AtHead) × NoPartFieldsCome s.delimiter s.held
 IsPartStreamFault NotUtf8 s = (s.place ≡ AtHead) × HasPartHeadNotUtf8 s.delimiter s.limits s.held
 IsPartStreamFault TooLarge s =
     ((s.place ≡ AtHead) × NoPartHeadComes s.delimiter s.limits s.held) ⊎ (((s.place ≡ Preamble) ⊎ (s.place ≡ InBody)) × PassesPartRoom s)
-IsPartStreamFault (Refused reason) s = (reason ≡ OutOfMemory) × PartStreamAsks s.place s
+IsPartStreamFault (Refused reason) s = (reason ≡ OutOfMemory) × PartStreamAsks s.place s × (¬ IsPartAwaited s.place s)
 
 -- a call after the preamble, whatever it returns
 abbrev pub IsPartStreamStep : PartStreaming → Result (Option PartEvent) PartError → PartStreaming → Type 0

@@ -100,7 +100,8 @@ impl ReplyReader {
     /// beginning of one within the limits. A bulk item in one piece of more than 512 bytes is
     /// shared. Fails with `Malformed` if they begin with no reply, whatever comes after them, with
     /// `TooLarge` if they begin with none within the limits, and with `Refused` if memory is
-    /// refused, which is asked for only if bytes are held; then nothing has changed.
+    /// refused, which is asked for only if bytes are held and `items` isn't 0; then nothing has
+    /// changed.
     pub fn next_reply(&mut self) -> Result<Option<Vec<Item>>, ReplyError>
         ensures reply { IfOk result (λ next. IfSome next (λ items.
             TakesRedisReply self.old.limits self.old.held items.items self.new.held)) }
@@ -118,7 +119,7 @@ impl ReplyReader {
         ensures reason { IfErr result (λ e. (reason : _) → e ≡ ReplyError.Refused reason
             → reason ≡ Reason.OutOfMemory) }
         ensures due { IfErr result (λ e. (reason : _) → e ≡ ReplyError.Refused reason
-            → 0 < length self.old.held) }
+            → (0 < self.old.limits.items) × (0 < length self.old.held)) }
         ensures limits { self.new.limits ≡ self.old.limits }
     {
         if self.limits.items == 0 {
