@@ -96,8 +96,8 @@ module _ (u : List ℕ) (len : ℕ) (line : IsRedisTextLine (take len u)) where
       some : 1 ≤ len
       some = omega (arith, ap length line.parts, length-take len u)
 
-  pub text_some : len ≤ length u → 0 < length u
-  text_some within = omega (arith, within, ap length line.parts, length-take len u)
+  pub text_some : len ≤ length u → 1 ≢ len → 1 < length u
+  text_some within other = omega (arith, within, other, ap length line.parts, length-take len u)
 
   pub simple_text : (text : List ℕ) → text ≡ slice_range u 1 len → slice_get u 0 ≡ Some 43 → IsRedisLineOf (Simple text) (take len u)
   simple_text text is first =
@@ -117,7 +117,7 @@ cursor_at segments start first next is passed =
     ap unread passed ∙ ap (λ r. unread (passed_on start r)) is ∙ ap (λ n. drop n (concat segments)) same
 
 module _ (limits : Limits) (room : ℕ) (u : List ℕ) (start len : ℕ) (awaits : AwaitsPendingBody limits u start len) where
-  bulk_some : 0 < length u
+  bulk_some : 1 < length u
   bulk_some =
       let two : length redis_line_end ≡ 2 = refl in
       omega (arith, two, ap length awaits.framed.bytes, length-append awaits.line (redis_line_end ++ drop start u), length-append redis_line_end (drop start u))

@@ -1,13 +1,14 @@
 -- Where a line of a reply ends, and what it reports.
 use Rattle.std.proofs.Common.{◌≡◌, ◌≢◌, ℕ, zero, suc, ◌+◌, ◌-◌, Bool, true, false, ◌<◌, ◌≤◌, ◌⊎◌, inl, inr, ⊎_elim, List, [], ◌∷◌, ◌++◌, length, take, drop, get_or, Option, None, Some, Result, Ok, Err, IfOk, IfErr, IfSome, IfNone, ap, ◌∙◌, sym, refl, subst, arith, append-nil, length-append}
 use Rattle.std.specs.Bool.{MatchBool}
-use Rattle.std.specs.List.{slice_get, slice_range}
+use Rattle.std.specs.List.{concat, slice_get, slice_range}
 use Rattle.std.specs.Option.{option_eq}
 use Rattle.std.proofs.Math.Dec.{eqb}
 use Rattle.std.proofs.lemmas.Bool.{cases_lt, eq-eqb, eqb-true, true≢false}
 use Rattle.std.proofs.lemmas.List.{append_cancel_left, length-drop, length-take, length-take-le, take_all, take-append-drop}
 use Rattle.std.proofs.lemmas.Option.{same_Some, slice_get-get_or}
 use Rattle.std.proofs.Math.Seq.{take-add}
+use Rattle.bytes_utils_buf.specs.Segments.{IsInOneSegment}
 use Rattle.bytes_utils_buf.specs.declared.refused.Reason.{Reason}
 use Rattle.bytes_utils_codec.specs.Frames.{TakesFrame}
 use Rattle.bytes_utils.specs.Lines.{carriage_return}
@@ -25,6 +26,27 @@ use Rattle.bytes_utils_protocols.proofs.RedisLemmas.{no_line}
 use Rattle.bytes_utils_protocols.proofs.ReplyLines.{completed_within, framed_line, line_within, long_line}
 use Rattle.bytes_utils_protocols.proofs.ReplyBeginnings.{begun_item, ended_item, large_begun, no_begun, no_ended}
 use Rattle.bytes_utils_protocols.proofs.LineSteps.{read_no_return}
+
+-- ---- one byte
+
+-- a list comes before those of which one has the range
+after_list : (s : List ℕ) (segments : List (List ℕ)) (start end : ℕ) → length s ≤ start → IsInOneSegment (start - length s) (end - length s) segments → IsInOneSegment start end (s ∷ segments)
+after_list s segments start end high later =
+    let before = later.before in
+    let next : suc before + 1 ≡ suc (before + 1) = omega arith in
+    let first : length (concat (take (suc before) (s ∷ segments))) ≡ length s + length (concat (take before segments)) = length-append s (concat (take before segments)) in
+    let last : length (concat (take (suc before + 1) (s ∷ segments))) ≡ length s + length (concat (take (before + 1) segments)) =
+    ap (λ n. length (concat (take n (s ∷ segments)))) next ∙ length-append s (concat (take (before + 1) segments)) in
+    record { before = suc before; from = omega (arith, later.from, high, first); to = omega (arith, later.to, high, last) }
+
+-- one list has it
+pub byte_in_segment : (segments : List (List ℕ)) (start end : ℕ) → end ≡ start + 1 → end ≤ length (concat segments) → IsInOneSegment start end segments
+byte_in_segment [] start end one within = absurd (omega (arith, one, within))
+byte_in_segment (s ∷ segments) start end one within = ⊎_elim
+    (λ low. record { before = 0; from = omega arith; to = omega (arith, one, low, length-append s []) })
+    (λ high. after_list s segments start end high
+    (byte_in_segment segments (start - length s) (end - length s) (omega (arith, one, high)) (omega (arith, within, length-append s (concat segments)))))
+    (cases_lt start (length s))
 
 -- ---- where no line ends
 

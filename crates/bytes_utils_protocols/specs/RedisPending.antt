@@ -39,11 +39,11 @@ pub record AwaitsPendingItem (limits : Limits) (room : ℕ) (bytes : List ℕ) :
   pub none : NoRedisItem limits bytes
   pub begins : BeginsRedisItem limits room bytes
 
--- why there is no item, whatever comes after the bytes; or memory is refused for some that have come
+-- why there is no item, whatever comes after the bytes; or memory is refused, and more than one has come
 pub record IsNoPendingItem (limits : Limits) (room : ℕ) (bytes : List ℕ) (e : ReplyError) : Type 0 where
   pub malformed : e ≡ Malformed → (any : Limits) (more : List ℕ) → NoRedisItem any (bytes ++ more)
   pub too_large : e ≡ TooLarge → (more : List ℕ) → NoRedisItemWithin limits room (bytes ++ more)
-  pub memory : (reason : Reason) → e ≡ Refused reason → (reason ≡ OutOfMemory) × (0 < length bytes)
+  pub memory : (reason : Reason) → e ≡ Refused reason → (reason ≡ OutOfMemory) × (1 < length bytes)
 
 -- the first item of the bytes, if it has come
 abbrev pub FindsPendingItem : Limits → ℕ → List ℕ → Result (Option (Item × ℕ)) ReplyError → Type 0

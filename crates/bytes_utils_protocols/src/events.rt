@@ -231,7 +231,8 @@ impl EventReader {
 
     /// Appends a piece. If it has at most 512 bytes, it is copied; if not, it is shared. Fails with
     /// `TooLong` if the number of held bytes would pass `usize::MAX`, and with `OutOfMemory` if
-    /// memory is refused; then nothing has changed and `piece` comes back.
+    /// memory is refused; then nothing has changed and `piece` comes back. An empty piece is never
+    /// refused.
     pub fn push(&mut self, piece: Bytes) -> Result<(), Refused<Bytes>>
         ensures pushed { IsPush self.old.lines.held piece result
             (self.new ≡ pushed_to_events self.old piece) (self.new ≡ self.old) }

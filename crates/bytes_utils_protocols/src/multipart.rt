@@ -112,7 +112,7 @@ impl PartReader {
     /// Appends a piece, or drops it if the close delimiter was read. A piece of at most 512 bytes
     /// is copied; a longer one is shared. Fails with `TooLong` if the number of bytes that wait for
     /// a delimiter would pass `usize::MAX`, and with `OutOfMemory` if memory is refused; then
-    /// nothing has changed and `piece` comes back.
+    /// nothing has changed and `piece` comes back. An empty piece is never refused.
     pub fn push(&mut self, piece: Bytes) -> Result<(), Refused<Bytes>>
         ensures pushed { (front : List ℕ) × (waiting : List ℕ)
             × (self.old.held ≡ front ++ waiting)

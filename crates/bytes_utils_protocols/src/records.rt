@@ -78,7 +78,7 @@ impl Records {
 
     /// Appends `piece`. If it has at most 512 bytes, it is copied; if not, it is shared. Fails with
     /// `TooLong` if more than `usize::MAX` bytes would be held, and with `OutOfMemory` if memory is
-    /// refused; then nothing has changed and `piece` comes back.
+    /// refused; then nothing has changed and `piece` comes back. An empty piece is never refused.
     pub fn push(&mut self, piece: Bytes) -> Result<(), Refused<Bytes>>
         ensures pushed { IsPush self.old.held piece result
             (self.new ≡ fed self.old piece) (self.new ≡ self.old) }
@@ -88,7 +88,8 @@ impl Records {
 
     /// Takes out the next record, or returns `None` until its end has arrived. One that is longer
     /// than the limit, or not UTF-8, is reported once, in its place. Fails with `OutOfMemory` if
-    /// memory is refused; then the call can be repeated.
+    /// memory is refused, which is asked for only if a record within the limit that isn't empty has
+    /// come; then the call can be repeated.
     pub fn next_record(&mut self) -> Result<Option<Record>, Reason>
         ensures given { IfOk result (λ next. IfSome next
             (λ given. GivesRecord self.old given self.new)) }

@@ -66,7 +66,8 @@ impl ReplyReader {
 
     /// Appends a piece. If it has at most 512 bytes, it is copied; if not, it is shared. Fails with
     /// `TooLong` if the number of held bytes would pass `usize::MAX`, and with `OutOfMemory` if
-    /// memory is refused; then nothing has changed and `piece` comes back.
+    /// memory is refused; then nothing has changed and `piece` comes back. An empty piece is never
+    /// refused.
     pub fn push(&mut self, piece: Bytes) -> Result<(), Refused<Bytes>>
         ensures pushed { IsPush self.old.held piece result
             (self.new.held ≡ self.old.held ++ piece) (self.new ≡ self.old) }
@@ -100,8 +101,8 @@ impl ReplyReader {
     /// beginning of one within the limits. A bulk item in one piece of more than 512 bytes is
     /// shared. Fails with `Malformed` if they begin with no reply, whatever comes after them, with
     /// `TooLarge` if they begin with none within the limits, and with `Refused` if memory is
-    /// refused, which is asked for only if bytes are held and `items` isn't 0; then nothing has
-    /// changed.
+    /// refused, which is asked for only if more than one byte is held and `items` isn't 0; then
+    /// nothing has changed.
     pub fn next_reply(&mut self) -> Result<Option<Vec<Item>>, ReplyError>
         ensures reply { IfOk result (λ next. IfSome next (λ items.
             TakesRedisReply self.old.limits self.old.held items.items self.new.held)) }
@@ -119,7 +120,7 @@ impl ReplyReader {
         ensures reason { IfErr result (λ e. (reason : _) → e ≡ ReplyError.Refused reason
             → reason ≡ Reason.OutOfMemory) }
         ensures due { IfErr result (λ e. (reason : _) → e ≡ ReplyError.Refused reason
-            → (0 < self.old.limits.items) × (0 < length self.old.held)) }
+            → (0 < self.old.limits.items) × (1 < length self.old.held)) }
         ensures limits { self.new.limits ≡ self.old.limits }
     {
         if self.limits.items == 0 {

@@ -82,7 +82,7 @@ impl PartStream {
     /// Appends a piece, or drops it if the close delimiter was read. A piece of at most 512 bytes
     /// is copied; a longer one is shared. Fails with `TooLong` if the number of bytes that wait
     /// would pass `usize::MAX`, and with `OutOfMemory` if memory is refused; then nothing has
-    /// changed and `piece` comes back.
+    /// changed and `piece` comes back. An empty piece is never refused.
     pub fn push(&mut self, piece: Bytes) -> Result<(), Refused<Bytes>>
         ensures pushed { IsPush self.old.held piece result
             (self.new ≡ part_stream_appended self.old piece) (self.new ≡ self.old) }

@@ -131,7 +131,7 @@ impl Pending {
         ensures reason { IfErr result (λ e. (reason : _) → e ≡ ReplyError.Refused reason
             → reason ≡ Reason.OutOfMemory) }
         ensures due { IfErr result (λ e. (reason : _) → e ≡ ReplyError.Refused reason
-            → 0 < length (held_by_pending self.old)) }
+            → 1 < length (held_by_pending self.old)) }
     {
         while self.due > 0 {
             let room = limits.items - self.items.len() - self.due; // for the items of the next one
@@ -279,7 +279,8 @@ fn read_pending_to(
     ensures too_large { IfErr result (λ e. e ≢ ReplyError.TooLarge) }
     ensures reason { IfErr result (λ e. (reason : _) → e ≡ ReplyError.Refused reason
         → reason ≡ Reason.OutOfMemory) }
-    ensures due { IfErr result (λ e. (reason : _) → e ≡ ReplyError.Refused reason → begun.len < len) }
+    ensures due { IfErr result (λ e. (reason : _) → e ≡ ReplyError.Refused reason
+        → begun.len + 1 < len) }
 {
     let bytes = pieces.as_segmented().read_range(alloc, begun.len..len)?;
     match begun.line.read(&bytes) {
@@ -313,7 +314,7 @@ fn pending_text(pieces: &PackedBuf, alloc: Global, len: usize) -> Result<Item, R
     ensures item { IfOk result (λ item.
         IsRedisLineOf item (take len (concat pieces.now.held.segments))
         × (after_redis_line item ≡ []) × (redis_body item ≡ []) × (redis_items_in item ≡ 0)) }
-    ensures due { OnErr result (0 < length (concat pieces.now.held.segments)) }
+    ensures due { OnErr result (1 < length (concat pieces.now.held.segments)) }
     ensures reason { IfErr result (λ reason. reason ≡ Reason.OutOfMemory) }
 {
     let bytes = pieces.as_segmented().copy_range(alloc, 1..len)?;

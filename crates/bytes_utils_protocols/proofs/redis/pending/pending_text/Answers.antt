@@ -1,4 +1,5 @@
 use Rattle.std.proofs.Common.{◌≡◌, ◌≢◌, Some, ◌∙◌, sym, refl, ap}
+use Rattle.std.proofs.lemmas.Bool.{false≢true}
 use Rattle.std.proofs.lemmas.Result.{err_from_is_err_and}
 use Rattle.std.specs.List.{concat, slice_get, slice_range}
 use Rattle.bytes_utils_protocols.proofs.PendingReplies.{error_text, simple_text, text_some}
@@ -22,4 +23,4 @@ returns-clause-item c =
 pub returns-in_err-bytes-clause-due : goal.returns-in_err-bytes-clause-due
 returns-in_err-bytes-clause-due c =
     let out = err_from_is_err_and c.from_residual.result c.from_residual.ensures.1 in
-    rw out.1 (text_some (concat c.args.pieces.now.held.segments) c.args.len c.requires.line c.requires.within)
+    rw out.1 (text_some (concat c.args.pieces.now.held.segments) c.args.len c.requires.line c.requires.within (λ same. false≢true (c.in_err-bytes.ensures.none same)))

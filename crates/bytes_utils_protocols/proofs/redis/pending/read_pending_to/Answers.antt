@@ -1,10 +1,11 @@
-use Rattle.std.proofs.Common.{arith, ◌≡◌, ◌≢◌, ◌++◌, ◌∙◌, refl, ap, subst, take, append_assoc, sym}
+use Rattle.std.proofs.Common.{arith, ◌≡◌, ◌≢◌, ◌+◌, ◌++◌, ◌∙◌, refl, ap, subst, take, append_assoc, sym}
 use Rattle.std.proofs.lemmas.Bool.{false≢true}
 use Rattle.std.proofs.lemmas.Result.{err_from_is_err_and}
 use Rattle.std.specs.List.{concat, slice_range}
+use Rattle.bytes_utils_buf.specs.Segments.{IsInOneSegment}
 use Rattle.bytes_utils_protocols.specs.Redis.{IsRedisLineOf}
 use Rattle.bytes_utils_protocols.specs.RedisLine.{IsRedisLineReadAs}
-use Rattle.bytes_utils_protocols.proofs.ReplyEnds.{read_on}
+use Rattle.bytes_utils_protocols.proofs.ReplyEnds.{byte_in_segment, read_on}
 use Rattle.bytes_utils_protocols.proofs.redis.pending.read_pending_to.Goals as goal
 
 pub returns-in-Some-clause-read : goal.returns-in-Some-clause-read
@@ -30,4 +31,7 @@ pub returns-in_err-bytes-clause-due : goal.returns-in_err-bytes-clause-due
 returns-in_err-bytes-clause-due c =
     let out = err_from_is_err_and c.from_residual.result c.from_residual.ensures.1 in
     let other : c.args.begun.len ≢ c.args.len = λ same. false≢true (c.in_err-bytes.ensures.none same) in
-    rw out.1 (λ reason is. omega (arith, c.requires.further, other))
+    let next : c.args.len ≢ c.args.begun.len + 1 = λ one.
+    let held = byte_in_segment c.args.pieces.now.held.segments c.args.begun.len c.args.len one c.requires.within in
+    false≢true (c.in_err-bytes.ensures.one (subst (λ held. IsInOneSegment c.args.begun.len c.args.len held.segments) (sym c.as_segmented.ensures) held)) in
+    rw out.1 (λ reason is. omega (arith, c.requires.further, other, next))

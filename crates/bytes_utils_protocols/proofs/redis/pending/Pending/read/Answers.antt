@@ -2,7 +2,7 @@ use Rattle.std.proofs.Common.{[], ap, drop, length, length-append, ◌++◌, ◌
 use Rattle.std.proofs.lemmas.Result.{err_from_is_err_and}
 use Rattle.bytes_utils_protocols.specs.Redis.{BeginsRedisReply, NoRedisItem, NoRedisReply}
 use Rattle.bytes_utils_protocols.specs.RedisPending.{held_by_pending, unread_by_pending}
-use Rattle.bytes_utils_protocols.proofs.RedisLemmas.{item_takes, no_next, no_room}
+use Rattle.bytes_utils_protocols.proofs.RedisLemmas.{item_some, no_next, no_room}
 use Rattle.bytes_utils_protocols.proofs.ReplyBeginnings.{begins_reply}
 use Rattle.bytes_utils_protocols.proofs.PendingReplies.{one_kept}
 use Rattle.bytes_utils_protocols.proofs.redis.pending.Pending.read.Goals as goal
@@ -67,5 +67,5 @@ returns-in_err-keep-clause-due c =
     let p = c.loop-self.self in
     let out = err_from_is_err_and c.from_residual-in_err-keep.result c.from_residual-in_err-keep.ensures.1 in
     let found = rw c.in-Some.is at c.in_ok-item.ensures.found in
-    let some = item_takes c.args.limits (unread_by_pending p) c.in-Some.item (drop c.in-Some.len (unread_by_pending p)) found.takes in
+    let some = item_some c.args.limits (unread_by_pending p) c.in-Some.item (drop c.in-Some.len (unread_by_pending p)) found.takes in
     rw out.1 (λ reason is. omega (arith, some, length-append p.passed (unread_by_pending p), ap length c.loop-self.invariant.same))
