@@ -1,5 +1,5 @@
--- What is at the ends of a text: what it begins with, what it ends with, and its white space there.
-use Rattle.std.specs.Prelude.{◌≡◌, ℕ, List, ◌++◌}
+-- What is at the ends of a text: what it begins with, what it ends with, its white space there, and refused cuts.
+use Rattle.std.specs.Prelude.{◌≡◌, ◌⊎◌, ℕ, List, ◌++◌}
 use Rattle.std.specs.Char.{is_not_whitespace}
 use Rattle.std.specs.Str.{NoCharPasses}
 
@@ -15,3 +15,7 @@ EndsWith {X} p t = (before : List X) × (before ++ p ≡ t)
 abbrev pub IsBetweenSpaceAtEnds : List ℕ → List ℕ → Type 0
 IsBetweenSpaceAtEnds part text = (before : List ℕ) × (following : List ℕ) × (before ++ (part ++ following) ≡ text)
     × NoCharPasses is_not_whitespace before × NoCharPasses is_not_whitespace following
+
+-- the reasons for which a cut at an end may be refused: those of a split at an end, and those of one side alone
+abbrev pub RefusesAtEnd : {X : Type 0} → (X → Type 0) → (X → Type 0) → X → Type 0
+RefusesAtEnd refuses_empty refuses_side reason = refuses_empty reason ⊎ refuses_side reason

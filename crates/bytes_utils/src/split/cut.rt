@@ -3,6 +3,7 @@ ghost use Rattle.std.specs.Prelude.{◌≡◌, ◌≤◌, ◌<◌, ◌+◌, ◌+
 ghost use Rattle.std.specs.Str.{chars};
 ghost use Rattle.bytes_utils.specs.Occurrence.{OccursAt};
 ghost use Rattle.bytes_utils.specs.Characters.{character_place};
+ghost use Rattle.bytes_utils.specs.Ends.{RefusesAtEnd};
 
 use crate::string::{Storage, StrInner};
 use bytes_utils_buf::Reason;
@@ -23,6 +24,9 @@ pub(super) fn cut_around<S: Storage>(
     requires next { IsCharBoundary text next }
     ensures before { IfOk result (λ pieces. pieces.0 ≡ take end text) }
     ensures after { IfOk result (λ pieces. pieces.1 ≡ drop next text) }
+    ensures none { next ≡ 0 → IfErr result (RefusesAtEnd S.refuses_empty S.refuses_side) }
+    ensures all { next ≡ length text
+        → IfErr result (RefusesAtEnd S.refuses_empty S.refuses_side) }
     ensures reason { IfErr result S.refuses }
 {
     let (front, after) = text.into_halves(next)?;
@@ -42,6 +46,10 @@ pub(super) fn cut_at_separator<S: Storage>(
     ensures before { IfOk result (λ pieces. pieces.0 ≡ take at text) }
     ensures after { IfOk result (λ pieces. pieces.1 ≡ drop (at + length separator.now) text) }
     ensures bytes { IfOk result (λ pieces. pieces.0 ++ (separator.now ++ pieces.1) ≡ text) }
+    ensures none { at + length separator.now ≡ 0
+        → IfErr result (RefusesAtEnd S.refuses_empty S.refuses_side) }
+    ensures all { at + length separator.now ≡ length text
+        → IfErr result (RefusesAtEnd S.refuses_empty S.refuses_side) }
     ensures reason { IfErr result S.refuses }
 {
     // The contract of `as_str` says that the bytes are UTF-8.

@@ -127,6 +127,8 @@ impl<S: Storage> StrInner<S> {
         requires { IsCharBoundary self at }
         ensures left { IfOk result (λ halves. halves.0 ≡ take at self) }
         ensures right { IfOk result (λ halves. halves.1 ≡ drop at self) }
+        ensures none { at ≡ 0 → IfErr result S.refuses_empty }
+        ensures all { at ≡ length self → IfErr result S.refuses_empty }
         ensures reason { IfErr result S.refuses }
     {
         let StrInner { storage: whole } = self;
