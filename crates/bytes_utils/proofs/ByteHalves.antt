@@ -1,14 +1,16 @@
 -- What is found in the characters of a text is found in its bytes, too.
-use Rattle.std.proofs.Common.{◌≡◌, refl, sym, ap, subst, ◌∙◌, ℕ, ◌+◌, ◌-◌, ◌<◌, ◌≤◌, List, [], ◌∷◌, ⊎_elim, length, take, drop, slice_range, arith, IsUtf8}
+use Rattle.std.proofs.Common.{◌≡◌, refl, sym, ap, subst, ◌∙◌, ℕ, ◌+◌, ◌-◌, ◌<◌, ◌≤◌, List, [], ◌∷◌, ◌++◌, ⊎_elim, length, take, drop, slice_range, arith, length-append, IsUtf8}
 use Rattle.std.proofs.lemmas.Bool.{cases_lt}
-use Rattle.std.proofs.lemmas.List.{drop_all}
+use Rattle.std.proofs.lemmas.List.{append-nil, drop_all}
 use Rattle.std.proofs.lemmas.Str.{encodes-chars, chars-nil}
 use Rattle.std.specs.Str.{chars, encode_utf8_all as encodes}
 use Rattle.bytes_utils.specs.Characters.{character_place}
+use Rattle.bytes_utils.specs.Ends.{EndsWith}
 use Rattle.bytes_utils.specs.Halves.{AreHalvesAtFirst, AreHalvesAtLast}
 use Rattle.bytes_utils.specs.Occurrence.{OccursAt, Occurs, OccursFirstAt}
 use Rattle.bytes_utils.proofs.Boundaries.{OccursAt-fits}
 use Rattle.bytes_utils.proofs.HalvesLemmas.{AreHalvesAtFirst-at, AreHalvesAtLast-at, IsFoundLast}
+use Rattle.bytes_utils.proofs.OccurrenceLemmas.{OccursAt-between}
 use Rattle.bytes_utils.proofs.Places.{character_place-less}
 use Rattle.bytes_utils.proofs.SearchLemmas.{chars-some, law}
 
@@ -93,3 +95,32 @@ byte_halves_at_last text (b ∷ sep) text_is sep_is at before following before_i
     AreHalvesAtLast-at text (b ∷ sep) before following at (occurs_in_bytes text (b ∷ sep) text_is sep_is some at found.place found.at_is found.here) before_is after_is
     (λ _. none_after_in_bytes text (b ∷ sep) text_is sep_is some at found.place found.at_is found.here (found.none_after long))
     (λ none. absurd (omega (arith, none, some)))
+
+-- an empty separator occurs first at the start
+pub empty_first : (text sep : List ℕ) (at : ℕ) → OccursFirstAt sep text at → sep ≡ [] → at + length sep ≡ 0
+empty_first text [] at found none = omega (arith, found.none_before 0 refl)
+empty_first text (b ∷ sep) at found none = absurd (omega (arith, ap length none))
+
+-- a first separator after which nothing comes was found where it ends the text
+pub first_ends : (text sep before : List ℕ) (at : ℕ) → OccursFirstAt sep text at → AreHalvesAtFirst text sep before [] → at + length sep ≡ length text
+first_ends text sep before at found halves =
+    omega (
+      arith,
+      found.none_before (length before) halves.first.here,
+      halves.first.none_before at found.here,
+      ap length halves.joined,
+      length-append before (sep ++ []),
+      length-append sep [],
+    )
+
+-- a separator that ends the text was found last where it ends the text
+pub last_ends : (text sep : List ℕ) → IsUtf8 text → IsUtf8 sep → (at : ℕ) → IsFoundLast text sep at → EndsWith sep text → at + length sep ≡ length text
+last_ends text [] text_is sep_is at found ends = omega (arith, found.at_end (ap length chars-nil))
+last_ends text (b ∷ sep) text_is sep_is at found ends =
+    let some : 0 < length (b ∷ sep) = omega arith in
+    let long : 0 < length (chars (b ∷ sep)) = chars-some (b ∷ sep) sep_is some in
+    let here = occurs_in_bytes text (b ∷ sep) text_is sep_is some at found.place found.at_is found.here in
+    let there : OccursAt (b ∷ sep) text (length ends.0) =
+    subst (λ z. OccursAt (b ∷ sep) z (length ends.0)) (ap (λ z. ends.0 ++ z) (append-nil (b ∷ sep)) ∙ ends.1) (OccursAt-between ends.0 (b ∷ sep) []) in
+    let last = none_after_in_bytes text (b ∷ sep) text_is sep_is some at found.place found.at_is found.here (found.none_after long) (length ends.0) there in
+    omega (arith, last, OccursAt-fits (b ∷ sep) text at some here, ap length ends.1, length-append ends.0 (b ∷ sep))

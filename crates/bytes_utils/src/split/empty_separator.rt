@@ -19,6 +19,7 @@ fn empty_part<S: Storage>(text: StrInner<S>, from: Direction) -> Result<Cut<S>, 
         (splitting (Some text) [] limit false) (chars cut.0)
         (splitting cut.1 [] (limit_after_split limit) true)) }
     ensures rest { IfOk result (λ cut. cut.1 ≡ Some text) }
+    ensures end { IfErr result S.refuses_empty }
     ensures reason { IfErr result S.refuses }
 {
     let end = text.as_str().len();

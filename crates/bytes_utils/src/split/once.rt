@@ -1,6 +1,7 @@
 //! A text split once, at the first or the last separator.
-ghost use Rattle.std.specs.Prelude.{◌≡◌, ◌++◌, MatchOption, IfOk, IfErr, OnErr};
+ghost use Rattle.std.specs.Prelude.{◌≡◌, ℕ, List, [], ◌++◌, MatchOption, IfOk, IfErr, OnErr};
 ghost use Rattle.std.specs.Str.{chars};
+ghost use Rattle.bytes_utils.specs.Ends.{EndsWith, RefusesAtEnd};
 ghost use Rattle.bytes_utils.specs.Halves.{AreHalvesAtFirst, AreHalvesAtLast};
 ghost use Rattle.bytes_utils.specs.Occurrence.{Occurs};
 
@@ -19,8 +20,9 @@ impl<S: Storage> StrInner<S> {
     /// let (name, Some(value)) = line.split_once_bytes(": ")? else { .. };
     /// ```
     ///
-    /// Fails for a reason of the storage, `OutOfMemory` for a [`Str`](crate::Str), and only if the
-    /// separator occurs; then the text is dropped.
+    /// Fails for a reason of the storage, and only if the separator occurs; then the text is
+    /// dropped. The reason is `OutOfMemory` for a [`Str`](crate::Str) or a `StrMut`, which don't
+    /// fail if nothing comes after the separator or if it is empty.
     pub fn split_once_bytes(self, separator: &str) -> Result<(Self, Option<Self>), Reason>
         ensures halves { IfOk result (λ cut. MatchOption cut.1
             (¬ Occurs (chars separator.now) (chars self))
@@ -31,6 +33,10 @@ impl<S: Storage> StrInner<S> {
         ensures in_bytes { IfOk result (λ cut. MatchOption cut.1 (¬ Occurs separator.now self)
             (λ following. AreHalvesAtFirst self separator.now cut.0 following)) }
         ensures err { OnErr result (Occurs (chars separator.now) (chars self)) }
+        ensures ends { (before : List ℕ) → AreHalvesAtFirst self separator.now before []
+            → IfErr result (RefusesAtEnd S.refuses_empty S.refuses_side) }
+        ensures empty { separator.now ≡ []
+            → IfErr result (RefusesAtEnd S.refuses_empty S.refuses_side) }
         ensures reason { IfErr result S.refuses }
     {
         let Some(at) = search_alone(self.as_str(), separator) else {
@@ -48,8 +54,9 @@ impl<S: Storage> StrInner<S> {
     /// let (folder, file) = path.rsplit_once_bytes("/")?;
     /// ```
     ///
-    /// Fails for a reason of the storage, `OutOfMemory` for a [`Str`](crate::Str), and only if the
-    /// separator occurs; then the text is dropped.
+    /// Fails for a reason of the storage, and only if the separator occurs; then the text is
+    /// dropped. The reason is `OutOfMemory` for a [`Str`](crate::Str) or a `StrMut`, which don't
+    /// fail if the text ends with the separator.
     pub fn rsplit_once_bytes(self, separator: &str) -> Result<(Option<Self>, Self), Reason>
         ensures halves { IfOk result (λ cut. MatchOption cut.0
             (¬ Occurs (chars separator.now) (chars self))
@@ -60,6 +67,8 @@ impl<S: Storage> StrInner<S> {
         ensures in_bytes { IfOk result (λ cut. MatchOption cut.0 (¬ Occurs separator.now self)
             (λ before. AreHalvesAtLast self separator.now before cut.1)) }
         ensures err { OnErr result (Occurs (chars separator.now) (chars self)) }
+        ensures ends { EndsWith separator.now self
+            → IfErr result (RefusesAtEnd S.refuses_empty S.refuses_side) }
         ensures reason { IfErr result S.refuses }
     {
         let Some(at) = rsearch_alone(self.as_str(), separator) else {

@@ -1,17 +1,19 @@
 //! Formatting into a text.
-ghost use Rattle.std.specs.Prelude.{◌≡◌, ◌++◌, IsOk, IfOk, IfSome, OnErr};
+ghost use Rattle.std.specs.Prelude.{◌≡◌, [], ◌++◌, IsOk, IfOk, IfSome, OnErr};
 
 use crate::string::{Storage, StorageMut, StrInner};
 use std::alloc::Global;
 use std::fmt;
 
-/// Appends all of a string or nothing. Any refusal of the storage is an `fmt::Error`.
+/// Appends all of a string or nothing, and always an empty one. Any refusal of the storage is an
+/// `fmt::Error`.
 impl<S: StorageMut> fmt::Write for StrInner<S> {
     ghost write_str_gives = { λ text s after. after ≡ text ++ s };
 
     fn write_str(&mut self, s: &str) -> fmt::Result
         ensures ok { IsOk result → self.new ≡ self.old ++ s.now }
         ensures err { OnErr result (self.new ≡ self.old) }
+        ensures empty { s.now ≡ [] → IsOk result }
     {
         match self.push_str(s) {
             Ok(()) => Ok(()),

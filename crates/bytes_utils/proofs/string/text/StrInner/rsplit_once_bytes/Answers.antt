@@ -1,7 +1,7 @@
-use Rattle.std.proofs.Common.{Some, None}
+use Rattle.std.proofs.Common.{◌≡◌, ◌+◌, length, Some, None, rules}
 use Rattle.std.specs.Str.{chars}
 use Rattle.bytes_utils.specs.Occurrence.{Occurs}
-use Rattle.bytes_utils.proofs.ByteHalves.{byte_halves_at_last, lacks_in_bytes}
+use Rattle.bytes_utils.proofs.ByteHalves.{byte_halves_at_last, lacks_in_bytes, last_ends}
 use Rattle.bytes_utils.proofs.HalvesLemmas.{found_last, halves_at_last}
 use Rattle.bytes_utils_buf.proofs.Results.{OnErr-always}
 use Rattle.bytes_utils.proofs.string.text.StrInner.rsplit_once_bytes.Goals as goal
@@ -37,3 +37,11 @@ returns-clause-in_bytes g c =
     let before_is = rw (← c.as_str.ensures.value) at c.in_ok-before.ensures.before in
     let after_is = rw (← c.as_str.ensures.value) at c.in_ok-before.ensures.after in
     rw (← c.as_str.ensures.value) (byte_halves_at_last _ _ c.as_str.utf8 c.utf8.separator _ _ _ before_is after_is found)
+
+pub returns-in_err-before-clause-ends : goal.returns-in_err-before-clause-ends
+returns-in_err-before-clause-ends g c = λ ends.
+    let found = found_last _ _ c.as_str.utf8 c.utf8.separator (Some c.in-Some.at) c.in-Some.ensures.last c.in-Some.ensures.empty in
+    let text_is = rw c.as_str.ensures.value at c.as_str.utf8 in
+    let at_end : c.in-Some.at + length c.args.separator.now ≡ length c.args.self =
+    last_ends _ _ text_is c.utf8.separator _ (rw c.as_str.ensures.value at found) ends in
+    search rules
