@@ -1,4 +1,5 @@
--- What is at the ends of a text: what it begins with, what it ends with, its white space there, and refused cuts.
+-- What is at the ends of a text: what it begins with, what it ends with, and its white space there. For which reasons a
+-- cut there may be refused.
 use Rattle.std.specs.Prelude.{◌≡◌, ◌⊎◌, ℕ, List, ◌++◌}
 use Rattle.std.specs.Char.{is_not_whitespace}
 use Rattle.std.specs.Str.{NoCharPasses}
