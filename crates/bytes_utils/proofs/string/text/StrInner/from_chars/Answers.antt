@@ -1,4 +1,4 @@
-use Rattle.std.proofs.Common.{◌≡◌, ℕ, List, [], ◌∷◌}
+use Rattle.std.proofs.Common.{◌≡◌, [], ◌∷◌}
 use Rattle.bytes_utils.proofs.Joins.{empty_back}
 use Rattle.bytes_utils.proofs.NoText.{along_then}
 use Rattle.bytes_utils.proofs.string.text.StrInner.from_chars.Goals as goal
