@@ -1,5 +1,5 @@
 -- A text split by the empty separator: after its first character, or before its last one.
-use Rattle.std.proofs.Common.{◌≡◌, sym, ap, subst, ◌∙◌, ℕ, ◌-◌, ◌<◌, List, [], ◌∷◌, Option, Some, length, map, take, drop, reverse, true, false, arith, length-drop, length-take, IsUtf8, IsCharBoundary}
+use Rattle.std.proofs.Common.{◌≡◌, sym, ap, subst, ◌∙◌, ℕ, ◌-◌, ◌<◌, ◌≤◌, List, [], ◌∷◌, Option, Some, length, map, take, drop, reverse, true, false, arith, length-drop, length-take, IsUtf8, IsCharBoundary}
 use Rattle.std.proofs.lemmas.Str.{chars-nil}
 use Rattle.std.specs.Str.{chars}
 use Rattle.bytes_utils.specs.Characters.{character_place}
@@ -9,7 +9,7 @@ use Rattle.bytes_utils.specs.declared.split.direction.Direction.{Direction}
 use Rattle.bytes_utils.specs.declared.split.direction.Direction.TheVariants.{Forward, Backward}
 use Rattle.bytes_utils.specs.Step.{StepGivesFirst}
 use Rattle.bytes_utils.proofs.EachCharacter.{after_first, by_empty_separator-first, suc-less, first_element, last_element}
-use Rattle.bytes_utils.proofs.Places.{boundary_at_place, chars-take_place, chars-drop_place, character_place-less}
+use Rattle.bytes_utils.proofs.Places.{boundary_at_place, chars-take_place, chars-drop_place, character_place-all, character_place-less}
 
 -- the state after the first empty part, and the state before it
 abbrev following : Option (List ℕ) → Option ℕ → Splitting
@@ -71,6 +71,18 @@ module _ (text : List ℕ) (text_is : IsUtf8 text) (at : ℕ) (some : 0 < length
   pub before_shorter : at ≡ character_place (chars text) (length (chars text) - 1) → (rest : List ℕ) → rest ≡ take at text → length rest < length text
   before_shorter at_is rest is =
       omega (arith, ap length is, length-take at text, at_byte (length (chars text) - 1) (omega (arith, some)) at_is)
+
+  -- the only character takes all bytes
+  pub only_first : at ≡ character_place (chars text) 1 → length (chars text) ≤ 1 → at ≡ length text
+  only_first at_is few =
+      let one : 1 ≡ length (chars text) = omega (arith, some, few) in
+      at_is ∙ ap (character_place (chars text)) one ∙ character_place-all text text_is
+
+  -- and none is before it
+  pub only_last : at ≡ character_place (chars text) (length (chars text) - 1) → length (chars text) ≤ 1 → at ≡ 0
+  only_last at_is few =
+      let first : length (chars text) - 1 ≡ 0 = omega (arith, few) in
+      at_is ∙ ap (character_place (chars text)) first
 
   pub text_some : 0 < length text
   text_some =

@@ -1,8 +1,7 @@
 -- A text split after the first place at which a separator was found in it.
 use Rattle.std.proofs.Common.{◌≡◌, ap, ◌∙◌, ℕ, ◌+◌, ◌<◌, ◌≤◌, List, [], ◌∷◌, Some, None, length, take, drop, arith, IsUtf8, ◌⊎◌}
-use Rattle.std.proofs.Math.Seq.{take-length}
-use Rattle.std.proofs.lemmas.Str.{chars-nil, encodes-chars}
-use Rattle.std.specs.Str.{chars, encode_utf8_all as encodes}
+use Rattle.std.proofs.lemmas.Str.{chars-nil}
+use Rattle.std.specs.Str.{chars}
 use Rattle.bytes_utils.specs.Characters.{character_place}
 use Rattle.bytes_utils.specs.Occurrence.{Occurs, OccursFirstAt}
 use Rattle.bytes_utils.specs.Parts.{PartEndsAtFirst}
@@ -11,12 +10,8 @@ use Rattle.bytes_utils.specs.Step.{StepGivesFirst}
 use Rattle.bytes_utils.proofs.SearchLemmas.{chars-some}
 use Rattle.bytes_utils.proofs.Boundaries.{OccursAt-fits}
 use Rattle.bytes_utils.proofs.PartCut.{next_place}
-use Rattle.bytes_utils.proofs.Places.{character_place-less, chars-take_place, chars-drop_place}
+use Rattle.bytes_utils.proofs.Places.{character_place-all, character_place-less, chars-take_place, chars-drop_place}
 use Rattle.bytes_utils.proofs.Inclusive.{AreInclusiveParts-none, AreInclusiveParts-more, AreInclusiveParts-last, ends_whole, has_inclusive_parts}
-
--- all characters take all bytes
-character_place-all : (text : List ℕ) → IsUtf8 text → character_place (chars text) (length (chars text)) ≡ length text
-character_place-all text text_is = ap (λ z. length (encodes z)) (take-length (chars text)) ∙ ap length (encodes-chars text text_is)
 
 -- no part of the empty text is to come
 pub none_to_come : (s : Keeping) (text : List ℕ) → s.rest ≡ Some text → length text ≡ 0 → AreInclusivePartsToCome s []

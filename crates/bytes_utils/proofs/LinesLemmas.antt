@@ -1,8 +1,8 @@
 -- The first line of a text, from the byte place of its first line feed.
-use Rattle.std.proofs.Common.{◌≡◌, ◌≢◌, refl, sym, ap, subst, ◌∙◌, ℕ, suc, ◌+◌, ◌<◌, ◌≤◌, ◌==◌, ◌&&◌, if◌then◌else◌, List, [], ◌∷◌, ◌++◌, Option, None, Some, true, false, length, take, drop, take-add, take-append-drop, arith, MatchOption, unwrap_or, Bor, nat_eq, Bool, ◌⊎◌, inl, inr, length-append, length-take, append_assoc, append-nil, IsUtf8, IsCharBoundary}
+use Rattle.std.proofs.Common.{◌≡◌, ◌≢◌, refl, sym, ap, subst, ◌∙◌, ℕ, suc, ◌+◌, ◌<◌, ◌≤◌, ◌==◌, ◌&&◌, if◌then◌else◌, List, [], ◌∷◌, ◌++◌, Option, None, Some, true, false, length, take, drop, take-add, take-append-drop, arith, MatchOption, unwrap_or, Bor, nat_eq, Bool, ◌⊎◌, inl, inr, length-append, length-drop, length-take, append_assoc, append-nil, IsUtf8, IsCharBoundary}
 use Rattle.std.proofs.lemmas.List.{take_at}
 use Rattle.std.proofs.lemmas.Bool.{ne_eqb, and_left, and_right}
-use Rattle.std.proofs.lemmas.Str.{chars-nil, chars-append, encodes-append, encodes-chars, IsUtf8-take, IsCharBoundary-from_take}
+use Rattle.std.proofs.lemmas.Str.{chars-nil, chars-append, encodes-append, encodes-chars, IsUtf8-take, IsUtf8-drop, IsCharBoundary-from_take}
 use Rattle.std.specs.List.{starts_with}
 use Rattle.std.specs.Char.{encode_utf8}
 use Rattle.std.specs.Str.{chars, encode_utf8_all as encodes}
@@ -19,6 +19,13 @@ pub IsWithoutReturn-stripped : (stripped : Option (Bor (List ℕ))) (all line : 
     → MatchOption stripped ((front : List ℕ) → all.now ≢ front ++ carriage_return ∷ []) (λ x. all.now ≡ x.now ++ carriage_return ∷ []) → IsWithoutReturn line.now all.now
 IsWithoutReturn-stripped None all line line_is none = inr (ap (λ z. z.now) (sym line_is), none)
 IsWithoutReturn-stripped (Some x) all line line_is stripped = inl (stripped ∙ ap (λ z. z.now ++ carriage_return ∷ []) (sym line_is))
+
+-- where no character follows a boundary the text ends
+pub ends-at_boundary : (text : List ℕ) (next : ℕ) → IsUtf8 text → IsCharBoundary text next → chars (drop next text) ≡ [] → next ≡ length text
+ends-at_boundary text next text_is boundary none =
+    let not_less : next < length text → ⊥ = λ less.
+    omega (arith, ap length none, chars-some (drop next text) (IsUtf8-drop text next text_is boundary) (omega (arith, less, length-drop next text))) in
+    omega (arith, boundary.0)
 
 -- no line feed is among these
 abbrev pub LacksFeed : List ℕ → Type 0

@@ -1,5 +1,6 @@
 -- A place in a text's bytes at which a character begins, and the text split there.
 use Rattle.std.proofs.Common.{◌≡◌, refl, sym, ap, ◌∙◌, ℕ, ◌+◌, ◌-◌, ◌<◌, ◌≤◌, List, [], ◌∷◌, ◌++◌, length, take, drop, arith, true, length-append, length-drop, length-take, take-add, take-append-drop, IsUtf8, IsCharBoundary}
+use Rattle.std.proofs.Math.Seq.{take-length}
 use Rattle.std.proofs.lemmas.List.{take_at, drop_at, take_all, length-take-le}
 use Rattle.std.proofs.lemmas.List.Elements.{All-nil, All-cons}
 use Rattle.std.proofs.lemmas.Bool.{and_from, and_parts}
@@ -26,6 +27,10 @@ scalars-part [] ys all = (refl, all)
 scalars-part (x ∷ xs) ys all =
     let more = scalars-part xs ys (and_parts _ _ all).1 in
     (and_from _ _ (and_parts _ _ all).0 more.0, more.1)
+
+-- all characters take all bytes
+pub character_place-all : (text : List ℕ) → IsUtf8 text → character_place (chars text) (length (chars text)) ≡ length text
+character_place-all text text_is = ap (λ z. length (encodes z)) (take-length (chars text)) ∙ ap length (encodes-chars text text_is)
 
 -- fewer characters take fewer bytes
 pub character_place-less : (t : List ℕ) (j i : ℕ) → j < i → i ≤ length t → character_place t j < character_place t i

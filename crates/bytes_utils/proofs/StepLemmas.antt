@@ -5,10 +5,10 @@ use Rattle.std.specs.Str.{chars}
 use Rattle.bytes_utils.specs.Step.{StepGivesFirst, StepGivesItem, StepsHaveGiven}
 
 -- a step that gave a part gives the first of those to come
-pub given : {S E : Type 0} {coming : S → List (List ℕ) → Type 0} {cuts : S → Type 0} {refuses : E → Type 0} {s t : S} {item : Result (List ℕ) E} {part : List ℕ}
-    → item ≡ Ok part → StepGivesItem chars coming cuts refuses s item t → StepGivesFirst coming s (chars part) t
-given {coming} {cuts} {refuses} {s} {t} is step =
-    subst (λ i. MatchResult i (λ p. StepGivesFirst coming s (chars p) t) (λ reason. cuts s × refuses reason × coming t [])) is step.gives
+pub given : {S E : Type 0} {coming : S → List (List ℕ) → Type 0} {refuses : S → E → Type 0} {s t : S} {item : Result (List ℕ) E} {part : List ℕ}
+    → item ≡ Ok part → StepGivesItem chars coming refuses s item t → StepGivesFirst coming s (chars part) t
+given {coming} {refuses} {s} {t} is step =
+    subst (λ i. MatchResult i (λ p. StepGivesFirst coming s (chars p) t) (λ reason. refuses s reason × coming t [])) is step.gives
 
 -- Steps of a loop over a splitter.
 module _ {S X : Type 0} (coming : S → List X → Type 0) (start : S) where

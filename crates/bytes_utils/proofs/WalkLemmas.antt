@@ -28,14 +28,14 @@ laid_out-more : (direction : Direction) (text : List ℕ) (a b : ℕ) → IsLawf
     → laid_out direction (record { chunk = chunk; gap = walk_gap_at direction text a b } ∷ cuts) last ≡ text
 laid_out-more direction text a b cut chunk is cuts last rest = grind (arith, three_pieces)
 
-module _ {F E : Type 0} (f : Mut F (Bor (List ℕ) × Unit {0}) (Option (ℕ × ℕ))) (refuses : E → Type 0) where
+module _ {F E : Type 0} (f : Mut F (Bor (List ℕ) × Unit {0}) (Option (ℕ × ℕ))) (refuses_cut : Type 0 → E → Type 0) where
   -- what a step says of what is left and of the closure, besides the direction
   abbrev Steps : Direction → F → Option (Result (List ℕ) E) → Option (List ℕ) → F → Option (List ℕ) → Type 0
   Steps direction state r left after rest = MatchOption rest ((r ≡ None) × (left ≡ None) × (after ≡ state))
-      (λ text. (answer : Option (ℕ × ℕ)) × CalledAt f state text answer after × IsSomeAnd r (λ item. FollowsClosureAnswer refuses direction text answer item left))
+      (λ text. (answer : Option (ℕ × ℕ)) × CalledAt f state text answer after × IsSomeAnd r (λ item. FollowsClosureAnswer refuses_cut direction text answer item left))
 
   -- if nothing is left, no item comes
-  nothing_more : (items : List (Result (List ℕ) E)) (s t : Walk F) → s.rest ≡ None → Yields (IsWalkStep f refuses) s items t → items ≡ []
+  nothing_more : (items : List (Result (List ℕ) E)) (s t : Walk F) → s.rest ≡ None → Yields (IsWalkStep f refuses_cut) s items t → items ≡ []
   nothing_more [] s t none run = refl
   nothing_more (item ∷ items) s t none run =
       let step = subst (Steps s.direction s.closure (Some item) run.0.rest run.0.closure) none run.1.follows in
@@ -44,8 +44,8 @@ module _ {F E : Type 0} (f : Mut F (Bor (List ℕ) × Unit {0}) (Option (ℕ × 
   module _ (direction : Direction) (lawful : IsLawfulClosure f direction) where
     -- an item that follows a result of the closure, and the run over what it left
     from_answer : (items : List (Result (List ℕ) E)) (item : Result (List ℕ) E) (text : List ℕ) → IsUtf8 text → (state after : F) (answer : Option (ℕ × ℕ)) (rest : Option (List ℕ))
-        → CalledAt f state text answer after → FollowsClosureAnswer refuses direction text answer item rest → (rest ≡ None → items ≡ [])
-        → ((next : List ℕ) → IsUtf8 next → rest ≡ Some next → IsWholeWalk f refuses direction next items) → IsWholeWalk f refuses direction text (item ∷ items)
+        → CalledAt f state text answer after → FollowsClosureAnswer refuses_cut direction text answer item rest → (rest ≡ None → items ≡ [])
+        → ((next : List ℕ) → IsUtf8 next → rest ≡ Some next → IsWholeWalk f refuses_cut direction next items) → IsWholeWalk f refuses_cut direction text (item ∷ items)
     from_answer items item text text_is state after None rest called follows nothing more =
         let done = nothing follows.1 in
         let first = follows.0 in
@@ -68,11 +68,11 @@ module _ {F E : Type 0} (f : Mut F (Bor (List ℕ) × Unit {0}) (Option (ℕ × 
         }
     from_answer items (Err reason) text text_is state after (Some (a, b)) rest called follows nothing more =
         let done = nothing follows.1 in
-        record { cuts = []; last = text; joined = refl; answered = tt; end = Err reason; gives = λ k. Err reason ∷ done k; ends = follows.0 }
+        record { cuts = []; last = text; joined = refl; answered = tt; end = Err reason; gives = λ k. Err reason ∷ done k; ends = (state, after, a, b, called, follows.0) }
 
     -- the chunks of a whole run and what it left out make the text
     pub whole-walk : (items : List (Result (List ℕ) E)) (s : Walk F) (text : List ℕ) → IsUtf8 text → s.rest ≡ Some text → s.direction ≡ direction
-        → Drains (IsWalkStep f refuses) s items → IsWholeWalk f refuses direction text items
+        → Drains (IsWalkStep f refuses_cut) s items → IsWholeWalk f refuses_cut direction text items
     whole-walk [] s text text_is rest_is same run =
         let left = ap (λ (w : Walk F). w.rest) (sym run.1.1) ∙ rest_is in
         let step = subst (Steps run.1.0.direction run.1.0.closure None run.0.rest run.0.closure) left run.1.2.follows in
@@ -80,24 +80,24 @@ module _ {F E : Type 0} (f : Mut F (Bor (List ℕ) × Unit {0}) (Option (ℕ × 
     whole-walk (item ∷ items) s text text_is rest_is same run =
         let next : Walk F = run.1.1.0 in
         let step = subst (Steps s.direction s.closure (Some item) next.rest next.closure) rest_is run.1.1.1.follows in
-        let follows = subst (λ d. FollowsClosureAnswer refuses d text step.0 item next.rest) same step.2 in
+        let follows = subst (λ d. FollowsClosureAnswer refuses_cut d text step.0 item next.rest) same step.2 in
         from_answer items item text text_is s.closure next.closure step.0 next.rest step.1 follows
         (λ none. nothing_more items next run.1.0 none run.1.1.2)
         (λ rest rest_text left. whole-walk items next rest rest_text left (run.1.1.1.direction ∙ same) (run.0, (run.1.0, run.1.1.2, run.1.2)))
 
 -- A step that gave a chunk, if each result of the closure meets Q: the closure returned a result for what was left,
 -- which meets Q, and the chunk and what is left now follow from it.
-pub chunk-given : {F E : Type 0} {f : Mut F (Bor (List ℕ) × Unit {0}) (Option (ℕ × ℕ))} {refuses : E → Type 0} {s t : Walk F} {item : Result (List ℕ) E} {chunk : List ℕ}
+pub chunk-given : {F E : Type 0} {f : Mut F (Bor (List ℕ) × Unit {0}) (Option (ℕ × ℕ))} {refuses_cut : Type 0 → E → Type 0} {s t : Walk F} {item : Result (List ℕ) E} {chunk : List ℕ}
     (Q : List ℕ → Option (ℕ × ℕ) → Type 0) → ((state after : F) (text : List ℕ) (answer : Option (ℕ × ℕ)) → CalledAt f state text answer after → Q text answer)
-    → item ≡ Ok chunk → IsWalkStep f refuses s (Some item) t
-    → (text : List ℕ) × (answer : Option (ℕ × ℕ)) × (s.rest ≡ Some text) × Q text answer × FollowsClosureAnswer refuses s.direction text answer (Ok chunk) t.rest
-chunk-given {F} {E} {f} {refuses} {s} {t} {item} {chunk} Q meets is step = from s.rest refl step.follows
+    → item ≡ Ok chunk → IsWalkStep f refuses_cut s (Some item) t
+    → (text : List ℕ) × (answer : Option (ℕ × ℕ)) × (s.rest ≡ Some text) × Q text answer × FollowsClosureAnswer refuses_cut s.direction text answer (Ok chunk) t.rest
+chunk-given {F} {E} {f} {refuses_cut} {s} {t} {item} {chunk} Q meets is step = from s.rest refl step.follows
   where
-    from : (rest : Option (List ℕ)) → s.rest ≡ rest → Steps f refuses s.direction s.closure (Some item) t.rest t.closure rest
-        → (text : List ℕ) × (answer : Option (ℕ × ℕ)) × (s.rest ≡ Some text) × Q text answer × FollowsClosureAnswer refuses s.direction text answer (Ok chunk) t.rest
+    from : (rest : Option (List ℕ)) → s.rest ≡ rest → Steps f refuses_cut s.direction s.closure (Some item) t.rest t.closure rest
+        → (text : List ℕ) × (answer : Option (ℕ × ℕ)) × (s.rest ≡ Some text) × Q text answer × FollowsClosureAnswer refuses_cut s.direction text answer (Ok chunk) t.rest
     from None none h = let no_item = h.0 in cc
     from (Some text) rest_is h =
-        (text, h.0, rest_is, meets s.closure t.closure text h.0 h.1, subst (λ i. FollowsClosureAnswer refuses s.direction text h.0 i t.rest) is h.2)
+        (text, h.0, rest_is, meets s.closure t.closure text h.0 h.1, subst (λ i. FollowsClosureAnswer refuses_cut s.direction text h.0 i t.rest) is h.2)
 
 -- what holds of the chunk and the gap of each cut that the closure may return holds of all that it returned
 pub each-taken : {F : Type 0} {f : Mut F (Bor (List ℕ) × Unit {0}) (Option (ℕ × ℕ))} (direction : Direction) (P : List ℕ → List ℕ → Type 0)
@@ -126,10 +126,10 @@ all_ok (chunk ∷ chunks) (cut ∷ cuts) end last e is =
 
 -- Without a refusal no chunk is missing: they are the chunks of the cuts that the closure returned, and at last what
 -- these left. With what was left out, joined in order, they are the text.
-pub none-missing : {F E : Type 0} {f : Mut F (Bor (List ℕ) × Unit {0}) (Option (ℕ × ℕ))} {refuses : E → Type 0} {direction : Direction} {text : List ℕ} (chunks : List (List ℕ))
-    → IsWholeWalk f refuses direction text (map (λ chunk. Ok chunk) chunks)
+pub none-missing : {F E : Type 0} {f : Mut F (Bor (List ℕ) × Unit {0}) (Option (ℕ × ℕ))} {refuses_cut : Type 0 → E → Type 0} {direction : Direction} {text : List ℕ} (chunks : List (List ℕ))
+    → IsWholeWalk f refuses_cut direction text (map (λ chunk. Ok chunk) chunks)
     → (cuts : List TakenInWalk) × (last : List ℕ) × (laid_out direction cuts last ≡ text) × AreAnswered f direction cuts last × (chunks ≡ map (λ cut. cut.chunk) cuts ++ (last ∷ []))
-none-missing {F} {E} {f} {refuses} chunks run = grind (arith, MatchResult, all_ok)
+none-missing {F} {E} {f} {refuses_cut} chunks run = grind (arith, MatchResult, all_ok)
 
 -- The invariant of a loop over such an iterator: the chunks so far are those of cuts that, laid out with what they
 -- left, are the text. What they left is still to be split, or was the last chunk.
@@ -152,15 +152,15 @@ laid_out-push Backward (first ∷ cuts) cut left = ap (λ l. l ++ (first.gap ++ 
 
 -- after a step that gave a chunk
 module _ {F : Type 0} {f : Mut F (Bor (List ℕ) × Unit {0}) (Option (ℕ × ℕ))} {direction : Direction} (lawful : IsLawfulClosure f direction) {text : List ℕ} {chunks : List (List ℕ)} where
-  one_more : {E : Type 0} (refuses : E → Type 0) (chunk left : List ℕ) (h : HasTaken direction text chunks (Some left)) (state after : F) (answer : Option (ℕ × ℕ)) (new : Option (List ℕ))
-      → CalledAt f state left answer after → FollowsClosureAnswer refuses direction left answer (Ok chunk) new → HasTaken direction text (chunks ++ (chunk ∷ [])) new
-  one_more refuses chunk left h state after None new called follows =
+  one_more : {E : Type 0} (refuses_cut : Type 0 → E → Type 0) (chunk left : List ℕ) (h : HasTaken direction text chunks (Some left)) (state after : F) (answer : Option (ℕ × ℕ)) (new : Option (List ℕ))
+      → CalledAt f state left answer after → FollowsClosureAnswer refuses_cut direction left answer (Ok chunk) new → HasTaken direction text (chunks ++ (chunk ∷ [])) new
+  one_more refuses_cut chunk left h state after None new called follows =
       let is = follows.0 in
       let old = h.taken.0 in
       let same : chunk ≡ h.left = cc in
       let all : chunks ++ (chunk ∷ []) ≡ map (λ cut. cut.chunk) h.cuts ++ (h.left ∷ []) = λ k. h.taken.1 k ++ (same k ∷ []) in
       rw follows.1 record { cuts = h.cuts; left = h.left; left_text = h.left_text; joined = h.joined; taken = all }
-  one_more refuses chunk left h state after (Some (a, b)) new called follows =
+  one_more refuses_cut chunk left h state after (Some (a, b)) new called follows =
       let text_is = subst IsUtf8 (sym h.taken.0) h.left_text in
       let cut = lawful.lawful state left a b after text_is called in
       let taken : TakenInWalk = record { chunk = chunk; gap = walk_gap_at direction left a b } in
@@ -175,17 +175,17 @@ module _ {F : Type 0} {f : Mut F (Bor (List ℕ) × Unit {0}) (Option (ℕ × �
         taken = (refl, all);
       }
 
-pub HasTaken-more : {F E : Type 0} {f : Mut F (Bor (List ℕ) × Unit {0}) (Option (ℕ × ℕ))} {refuses : E → Type 0} {text : List ℕ} {chunks : List (List ℕ)} {s t : Walk F} {item : Result (List ℕ) E} {chunk : List ℕ}
-    → IsWalkStep f refuses s (Some item) t → item ≡ Ok chunk → IsLawfulClosure f s.direction → HasTaken s.direction text chunks s.rest
+pub HasTaken-more : {F E : Type 0} {f : Mut F (Bor (List ℕ) × Unit {0}) (Option (ℕ × ℕ))} {refuses_cut : Type 0 → E → Type 0} {text : List ℕ} {chunks : List (List ℕ)} {s t : Walk F} {item : Result (List ℕ) E} {chunk : List ℕ}
+    → IsWalkStep f refuses_cut s (Some item) t → item ≡ Ok chunk → IsLawfulClosure f s.direction → HasTaken s.direction text chunks s.rest
     → HasTaken t.direction text (chunks ++ (chunk ∷ [])) t.rest
-HasTaken-more {F} {E} {f} {refuses} {text} {chunks} {s} {t} {item} {chunk} step is lawful h =
-    let follows = subst (λ i. Steps f refuses s.direction s.closure (Some i) t.rest t.closure s.rest) is step.follows in
+HasTaken-more {F} {E} {f} {refuses_cut} {text} {chunks} {s} {t} {item} {chunk} step is lawful h =
+    let follows = subst (λ i. Steps f refuses_cut s.direction s.closure (Some i) t.rest t.closure s.rest) is step.follows in
     subst (λ d. HasTaken d text (chunks ++ (chunk ∷ [])) t.rest) (sym step.direction) (from s.rest h follows)
   where
-    from : (rest : Option (List ℕ)) → HasTaken s.direction text chunks rest → Steps f refuses s.direction s.closure (Some (Ok chunk)) t.rest t.closure rest
+    from : (rest : Option (List ℕ)) → HasTaken s.direction text chunks rest → Steps f refuses_cut s.direction s.closure (Some (Ok chunk)) t.rest t.closure rest
         → HasTaken s.direction text (chunks ++ (chunk ∷ [])) t.rest
     from None old taken = let no_item = taken.0 in cc
-    from (Some left) old taken = one_more lawful refuses chunk left old s.closure t.closure taken.0 t.rest taken.1 taken.2
+    from (Some left) old taken = one_more lawful refuses_cut chunk left old s.closure t.closure taken.0 t.rest taken.1 taken.2
 
 -- after the last step: the chunks, with what was left out, joined in order, are the text
 pub HasTaken-all : {direction : Direction} {text : List ℕ} {chunks : List (List ℕ)} {rest : Option (List ℕ)} → HasTaken direction text chunks rest → rest ≡ None
@@ -194,5 +194,5 @@ HasTaken-all {chunks = chunks} h none =
     (h.cuts, h.left, h.joined, rw none at h.taken)
 
 -- a step that gave no item had nothing left
-pub nothing-left : {F E : Type 0} {f : Mut F (Bor (List ℕ) × Unit {0}) (Option (ℕ × ℕ))} {refuses : E → Type 0} {s t : Walk F} → IsWalkStep f refuses s None t → s.rest ≡ None
-nothing-left {F} {E} {f} {refuses} {s} {t} step = grind arith
+pub nothing-left : {F E : Type 0} {f : Mut F (Bor (List ℕ) × Unit {0}) (Option (ℕ × ℕ))} {refuses_cut : Type 0 → E → Type 0} {s t : Walk F} → IsWalkStep f refuses_cut s None t → s.rest ≡ None
+nothing-left {F} {E} {f} {refuses_cut} {s} {t} step = grind arith

@@ -1,5 +1,5 @@
 -- The first word of a text, from the byte places at which two searches found its ends.
-use Rattle.std.proofs.Common.{◌≡◌, refl, sym, ap, subst, ◌∙◌, ℕ, zero, suc, ◌+◌, ◌<◌, ◌≤◌, Bool, true, false, not, List, [], ◌∷◌, ◌++◌, Option, None, Some, MatchOption, unwrap_or, length, take, drop, get_or, arith, add-one, length-append, length-drop, append_assoc, take-append-drop, IsUtf8, IsCharBoundary}
+use Rattle.std.proofs.Common.{◌≡◌, refl, sym, ap, subst, ◌∙◌, ℕ, zero, suc, ◌+◌, ◌<◌, ◌≤◌, Bool, true, false, not, List, [], ◌∷◌, ◌++◌, Option, None, Some, MatchOption, unwrap_or, length, take, drop, get_or, arith, add-one, length-append, length-drop, append_assoc, append-nil, take-append-drop, IsUtf8, IsCharBoundary}
 use Rattle.std.proofs.Math.Numerals.{one-add}
 use Rattle.std.proofs.lemmas.Bool.Decides.{nat_tests}
 use Rattle.std.proofs.lemmas.List.Sums.{prefix_len-le-length, prefix_len_passes}
@@ -12,7 +12,7 @@ use Rattle.std.specs.Option.{option_map_or}
 use Rattle.std.specs.Str.{chars, NonePass, NoCharPasses}
 use Rattle.std.specs.Str.Pattern.{FindsBy}
 use Rattle.bytes_utils.specs.Lines.{first_led_by}
-use Rattle.bytes_utils.specs.Words.{words, ends_word, AreWordsToCome, HoldsSpaceBetweenWords}
+use Rattle.bytes_utils.specs.Words.{words, ends_word, AreWordsToCome, HoldsSpaceAfterWord, HoldsSpaceBetweenWords}
 use Rattle.bytes_utils.specs.Step.{StepGivesFirst}
 use Rattle.bytes_utils.proofs.SearchLemmas.{chars-some}
 
@@ -80,6 +80,14 @@ module _ (is_space : ℕ → Bool) where
   space_after front [] some ends = absurd (omega arith)
   space_after front (c ∷ t) some ends =
       (length front, omega (arith, length-append front (c ∷ t)), ap is_space (get_or-append_seam front c t 0) ∙ ends)
+
+  -- white space follows a word
+  holds_after : (front run t : List ℕ) → NonePass is_other front → 0 < length run → NonePass is_space run → 0 < length t → ends_word is_space t ≡ true → HoldsSpaceAfterWord is_space (front ++ (run ++ t))
+  holds_after front run [] spaces some others more ends = absurd (omega arith)
+  holds_after front run (c ∷ t) spaces some others more ends =
+      let one : words is_space (front ++ run) ≡ run ∷ [] =
+      words-after_space front run spaces ∙ ap (words is_space) (sym (append-nil run)) ∙ words-run run [] some others refl in
+      (front ++ run, c, t, append_assoc front run (c ∷ t), ends, λ none. cc)
 
   -- a text of white space alone has no word
   pub words-none : (text : List ℕ) → IsUtf8 text → NoCharPasses is_other text → words is_space (chars text) ≡ []
@@ -168,25 +176,39 @@ module _ (is_space : ℕ → Bool) where
         let long : 0 < length (chars front) = chars-some front front_is (omega (arith, size_is)) in
         subst HasSpace (sym text_chars) (space_before (chars front) _ long (NonePass-chars is_other front front_is found.0))
 
+    -- the word has characters
+    word_long : 0 < length (chars (take size (drop start text)))
+    word_long = chars-some (take size (drop start text)) word_is (omega (arith, length-take-le size (drop start text) is.boundary.0, word-some))
+
+    -- and so has what is after it
+    following_long : start + size < length text → 0 < length (chars (drop size (drop start text)))
+    following_long some =
+        let rest = drop start text in
+        chars-some (drop size rest) (IsUtf8-drop rest size rest_is is.boundary) (omega (arith, some, length-drop size rest, length-drop start text))
+
+    pub space-after_word : start + size < length text → HoldsSpaceAfterWord is_space (chars text)
+    space-after_word some =
+        let rest = drop start text in
+        let spaces = NonePass-chars is_other (take start text) front_is found.0 in
+        let others = NonePass-chars is_space (take size rest) word_is is.none in
+        subst (HoldsSpaceAfterWord is_space) (sym text_chars)
+        (holds_after (chars (take start text)) (chars (take size rest)) (chars (drop size rest)) spaces word_long others (following_long some) is.ends)
+
     pub space-following : start + size < length text → HoldsSpaceBetweenWords is_space (Some text)
     space-following some =
         let rest = drop start text in
         let following = drop size rest in
-        let after_is : IsUtf8 following = IsUtf8-drop rest size rest_is is.boundary in
-        let long : 0 < length (chars following) = chars-some following after_is (omega (arith, length-drop size rest, length-drop start text)) in
         let whole : chars text ≡ (chars (take start text) ++ chars (take size rest)) ++ chars following = text_chars ∙ sym (append_assoc (chars (take start text)) (chars (take size rest)) (chars following)) in
-        subst HasSpace (sym whole) (space_after (chars (take start text) ++ chars (take size rest)) (chars following) long is.ends)
+        subst HasSpace (sym whole) (space_after (chars (take start text) ++ chars (take size rest)) (chars following) (following_long some) is.ends)
 
     pub words-first : words is_space (chars text) ≡ chars (drop start (take (start + size) text)) ∷ words is_space (chars (drop (start + size) text))
     words-first =
         let rest = drop start text in
-        let size_fits : length (take size rest) ≡ size = length-take-le size rest is.boundary.0 in
-        let some : 0 < length (chars (take size rest)) = chars-some (take size rest) word_is (omega (arith, size_fits, word-some)) in
         let word : drop start (take (start + size) text) ≡ take size rest = drop-take start size text in
         let following : drop (start + size) text ≡ drop size rest = sym (drop-drop size start text) in
         rw (word, following)
         (ap (words is_space) text_chars ∙ words-after_space (chars (take start text)) _ (NonePass-chars is_other (take start text) front_is found.0)
-        ∙ words-run (chars (take size rest)) (chars (drop size rest)) some (NonePass-chars is_space (take size rest) word_is is.none) is.ends)
+        ∙ words-run (chars (take size rest)) (chars (drop size rest)) word_long (NonePass-chars is_space (take size rest) word_is is.none) is.ends)
 
   -- a step that took the word between `start` and `end`, and left what is after it, if anything
   module _ (text word : List ℕ) (rest : Option (List ℕ)) (start end : ℕ) (word_is : word ≡ drop start (take end text)) (rest_is : MatchOption rest (end ≡ length text) (λ r. r ≡ drop end text)) where

@@ -1,5 +1,5 @@
 -- A text split at the places that a closure of the caller returns.
-use Rattle.std.specs.Prelude.{◌≡◌, ℕ, ◌+◌, ◌<◌, ◌≤◌, List, [], ◌∷◌, ◌++◌, length, map, take, drop, Option, None, Some, Result, Ok, MatchOption, MatchResult, IsSomeAnd, IsCharBoundary, IsUtf8, ⊤}
+use Rattle.std.specs.Prelude.{◌≡◌, ◌⊎◌, ℕ, ◌+◌, ◌<◌, ◌≤◌, List, [], ◌∷◌, ◌++◌, length, map, take, drop, Option, None, Some, Result, Ok, MatchOption, MatchResult, IsSomeAnd, IsCharBoundary, IsUtf8, ⊤}
 use Rattle.std.specs.Option.{option_map_or}
 use Rattle.std.specs.Fn.{Mut, TakesAt, CalledAt}
 use Rattle.std.specs.Str.{chars}
@@ -34,14 +34,19 @@ abbrev pub walk_gap_at : Direction → List ℕ → ℕ → ℕ → List ℕ
 walk_gap_at Forward text a b = drop a (take b text)
 walk_gap_at Backward text a b = drop b (take a text)
 
+-- the cut is at an end of the text: it leaves no rest forward; backward its chunk is empty or all of the text
+abbrev pub IsClosureCutAtEnd : Direction → List ℕ → ℕ → ℕ → Type 0
+IsClosureCutAtEnd Forward text a b = b ≡ length text
+IsClosureCutAtEnd Backward text a b = (a ≡ 0) ⊎ (a ≡ length text)
+
 -- The effect of a closure's result on a text. After `None` the whole text is the item, and nothing is left. After a cut
--- its chunk is the item and its rest is left; or the item is an error, with a reason for which the storage may refuse,
+-- its chunk is the item and its rest is left; or the item is an error, with a reason for which this cut may be refused,
 -- and nothing is left.
-abbrev pub FollowsClosureAnswer : {E : Type 0} → (E → Type 0) → Direction → List ℕ → Option (ℕ × ℕ) → Result (List ℕ) E → Option (List ℕ) → Type 0
-FollowsClosureAnswer refuses direction text None item rest = (item ≡ Ok text) × (rest ≡ None)
-FollowsClosureAnswer refuses direction text (Some (a, b)) item rest =
+abbrev pub FollowsClosureAnswer : {E : Type 0} → (Type 0 → E → Type 0) → Direction → List ℕ → Option (ℕ × ℕ) → Result (List ℕ) E → Option (List ℕ) → Type 0
+FollowsClosureAnswer refuses_cut direction text None item rest = (item ≡ Ok text) × (rest ≡ None)
+FollowsClosureAnswer refuses_cut direction text (Some (a, b)) item rest =
     MatchResult item (λ chunk. (chunk ≡ walk_chunk_at direction text a b) × (rest ≡ Some (walk_rest_at direction text a b)))
-    (λ reason. refuses reason × (rest ≡ None))
+    (λ reason. refuses_cut (IsClosureCutAtEnd direction text a b) reason × (rest ≡ None))
 
 -- The state of such a splitter: what is still to be split, if anything, the end from which it splits, and the closure's
 -- state.
@@ -52,10 +57,10 @@ pub record Walk (F : Type 0) : Type 0 where
 
 -- A step from s to t that returns r: `None` if nothing is left, else the closure is called once, on what is left, and
 -- its result has its effect.
-pub record IsWalkStep {F E : Type 0} (f : Mut F (Bor (List ℕ) × Unit {0}) (Option (ℕ × ℕ))) (refuses : E → Type 0) (s : Walk F) (r : Option (Result (List ℕ) E)) (t : Walk F) : Type 0 where
+pub record IsWalkStep {F E : Type 0} (f : Mut F (Bor (List ℕ) × Unit {0}) (Option (ℕ × ℕ))) (refuses_cut : Type 0 → E → Type 0) (s : Walk F) (r : Option (Result (List ℕ) E)) (t : Walk F) : Type 0 where
   pub direction : t.direction ≡ s.direction
   pub follows : MatchOption s.rest ((r ≡ None) × (t.rest ≡ None) × (t.closure ≡ s.closure))
-      (λ text. (answer : Option (ℕ × ℕ)) × CalledAt f s.closure text answer t.closure × IsSomeAnd r (λ item. FollowsClosureAnswer refuses s.direction text answer item t.rest))
+      (λ text. (answer : Option (ℕ × ℕ)) × CalledAt f s.closure text answer t.closure × IsSomeAnd r (λ item. FollowsClosureAnswer refuses_cut s.direction text answer item t.rest))
 
 -- a bound on the number of items to come: one more than the characters left
 abbrev pub most_chunks : {F : Type 0} → Walk F → ℕ
@@ -90,12 +95,14 @@ AreAnswered f direction (cut ∷ cuts) last = IsAnswered f direction (laid_out d
 
 -- These items are a whole run over a text: the chunks of cuts that the closure returned, and at last an item that ends
 -- the run. What the cuts took off and what they left, joined in order, are the text. What they left is the last chunk,
--- for which the closure returned `None`; or its cut was refused, and it is missing from the items.
-pub record IsWholeWalk {F E : Type 0} (f : Mut F (Bor (List ℕ) × Unit {0}) (Option (ℕ × ℕ))) (refuses : E → Type 0) (direction : Direction) (text : List ℕ) (items : List (Result (List ℕ) E)) : Type 0 where
+-- for which the closure returned `None`; or the cut that it returned was refused, and what they left is missing from the
+-- items.
+pub record IsWholeWalk {F E : Type 0} (f : Mut F (Bor (List ℕ) × Unit {0}) (Option (ℕ × ℕ))) (refuses_cut : Type 0 → E → Type 0) (direction : Direction) (text : List ℕ) (items : List (Result (List ℕ) E)) : Type 0 where
   pub cuts : List TakenInWalk
   pub last : List ℕ
   pub joined : laid_out direction cuts last ≡ text
   pub answered : AreAnswered f direction cuts last
   pub end : Result (List ℕ) E
   pub gives : items ≡ map (λ cut. Ok cut.chunk) cuts ++ (end ∷ [])
-  pub ends : MatchResult end (λ chunk. (chunk ≡ last) × (state : F) × (after : F) × CalledAt f state last None after) refuses
+  pub ends : MatchResult end (λ chunk. (chunk ≡ last) × (state : F) × (after : F) × CalledAt f state last None after)
+      (λ reason. (state : F) × (after : F) × (a : ℕ) × (b : ℕ) × CalledAt f state last (Some (a, b)) after × refuses_cut (IsClosureCutAtEnd direction last a b) reason)

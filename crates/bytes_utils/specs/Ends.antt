@@ -20,3 +20,7 @@ IsBetweenSpaceAtEnds part text = (before : List ℕ) × (following : List ℕ) �
 -- the reasons for which a cut at an end may be refused: those of a split at an end, and those of one side alone
 abbrev pub RefusesAtEnd : {X : Type 0} → (X → Type 0) → (X → Type 0) → X → Type 0
 RefusesAtEnd refuses_empty refuses_side reason = refuses_empty reason ⊎ refuses_side reason
+
+-- the reasons for which a cut may be refused: those of a split, and at an end of the text only those of a cut there
+abbrev pub RefusesCut : {X : Type 0} → (X → Type 0) → (X → Type 0) → (X → Type 0) → Type 0 → X → Type 0
+RefusesCut refuses refuses_empty refuses_side at_end reason = refuses reason × (at_end → RefusesAtEnd refuses_empty refuses_side reason)

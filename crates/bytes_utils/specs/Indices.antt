@@ -1,7 +1,8 @@
 -- The parts of a text between separators, each with the byte place at which it begins.
 use Rattle.std.specs.Prelude.{◌≡◌, ℕ, ◌+◌, List, [], ◌∷◌, length}
 use Rattle.std.specs.Str.{chars, encode_utf8_all}
-use Rattle.bytes_utils.specs.Splitting.{Splitting, AreForwardPartsToCome, SplitsNext}
+use Rattle.bytes_utils.specs.Splitting.{Splitting, AreForwardPartsToCome, RefusesSplit}
+use Rattle.bytes_utils.specs.declared.split.direction.Direction.TheVariants.{Forward}
 
 -- Pairs each part, given as characters, with the byte place at which it begins: the first begins at this place, each
 -- other one after the part before it and the separator, which is given as bytes.
@@ -18,9 +19,9 @@ pub record Indexing : Type 0 where
 abbrev pub AreIndexedPartsToCome : Indexing → List (ℕ × List ℕ) → Type 0
 AreIndexedPartsToCome s items = (parts : List (List ℕ)) × AreForwardPartsToCome s.parts parts × (items ≡ indexed s.parts.separator s.at parts)
 
--- the next step splits the storage, as the step without places does
-abbrev pub CutsIndexedNext : Indexing → Type 0
-CutsIndexedNext s = SplitsNext s.parts
+-- the reasons for which the next step may be refused, those of the step without places
+abbrev pub RefusesIndexed : {E : Type 0} → (Type 0 → E → Type 0) → Indexing → E → Type 0
+RefusesIndexed refuses_cut s = RefusesSplit refuses_cut Forward s.parts
 
 -- an item as its place and the characters of its part
 abbrev pub index_and_chars : ℕ × List ℕ → ℕ × List ℕ

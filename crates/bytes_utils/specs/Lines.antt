@@ -47,3 +47,7 @@ AreLinesToCome rest parts = MatchOption rest (parts ≡ []) (λ text. parts ≡ 
 -- what is left holds a line feed; without one, no step splits the storage
 abbrev pub HoldsLineFeed : Option (List ℕ) → Type 0
 HoldsLineFeed rest = IsSomeAnd rest (λ text. Occurs (line_feed ∷ []) (chars text))
+
+-- the reasons for which the next step may be refused: those of a cut, at the end if nothing follows the first line feed
+abbrev pub RefusesLine : {E : Type 0} → (Type 0 → E → Type 0) → Option (List ℕ) → E → Type 0
+RefusesLine refuses_cut rest reason = HoldsLineFeed rest × refuses_cut (IsSomeAnd rest (λ text. text_after_line (chars text) ≡ [])) reason

@@ -1,8 +1,10 @@
 -- The state of a splitter by a separator, and the parts still to come.
-use Rattle.std.specs.Prelude.{◌≡◌, ℕ, suc, ◌+◌, ◌-◌, ◌<◌, List, [], ◌∷◌, length, Bool, false, Option, Some, MatchOption, IfSome, IsSomeAnd, if◌then◌else◌}
+use Rattle.std.specs.Prelude.{◌≡◌, ◌⊎◌, ℕ, suc, ◌+◌, ◌-◌, ◌<◌, ◌≤◌, List, [], ◌∷◌, length, Bool, false, Option, Some, MatchOption, IfSome, IsSomeAnd, if◌then◌else◌}
 use Rattle.std.specs.Bool.{MatchBool, OnTrue}
 use Rattle.std.specs.Option.{option_map, option_map_or}
 use Rattle.std.specs.Str.{chars}
+use Rattle.bytes_utils.specs.Ends.{EndsWith}
+use Rattle.bytes_utils.specs.Halves.{AreHalvesAtFirst}
 use Rattle.bytes_utils.specs.Occurrence.{Occurs}
 use Rattle.bytes_utils.specs.Parts.{ArePartsFromFront, ArePartsFromBack}
 use Rattle.bytes_utils.specs.declared.split.direction.Direction.{Direction}
@@ -61,6 +63,20 @@ limit_after_split = option_map (λ most. most - 1)
 abbrev pub SplitsNext : Splitting → Type 0
 SplitsNext s = LeavesMoreToSplit s.limit
     × IsSomeAnd s.rest (λ text. Occurs (chars s.separator) (chars text) × OnTrue s.begun (0 < length text))
+
+-- nothing follows the separator at which a step from this end cuts the text: the first one, or the last one
+abbrev pub SeparatorEnds : Direction → List ℕ → List ℕ → Type 0
+SeparatorEnds Forward separator text = (before : List ℕ) × AreHalvesAtFirst text separator before []
+SeparatorEnds Backward separator text = EndsWith separator text
+
+-- The next step cuts this text at one of its ends. The empty separator cuts off an empty part first, and at last the only
+-- character that is left; any other one ends the text.
+abbrev pub CutsAtEnd : Direction → List ℕ → Bool → List ℕ → Type 0
+CutsAtEnd end separator begun text = ((length separator ≡ 0) × OnTrue begun (length (chars text) ≤ 1)) ⊎ ((0 < length separator) × SeparatorEnds end separator text)
+
+-- the reasons for which the next step from this end may be refused: those of its cut, if it splits the storage
+abbrev pub RefusesSplit : {E : Type 0} → (Type 0 → E → Type 0) → Direction → Splitting → E → Type 0
+RefusesSplit refuses_cut end s reason = SplitsNext s × refuses_cut (IsSomeAnd s.rest (CutsAtEnd end s.separator s.begun)) reason
 
 -- a bound on the number of parts to come
 abbrev pub most_parts : Splitting → ℕ

@@ -3,8 +3,8 @@ use Rattle.std.specs.Prelude.{ℕ, List, [], ◌∷◌, ◌++◌, Option, Result
 use Rattle.std.specs.Str.{chars}
 
 -- Below, `coming s parts` says that in the state s of a splitter these parts are to come; at most one list is. `seen`
--- maps an item to the member of such a list, a text to its characters. `cuts s` says that a step from s splits the
--- storage, and `refuses reason` that the storage may refuse for this reason.
+-- maps an item to the member of such a list, a text to its characters. `refuses s reason` says that a step from s may be
+-- refused for this reason.
 
 -- the part is the first to come in s: some list is to come in t, and the part followed by each such list is to come in
 -- s
@@ -13,18 +13,18 @@ pub record StepGivesFirst {S X : Type 0} (coming : S → List X → Type 0) (s :
   pub each : (others : List X) → coming t others → coming s (part ∷ others)
 
 -- A step from s to t that gives an item: the first part that is to come, or an error for a refused split, with a reason
--- for which the storage may refuse, after which nothing comes.
-pub record StepGivesItem {S X Y E : Type 0} (seen : Y → X) (coming : S → List X → Type 0) (cuts : S → Type 0) (refuses : E → Type 0) (s : S) (item : Result Y E) (t : S) : Type 0 where
+-- for which this step may be refused, after which nothing comes.
+pub record StepGivesItem {S X Y E : Type 0} (seen : Y → X) (coming : S → List X → Type 0) (refuses : S → E → Type 0) (s : S) (item : Result Y E) (t : S) : Type 0 where
   pub some : ¬ coming s []
-  pub gives : MatchResult item (λ part. StepGivesFirst coming s (seen part) t) (λ reason. cuts s × refuses reason × coming t [])
+  pub gives : MatchResult item (λ part. StepGivesFirst coming s (seen part) t) (λ reason. refuses s reason × coming t [])
 
 -- A step from s to t that returns r: `None` exactly if no part is to come, else an item.
-abbrev pub IsStepOf : {S X Y E : Type 0} → (Y → X) → (S → List X → Type 0) → (S → Type 0) → (E → Type 0) → S → Option (Result Y E) → S → Type 0
-IsStepOf seen coming cuts refuses s r t = MatchOption r (coming s [] × coming t []) (λ item. StepGivesItem seen coming cuts refuses s item t)
+abbrev pub IsStepOf : {S X Y E : Type 0} → (Y → X) → (S → List X → Type 0) → (S → E → Type 0) → S → Option (Result Y E) → S → Type 0
+IsStepOf seen coming refuses s r t = MatchOption r (coming s [] × coming t []) (λ item. StepGivesItem seen coming refuses s item t)
 
 -- a step of a splitter whose items are texts
-abbrev pub IsStep : {S E : Type 0} → (S → List (List ℕ) → Type 0) → (S → Type 0) → (E → Type 0) → S → Option (Result (List ℕ) E) → S → Type 0
-IsStep coming cuts refuses s r t = IsStepOf chars coming cuts refuses s r t
+abbrev pub IsStep : {S E : Type 0} → (S → List (List ℕ) → Type 0) → (S → E → Type 0) → S → Option (Result (List ℕ) E) → S → Type 0
+IsStep coming refuses s r t = IsStepOf chars coming refuses s r t
 
 -- What a loop over a splitter keeps: since the state `start` the splitter has given these parts, and it is in the state
 -- `now`. Some list is to come, and the parts followed by each such list were to come at the start.

@@ -1,6 +1,6 @@
 -- The words of a text, as Rust's `str::split_whitespace` and `str::split_ascii_whitespace` give them: the maximal runs
 -- of one or more characters that aren't white space.
-use Rattle.std.specs.Prelude.{◌≡◌, ℕ, ◌<◌, Bool, true, List, [], ◌∷◌, length, get_or, Option, MatchOption, IsSomeAnd, IsTrue, if◌then◌else◌}
+use Rattle.std.specs.Prelude.{◌≡◌, ◌≢◌, ℕ, ◌<◌, Bool, true, List, [], ◌∷◌, ◌++◌, length, get_or, Option, MatchOption, IsSomeAnd, IsTrue, if◌then◌else◌}
 use Rattle.std.specs.Str.{chars}
 use Rattle.bytes_utils.specs.Lines.{first_led_by}
 
@@ -25,3 +25,12 @@ AreWordsToCome is_space rest parts = MatchOption rest (parts ≡ []) (λ text. p
 -- what is left holds white space; without any, no step splits the storage
 abbrev pub HoldsSpaceBetweenWords : (ℕ → Bool) → Option (List ℕ) → Type 0
 HoldsSpaceBetweenWords is_space rest = IsSomeAnd rest (λ text. (i : ℕ) × (i < length (chars text)) × IsTrue (is_space (get_or (chars text) i 0)))
+
+-- white space comes after a word
+abbrev pub HoldsSpaceAfterWord : (ℕ → Bool) → List ℕ → Type 0
+HoldsSpaceAfterWord is_space t = (before : List ℕ) × (c : ℕ) × (following : List ℕ) × (before ++ c ∷ following ≡ t) × IsTrue (is_space c) × (words is_space before ≢ [])
+
+-- the reasons for which the next step may be refused: those of a cut, at an end if no white space comes after a word
+abbrev pub RefusesWord : {E : Type 0} → (Type 0 → E → Type 0) → (ℕ → Bool) → Option (List ℕ) → E → Type 0
+RefusesWord refuses_cut is_space rest reason =
+    HoldsSpaceBetweenWords is_space rest × refuses_cut (IsSomeAnd rest (λ text. ¬ HoldsSpaceAfterWord is_space (chars text))) reason

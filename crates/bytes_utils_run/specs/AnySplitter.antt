@@ -2,10 +2,11 @@
 use Rattle.std.specs.Prelude.{ℕ, List, length}
 use Rattle.std.specs.Char.{is_whitespace, is_ascii_whitespace}
 use Rattle.std.specs.Option.{option_map_or}
-use Rattle.bytes_utils.specs.Keeping.{AreInclusivePartsToCome, CutsAfterNext, most_inclusive_parts}
-use Rattle.bytes_utils.specs.Lines.{AreLinesToCome, HoldsLineFeed}
-use Rattle.bytes_utils.specs.Splitting.{AreForwardPartsToCome, AreBackwardPartsToCome, SplitsNext, most_parts}
-use Rattle.bytes_utils.specs.Words.{AreWordsToCome, HoldsSpaceBetweenWords}
+use Rattle.bytes_utils.specs.Keeping.{AreInclusivePartsToCome, RefusesInclusive, most_inclusive_parts}
+use Rattle.bytes_utils.specs.Lines.{AreLinesToCome, RefusesLine}
+use Rattle.bytes_utils.specs.Splitting.{AreForwardPartsToCome, AreBackwardPartsToCome, RefusesSplit, most_parts}
+use Rattle.bytes_utils.specs.Words.{AreWordsToCome, RefusesWord}
+use Rattle.bytes_utils.specs.declared.split.direction.Direction.TheVariants.{Forward, Backward}
 use Rattle.bytes_utils_run.specs.declared.splitter.AnySplitter.{AnySplitter}
 use Rattle.bytes_utils_run.specs.declared.splitter.AnySplitter.TheVariants.{Words, AsciiWords, Lines, Split, RSplit, Inclusive}
 
@@ -18,14 +19,14 @@ AreToCome (Split s) = AreForwardPartsToCome s
 AreToCome (RSplit s) = AreBackwardPartsToCome s
 AreToCome (Inclusive s) = AreInclusivePartsToCome s
 
--- the next step splits the storage
-abbrev pub Cuts : {S C : Type 0} → AnySplitter S C → Type 0
-Cuts (Words rest) = HoldsSpaceBetweenWords is_whitespace rest
-Cuts (AsciiWords rest) = HoldsSpaceBetweenWords is_ascii_whitespace rest
-Cuts (Lines rest) = HoldsLineFeed rest
-Cuts (Split s) = SplitsNext s
-Cuts (RSplit s) = SplitsNext s
-Cuts (Inclusive s) = CutsAfterNext s
+-- the reasons for which the next step may be refused
+abbrev pub RefusesNext : {S C E : Type 0} → (Type 0 → E → Type 0) → AnySplitter S C → E → Type 0
+RefusesNext refuses_cut (Words rest) = RefusesWord refuses_cut is_whitespace rest
+RefusesNext refuses_cut (AsciiWords rest) = RefusesWord refuses_cut is_ascii_whitespace rest
+RefusesNext refuses_cut (Lines rest) = RefusesLine refuses_cut rest
+RefusesNext refuses_cut (Split s) = RefusesSplit refuses_cut Forward s
+RefusesNext refuses_cut (RSplit s) = RefusesSplit refuses_cut Backward s
+RefusesNext refuses_cut (Inclusive s) = RefusesInclusive refuses_cut s
 
 -- a bound on the number of parts to come
 abbrev pub most_to_come : {S C : Type 0} → AnySplitter S C → ℕ

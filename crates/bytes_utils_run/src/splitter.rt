@@ -2,8 +2,9 @@
 ghost use Rattle.std.specs.Prelude.{ℕ, List};
 ghost use Rattle.std.specs.Iterator.{at_most};
 ghost use Rattle.std.specs.Str.{chars};
+ghost use Rattle.bytes_utils.specs.Ends.{RefusesCut};
 ghost use Rattle.bytes_utils.specs.Step.{IsStep};
-ghost use Rattle.bytes_utils_run.specs.AnySplitter.{AreToCome, Cuts, most_to_come};
+ghost use Rattle.bytes_utils_run.specs.AnySplitter.{AreToCome, RefusesNext, most_to_come};
 ghost use Rattle.bytes_utils_run.specs.Cutting.{ArePartsBy, cutting, IsCuttingAllowed};
 
 use crate::how::How;
@@ -62,7 +63,8 @@ impl<'s, S: Storage> AnySplitter<'s, S> {
 impl<'s, S: Storage> Iterator for AnySplitter<'s, S> {
     type Item = Result<StrInner<S>, Reason>;
 
-    ghost next_gives = { IsStep AreToCome Cuts S.refuses };
+    ghost next_gives = { IsStep AreToCome
+        (RefusesNext (RefusesCut S.refuses S.refuses_empty S.refuses_side)) };
 
     ghost remaining = { λ s. at_most (most_to_come s) };
 

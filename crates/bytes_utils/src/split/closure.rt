@@ -2,7 +2,8 @@
 ghost use Rattle.std.specs.Prelude.{◌≡◌, ◌<◌, ℕ, List, Result, Some, length, IfOk, IfErr, IfSome, IsUtf8};
 ghost use Rattle.std.specs.Iterator.{at_most, Drains};
 ghost use Rattle.std.specs.Str.{chars};
-ghost use Rattle.bytes_utils.specs.ClosureWalk.{IsLawfulClosureCut, IsLawfulClosure, IsWalkStep, IsWholeWalk};
+ghost use Rattle.bytes_utils.specs.Ends.{RefusesAtEnd, RefusesCut};
+ghost use Rattle.bytes_utils.specs.ClosureWalk.{IsClosureCutAtEnd, IsLawfulClosureCut, IsLawfulClosure, IsWalkStep, IsWholeWalk};
 ghost use Rattle.bytes_utils_buf.specs.declared.refused.Reason.{Reason as WhyRefused};
 ghost use Rattle.bytes_utils.specs.ClosureWalk.{walk_chunk_at, most_chunks, walk_rest_at};
 
@@ -28,6 +29,8 @@ fn cut_by_closure<S: Storage>(
         (λ cut. cut.1 ≡ Some (walk_rest_at direction text chunk_edge separator_edge)) }
     ensures fewer { IfOk result
         (λ cut. IfSome cut.1 (λ rest. length (chars rest) < length (chars text))) }
+    ensures ends { IsClosureCutAtEnd direction text chunk_edge separator_edge
+        → IfErr result (RefusesAtEnd S.refuses_empty S.refuses_side) }
     ensures reason { IfErr result S.refuses }
 {
     match direction {
@@ -83,8 +86,10 @@ impl<S: Storage, F: FnMut(&str) -> Option<(usize, usize)>> BytesIter<S, F> {
         // The chunks of a whole run and what it leaves out between them, joined in order, are the
         // text.
         ensures run { (items : List (Result (List ℕ) WhyRefused))
-            → Drains (IsWalkStep F.FnMut S.refuses) result items
-            → IsWholeWalk F.FnMut S.refuses direction s items }
+            → Drains (IsWalkStep F.FnMut (RefusesCut S.refuses S.refuses_empty S.refuses_side))
+            result items
+            → IsWholeWalk F.FnMut (RefusesCut S.refuses S.refuses_empty S.refuses_side)
+            direction s items }
     {
         // Reports the proof that the bytes are UTF-8.
         let _ = s.as_str();
@@ -101,7 +106,8 @@ impl<S: Storage, F: FnMut(&str) -> Option<(usize, usize)> + Drop> Iterator for B
 
     ghost can_next = { λ s. IsLawfulClosure F.FnMut s.direction };
 
-    ghost next_gives = { λ s r t. IsWalkStep F.FnMut S.refuses s r t };
+    ghost next_gives = { λ s r t. IsWalkStep F.FnMut
+        (RefusesCut S.refuses S.refuses_empty S.refuses_side) s r t };
 
     ghost remaining = { λ s. at_most (most_chunks s) };
 

@@ -1,7 +1,8 @@
 //! A text split by the empty separator: an empty part, each character, an empty part.
-ghost use Rattle.std.specs.Prelude.{◌≡◌, ◌<◌, ℕ, [], Option, None, Some, length, true, false, IfOk, IfErr, OnErr, IfSome};
+ghost use Rattle.std.specs.Prelude.{◌≡◌, ◌<◌, ◌≤◌, ℕ, [], Option, None, Some, length, true, false, IfOk, IfErr, OnErr, IfSome};
 ghost use Rattle.std.specs.Bool.{OnTrue};
 ghost use Rattle.std.specs.Str.{chars};
+ghost use Rattle.bytes_utils.specs.Ends.{RefusesAtEnd};
 ghost use Rattle.bytes_utils.specs.Splitting.{ArePartsToCome, AreForwardPartsToCome, AreBackwardPartsToCome, LeavesMoreToSplit, limit_after_split, most_parts, splitting};
 ghost use Rattle.bytes_utils.specs.Step.{StepGivesFirst};
 
@@ -46,6 +47,8 @@ fn first_by_empty_separator<S: Storage>(text: StrInner<S>) -> Result<Cut<S>, Rea
         (splitting cut.1 [] (limit_after_split limit) true)) }
     ensures shorter { IfOk result (λ cut. IfSome cut.1 (λ rest. length rest < length text)) }
     ensures err { OnErr result (0 < length text) }
+    ensures ends { length (chars text) ≤ 1
+        → IfErr result (RefusesAtEnd S.refuses_empty S.refuses_side) }
     ensures reason { IfErr result S.refuses }
 {
     let Some(end) = first_end(text.as_str()) else {
@@ -65,6 +68,8 @@ fn last_by_empty_separator<S: Storage>(text: StrInner<S>) -> Result<Cut<S>, Reas
         (splitting cut.1 [] (limit_after_split limit) true)) }
     ensures shorter { IfOk result (λ cut. IfSome cut.1 (λ rest. length rest < length text)) }
     ensures err { OnErr result (0 < length text) }
+    ensures ends { length (chars text) ≤ 1
+        → IfErr result (RefusesAtEnd S.refuses_empty S.refuses_side) }
     ensures reason { IfErr result S.refuses }
 {
     let Some(start) = last_character_start(text.as_str()) else {
@@ -90,6 +95,8 @@ pub(super) fn cut_by_empty_separator<S: Storage>(
         (splitting cut.1 [] None true)
         < most_parts (splitting (Some text) [] None begun)) }
     ensures err { OnErr result (OnTrue begun (0 < length text)) }
+    ensures ends { OnTrue begun (length (chars text) ≤ 1)
+        → IfErr result (RefusesAtEnd S.refuses_empty S.refuses_side) }
     ensures reason { IfErr result S.refuses }
 {
     if !begun {

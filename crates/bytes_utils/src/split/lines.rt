@@ -3,7 +3,8 @@ ghost use Rattle.std.specs.Prelude.{◌≡◌, ◌<◌, ℕ, List, [], ◌∷◌
 ghost use Rattle.std.specs.Iterator.{at_most};
 ghost use Rattle.std.specs.Option.{option_map_or};
 ghost use Rattle.std.specs.Str.{chars};
-ghost use Rattle.bytes_utils.specs.Lines.{AreLinesToCome, HoldsLineFeed, lines, text_after_line};
+ghost use Rattle.bytes_utils.specs.Ends.{RefusesAtEnd, RefusesCut};
+ghost use Rattle.bytes_utils.specs.Lines.{AreLinesToCome, HoldsLineFeed, RefusesLine, lines, text_after_line};
 ghost use Rattle.bytes_utils.specs.Step.{StepGivesFirst, IsStep};
 
 use super::cut::{Cut, cut_around, yield_part};
@@ -53,6 +54,8 @@ fn first_line<S: Storage>(text: StrInner<S>) -> Result<Cut<S>, Reason>
     ensures gives { IfOk result (λ cut. StepGivesFirst AreLinesToCome (Some text) (chars cut.0) cut.1) }
     ensures shorter { IfOk result (λ cut. IfSome cut.1 (λ rest. length rest < length text)) }
     ensures err { OnErr result (HoldsLineFeed (Some text)) }
+    ensures ends { text_after_line (chars text) ≡ []
+        → IfErr result (RefusesAtEnd S.refuses_empty S.refuses_side) }
     ensures reason { IfErr result S.refuses }
 {
     let Some((end, next)) = line_place(text.as_str()) else {
@@ -91,7 +94,8 @@ impl<S: Storage> StrInner<S> {
 impl<S: Storage> Iterator for LinesBytes<S> {
     type Item = Result<StrInner<S>, Reason>;
 
-    ghost next_gives = { λ s r t. IsStep AreLinesToCome HoldsLineFeed S.refuses s r t };
+    ghost next_gives = { λ s r t. IsStep AreLinesToCome
+        (RefusesLine (RefusesCut S.refuses S.refuses_empty S.refuses_side)) s r t };
 
     ghost remaining = { λ s. at_most (option_map_or length s 0) };
 

@@ -1,9 +1,11 @@
 //! The splitters by a separator, from either end, with or without a limit.
 ghost use Rattle.std.specs.Prelude.{◌≡◌, ℕ, List, None, Some};
 ghost use Rattle.std.specs.Iterator.{at_most};
+ghost use Rattle.bytes_utils.specs.Ends.{RefusesCut};
 ghost use Rattle.bytes_utils.specs.Splitting.{AreForwardPartsToCome, AreBackwardPartsToCome};
-ghost use Rattle.bytes_utils.specs.Splitting.{SplitsNext, all_of, most_parts};
+ghost use Rattle.bytes_utils.specs.Splitting.{RefusesSplit, all_of, most_parts};
 ghost use Rattle.bytes_utils.specs.Step.{IsStep};
+ghost use Rattle.bytes_utils.specs.declared.split.direction.Direction.TheVariants.{Forward, Backward};
 
 use super::direction::Direction;
 use super::indices::SplitIndicesBytes;
@@ -73,7 +75,8 @@ impl<S: Storage> StrInner<S> {
 impl<'s, S: Storage> Iterator for SplitBytes<'s, S> {
     type Item = Result<StrInner<S>, Reason>;
 
-    ghost next_gives = { IsStep AreForwardPartsToCome SplitsNext S.refuses };
+    ghost next_gives = { IsStep AreForwardPartsToCome
+        (RefusesSplit (RefusesCut S.refuses S.refuses_empty S.refuses_side) Forward) };
 
     ghost remaining = { λ s. at_most (most_parts s) };
 
@@ -132,7 +135,8 @@ impl<S: Storage> StrInner<S> {
 impl<'s, S: Storage> Iterator for RSplitBytes<'s, S> {
     type Item = Result<StrInner<S>, Reason>;
 
-    ghost next_gives = { IsStep AreBackwardPartsToCome SplitsNext S.refuses };
+    ghost next_gives = { IsStep AreBackwardPartsToCome
+        (RefusesSplit (RefusesCut S.refuses S.refuses_empty S.refuses_side) Backward) };
 
     ghost remaining = { λ s. at_most (most_parts s) };
 

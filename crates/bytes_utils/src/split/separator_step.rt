@@ -3,10 +3,12 @@ ghost use Rattle.std.specs.Prelude.{◌≡◌, ◌≢◌, ◌<◌, ◌==◌, ℕ
 ghost use Rattle.std.specs.Bool.{OnTrue};
 ghost use Rattle.std.specs.Option.{option_map_or};
 ghost use Rattle.std.specs.Str.{chars};
+ghost use Rattle.bytes_utils.specs.Ends.{RefusesAtEnd, RefusesCut};
 ghost use Rattle.bytes_utils.specs.Occurrence.{Occurs};
 ghost use Rattle.bytes_utils.specs.SeparatorSearch.{end_of, needle_of};
-ghost use Rattle.bytes_utils.specs.Splitting.{ArePartsToCome, AreForwardPartsToCome, AreBackwardPartsToCome, SplitsNext, LeavesMoreToSplit, limit_after_split, most_parts, splitting, all_of};
+ghost use Rattle.bytes_utils.specs.Splitting.{ArePartsToCome, AreForwardPartsToCome, AreBackwardPartsToCome, CutsAtEnd, RefusesSplit, SeparatorEnds, LeavesMoreToSplit, limit_after_split, most_parts, splitting, all_of};
 ghost use Rattle.bytes_utils.specs.Step.{StepGivesFirst, IsStep};
+ghost use Rattle.bytes_utils.specs.declared.split.direction.Direction.TheVariants.{Forward, Backward};
 
 use super::cut::{Cut, cut_at_separator, yield_part};
 use super::direction::Direction;
@@ -33,6 +35,8 @@ fn first_separated_part<S: Storage>(
         (splitting cut.1 separator.now (limit_after_split limit) false)) }
     ensures shorter { IfOk result (λ cut. IfSome cut.1 (λ rest. length rest < length text)) }
     ensures err { OnErr result (Occurs (chars separator.now) (chars text)) }
+    ensures ends { SeparatorEnds Forward separator.now text
+        → IfErr result (RefusesAtEnd S.refuses_empty S.refuses_side) }
     ensures reason { IfErr result S.refuses }
 {
     let Some(at) = search_by(finder, is_long, text.as_str()) else {
@@ -58,6 +62,8 @@ fn last_separated_part<S: Storage>(
         (splitting cut.1 separator.now (limit_after_split limit) false)) }
     ensures shorter { IfOk result (λ cut. IfSome cut.1 (λ rest. length rest < length text)) }
     ensures err { OnErr result (Occurs (chars separator.now) (chars text)) }
+    ensures ends { SeparatorEnds Backward separator.now text
+        → IfErr result (RefusesAtEnd S.refuses_empty S.refuses_side) }
     ensures reason { IfErr result S.refuses }
 {
     let Some(at) = rsearch_by(finder, is_long, text.as_str()) else {
@@ -87,6 +93,8 @@ fn cut_separated<S: Storage>(
         < most_parts (splitting (Some text) separator.now None begun)) }
     ensures holds { OnErr result (Occurs (chars separator.now) (chars text)) }
     ensures more { OnErr result (OnTrue begun (0 < length text)) }
+    ensures ends { CutsAtEnd (end_of search.now) separator.now begun text
+        → IfErr result (RefusesAtEnd S.refuses_empty S.refuses_side) }
     ensures reason { IfErr result S.refuses }
 {
     if separator.is_empty() {
@@ -121,6 +129,8 @@ fn next_separated_part<S: Storage>(
     ensures left { IfOk result (λ cut. IfSome cut.1 (λ _. LeavesMoreToSplit limit)) }
     ensures holds { OnErr result (Occurs (chars separator.now) (chars text)) }
     ensures more { OnErr result (OnTrue begun (0 < length text)) }
+    ensures ends { CutsAtEnd (end_of search.now) separator.now begun text
+        → IfErr result (RefusesAtEnd S.refuses_empty S.refuses_side) }
     ensures reason { IfErr result S.refuses }
     ensures limit { OnErr result (LeavesMoreToSplit limit) }
 {
@@ -205,7 +215,8 @@ impl<'s, S: Storage> SeparatedText<'s, S> {
     /// Returns the next part from its end.
     #[inline(always)]
     pub(super) fn next(&mut self) -> Option<Result<StrInner<S>, Reason>>
-        ensures step { IsStep (ArePartsToCome self.old.end) SplitsNext S.refuses
+        ensures step { IsStep (ArePartsToCome self.old.end)
+            (RefusesSplit (RefusesCut S.refuses S.refuses_empty S.refuses_side) self.old.end)
             self.old.state result self.new.state }
         ensures none { result ≡ None → self.new.state ≡ self.old.state }
         ensures separator { self.new.state.separator ≡ self.old.state.separator }

@@ -4,8 +4,9 @@ ghost use Rattle.std.specs.Char.{IsAsciiGraphic, is_ascii_whitespace, is_whitesp
 ghost use Rattle.std.specs.Iterator.{at_most};
 ghost use Rattle.std.specs.Option.{option_map_or};
 ghost use Rattle.std.specs.Str.{chars, NoCharPasses};
+ghost use Rattle.bytes_utils.specs.Ends.{RefusesCut};
 ghost use Rattle.bytes_utils.specs.Step.{IsStep};
-ghost use Rattle.bytes_utils.specs.Words.{AreWordsToCome, HoldsSpaceBetweenWords, ends_word, words};
+ghost use Rattle.bytes_utils.specs.Words.{AreWordsToCome, HoldsSpaceAfterWord, HoldsSpaceBetweenWords, RefusesWord, ends_word, words};
 
 mod graphic;
 
@@ -82,6 +83,8 @@ fn word_place<W: WhiteSpace>(text: &str) -> Option<(usize, usize)>
         → HoldsSpaceBetweenWords W.is_space (Some text.now)) }
     ensures after { IfSome result (λ place. place.1 < length text.now
         → HoldsSpaceBetweenWords W.is_space (Some text.now)) }
+    ensures follows { IfSome result (λ place. place.1 < length text.now
+        → HoldsSpaceAfterWord W.is_space (chars text.now)) }
     ensures word { MatchOption result (words W.is_space (chars text.now) ≡ [])
         (λ place. words W.is_space (chars text.now)
         ≡ chars (drop place.0 (take place.1 text.now))
@@ -103,6 +106,7 @@ fn cut_word<S: Storage>(text: StrInner<S>, start: usize, end: usize) -> Result<C
     ensures rest { IfOk result (λ cut. MatchOption cut.1 (end ≡ length text)
         (λ rest. rest ≡ drop end text)) }
     ensures err { OnErr result ((0 < start) ⊎ (end < length text)) }
+    ensures side { end ≡ length text → IfErr result S.refuses_side }
     ensures reason { IfErr result S.refuses }
 {
     let (front, rest) = cut_after(text, end)?;
@@ -115,8 +119,9 @@ fn cut_word<S: Storage>(text: StrInner<S>, start: usize, end: usize) -> Result<C
 fn next_word<W: WhiteSpace, S: Storage>(
     rest: &mut Option<StrInner<S>>,
 ) -> Option<Result<StrInner<S>, Reason>>
-    ensures step { IsStep (AreWordsToCome W.is_space) (HoldsSpaceBetweenWords W.is_space)
-        S.refuses rest.old result rest.new }
+    ensures step { IsStep (AreWordsToCome W.is_space)
+        (RefusesWord (RefusesCut S.refuses S.refuses_empty S.refuses_side) W.is_space)
+        rest.old result rest.new }
     ensures shorter { OnSome result
         (option_map_or length rest.new 0 < option_map_or length rest.old 0) }
 {
@@ -180,7 +185,7 @@ impl<S: Storage> Iterator for SplitWhitespaceBytes<S> {
     type Item = Result<StrInner<S>, Reason>;
 
     ghost next_gives = { λ s r t. IsStep (AreWordsToCome is_whitespace)
-        (HoldsSpaceBetweenWords is_whitespace) S.refuses s r t };
+        (RefusesWord (RefusesCut S.refuses S.refuses_empty S.refuses_side) is_whitespace) s r t };
 
     ghost remaining = { λ s. at_most (option_map_or length s 0) };
 
@@ -194,7 +199,8 @@ impl<S: Storage> Iterator for SplitAsciiWhitespaceBytes<S> {
     type Item = Result<StrInner<S>, Reason>;
 
     ghost next_gives = { λ s r t. IsStep (AreWordsToCome is_ascii_whitespace)
-        (HoldsSpaceBetweenWords is_ascii_whitespace) S.refuses s r t };
+        (RefusesWord (RefusesCut S.refuses S.refuses_empty S.refuses_side) is_ascii_whitespace)
+        s r t };
 
     ghost remaining = { λ s. at_most (option_map_or length s 0) };
 

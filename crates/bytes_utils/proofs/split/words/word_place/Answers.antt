@@ -4,7 +4,7 @@ use Rattle.std.proofs.Common.{rules, arith, drop, Some}
 use Rattle.std.proofs.lemmas.List.Sorted.{answers_always}
 use Rattle.std.proofs.lemmas.Str.{IsCharBoundary-from_rest}
 use Rattle.std.specs.Str.Pattern.{FindsBy}
-use Rattle.bytes_utils.proofs.WordsLemmas.{is_other, words-none, EndsWord, word-some, space-before, space-following, words-first}
+use Rattle.bytes_utils.proofs.WordsLemmas.{is_other, words-none, EndsWord, word-some, space-before, space-after_word, space-following, words-first}
 use Rattle.bytes_utils.proofs.split.words.word_place.Goals as goal
 
 pub returns-in_err-start-clause-word : goal.returns-in_err-start-clause-word
@@ -31,5 +31,6 @@ returns g c =
       end = IsCharBoundary-from_rest _ _ _ starts.0 (ends g c).boundary;
       before = space-before is_space _ c.utf8.text _ _ _ starts (found g c) (ends g c);
       after = space-following is_space _ c.utf8.text _ _ _ starts (found g c) (ends g c);
+      follows = space-after_word is_space _ c.utf8.text _ _ _ starts (found g c) (ends g c);
       word = words-first is_space _ c.utf8.text _ _ _ starts (found g c) (ends g c);
     }

@@ -1,3 +1,4 @@
+use Rattle.bytes_utils.specs.Ends.{RefusesCut}
 use Rattle.bytes_utils.specs.Indices.{Indexing}
 use Rattle.bytes_utils.proofs.IndicesLemmas.{IsMeasured, step_within, measured_after, ok_indexed, err_indexed}
 use Rattle.bytes_utils.proofs.split.indices.SplitIndicesBytesIterator.next.Goals.{in-Ok, in-Err}
@@ -15,8 +16,8 @@ returns-clause-steps g c =
           c.replace-at.ensures.after;
     } in
     rw (← c.self.view_is) (elim c.match-part.branch [
-      | in-Ok w ↦ ok_indexed g.S.Storage.refuses c.self.inside.parts.end c.self.invariant.0 before following c.in_ok-part.part c.in_ok-part.ensures.step c.self.inside.total
+      | in-Ok w ↦ ok_indexed (RefusesCut g.S.Storage.refuses g.S.Storage.refuses_empty g.S.Storage.refuses_side) c.self.inside.parts.end c.self.invariant.0 before following c.in_ok-part.part c.in_ok-part.ensures.step c.self.inside.total
           c.replace-at.result w.in-Ok.part c.next.ensures.separator is also w.in-Ok.is c.replace-at.ensures.value c.match-part.result w.result-is
-      | in-Err w ↦ err_indexed g.S.Storage.refuses c.self.inside.parts.end c.self.invariant.0 before following c.in_ok-part.part c.in_ok-part.ensures.step w.in-Err.reason
+      | in-Err w ↦ err_indexed (RefusesCut g.S.Storage.refuses g.S.Storage.refuses_empty g.S.Storage.refuses_side) c.self.inside.parts.end c.self.invariant.0 before following c.in_ok-part.part c.in_ok-part.ensures.step w.in-Err.reason
           w.in-Err.is c.match-part.result w.result-is
     ])

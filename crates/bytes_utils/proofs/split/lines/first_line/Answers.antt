@@ -1,0 +1,10 @@
+use Rattle.std.proofs.Common.{◌≡◌, ◌∙◌, length, rules}
+use Rattle.bytes_utils.proofs.LinesLemmas.{ends-at_boundary}
+use Rattle.bytes_utils.proofs.split.lines.first_line.Goals as goal
+
+pub returns-in_err-line-clause-ends : goal.returns-in_err-line-clause-ends
+returns-in_err-line-clause-ends g c = λ none.
+    let text_is = rw c.as_str.ensures.value at c.as_str.utf8 in
+    let place = rw c.as_str.ensures.value at c.in-Some.ensures in
+    let at_end : c.in-Some.next ≡ length c.args.text = ends-at_boundary _ _ text_is place.next (place.after ∙ none) in
+    search rules
