@@ -1,5 +1,6 @@
 pub mod SegmentsLemmas
 mod TallyLemmas
+mod CopiesLemmas
 pub mod Lists
 pub mod PackingLemmas
 mod Pieces

@@ -1,5 +1,5 @@
 -- What a copy of bytes takes, and what one out of many buffers adds to the tally.
-use Rattle.std.specs.Prelude.{◌≡◌, ℕ, ◌+◌, ◌<◌, ◌≤◌, length, Result, Ok, Err}
+use Rattle.std.specs.Prelude.{◌≡◌, ℕ, ◌+◌, ◌<◌, ◌≤◌, length, Result, Ok, Err, ◌⊎◌}
 use Rattle.bytes_utils_buf.specs.Segments.{HeldSegments, count_unread_segments, front_segment}
 use Rattle.bytes_utils_buf.specs.Tally.{lined_up}
 use Rattle.bytes_utils_buf.specs.declared.parts.CopyRefused.{CopyRefused}
@@ -8,6 +8,11 @@ use Rattle.bytes_utils_buf.specs.declared.parts.CopyRefused.{CopyRefused}
 abbrev pub taken_by_copy : {T : Type 0} → ℕ → Result T CopyRefused → ℕ
 taken_by_copy len (Ok copy) = len
 taken_by_copy len (Err refused) = refused.taken
+
+-- A refused copy of len of `held` bytes, which are those of many lists, may have taken `taken`: as many as the first list may lose, if that has len bytes,
+-- and otherwise none or all.
+abbrev pub LosesAcross : (ℕ → ℕ → ℕ → Type 0) → ℕ → ℕ → ℕ → Type 0
+LosesAcross loses held len taken = ((front : ℕ) × (len ≤ front) × (front ≤ held) × loses front len taken) ⊎ (taken ≡ 0) ⊎ (taken ≡ len)
 
 -- A copy was asked for len bytes and took `taken` of them. It counts as one call, and as one more for each of its advances. A chunk may be shorter
 -- than its list, so the number of advances is only known to lie between the bounds below.

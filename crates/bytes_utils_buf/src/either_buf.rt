@@ -1,7 +1,7 @@
 //! A buffer of one of two types.
 ghost use Rattle.std.specs.Prelude.{◌≡◌, ◌≤◌, length, take, drop, slice_range, IsOk, IfOk, IfErr, ◌⊎◌};
 ghost use Rattle.bytes.specs.Unread.{IsChunkOf};
-ghost use Rattle.bytes_utils_buf.specs.Either.{unread_of, kept_of};
+ghost use Rattle.bytes_utils_buf.specs.Either.{unread_of, kept_of, LosesOfSide};
 ghost use Rattle.bytes_utils_buf.specs.Copies.{taken_by_copy};
 ghost use Rattle.bytes_utils_buf.specs.Slices.{FillsSlices};
 
@@ -59,10 +59,23 @@ impl<L: Buf, R: Buf> Buf for EitherBuf<L, R> {
 }
 
 impl<L: BufParts, R: BufParts> BufParts for EitherBuf<L, R> {
-    // How many bytes a refused copy of either side may have taken.
-    ghost loses = { λ len taken. L.loses len taken ⊎ R.loses len taken };
+    // As a refused copy of either side; `side` says of which.
+    ghost loses = { λ held len taken. L.loses held len taken ⊎ R.loses held len taken };
 
-    fn copy_out(&mut self, alloc: Global, len: usize) -> Result<Bytes, CopyRefused> {
+    fn copy_out(&mut self, alloc: Global, len: usize) -> Result<Bytes, CopyRefused>
+        requires { len ≤ length (unread_of L.unread R.unread self.old) }
+        ensures value { IfOk result (λ copy. copy ≡ take len (unread_of L.unread R.unread self.old)) }
+        ensures taken { taken_by_copy len result ≤ len }
+        ensures lost { IfErr result
+            (λ e. L.loses (length (unread_of L.unread R.unread self.old)) len e.taken
+            ⊎ R.loses (length (unread_of L.unread R.unread self.old)) len e.taken) }
+        ensures side { IfErr result
+            (λ e. LosesOfSide L.unread R.unread L.loses R.loses self.old len e.taken) }
+        ensures none { len ≡ 0 → IsOk result }
+        ensures rest { unread_of L.unread R.unread self.new
+            ≡ drop (taken_by_copy len result) (unread_of L.unread R.unread self.old) }
+        ensures kept { kept_of L.kept R.kept self.new ≡ kept_of L.kept R.kept self.old }
+    {
         match self {
             EitherBuf::Left(buf) => buf.copy_out(alloc, len),
             EitherBuf::Right(buf) => buf.copy_out(alloc, len),

@@ -18,8 +18,9 @@ pub struct CopyRefused {
 /// Generic code that reads segmented types asks for this trait. Your own type can implement it. The
 /// clauses are its laws.
 pub trait BufParts: Buf {
-    // How many bytes a refused copy may have taken, by the length of the copy.
-    ghost loses: { ℕ → ℕ → Type 0 } = { λ _ _. ⊤ };
+    // Whether a refused copy of `len` of `held` unread bytes may have taken `taken` of them, as
+    // `loses held len taken`.
+    ghost loses: { ℕ → ℕ → ℕ → Type 0 } = { λ _ _ _. ⊤ };
 
     /// Takes the first `len` unread bytes out. Requires that `len` is at most `remaining()` (test:
     /// `remaining`). Fails with `CopyRefused` if memory is refused, never for no bytes; then `taken`
@@ -28,7 +29,7 @@ pub trait BufParts: Buf {
         requires { len ≤ length (Self.unread self.old) }
         ensures value { IfOk result (λ copy. copy ≡ take len (Self.unread self.old)) }
         ensures taken { taken_by_copy len result ≤ len }
-        ensures lost { IfErr result (λ e. loses len e.taken) }
+        ensures lost { IfErr result (λ e. loses (length (Self.unread self.old)) len e.taken) }
         ensures none { len ≡ 0 → IsOk result }
         ensures rest { Self.unread self.new ≡ drop (taken_by_copy len result) (Self.unread self.old) }
         ensures kept { Self.kept self.new ≡ Self.kept self.old };
@@ -39,9 +40,9 @@ pub trait BufParts: Buf {
         ensures { FillsSlices result dst.old dst.new (Self.unread self.now) };
 }
 
-/// `copy_out` shares the bytes. If it fails, it has taken none.
+/// `copy_out` shares the bytes, and never fails for all of them. If it fails, it has taken none.
 impl BufParts for Bytes {
-    ghost loses = { λ _ taken. taken ≡ 0 };
+    ghost loses = { λ held len taken. (taken ≡ 0) × (len < held) };
 
     fn copy_out(&mut self, _alloc: Global, len: usize) -> Result<Bytes, CopyRefused>
         requires { len ≤ length self.old }
@@ -70,7 +71,7 @@ impl BufParts for Bytes {
 
 /// `copy_out` copies the bytes. If it fails, it has taken none.
 impl BufParts for &[u8] {
-    ghost loses = { λ _ taken. taken ≡ 0 };
+    ghost loses = { λ _ _ taken. taken ≡ 0 };
 
     fn copy_out(&mut self, alloc: Global, len: usize) -> Result<Bytes, CopyRefused>
         requires { len ≤ length self.old.now }

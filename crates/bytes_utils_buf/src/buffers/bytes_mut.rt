@@ -11,7 +11,7 @@ use std::alloc::Global;
 
 /// `copy_out` shares the bytes. If it fails, it has taken none.
 impl BufParts for BytesMut {
-    ghost loses = { λ _ taken. taken ≡ 0 };
+    ghost loses = { λ _ _ taken. taken ≡ 0 };
 
     fn copy_out(&mut self, _alloc: Global, len: usize) -> Result<Bytes, CopyRefused>
         requires { len ≤ length self.old.items }

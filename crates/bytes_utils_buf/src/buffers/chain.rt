@@ -14,7 +14,7 @@ use std::alloc::Global;
 /// `copy_out` shares the bytes if one of the two buffers has them all, and its `prefix` shares them,
 /// which that of a `BytesMut` doesn't. If it fails, it has taken none.
 impl<T: ContiguousBuf, U: ContiguousBuf> BufParts for Chain<T, U> {
-    ghost loses = { λ _ taken. taken ≡ 0 };
+    ghost loses = { λ _ _ taken. taken ≡ 0 };
 
     fn copy_out(&mut self, alloc: Global, len: usize) -> Result<Bytes, CopyRefused> {
         let Ok(copy) = first_of_pair(self.first_ref(), self.last_ref(), alloc, len) else {

@@ -14,7 +14,7 @@ use std::io::Cursor;
 
 /// `copy_out` copies the bytes. If it fails, it has taken none.
 impl<T: AsSlice<u8>> BufParts for Cursor<T> {
-    ghost loses = { λ _ taken. taken ≡ 0 };
+    ghost loses = { λ _ _ taken. taken ≡ 0 };
 
     fn copy_out(&mut self, alloc: Global, len: usize) -> Result<Bytes, CopyRefused> {
         take_prefix(self, alloc, len)

@@ -11,7 +11,7 @@ use std::collections::VecDeque;
 
 /// `copy_out` copies the bytes. If it fails, it has taken none.
 impl<A: Allocator> BufParts for VecDeque<u8, A> {
-    ghost loses = { λ _ taken. taken ≡ 0 };
+    ghost loses = { λ _ _ taken. taken ≡ 0 };
 
     fn copy_out(&mut self, alloc: Global, len: usize) -> Result<Bytes, CopyRefused> {
         let (front, back) = self.as_slices();

@@ -14,7 +14,7 @@ use std::ops::Range;
 
 /// `copy_out` shares the bytes if the inner `prefix` does. If it fails, it has taken none.
 impl<T: ContiguousBuf> BufParts for Take<T> {
-    ghost loses = { λ _ taken. taken ≡ 0 };
+    ghost loses = { λ _ _ taken. taken ≡ 0 };
 
     fn copy_out(&mut self, alloc: Global, len: usize) -> Result<Bytes, CopyRefused> {
         take_prefix(self, alloc, len)

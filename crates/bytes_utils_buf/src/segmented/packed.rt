@@ -466,7 +466,7 @@ impl Buf for PackedBuf {
 
 impl BufParts for PackedBuf {
     // Nothing or all.
-    ghost loses = { λ len taken. (taken ≡ 0) ⊎ (taken ≡ len) };
+    ghost loses = { λ _ len taken. (taken ≡ 0) ⊎ (taken ≡ len) };
 
     fn copy_out(&mut self, alloc: Global, len: usize) -> Result<Bytes, CopyRefused>
         requires { len ≤ length (concat self.old.held.segments) }

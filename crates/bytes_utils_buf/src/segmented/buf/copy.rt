@@ -1,7 +1,7 @@
 //! Copies of the bytes.
 ghost use Rattle.std.specs.Prelude.{◌≡◌, ◌+◌, ◌<◌, ◌≤◌, length, map, take, drop, IsOk, IfOk, IfErr, ◌⊎◌};
 ghost use Rattle.std.specs.List.{concat};
-ghost use Rattle.bytes_utils_buf.specs.Copies.{CountsCopy, taken_by_copy};
+ghost use Rattle.bytes_utils_buf.specs.Copies.{CountsCopy, LosesAcross, taken_by_copy};
 ghost use Rattle.bytes_utils_buf.specs.Segments.{CountsPass, front_segment, IsPaid, SkipsSegments};
 
 use super::SegmentedBuf;
@@ -14,10 +14,11 @@ use std::alloc::Global;
 
 impl<B: BufParts + Drop> SegmentedBuf<B> {
     /// Takes the first `len` bytes out. If the first segment has them all, its own `copy_out`
-    /// returns them: a `Bytes` shares them. Otherwise they are copied. Requires that `len` is at
-    /// most `remaining()` (test: `remaining`). Fails with `CopyRefused` if memory is refused, never
-    /// for no bytes; then `taken` bytes are lost: none or all across segments, or as many as that
-    /// `copy_out` took. To lose none of a `ContiguousBuf`, call `peek_bytes` and then `advance`.
+    /// returns them: a `Bytes` shares them, and never fails for all that it has. Otherwise they are
+    /// copied. Requires that `len` is at most `remaining()` (test: `remaining`). Fails with
+    /// `CopyRefused` if memory is refused, never for no bytes; then `taken` bytes are lost: none or
+    /// all across segments, or as many as that `copy_out` took. To lose none of a `ContiguousBuf`,
+    /// call `peek_bytes` and then `advance`.
     pub fn copy_to_bytes(&mut self, alloc: Global, len: usize) -> Result<Bytes, CopyRefused>
         requires { len ≤ length (concat self.old.segments) }
         ensures value { IfOk result (λ copy. copy ≡ take len (concat self.old.segments)) }
@@ -29,7 +30,7 @@ impl<B: BufParts + Drop> SegmentedBuf<B> {
         // If the first segment alone is asked, a refusal took what that segment's own took. Across
         // segments it took nothing or all.
         ensures lost { len ≤ length (front_segment self.old.segments) → 0 < length self.old.segments
-            → IfErr result (λ e. B.loses len e.taken) }
+            → IfErr result (λ e. B.loses (length (front_segment self.old.segments)) len e.taken) }
         ensures refused { length (front_segment self.old.segments) < len
             → IfErr result (λ e. (e.taken ≡ 0) ⊎ (e.taken ≡ len)) }
         ensures none { len ≡ 0 → IsOk result }
@@ -49,7 +50,7 @@ impl<B: BufParts + Drop> SegmentedBuf<B> {
         requires holds { len ≤ length (front_segment self.old.segments) }
         ensures value { IfOk result (λ copy. copy ≡ take len (concat self.old.segments)) }
         ensures taken { taken_by_copy len result ≤ len }
-        ensures lost { IfErr result (λ e. B.loses len e.taken) }
+        ensures lost { IfErr result (λ e. B.loses (length (front_segment self.old.segments)) len e.taken) }
         ensures none { len ≡ 0 → IsOk result }
         ensures skips { SkipsSegments (taken_by_copy len result) self.old.segments self.new.segments }
         ensures counts { CountsPass 0 self.old self.new }
@@ -62,8 +63,8 @@ impl<B: BufParts + Drop> SegmentedBuf<B> {
 }
 
 impl<B: BufParts + Drop> BufParts for SegmentedBuf<B> {
-    // Nothing or all across segments, or what the first segment's own refusal may have taken.
-    ghost loses = { λ len taken. (taken ≡ 0) ⊎ (taken ≡ len) ⊎ B.loses len taken };
+    // As the first segment's own refusal if it has the bytes, and otherwise nothing or all.
+    ghost loses = { LosesAcross B.loses };
 
     fn copy_out(&mut self, alloc: Global, len: usize) -> Result<Bytes, CopyRefused>
         requires { len ≤ length (concat self.old.segments) }
@@ -72,7 +73,12 @@ impl<B: BufParts + Drop> BufParts for SegmentedBuf<B> {
         ensures skips { SkipsSegments (taken_by_copy len result) self.old.segments self.new.segments }
         ensures rest { concat self.new.segments
             ≡ drop (taken_by_copy len result) (concat self.old.segments) }
-        ensures lost { IfErr result (λ e. (e.taken ≡ 0) ⊎ (e.taken ≡ len) ⊎ B.loses len e.taken) }
+        ensures lost { IfErr result
+            (λ e. LosesAcross B.loses (length (concat self.old.segments)) len e.taken) }
+        ensures front { len ≤ length (front_segment self.old.segments) → 0 < length self.old.segments
+            → IfErr result (λ e. B.loses (length (front_segment self.old.segments)) len e.taken) }
+        ensures refused { length (front_segment self.old.segments) < len
+            → IfErr result (λ e. (e.taken ≡ 0) ⊎ (e.taken ≡ len)) }
         ensures none { len ≡ 0 → IsOk result }
         ensures counts { CountsCopy len (taken_by_copy len result) self.old self.new }
     {

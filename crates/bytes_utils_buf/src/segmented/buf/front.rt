@@ -58,7 +58,8 @@ pub(super) fn take_from_front<B: BufParts>(
     requires holds { len ≤ length (front_segment (map B.unread segments.old.items)) }
     ensures value { IfOk result (λ copy. copy ≡ take len (front_segment (map B.unread segments.old.items))) }
     ensures taken { taken_by_copy len result ≤ len }
-    ensures lost { IfErr result (λ e. B.loses len e.taken) }
+    ensures lost { IfErr result
+        (λ e. B.loses (length (front_segment (map B.unread segments.old.items))) len e.taken) }
     ensures none { len ≡ 0 → IsOk result }
     ensures rest { map B.unread segments.new.items
         ≡ cut_front_segment (taken_by_copy len result) (map B.unread segments.old.items) }

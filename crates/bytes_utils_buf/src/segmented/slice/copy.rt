@@ -1,7 +1,7 @@
 //! Copies of the bytes of borrowed buffers.
 ghost use Rattle.std.specs.Prelude.{◌≡◌, ◌+◌, ◌<◌, ◌≤◌, [], length, map, take, drop, replicate, IsTrue, ◌↔◌, IsOk, IfOk, IfErr, ◌⊎◌};
 ghost use Rattle.std.specs.List.{concat};
-ghost use Rattle.bytes_utils_buf.specs.Copies.{CountsCopy, taken_by_copy};
+ghost use Rattle.bytes_utils_buf.specs.Copies.{CountsCopy, LosesAcross, taken_by_copy};
 ghost use Rattle.bytes_utils_buf.specs.Lent.{held_of, SkipsLent};
 ghost use Rattle.bytes_utils_buf.specs.Segments.{CountsPass, front_segment, IsPaid, SkipsSegments};
 
@@ -15,10 +15,10 @@ use std::alloc::Global;
 
 impl<B: BufParts> SegmentedSlice<'_, B> {
     /// Takes the first `len` bytes out. If the first buffer has them all, its own `copy_out`
-    /// returns them: a `Bytes` shares them. Otherwise they are copied. Requires that `len` is at
-    /// most `remaining()` (test: `remaining`). Fails with `CopyRefused` if memory is refused, never
-    /// for no bytes; then `taken` bytes are lost: none or all across buffers, or as many as that
-    /// `copy_out` took.
+    /// returns them: a `Bytes` shares them, and never fails for all that it has. Otherwise they are
+    /// copied. Requires that `len` is at most `remaining()` (test: `remaining`). Fails with
+    /// `CopyRefused` if memory is refused, never for no bytes; then `taken` bytes are lost: none or
+    /// all across buffers, or as many as that `copy_out` took.
     pub fn copy_to_bytes(&mut self, alloc: Global, len: usize) -> Result<Bytes, CopyRefused>
         requires { len ≤ length (concat self.old.segments) }
         ensures value { IfOk result (λ copy. copy ≡ take len (concat self.old.segments)) }
@@ -30,7 +30,7 @@ impl<B: BufParts> SegmentedSlice<'_, B> {
         // If the first buffer alone is asked, a refusal took what that buffer's own took. Across
         // buffers it took nothing or all.
         ensures lost { len ≤ length (front_segment self.old.segments) → 0 < length self.old.segments
-            → IfErr result (λ e. B.loses len e.taken) }
+            → IfErr result (λ e. B.loses (length (front_segment self.old.segments)) len e.taken) }
         ensures refused { length (front_segment self.old.segments) < len
             → IfErr result (λ e. (e.taken ≡ 0) ⊎ (e.taken ≡ len)) }
         ensures none { len ≡ 0 → IsOk result }
@@ -59,7 +59,7 @@ impl<B: BufParts> SegmentedSlice<'_, B> {
         requires holds { len ≤ length (front_segment self.old.segments) }
         ensures value { IfOk result (λ copy. copy ≡ take len (concat self.old.segments)) }
         ensures taken { taken_by_copy len result ≤ len }
-        ensures lost { IfErr result (λ e. B.loses len e.taken) }
+        ensures lost { IfErr result (λ e. B.loses (length (front_segment self.old.segments)) len e.taken) }
         ensures none { len ≡ 0 → IsOk result }
         ensures skips { SkipsLent (taken_by_copy len result) self.old self.new }
         ensures counts { CountsPass 0 (held_of self.old) (held_of self.new) }
@@ -90,7 +90,8 @@ fn copy_from_first_of_slice<B: BufParts>(
     requires holds { len ≤ length (front_segment (map B.unread bufs.old)) }
     ensures value { IfOk result.1 (λ copy. copy ≡ take len (concat (map B.unread bufs.old))) }
     ensures taken { taken_by_copy len result.1 ≤ len }
-    ensures lost { IfErr result.1 (λ e. B.loses len e.taken) }
+    ensures lost { IfErr result.1
+        (λ e. B.loses (length (front_segment (map B.unread bufs.old))) len e.taken) }
     ensures none { len ≡ 0 → IsOk result.1 }
     ensures passed { result.0 ≤ length bufs.old }
     ensures read_out { take result.0 (map B.unread bufs.new) ≡ replicate result.0 [] }
@@ -105,8 +106,8 @@ fn copy_from_first_of_slice<B: BufParts>(
 
 /// By `copy_to_bytes` and `chunks_vectored`.
 impl<B: BufParts> BufParts for SegmentedSlice<'_, B> {
-    // Nothing or all across buffers, or what the first buffer's own refusal may have taken.
-    ghost loses = { λ len taken. (taken ≡ 0) ⊎ (taken ≡ len) ⊎ B.loses len taken };
+    // As the first buffer's own refusal if it has the bytes, and otherwise nothing or all.
+    ghost loses = { LosesAcross B.loses };
 
     fn copy_out(&mut self, alloc: Global, len: usize) -> Result<Bytes, CopyRefused>
         requires { len ≤ length (concat self.old.segments) }
@@ -115,7 +116,12 @@ impl<B: BufParts> BufParts for SegmentedSlice<'_, B> {
         ensures skips { SkipsLent (taken_by_copy len result) self.old self.new }
         ensures rest { concat self.new.segments
             ≡ drop (taken_by_copy len result) (concat self.old.segments) }
-        ensures lost { IfErr result (λ e. (e.taken ≡ 0) ⊎ (e.taken ≡ len) ⊎ B.loses len e.taken) }
+        ensures lost { IfErr result
+            (λ e. LosesAcross B.loses (length (concat self.old.segments)) len e.taken) }
+        ensures front { len ≤ length (front_segment self.old.segments) → 0 < length self.old.segments
+            → IfErr result (λ e. B.loses (length (front_segment self.old.segments)) len e.taken) }
+        ensures refused { length (front_segment self.old.segments) < len
+            → IfErr result (λ e. (e.taken ≡ 0) ⊎ (e.taken ≡ len)) }
         ensures none { len ≡ 0 → IsOk result }
         ensures counts { CountsCopy len (taken_by_copy len result)
             (held_of self.old) (held_of self.new) }

@@ -8,5 +8,5 @@ invariant_of-self c = packed_skips _ _ _ _ c.copy_out.ensures.skips c.self.invar
 
 pub returns-clause-lost : goal.returns-clause-lost
 returns-clause-lost c =
-    IfErr-weaker c.copy_out.result _ _ (λ e lost. elim lost [ inl none ↦ inl none | inr (inl all) ↦ inr all | inr (inr (inl none)) ↦ inl none | inr (inr (inr none)) ↦ inl none ])
+    IfErr-weaker c.copy_out.result _ _ (λ e lost. elim lost [ inl (front, within, most, inl (none, less)) ↦ inl none | inl (front, within, most, inr none) ↦ inl none | inr across ↦ across ])
     c.copy_out.ensures.lost

@@ -18,6 +18,11 @@ returns-clause-value g c =
     let part = map-part g.B.Buf.unread c.self.inside.bufs.now c.self.inside.place ∙ ap (λ q. q.segments) c.self.view_is in
     rw (← part) c.copy_from_first_of_slice-passed.ensures.value
 
+pub returns-clause-lost : goal.returns-clause-lost
+returns-clause-lost g c =
+    let part = map-part g.B.Buf.unread c.self.inside.bufs.now c.self.inside.place ∙ ap (λ q. q.segments) c.self.view_is in
+    rw (← part) c.copy_from_first_of_slice-passed.ensures.lost
+
 pub returns-clause-skips : goal.returns-clause-skips
 returns-clause-skips g c =
     let e = c.copy_from_first_of_slice-passed.ensures in
