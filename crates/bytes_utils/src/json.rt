@@ -95,8 +95,9 @@ where
 {
     /// Reads a text from JSON (RFC 8259): from a string, or from a list of the bytes of its UTF-8.
     /// The JSON is what `serde_json` reads as one value over the whole text. Requires that a
-    /// creator's bytes are those of its text, as for `Str` and `StrMut`. Fails with a
-    /// `JsonRefused`; for an empty `json` always with `NotJson`.
+    /// creator's bytes are those of its text, as for `Str` and `StrMut`. Fails with `OutOfMemory` if
+    /// memory is refused or the storage refuses, and otherwise with `NotJson`, `NotText` or
+    /// `NotUtf8`, each exactly if its cause holds; for an empty `json` always with `NotJson`.
     pub fn from_json(alloc: Global, json: &str) -> Result<Self, JsonRefused>
         requires creator { (c : S.Creator) → S.created c ≡ S.Creator.stored c }
         ensures ok { IfOk result (λ text. JsonHoldsText json.now text) }

@@ -6,6 +6,9 @@
 //!   of `str`, with owned parts.
 //! - `json` reads and writes texts as JSON. Texts also implement the traits of `serde`.
 //! - `needle` searches one piece of bytes, for `split` and for the streams of `bytes_utils_codec`.
+//!
+//! What comments say of shared or copied bytes and of the steps of a search is so in the bodies: no
+//! clause sees it.
 #![tactic(auto)]
 
 pub mod json;

@@ -9,8 +9,8 @@ use memchr::{memchr, memchr_iter};
 /// How many places of a needle's first byte are tried before a `Finder` searches: it is often near.
 pub const NEAR_LOOKS: usize = 4;
 
-/// The first place of the needle in a piece, looked for by its first byte. Requires that the needle
-/// is not empty (test: `finder.needle().is_empty()`).
+/// Returns the first place of the needle in a piece, or `None` if it isn't there. It is looked for by
+/// its first byte. Requires that the needle is not empty (test: `finder.needle().is_empty()`).
 #[inline]
 pub fn find_by_first_byte(finder: &Finder, piece: &[u8]) -> Option<usize>
     requires { 0 < length finder.now }
@@ -20,9 +20,9 @@ pub fn find_by_first_byte(finder: &Finder, piece: &[u8]) -> Option<usize>
     find_in_piece(finder, piece, from, 1)
 }
 
-/// The first place of the needle in a piece, in which its first byte does not occur before place
-/// `from`. It is looked for at `looks` places, as by `look_at_first_bytes`, and then the finder
-/// searches what is left. Requires what `look_at_first_bytes` requires.
+/// Returns the first place of the needle in a piece, or `None` if it isn't there. It is looked for at
+/// `looks` places, as by `look_at_first_bytes`, and then the finder searches what is left. Requires
+/// what `look_at_first_bytes` requires.
 #[inline]
 pub fn find_in_piece(finder: &Finder, piece: &[u8], from: usize, looks: usize) -> Option<usize>
     requires some { 0 < length finder.now }
@@ -39,12 +39,12 @@ pub fn find_in_piece(finder: &Finder, piece: &[u8], from: usize, looks: usize) -
     }
 }
 
-/// The first place of the needle in a piece, in which its first byte does not occur before place
-/// `from`. It is looked for at `from`, and then at the next places of that byte: at `looks` places
-/// in all, or one if `looks` is 0. If it isn't there, fails with the place from which it is still to
-/// be looked for. Requires that the needle is not empty (test: `is_empty`), that `from` is at most
-/// the number of bytes (test: `len`), and that the first byte does not occur before it, as before 0
-/// or what `prefix_without_first_byte` returns.
+/// Looks for the needle at place `from` of a piece, and then at the next places of the needle's first
+/// byte: at `looks` places in all, or one if `looks` is 0. Returns the first place of the needle if it
+/// is at one of these. Otherwise fails with the place from which it is still to be looked for: one
+/// after `from`, unless that is the end. Requires that the needle is not empty (test: `is_empty`), that
+/// `from` is at most the number of bytes (test: `len`), and that the first byte does not occur before
+/// it, as before 0 or what `prefix_without_first_byte` returns.
 #[inline]
 pub fn look_at_first_bytes(
     needle: &[u8],
@@ -74,7 +74,8 @@ pub fn look_at_first_bytes(
     Err(at)
 }
 
-/// The first place of the byte `first`, soon found if it is near the start.
+/// Returns the first place of the byte `first`, or `None` if it isn't there. It is found soon if it
+/// is near the start.
 #[inline]
 #[tactic(auto, using(crate::proofs::NeedleLemmas::first_byte_from_places))]
 pub fn find_byte(first: u8, bytes: &[u8]) -> Option<usize>
@@ -83,8 +84,8 @@ pub fn find_byte(first: u8, bytes: &[u8]) -> Option<usize>
     memchr_iter(first, bytes).next()
 }
 
-/// The number of bytes at the start of the piece that are skipped at once, because the needle's
-/// first byte is not among them. Requires that the needle is not empty (test: `is_empty`).
+/// Returns the number of bytes before the first place of the needle's first byte, or of all bytes if
+/// it does not occur. Requires that the needle is not empty (test: `is_empty`).
 #[inline]
 pub fn prefix_without_first_byte(needle: &[u8], piece: &[u8]) -> usize
     requires { 0 < length needle.now }
@@ -96,8 +97,8 @@ pub fn prefix_without_first_byte(needle: &[u8], piece: &[u8]) -> usize
     place_from(needle[0], piece, 0)
 }
 
-/// The first place from `from` on of the byte `first`, or the number of bytes if it does not occur
-/// there. Requires that `from` is at most that number (test: `bytes.len()`).
+/// Returns the first place from `from` on of the byte `first`, or the number of bytes if it does not
+/// occur there. Requires that `from` is at most that number (test: `bytes.len()`).
 #[inline]
 pub fn place_from(first: u8, bytes: &[u8], from: usize) -> usize
     requires { from ≤ length bytes.now }

@@ -8,6 +8,9 @@
 //! those whose bytes are one slice. [`write_all_of`](write::write_all_of) writes a buffer in few calls.
 //! Errors are an `io::Error` of reads and writes, a [`Reason`], a [`Refused`], which gives back a
 //! value, or a [`CopyRefused`](parts::CopyRefused).
+//!
+//! What comments say of shared or copied bytes, of blocks and of the number of looks or writes is so
+//! in the bodies: no clause sees it.
 #![tactic(auto)]
 
 mod buffers;

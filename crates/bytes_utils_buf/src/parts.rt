@@ -23,8 +23,8 @@ pub trait BufParts: Buf {
     ghost loses: { ℕ → ℕ → ℕ → Type 0 } = { λ _ _ _. ⊤ };
 
     /// Takes the first `len` unread bytes out. Requires that `len` is at most `remaining()` (test:
-    /// `remaining`). Fails with `CopyRefused` if memory is refused, never for no bytes; then `taken`
-    /// of them were taken and are lost.
+    /// `remaining`). Fails with `CopyRefused` if memory is refused, never for no bytes; then the
+    /// first `taken` of them, at most `len` and as many as `loses` allows, are lost.
     fn copy_out(&mut self, alloc: Global, len: usize) -> Result<Bytes, CopyRefused>
         requires { len ≤ length (Self.unread self.old) }
         ensures value { IfOk result (λ copy. copy ≡ take len (Self.unread self.old)) }

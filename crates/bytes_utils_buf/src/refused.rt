@@ -8,7 +8,7 @@ mod show;
 pub enum Reason {
     /// Memory was refused, or a length is more than any allocation may have.
     OutOfMemory = 1,
-    /// A sum of lengths exceeds `usize::MAX`, or a frame is longer than its reader allows.
+    /// A sum of lengths exceeds `usize::MAX`, or a part of a message exceeds the limit of its reader.
     TooLong = 2,
 }
 

@@ -211,9 +211,9 @@ fn write_front<W: Write, B: BufParts>(writer: &mut W, buf: &B) -> (usize, io::Re
 /// by a call of its own, without a copy, and so is one that is the only one. For fewer than 16
 /// slices the table is smaller.
 ///
-/// A short write is continued. Fails with the writer's own error, after which it makes no further
-/// write, or with `WriteZero` if a write took nothing. Then `buf` has the bytes that were not
-/// written, at least one.
+/// A short write is continued. Fails with an `io::Error`; then `buf` has the bytes that were not
+/// written, at least one. No clause says which error: it is the writer's own, after which no further
+/// write is made, or `WriteZero` if a write took nothing.
 pub fn write_all_of<W: Write, B: BufParts>(writer: &mut W, buf: &mut B) -> io::Result<()>
     ensures front { WritesFront (W.contents writer.old) (W.contents writer.new)
         (B.unread buf.old) (B.unread buf.new) }

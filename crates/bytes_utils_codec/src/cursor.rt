@@ -309,8 +309,8 @@ impl<'a, B: ContiguousBuf + Drop> Cursor<'a, B> {
 
     /// Passes the next line with its end and returns it, as [`Lines`](crate::decode::Lines) does: if
     /// it is not UTF-8, a fault that has its bytes. Returns `None` if its line feed has not come yet.
-    /// Fails with `OutOfMemory` if memory for a line that has come is refused. The cursor then
-    /// stays, as with `None`.
+    /// Fails with `OutOfMemory` if memory for a line that has come is refused, never if nothing is
+    /// before its line feed. The cursor then stays, as with `None`.
     pub fn line(&mut self) -> Result<Option<Result<Str, LineFault>>, Reason>
         ensures gives { CursorReadsPart
             (λ item old new. (line : List ℕ) × TakesStreamLine old line new × IsTextLineItem false item line)

@@ -5,6 +5,9 @@
 //!   of it.
 //! - `find` searches the bytes of many segments, `search` goes on where it stopped, and `cursor` reads
 //!   parts off them.
+//!
+//! What comments say of shared or copied bytes, and of which bytes are looked at, is so in the bodies:
+//! no clause sees it.
 #![tactic(auto)]
 
 pub mod cursor;

@@ -68,8 +68,8 @@ impl Search {
         self.finder.needle()
     }
 
-    /// Returns the first place of the needle, not before those that were searched. If it is not
-    /// there, the next call begins where it may still begin.
+    /// Returns the first place of the needle from place `searched` on, or `None` if it is not there;
+    /// then the next call begins where it may still begin.
     pub fn find<B: ContiguousBuf + Drop>(&mut self, held: &SegmentedBuf<B>) -> Option<usize>
         ensures found { FindsNeedle (concat held.now.segments)
             self.old.needle self.old.searched result }

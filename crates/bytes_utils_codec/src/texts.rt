@@ -91,7 +91,7 @@ impl Texts {
 
     /// Appends `piece`, without a copy. Fails with `TooLong` if the number of held bytes would pass
     /// `usize::MAX`, and with `OutOfMemory` if memory is refused; then nothing has changed and
-    /// `piece` comes back.
+    /// `piece` comes back. An empty piece is never refused.
     pub fn push(&mut self, piece: Bytes) -> Result<(), Refused<Bytes>>
         ensures pushed { IsPush (concat self.old.pieces) piece result
             (reading_of_pieces self.new ≡ text_fed (reading_of_pieces self.old) piece)

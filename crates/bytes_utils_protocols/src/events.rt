@@ -252,19 +252,20 @@ impl EventReader {
         self.lines.push_slice(piece)
     }
 
-    /// Returns the next event, or `None` if the empty line that ends it has not come yet. Fails with
-    /// `Refused` if memory is refused; then nothing is lost, and the same call can be made again.
-    /// Memory is asked for only to take a line whose end has come, never for an empty one, and to
-    /// read it: for data within its limit, for a name that isn't empty, for an identifier that isn't
-    /// empty and has no NUL, and for the empty line that ends an event, never for a comment or another
-    /// field. That empty line asks for memory only if there is an identifier that isn't empty, or if
-    /// the data has a line feed, as data of several lines has.
+    /// Returns the next event, or `None` if the empty line that ends it has not come yet.
+    ///
     /// Fails with `NotUtf8` if a line within its limit is not UTF-8, and with `TooLarge` if a line
     /// passes its limit, whether it is UTF-8 or not; then that line is passed over, and the next call
     /// continues after it. (A browser puts U+FFFD for the bytes that are no character, and reads the
     /// line.) Each comes once, in its place, wherever the stream was cut. Fails with `TooLarge` also
     /// if the data with the next line passes its limit; then nothing is lost, but that line can't be
     /// read, whatever comes next.
+    ///
+    /// Fails with `Refused` if memory is refused; then nothing is lost, and the same call can be made
+    /// again. Memory is asked for only to take a line that isn't empty and whose end has come, and to
+    /// read data within its limit, a name that isn't empty, an identifier that isn't empty and has no
+    /// NUL, and the empty line that ends an event. That empty line asks for it only if there is an
+    /// identifier that isn't empty, or if the data has a line feed, as data of several lines has.
     pub fn next_event(&mut self) -> Result<Option<Event>, EventError>
         ensures event { IfOk result
             (λ next. IfSome next (λ event. GivesEvent self.old event self.new)) }

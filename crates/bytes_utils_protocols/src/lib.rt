@@ -1,5 +1,7 @@
 //! Messages of protocols, read off streams that come in pieces, and some that are written. Each
 //! public module is one protocol, and needs no other one; some share `header` and `number`.
+//!
+//! What comments say of shared or copied bytes is so in the bodies: no clause sees it.
 #![tactic(auto)]
 
 pub mod events;

@@ -45,6 +45,7 @@ pub struct Part {
     /// The parameter `filename` there, in the same way. `filename*` is another parameter, which
     /// RFC 7578 forbids: it is in the head alone.
     pub file_name: Option<Str>,
+    /// The bytes between the head and the next delimiter.
     pub body: SegmentedBuf<Bytes>,
 }
 

@@ -144,7 +144,8 @@ impl Decoder for Netstrings {
 
 /// Returns the bytes of a netstring: the length of `text` in decimal digits, a colon, `text`, whose
 /// block is shared and not copied, and a comma (http://cr.yp.to/proto/netstrings.txt).
-/// `write_all_of` writes them. Fails with `OutOfMemory` if memory is refused; then `text` is dropped.
+/// `write_all_of` writes them. They read as `text` again, whatever follows. Fails with `OutOfMemory`
+/// if memory is refused; then `text` is dropped.
 pub fn netstring(alloc: Global, text: Bytes) -> Result<SegmentedBuf<Bytes>, Reason>
     ensures bytes { IfOk result (λ whole. concat whole.segments ≡ netstring_bytes text) }
     ensures reads { IfOk result (λ whole. (rest : List ℕ)

@@ -31,8 +31,8 @@ use std::marker::Model;
 /// replies.next_reply()?            // `Array(Some(2))`, `Integer(1)`, `Bulk(Some(hello))`
 /// ```
 ///
-/// Each call goes on where the last one stopped: no byte of an item is read again, except
-/// those of a bulk string whose last byte alone is to come. What can't become a reply within the limits is an
+/// Each call goes on where the last one stopped: no byte of an item is read again, except those of a
+/// bulk string whose last byte alone is to come. What can't become a reply within the limits is an
 /// error as soon as that is certain, so a peer can't send without end.
 #[derive(Drop)]
 pub struct ReplyReader {

@@ -150,8 +150,9 @@ impl Requests {
     }
 }
 
-/// The number of bytes of the body after a head: the number that each `Content-Length` reports, or
-/// 0 if there is none. The error is that of the first line at fault.
+/// Returns the number of bytes of the body after a head: the number that each `Content-Length`
+/// reports, or 0 if there is none (RFC 9112, section 6). The first line of the head is passed over.
+/// Fails with the `LengthError` of the first line at fault.
 pub fn body_len(head: &[u8]) -> Result<usize, LengthError>
     ensures ok { (len : ℕ)
         → (result ≡ Ok len) ↔ ReportRequestLength (request_header_lines head.now) len }

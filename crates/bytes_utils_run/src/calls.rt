@@ -42,7 +42,7 @@ impl Replies {
 
 /// Makes these calls on `buf`, one after another, and returns a reply for each. Memory for the
 /// replies is reserved first. If it is refused, no call is made, and `refused` has the reason
-/// `OutOfMemory`. For no calls none is asked for.
+/// `OutOfMemory`. It is never refused for no calls.
 pub fn drive<B: BufParts + Drop>(
     alloc: Global,
     buf: &mut SegmentedBuf<B>,

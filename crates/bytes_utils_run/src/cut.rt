@@ -17,7 +17,7 @@ use std::alloc::Global;
 pub struct Parts<S: Storage> {
     /// All of the parts; if `refused` has a reason, the parts before the first that is missing.
     pub given: Vec<StrInner<S>>,
-    /// Why the next split, or memory for the next part, was refused.
+    /// Why parts are missing, if some are: a reason of the storage, or `OutOfMemory`.
     pub refused: Option<Reason>,
 }
 
@@ -38,8 +38,9 @@ fn gather_cut<S: Storage>(
     Ok(())
 }
 
-/// Splits a text into all of its parts, up to the first refusal: of a split by the storage, or of
-/// memory for the list. Requires that the separator of `Inclusive` isn't empty (test: `is_empty`).
+/// Splits a text into all of its parts. If a split or memory for the list is refused, returns the
+/// first of them, not all, and the reason: one of the storage, or `OutOfMemory`. No clause says which
+/// of the two was refused. Requires that the separator of `Inclusive` isn't empty (test: `is_empty`).
 pub fn cut_all<S: Storage>(alloc: Global, text: StrInner<S>, how: How<'_>) -> Parts<S>
     requires { IsCuttingAllowed how }
     ensures outcome { Outcome (ArePartsBy (cutting how.entry) (chars text))
@@ -47,7 +48,7 @@ pub fn cut_all<S: Storage>(alloc: Global, text: StrInner<S>, how: How<'_>) -> Pa
     ensures few { length result.given.items ≤ length (chars text) + 2 }
     ensures joined { IfNone result.refused
         (JoinTo (cutting how.entry) (chars text) (map chars result.given.items)) }
-    // The storage refused a split, or memory for the next part was refused.
+    // The reasons of the storage, and that of refused memory.
     ensures reason { IfSome result.refused
         (λ reason. S.refuses reason ⊎ (reason ≡ Reason.OutOfMemory)) }
 {

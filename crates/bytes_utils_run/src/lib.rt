@@ -4,7 +4,7 @@
 //!   `SegmentedBuf`, and [`read_calls`] on any buffer. [`script`] is a whole program over both.
 //! - `splitter` has one iterator for all ways to split.
 //! - `laws` has theorems about lists of parts, and the methods of `str` with contracts.
-//! - `odd` has lawful but unusual buffers and a storage that refuses, for tests.
+//! - `odd` has lawful but unusual buffers, and a storage that refuses after some splits, for tests.
 #![tactic(auto)]
 
 mod calls;

@@ -91,7 +91,7 @@ impl<S: Storage, F: FnMut(&str) -> Option<(usize, usize)>> BytesIter<S, F> {
             → IsWholeWalk F.FnMut (RefusesCut S.refuses S.refuses_empty S.refuses_side)
             direction s items }
     {
-        // Reports the proof that the bytes are UTF-8.
+        // The contract of `as_str` says that the bytes are UTF-8.
         let _ = s.as_str();
         BytesIter {
             rest: Some(s),

@@ -22,7 +22,7 @@ impl<S: Storage> StrInner<S> {
     ///
     /// Fails for a reason of the storage, and only if the separator occurs; then the text is
     /// dropped. The reason is `OutOfMemory` for a [`Str`](crate::Str) or a `StrMut`, which don't
-    /// fail if nothing comes after the separator or if it is empty.
+    /// fail if nothing comes after the first separator, or if the separator is empty.
     pub fn split_once_bytes(self, separator: &str) -> Result<(Self, Option<Self>), Reason>
         ensures halves { IfOk result (λ cut. MatchOption cut.1
             (¬ Occurs (chars separator.now) (chars self))

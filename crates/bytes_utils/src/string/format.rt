@@ -26,8 +26,9 @@ impl<S: Storage> StrInner<S>
 where
     S::Creator: StorageMut,
 {
-    /// Formats `value` into a new text. The macros call it. Requires what `from_str` requires.
-    /// Fails with `fmt::Error` if `value` does so or the storage refuses.
+    /// Formats `value` into a new text, which is what `D` says that it writes, if it says so. The
+    /// macros call it. Requires what `from_str` requires. Fails with `fmt::Error` if `value` does so
+    /// or the storage refuses.
     pub fn format<D: fmt::Display + Drop>(alloc: Global, value: D) -> Result<Self, fmt::Error>
         requires creator { (c : S.Creator) → S.created c ≡ S.Creator.stored c }
         ensures ok { IfOk result (λ text. IfSome (D.output value) (λ written. text ≡ written)) }

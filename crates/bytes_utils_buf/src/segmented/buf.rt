@@ -121,11 +121,11 @@ impl<B: Buf + Drop> SegmentedBuf<B> {
         })
     }
 
-    /// Holds the items of `iter`, and drops empty ones. Requires that `iter` ends, and that its
-    /// `next` may be called. Fails at the first item with which the sum exceeds `usize::MAX`
-    /// (`TooLong`) or for which memory is refused (`OutOfMemory`). That item comes back, those
-    /// before it are dropped, and those after it too, or they stay in `iter` if it was passed as
-    /// `&mut iter`.
+    /// Holds the items of `iter`, and drops empty ones, which are never refused. Requires that
+    /// `iter` ends, and that its `next` may be called. Fails at the first item with which the sum
+    /// exceeds `usize::MAX` (`TooLong`) or for which memory is refused (`OutOfMemory`); then that
+    /// item comes back, and those before it are dropped. Those after it are dropped too, or stay in
+    /// `iter` if it was passed as `&mut iter`.
     pub fn from_iter<I: Iterator<Item = B> + Drop>(
         alloc: Global,
         iter: I,

@@ -6,7 +6,8 @@ ghost use Rattle.bytes_utils_buf.specs.Slices.{FillsSlices};
 use crate::parts::BufParts;
 use std::collections::VecDeque;
 
-/// Fills the table with the slices of one buffer after another, until it is full.
+/// Fills the table with the slices of one buffer after another, until it is full. Returns how many
+/// places it filled.
 pub(super) fn fill_from<'s, B: BufParts>(bufs: &'s [B], dst: &mut [&'s [u8]]) -> usize
     ensures { FillsSlices result dst.old dst.new (concat (map B.unread bufs.now)) }
 {

@@ -39,8 +39,8 @@ const MOST_EMPTIED: usize = 4 * BLOCK;
 /// body.advance(4);                 // it reads as any `Buf`
 /// ```
 ///
-/// So any two neighbouring segments hold more than `threshold` bytes together, except for the first
-/// one, which may be what reading left of a longer one. A block has 4,096 bytes, or twice those
+/// So any two neighbouring segments after the first one hold more than `threshold` bytes together.
+/// The first one may be what reading left of a longer one. A block has 4,096 bytes, or twice those
 /// that are copied into it when it is made. After a longer piece it begins with 64 bytes, and
 /// doubles as it fills. The room that is left of a block that was read to its end takes the next
 /// small piece, so that messages which come one by one share their blocks.
@@ -79,7 +79,8 @@ impl PackedBuf {
         }
     }
 
-    /// Sets the room that `read_from` has, at least: `room` bytes, or 1 for 0. Until then it is 512.
+    /// Sets how many bytes `read_from` has room for, at least: `room`, or 1 for 0. Before, it is 512.
+    /// No clause sees it.
     pub fn set_read_room(&mut self, room: usize)
         ensures { self.new ≡ self.old }
     {
@@ -178,7 +179,8 @@ impl PackedBuf {
 
     /// Appends a copy of `bytes`: to the last segment, if that is a block that has room for them or
     /// is given it; with a copy of the last segment in a new block, if both have at most `threshold`
-    /// bytes together; or else alone in a block. Fails as `push` does; then nothing has changed.
+    /// bytes together; or else alone in a block. Fails as `push` does, never for no bytes; then
+    /// nothing has changed.
     #[inline]
     pub fn push_slice(&mut self, alloc: Global, bytes: &[u8]) -> Result<(), Reason>
         ensures packs { OnOk result (Packs bytes.now self.old.held self.new.held) }
@@ -303,8 +305,7 @@ impl PackedBuf {
         Ok(all)
     }
 
-    /// Keeps the room of a segment that was read, if that is a block and the room neither small nor
-    /// large.
+    /// Keeps the room of a segment that was read, if that is a block of 64 bytes to 16 KiB.
     fn keep_room(&mut self, last: EitherBuf<Bytes, BytesMut>)
         ensures { self.new ≡ self.old }
     {

@@ -75,7 +75,7 @@ impl<D: Decoder> Framed<D> {
     /// Appends `piece`. A piece that is not longer than the threshold is copied to the end of those
     /// before it; a longer one is held as it is. Fails with `TooLong` if the number of held bytes
     /// would pass `usize::MAX`, and with `OutOfMemory` if memory is refused; then nothing has changed
-    /// and `piece` comes back.
+    /// and `piece` comes back. An empty piece is never refused.
     pub fn push(&mut self, piece: Bytes) -> Result<(), Refused<Bytes>>
         ensures pushed { IsPush self.old.held piece result
             (self.new ≡ fed self.old piece) (self.new ≡ self.old) }
@@ -95,9 +95,9 @@ impl<D: Decoder> Framed<D> {
         self.held.push_slice(self.alloc, bytes)
     }
 
-    /// Sets the room that a read of `read_from` or `read_item` has, at least: `room` bytes, or 1 for
-    /// 0. Before, it is 512, or that of the `PackedBuf` that `from_parts` took. A caller who expects
-    /// a long item sets more.
+    /// Sets how many bytes a read of `read_from` or `read_item` has room for, at least: `room`, or 1
+    /// for 0. Before, it is 512, or that of the `PackedBuf` that `from_parts` took. A caller who
+    /// expects a long item sets more. No clause sees it.
     pub fn set_read_room(&mut self, room: usize)
         ensures { self.new ≡ self.old }
     {
@@ -106,9 +106,10 @@ impl<D: Decoder> Framed<D> {
 
     /// Makes one read of `input`, straight into the room after the held bytes, which is at least 512
     /// bytes, or as many as `set_read_room` set, and mostly some 4,096. Returns the number of bytes
-    /// that came, which is 0 at the end of the input only. Fails with the reader's own error,
-    /// `Interrupted` too, with `OutOfMemory` if memory is refused, or with `FileTooLarge` if the
-    /// number of held bytes might pass `usize::MAX`. Then nothing was read and nothing has changed.
+    /// that came, which is 0 at the end of the input only. Fails with an `io::Error`; then nothing was
+    /// read and nothing has changed. No clause says which error: it is the reader's own, `Interrupted`
+    /// too, `OutOfMemory` if memory is refused, or `FileTooLarge` if the number of held bytes might
+    /// pass `usize::MAX`.
     pub fn read_from<R: Read>(&mut self, input: &mut R) -> io::Result<usize>
         ensures read { OnOk result
             (IsFedBy (R.remaining input.old) (R.remaining input.new) self.old self.new) }
@@ -140,8 +141,8 @@ impl<D: Decoder> Framed<D> {
     /// Removes and returns the first `len` bytes, whatever they are: a body whose length an item
     /// reported. They are shared if they lie in the first segment, and else copied into one block.
     /// The decoder begins at the front of the bytes after them. Requires that `len` is at most the
-    /// number of held bytes (test: `remaining`). Fails with `OutOfMemory` if memory is refused; then
-    /// nothing has changed.
+    /// number of held bytes (test: `remaining`). Fails with `OutOfMemory` if memory is refused, never
+    /// for no bytes; then nothing has changed.
     pub fn take_bytes(&mut self, len: usize) -> Result<Bytes, Reason>
         requires { len ≤ length self.old.held }
         ensures front { IfOk result (λ front. front ≡ take len self.old.held) }

@@ -115,7 +115,7 @@ impl LengthPrefixed {
         self
     }
 
-    /// The least significant byte of the length comes first.
+    /// Sets that the least significant byte of the length comes first.
     pub fn little_endian(mut self) -> LengthPrefixed
         ensures { result ≡ record self { is_little_endian = true } }
     {

@@ -118,8 +118,8 @@ impl PartStream {
         self.progress.place == Place::Ended
     }
 
-    /// Returns how many bytes wait. After a call that gave nothing they are fewer than a delimiter
-    /// has, or, where a head is awaited, no more than the limit on it and a delimiter have.
+    /// Returns how many bytes wait. After a `next_event` that returned `None` they are fewer than a
+    /// delimiter has, or, where a head is awaited, no more than the limit on it and a delimiter have.
     pub fn remaining(&self) -> usize
         ensures { result ≡ length self.now.held }
     {

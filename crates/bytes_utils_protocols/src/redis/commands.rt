@@ -16,6 +16,7 @@ use std::alloc::Global;
 /// Returns the bytes of a command to a server: an array with a bulk string for each word
 /// (https://redis.io/docs/latest/develop/reference/protocol-spec/). Those of the words `GET` and `a`
 /// are `*2\r\n$3\r\nGET\r\n$1\r\na\r\n`. No words give `*0\r\n`, after which a server sends no reply.
+/// A reader of replies whose limits allow them takes the words out again.
 ///
 /// A word of more than 512 bytes is shared, not copied. The others are copied together with the
 /// lines, so that a small command is one segment. `write_all_of` writes them.

@@ -12,6 +12,7 @@ pub enum Item {
     Simple(Bytes),
     /// An error, in one line.
     Error(Bytes),
+    /// An integer.
     Integer(i64),
     /// Bytes of any kind, or null.
     Bulk(Option<Bytes>),

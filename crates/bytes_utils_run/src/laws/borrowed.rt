@@ -50,7 +50,7 @@ pub fn lines(text: &str) -> Lines<'_>
     text.lines()
 }
 
-/// Splits `text` at each `separator`. Requires that `separator` isn't empty.
+/// Splits `text` at each `separator`. Requires that `separator` isn't empty (test: `is_empty`).
 pub fn split<'t, 's>(text: &'t str, separator: &'s str) -> Split<'t, &'s str>
     requires { 0 < length separator.now }
     ensures { GivesBorrowedParts (split_steps finds_borrowed_text keeps_borrowed_text) result
@@ -60,7 +60,7 @@ pub fn split<'t, 's>(text: &'t str, separator: &'s str) -> Split<'t, &'s str>
 }
 
 /// Splits `text` at `separator` into at most `most` parts. The last part is the rest, not split.
-/// Requires that `separator` isn't empty.
+/// Requires that `separator` isn't empty (test: `is_empty`).
 pub fn splitn<'t, 's>(text: &'t str, most: usize, separator: &'s str) -> SplitN<'t, &'s str>
     requires { 0 < length separator.now }
     ensures { GivesBorrowedParts (splitn_steps finds_borrowed_text keeps_borrowed_text) result
@@ -69,7 +69,8 @@ pub fn splitn<'t, 's>(text: &'t str, most: usize, separator: &'s str) -> SplitN<
     text.splitn(most, separator)
 }
 
-/// Splits `text` at each `separator`, from the back. Requires that `separator` isn't empty.
+/// Splits `text` at each `separator`, from the back. Requires that `separator` isn't empty (test:
+/// `is_empty`).
 pub fn rsplit<'t, 's>(text: &'t str, separator: &'s str) -> RSplit<'t, &'s str>
     requires { 0 < length separator.now }
     ensures { GivesBorrowedParts (rsplit_steps rfinds_borrowed_text keeps_borrowed_text) result
@@ -79,7 +80,7 @@ pub fn rsplit<'t, 's>(text: &'t str, separator: &'s str) -> RSplit<'t, &'s str>
 }
 
 /// Splits `text` at `separator`, from the back, into at most `most` parts. The last part is the
-/// rest, not split. Requires that `separator` isn't empty.
+/// rest, not split. Requires that `separator` isn't empty (test: `is_empty`).
 pub fn rsplitn<'t, 's>(text: &'t str, most: usize, separator: &'s str) -> RSplitN<'t, &'s str>
     requires { 0 < length separator.now }
     ensures { GivesBorrowedParts (rsplitn_steps rfinds_borrowed_text keeps_borrowed_text) result
@@ -89,7 +90,7 @@ pub fn rsplitn<'t, 's>(text: &'t str, most: usize, separator: &'s str) -> RSplit
 }
 
 /// Splits `text` after each `separator`, which stays at the end of its part. Requires that
-/// `separator` isn't empty.
+/// `separator` isn't empty (test: `is_empty`).
 pub fn split_inclusive<'t, 's>(text: &'t str, separator: &'s str) -> SplitInclusive<'t, &'s str>
     requires { 0 < length separator.now }
     ensures { GivesBorrowedParts (split_inclusive_steps finds_borrowed_text keeps_borrowed_text) result
@@ -124,7 +125,7 @@ pub fn split_tested<F: FnMut(char) -> bool>(text: &str, is_separator: F) -> Spli
 }
 
 /// Splits `text` around the first `separator`, or returns `None` if there is none. Requires that
-/// `separator` isn't empty.
+/// `separator` isn't empty (test: `is_empty`).
 pub fn split_once<'t>(text: &'t str, separator: &str) -> Option<(&'t str, &'t str)>
     requires { 0 < length separator.now }
     ensures { MatchOption result (¬ Occurs (chars separator.now) (chars text.now))
@@ -135,7 +136,7 @@ pub fn split_once<'t>(text: &'t str, separator: &str) -> Option<(&'t str, &'t st
 }
 
 /// Splits `text` around the last `separator`, or returns `None` if there is none. Requires that
-/// `separator` isn't empty.
+/// `separator` isn't empty (test: `is_empty`).
 pub fn rsplit_once<'t>(text: &'t str, separator: &str) -> Option<(&'t str, &'t str)>
     requires { 0 < length separator.now }
     ensures { MatchOption result (¬ Occurs (chars separator.now) (chars text.now))

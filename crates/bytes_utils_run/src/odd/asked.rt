@@ -34,12 +34,12 @@ impl Asked {
         }
     }
 
-    /// Returns how often `advance` was called.
+    /// Returns how often `advance` was called. No clause says so.
     pub fn advances(&self) -> usize {
         self.advances
     }
 
-    /// Returns how often `remaining` or `chunk` was called.
+    /// Returns how often `remaining` or `chunk` was called. No clause says so.
     pub fn looked(&self) -> usize {
         self.looks.get()
     }

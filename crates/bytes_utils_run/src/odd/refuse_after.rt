@@ -10,9 +10,9 @@ use std::marker::Model;
 
 /// Shared bytes that grant a limited number of splits, and refuse the next as if memory were short.
 ///
-/// With no split left, a split fails with [`Reason::OutOfMemory`]. Else the left piece grants one
-/// split less than before, and the right piece two less. So a splitter that makes two splits a step
-/// makes exactly as many splits as were granted.
+/// With no split left, a split fails with [`Reason::OutOfMemory`], as it does if memory is refused.
+/// Otherwise the left piece grants one split less than before, and the right piece two less, or none.
+/// So a splitter that makes two splits a step makes exactly as many splits as were granted.
 #[derive(Drop)]
 pub struct RefuseAfter {
     bytes: Bytes,

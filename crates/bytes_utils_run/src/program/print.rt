@@ -93,9 +93,11 @@ pub(super) fn print_all<E: Printable, W: Write>(writer: &mut W, entries: &[E]) -
     Ok(())
 }
 
-/// Prints the parts that a splitter gives, each as soon as it is split off. Returns the reason if a
-/// split is refused; then the parts before it are printed. Fails with `Io` if a write fails.
-/// Requires that some list of parts is to come, as of each splitter that `AnySplitter::new` makes.
+/// Prints the parts that a splitter gives, each as soon as it is split off. Returns `None` if all are
+/// printed, or the reason if a split is refused; then the first of them are printed, and not all. No
+/// clause says that a split was refused. Fails with `Io` if a write fails; then a beginning of what
+/// all parts print was written. Requires that some list of parts is to come, as of each splitter that
+/// `AnySplitter::new` makes.
 pub fn print_parts<S: Storage, W: Write>(
     writer: &mut W,
     splitter: &mut AnySplitter<'_, S>,

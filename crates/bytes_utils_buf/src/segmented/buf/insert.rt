@@ -64,11 +64,11 @@ impl<B: Buf + Drop> SegmentedBuf<B> {
         self.push(buf)
     }
 
-    /// Appends the items of `iter`, and drops empty ones. Requires that `iter` ends, and that its
-    /// `next` may be called. Fails at the first item with which the sum exceeds `usize::MAX`
-    /// (`TooLong`) or for which memory is refused (`OutOfMemory`). That item comes back, those
-    /// before it are held, and those after it are dropped with `iter`, or stay in it if it was
-    /// passed as `&mut iter`.
+    /// Appends the items of `iter`, and drops empty ones, which are never refused. Requires that
+    /// `iter` ends, and that its `next` may be called. Fails at the first item with which the sum
+    /// exceeds `usize::MAX` (`TooLong`) or for which memory is refused (`OutOfMemory`); then that
+    /// item comes back, and those before it are held. Those after it are dropped with `iter`, or
+    /// stay in it if it was passed as `&mut iter`.
     pub fn extend<I: Iterator<Item = B> + Drop>(&mut self, iter: I) -> Result<(), Refused<B>>
         requires can { I.can_next iter }
         requires ends { IsFinite (I.remaining iter) }
@@ -166,7 +166,8 @@ impl<B: Buf + Drop> SegmentedBuf<B> {
 
     /// Moves the segments of `other` to the end of the held ones. Requires that
     /// `remaining() + other.remaining()` fits `usize` (test: `fits`). Fails with `OutOfMemory` if
-    /// memory is refused; then nothing has changed and `other` comes back.
+    /// memory is refused, never if `other` has no segment; then nothing has changed and `other`
+    /// comes back.
     pub fn append(&mut self, mut other: SegmentedBuf<B>) -> Result<(), Refused<SegmentedBuf<B>>>
         requires { length (concat self.old.segments) + length (concat other.segments) < 2 ^ 64 }
         ensures ok { OnOk result (self.new ≡ record {

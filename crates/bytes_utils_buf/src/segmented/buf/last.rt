@@ -34,9 +34,9 @@ impl SegmentedBuf<EitherBuf<Bytes, BytesMut>> {
         true
     }
 
-    /// Makes room for `len` more bytes at the end of the last segment, if that is a block with less
-    /// room than a new one has, or the only segment and short. A block is given room for at least
-    /// the number of bytes that it has, so that the bytes moved are at most twice those pushed.
+    /// Makes room for `len` more bytes at the end of the last segment, if that is a block which is
+    /// smaller than a new one, or short and the only segment. A block is given room for at least as
+    /// many bytes as it has, so that the bytes moved are at most twice those pushed.
     pub(crate) fn make_room_in_last(&mut self, alloc: Global, len: usize) -> Result<(), Reason>
         ensures same { self.new ≡ self.old }
         ensures reason { IfErr result (λ reason. reason ≡ Reason.OutOfMemory) }
@@ -100,8 +100,8 @@ fn grow_last_block(
     }
 }
 
-/// Makes room for `len` more bytes at the end of a piece, if it is a block with less room than a new
-/// one has, or is the only piece and short.
+/// Makes room for `len` more bytes at the end of a piece, if it is a block which is smaller than a new
+/// one, or short and the only piece.
 fn grow_last_piece(
     piece: &mut EitherBuf<Bytes, BytesMut>,
     alloc: Global,

@@ -11,8 +11,8 @@ use std::alloc::AllocFailed;
 impl SegmentedBuf<Bytes> {
     /// Moves the chunks of `queue` to the end of the held segments, and copies no byte. Requires
     /// that `remaining() + queue.len()` fits `usize` (test: `fits`). Fails with `OutOfMemory` if
-    /// memory is refused; then the chunks moved so far are held, the others are in `queue`, and the
-    /// call can be repeated.
+    /// memory is refused, never for an empty queue; then the chunks moved so far are held, the
+    /// others, at least one, are in `queue`, and the call can be repeated.
     pub fn append_queue(&mut self, queue: &mut BytesQueue) -> Result<(), Reason>
         requires { length (concat self.old.segments) + length queue.old < 2 ^ 64 }
 
@@ -66,8 +66,8 @@ impl SegmentedBuf<Bytes> {
 
     /// Moves the held segments to the end of `queue`, and copies no byte. Requires that
     /// `remaining() + queue.len()` fits `usize` (test: `fits`). Fails with `OutOfMemory` if memory
-    /// is refused; then the segments moved so far are in `queue`, the others are held, and the call
-    /// can be repeated.
+    /// is refused, never if no segment is held; then the segments moved so far are in `queue`, the
+    /// others, at least one, are held, and the call can be repeated.
     pub fn drain_into_queue(&mut self, queue: &mut BytesQueue) -> Result<(), Reason>
         requires { length (concat self.old.segments) + length queue.old < 2 ^ 64 }
 

@@ -18,7 +18,7 @@ use std::mem::replace;
 impl SegmentedBuf<EitherBuf<Bytes, BytesMut>> {
     /// Makes one read into the room of the last segment, and returns the number of bytes that came.
     /// Returns `None`, and reads nothing, if the last segment is no block with room for `least`
-    /// bytes.
+    /// bytes, or if its room is so large that the number of held bytes might pass `usize::MAX`.
     pub(crate) fn read_last<R: Read>(
         &mut self,
         input: &mut R,

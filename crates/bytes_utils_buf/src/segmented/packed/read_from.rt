@@ -18,9 +18,9 @@ impl PackedBuf {
     /// number of bytes that came, which is 0 at the end of the input only. They are held as
     /// `push_slice` holds them, without its copy.
     ///
-    /// Fails with the reader's own error, `Interrupted` too, or with `OutOfMemory` if memory is
-    /// refused, or with `FileTooLarge` if the number of held bytes might pass `usize::MAX`. Then
-    /// nothing was read and nothing has changed.
+    /// Fails with an `io::Error`; then nothing was read and nothing has changed. No clause says which
+    /// error: it is the reader's own, `Interrupted` too, `OutOfMemory` if memory is refused, or
+    /// `FileTooLarge` if the number of held bytes might pass `usize::MAX`.
     pub fn read_from<R: Read>(&mut self, alloc: Global, input: &mut R) -> io::Result<usize>
         ensures read { IfOk result (λ count. Reads Packs
             (R.remaining input.old) (R.remaining input.new) self.old.held self.new.held count) }

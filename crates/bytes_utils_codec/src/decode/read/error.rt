@@ -10,8 +10,7 @@ use std::{fmt, io};
 pub enum ReadItemError<E> {
     /// The decoder failed.
     Decoder(E),
-    /// A read failed: with the reader's own error, which is not an interruption, or with
-    /// `OutOfMemory` where memory for it was refused.
+    /// A read failed, with an error of `read_from` that is not an interruption.
     Io(io::Error),
     /// No item came within 65,536 reads.
     TooManyReads,
