@@ -6,21 +6,19 @@ use Rattle.std.proofs.lemmas.List.{drop-append-le, length-take, take-append-le, 
 use Rattle.std.proofs.lemmas.Option.{same_Some}
 use Rattle.bytes.proofs.Ranges.{drop-take_less}
 use Rattle.bytes_utils_buf.specs.Packing.{Packing}
-use Rattle.bytes_utils_buf.specs.declared.refused.Reason.{Reason}
-use Rattle.bytes_utils_buf.specs.declared.refused.Reason.TheVariants.{OutOfMemory}
-use Rattle.bytes_utils_codec.specs.Cursor.{CursorReading, passed_on, unread}
+use Rattle.bytes_utils_codec.specs.Cursor.{CursorReading, CursorTakesFirst, passed_on, unread}
 use Rattle.bytes_utils_codec.specs.Frames.{TakesFrame}
 use Rattle.bytes_utils_codec.specs.StreamRuns.{AreFirstOfRun}
+use Rattle.bytes_utils_codec.proofs.CursorLemmas.{CursorTakesFirst-passed}
 use Rattle.bytes_utils_codec.proofs.FramesLemmas.{TakesFrame-more}
 use Rattle.bytes_utils_codec.proofs.StreamRunsLemmas.{AreFirstOfRun-more}
 use Rattle.bytes_utils_protocols.specs.Redis.{redis_line_end, BeginsRedisBody, HasNoRedisBody, IsRedisLineOf, IsRedisTextLine, TakesRedisItem, TakesRedisReply, LeaveRedisItemsDue, NoRedisItem, redis_items_in}
 use Rattle.bytes_utils_protocols.specs.RedisLine.{IsRedisLineReadAs}
-use Rattle.bytes_utils_protocols.specs.RedisPending.{AwaitsPendingBody, AwaitsPendingItem, HasPendingItem, IsPendingNext, IsNoPendingItem, IsPending, held_by_pending, unread_by_pending}
+use Rattle.bytes_utils_protocols.specs.RedisPending.{AreSeen, AwaitsPendingBody, AwaitsPendingItem, HasPendingItem, IsPendingNext, IsNoPendingItem, IsPending, held_by_pending, unread_by_pending}
 use Rattle.bytes_utils_protocols.specs.declared.redis.item.Item.{Item}
 use Rattle.bytes_utils_protocols.specs.declared.redis.item.Item.TheVariants.{Simple, Error}
 use Rattle.bytes_utils_protocols.specs.declared.redis.limits.Limits.{Limits}
-use Rattle.bytes_utils_protocols.specs.declared.redis.limits.ReplyError.{ReplyError}
-use Rattle.bytes_utils_protocols.specs.declared.redis.limits.ReplyError.TheVariants.{Refused, Malformed, TooLarge}
+use Rattle.bytes_utils_protocols.specs.declared.redis.limits.ReplyError.TheVariants.{Malformed}
 use Rattle.bytes_utils_protocols.specs.declared.redis.pending.Next.{Next}
 use Rattle.bytes_utils_protocols.specs.declared.redis.pending.Next.TheVariants.{InLine, InBody}
 use Rattle.bytes_utils_protocols.specs.declared.redis.pending.Pending.{Pending}
@@ -116,18 +114,15 @@ cursor_at segments start first next is passed =
     let same : 0 + start ≡ start = omega arith in
     ap unread passed ∙ ap (λ r. unread (passed_on start r)) is ∙ ap (λ n. drop n (concat segments)) same
 
-module _ (limits : Limits) (room : ℕ) (u : List ℕ) (start len : ℕ) (awaits : AwaitsPendingBody limits u start len) where
-  bulk_some : 1 < length u
-  bulk_some =
-      let two : length redis_line_end ≡ 2 = refl in
-      omega (arith, two, ap length awaits.framed.bytes, length-append awaits.line (redis_line_end ++ drop start u), length-append redis_line_end (drop start u))
+pub body_passed : (first next : CursorReading) (len : ℕ) → len ≤ length (unread first) → next ≡ passed_on len first → CursorTakesFirst len (unread first) (take len (unread first)) (unread next)
+body_passed first next len some passed = subst (λ r. CursorTakesFirst len (unread first) (take len (unread first)) (unread r)) (sym passed) (CursorTakesFirst-passed first len some)
 
-  pub no_bulk_item : (e : ReplyError) → (e ≡ Malformed → (more : List ℕ) → HasNoRedisBody len (drop start u ++ more)) → e ≢ TooLarge → ((reason : Reason) → e ≡ Refused reason → reason ≡ OutOfMemory)
-      → IsNoPendingItem limits room u e
-  no_bulk_item e malformed too_large reason = record {
-    malformed = λ is any more. no_body any u more awaits.line (drop start u) awaits.framed len awaits.is (malformed is more);
-    too_large = λ is. absurd (too_large is);
-    memory = λ r is. (reason r is, bulk_some);
+module _ (limits : Limits) (room : ℕ) (u : List ℕ) (start len : ℕ) (awaits : AwaitsPendingBody limits u start len) where
+  pub wrong_bulk : ((more : List ℕ) → HasNoRedisBody len (drop start u ++ more)) → IsNoPendingItem limits room u Malformed
+  wrong_bulk none = record {
+    malformed = λ _ any more. no_body any u more awaits.line (drop start u) awaits.framed len awaits.is (none more);
+    too_large = λ is. cc;
+    memory = λ r is. cc;
   }
 
   pub awaits_bulk : HasNoRedisBody len (drop start u) → BeginsRedisBody len (drop start u) → AwaitsPendingItem limits room u
@@ -157,3 +152,8 @@ one_kept limits room p next item len is some full has items due rest held at =
 pub reply_read : (limits : Limits) (p : Pending) → IsPending limits p → 0 < limits.items → p.due ≡ 0 → TakesRedisReply limits (held_by_pending p) p.items.items (unread_by_pending p)
 reply_read limits p is some none =
     whole_reply limits (held_by_pending p) p.items.items (unread_by_pending p) is.are (subst (LeaveRedisItemsDue 1 p.items.items) none is.due) (omega (arith, is.within some))
+
+-- ---- the bytes that were seen
+
+pub none_seen : (limits : Limits) (bytes : List ℕ) → AreSeen limits bytes 0
+none_seen limits bytes = record { within = omega arith; none = λ some. absurd (omega (arith, some)); begins = λ some. absurd (omega (arith, some)) }

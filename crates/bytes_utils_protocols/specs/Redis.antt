@@ -14,10 +14,11 @@ use Rattle.bytes_utils_protocols.specs.declared.redis.limits.Limits.{Limits}
 use Rattle.bytes_utils_protocols.specs.declared.redis.limits.ReplyError.{ReplyError}
 use Rattle.bytes_utils_protocols.specs.declared.redis.limits.ReplyError.TheVariants.{Malformed, Refused, TooLarge}
 
--- what clauses see of a `ReplyReader`
+-- what clauses see of a `ReplyReader`; `seen` is how many of the held bytes a call that returned `None` has looked at
 pub record RedisReplying : Type 0 where
   pub held : List ℕ
   pub limits : Limits
+  pub seen : ℕ
 
 -- what an error prints
 abbrev pub reply_error_text : ReplyError → List ℕ

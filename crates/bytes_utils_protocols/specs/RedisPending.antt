@@ -1,11 +1,11 @@
 -- What was read of a reply of the Redis protocol whose end is to come.
-use Rattle.std.specs.Prelude.{◌≡◌, ℕ, ◌+◌, ◌<◌, ◌≤◌, ◌^◌, List, ◌++◌, length, drop, Option, Result, MatchOption, MatchResult}
+use Rattle.std.specs.Prelude.{◌≡◌, ℕ, ◌+◌, ◌<◌, ◌≤◌, ◌^◌, List, ◌++◌, length, take, drop, Option, Result, MatchOption, MatchResult}
 use Rattle.std.specs.List.{concat}
 use Rattle.bytes_utils_buf.specs.declared.refused.Reason.{Reason}
 use Rattle.bytes_utils_buf.specs.declared.refused.Reason.TheVariants.{OutOfMemory}
 use Rattle.bytes_utils_codec.specs.Frames.{TakesFrame}
 use Rattle.bytes_utils_codec.specs.StreamRuns.{AreFirstOfRun}
-use Rattle.bytes_utils_protocols.specs.Redis.{redis_line_end, TakesRedisItem, LeaveRedisItemsDue, BeginsRedisItem, NoRedisItem, NoRedisItemWithin, redis_items_in}
+use Rattle.bytes_utils_protocols.specs.Redis.{redis_line_end, TakesRedisItem, LeaveRedisItemsDue, BeginsRedisItem, BeginsRedisReply, NoRedisItem, NoRedisItemWithin, NoRedisReply, redis_items_in}
 use Rattle.bytes_utils_protocols.specs.RedisLine.{IsRedisLineHeadOf, IsRedisLineReadTo, IsRedisLineHead}
 use Rattle.bytes_utils_protocols.specs.declared.redis.item.Item.{Item}
 use Rattle.bytes_utils_protocols.specs.declared.redis.limits.Limits.{Limits}
@@ -77,3 +77,9 @@ pub record IsPending (limits : Limits) (p : Pending) : Type 0 where
   pub within : 0 < limits.items → length p.items.items + p.due ≤ limits.items
   pub next : IsPendingNext limits (unread_by_pending p) p.next
   pub fits : length (held_by_pending p) < 2 ^ 64
+
+-- the first bytes, this many, were seen: if there are any, they are no reply yet, and begin one
+pub record AreSeen (limits : Limits) (bytes : List ℕ) (seen : ℕ) : Type 0 where
+  pub within : seen ≤ length bytes
+  pub none : 0 < seen → NoRedisReply limits (take seen bytes)
+  pub begins : 0 < seen → BeginsRedisReply limits (take seen bytes)

@@ -31,36 +31,44 @@ use std::marker::Model;
 /// replies.next_reply()?            // `Array(Some(2))`, `Integer(1)`, `Bulk(Some(hello))`
 /// ```
 ///
-/// Each call goes on where the last one stopped: no byte of an item is read again, except those of a
-/// bulk string whose last byte alone is to come. What can't become a reply within the limits is an
-/// error as soon as that is certain, so a peer can't send without end.
+/// Each call goes on where the last one stopped: no byte of an item is read again, but for a carriage
+/// return whose line feed is to come. What can't become a reply within the limits is an error as soon
+/// as that is certain, so a peer can't send without end.
 #[derive(Drop)]
 pub struct ReplyReader {
     alloc: Global,
     pending: Pending,
     limits: Limits,
+    /// How many bytes were held when a call last returned `None`, or 0 if a reply came since.
+    seen: usize,
 }
 
 impl Model for ReplyReader {
     ghost use Rattle.bytes_utils_protocols.specs.Redis.{RedisReplying};
-    ghost use Rattle.bytes_utils_protocols.specs.RedisPending.{IsPending, held_by_pending};
+    ghost use Rattle.bytes_utils_protocols.specs.RedisPending.{IsPending, AreSeen, held_by_pending};
 
     ghost Value = { RedisReplying };
 
-    ghost view = { λ r. record { held = held_by_pending r.pending; limits = r.limits } };
+    ghost view = { λ r. record {
+      held = held_by_pending r.pending;
+      limits = r.limits;
+      seen = r.seen;
+    } };
 
-    ghost invariant = { λ r. IsPending r.limits r.pending };
+    ghost invariant = { λ r. IsPending r.limits r.pending
+        × AreSeen r.limits (held_by_pending r.pending) r.seen };
 }
 
 impl ReplyReader {
     /// Makes a reader that holds no bytes.
     pub fn new(alloc: Global, limits: Limits) -> ReplyReader
-        ensures { result ≡ record { held = []; limits = limits } }
+        ensures { result ≡ record { held = []; limits = limits; seen = 0 } }
     {
         ReplyReader {
             alloc,
             pending: Pending::new(alloc),
             limits,
+            seen: 0,
         }
     }
 
@@ -72,6 +80,7 @@ impl ReplyReader {
         ensures pushed { IsPush self.old.held piece result
             (self.new.held ≡ self.old.held ++ piece) (self.new ≡ self.old) }
         ensures limits { self.new.limits ≡ self.old.limits }
+        ensures seen { self.new.seen ≡ self.old.seen }
     {
         self.pending.push(self.alloc, piece)
     }
@@ -85,6 +94,7 @@ impl ReplyReader {
             ↔ (2 ^ 64 ≤ length self.old.held + length piece.now)) }
         ensures empty { piece.now ≡ [] → IsOk result }
         ensures limits { self.new.limits ≡ self.old.limits }
+        ensures seen { self.new.seen ≡ self.old.seen }
     {
         self.pending.push_slice(self.alloc, piece)
     }
@@ -101,15 +111,17 @@ impl ReplyReader {
     /// beginning of one within the limits. A bulk item in one piece of more than 512 bytes is
     /// shared. Fails with `Malformed` if they begin with no reply, whatever comes after them, with
     /// `TooLarge` if they begin with none within the limits, and with `Refused` if memory is
-    /// refused, which is asked for only if more than one byte is held and `items` isn't 0; then
-    /// nothing has changed.
+    /// refused; then nothing has changed. Memory is asked for only if more than one byte is held,
+    /// a byte has come since the last call that returned `None`, and `items` isn't 0.
     pub fn next_reply(&mut self) -> Result<Option<Vec<Item>>, ReplyError>
         ensures reply { IfOk result (λ next. IfSome next (λ items.
             TakesRedisReply self.old.limits self.old.held items.items self.new.held)) }
         ensures fewer { IfOk result (λ next. IfSome next (λ _.
             length self.new.held < length self.old.held)) }
+        ensures seen { IfOk result (λ next. IfSome next (λ _. self.new.seen ≡ 0)) }
         ensures waits { IfOk result (λ next. IfNone next
-            ((self.new ≡ self.old) × NoRedisReply self.old.limits self.old.held)) }
+            ((self.new ≡ record self.old { seen = length self.old.held })
+            × NoRedisReply self.old.limits self.old.held)) }
         ensures begins { IfOk result (λ next. IfNone next
             (BeginsRedisReply self.old.limits self.old.held)) }
         ensures err { OnErr result (self.new ≡ self.old) }
@@ -120,15 +132,22 @@ impl ReplyReader {
         ensures reason { IfErr result (λ e. (reason : _) → e ≡ ReplyError.Refused reason
             → reason ≡ Reason.OutOfMemory) }
         ensures due { IfErr result (λ e. (reason : _) → e ≡ ReplyError.Refused reason
-            → (0 < self.old.limits.items) × (1 < length self.old.held)) }
+            → (0 < self.old.limits.items) × (1 < length self.old.held)
+            × (self.old.seen < length self.old.held)) }
         ensures limits { self.new.limits ≡ self.old.limits }
     {
         if self.limits.items == 0 {
             return Err(ReplyError::TooLarge);
         }
-        if !self.pending.read(self.alloc, self.limits)? {
+        let held = self.pending.len();
+        if self.seen > 0 && self.seen == held {
             return Ok(None);
         }
+        if !self.pending.read(self.alloc, self.limits)? {
+            self.seen = held;
+            return Ok(None);
+        }
+        self.seen = 0;
         Ok(Some(self.pending.take(self.alloc)))
     }
 }

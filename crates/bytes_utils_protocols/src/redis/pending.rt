@@ -324,7 +324,7 @@ fn pending_text(pieces: &PackedBuf, alloc: Global, len: usize) -> Result<Item, R
     Ok(Item::Error(bytes))
 }
 
-/// The bulk item of `len` bytes, which begin at `start`.
+/// The bulk item of `len` bytes, which begin at `start`. They are copied only once their end is there.
 fn pending_bulk(
     pieces: &PackedBuf,
     alloc: Global,
@@ -338,39 +338,34 @@ fn pending_bulk(
 {
     let mut cursor = Cursor::new(alloc, pieces.as_segmented());
     cursor.advance(start);
-    let Some(bytes) = next_pending_body(&mut cursor, len)? else {
+    if !pass_pending_body(&mut cursor, len)? {
         return Ok(None);
-    };
+    }
+    let bytes = pieces.as_segmented().copy_range(alloc, start..start + len)?;
     Ok(Some((Item::Bulk(Some(bytes)), cursor.at())))
 }
 
-/// Passes the `len` bytes of a bulk item and the end of a line.
-fn next_pending_body<B: ContiguousBuf + Drop>(
+/// Passes the `len` bytes of a bulk item and the end of a line, and returns whether all have come.
+fn pass_pending_body<B: ContiguousBuf + Drop>(
     cursor: &mut Cursor<'_, B>,
     len: usize,
-) -> Result<Option<Bytes>, ReplyError>
-    ensures body { IfOk result (λ next. IfSome next (λ bytes.
-        unread cursor.old ≡ bytes ++ (redis_line_end ++ unread cursor.new))) }
-    ensures len { IfOk result (λ next. IfSome next (λ bytes. length bytes ≡ len)) }
+) -> Result<bool, ReplyError>
+    ensures body { IfOk result (λ whole. OnTrue whole
+        (unread cursor.old ≡ take len (unread cursor.old) ++ (redis_line_end ++ unread cursor.new))) }
+    ensures len { IfOk result (λ whole. OnTrue whole (len ≤ length (unread cursor.old))) }
     ensures segments { cursor.new.segments ≡ cursor.old.segments }
-    ensures waits { IfOk result (λ next. IfNone next (HasNoRedisBody len (unread cursor.old))) }
-    ensures begins { IfOk result (λ next. IfNone next (BeginsRedisBody len (unread cursor.old))) }
-    ensures malformed { IfErr result (λ e. e ≡ ReplyError.Malformed
-        → (more : List ℕ) → HasNoRedisBody len (unread cursor.old ++ more)) }
-    ensures too_large { IfErr result (λ e. e ≢ ReplyError.TooLarge) }
-    ensures reason { IfErr result (λ e. (reason : _) → e ≡ ReplyError.Refused reason
-        → reason ≡ Reason.OutOfMemory) }
+    ensures waits { IfOk result (λ whole. OnFalse whole (HasNoRedisBody len (unread cursor.old))) }
+    ensures begins { IfOk result (λ whole. OnFalse whole (BeginsRedisBody len (unread cursor.old))) }
+    ensures malformed { IfErr result (λ _. (more : List ℕ) → HasNoRedisBody len (unread cursor.old ++ more)) }
+    ensures err { IfErr result (λ e. e ≡ ReplyError.Malformed) }
 {
-    // While no byte of the line end has come, nothing is copied.
     if cursor.remaining() <= len {
-        return Ok(None);
+        return Ok(false);
     }
-    let Some(bytes) = cursor.take(len)? else {
-        return Ok(None);
-    };
+    cursor.advance(len);
     match cursor.tag(LINE_END) {
-        Ok(Some(())) => Ok(Some(bytes)),
-        Ok(None) => Ok(None),
+        Ok(Some(())) => Ok(true),
+        Ok(None) => Ok(false),
         Err(Mismatch) => Err(ReplyError::Malformed),
     }
 }

@@ -109,14 +109,14 @@ fn protocols_with_slices_if_memory_is_refused(rt: HostRuntime) {
     }
 }
 
-/// Whether the reader waits for the end of this bulk string, if memory for its bytes is there.
+/// Whether the reader waits for the last byte of this bulk string, if memory for its bytes is there.
 fn waits_for_bulk_end(replies: &mut ReplyReader) -> bool {
-    replies.push_slice(b"$5\r\nHello").is_err()
+    replies.push_slice(b"$5\r\nHello\r").is_err()
         || (matches!(replies.next_reply(), Ok(None)) && matches!(replies.next_reply(), Ok(None)))
 }
 
 #[test]
-fn redis_bulk_without_its_end_needs_no_memory(rt: HostRuntime) {
+fn redis_bulk_without_its_last_byte_needs_no_memory(rt: HostRuntime) {
     assert!(rt; waits_for_bulk_end(&mut ReplyReader::new(rt.alloc(), LIMITS)));
 }
 

@@ -2,11 +2,11 @@ use Rattle.std.proofs.Common.{◌≡◌, ◌<◌, subst, arith, length}
 use Rattle.bytes_utils_protocols.specs.Redis.{TakesRedisReply}
 use Rattle.bytes_utils_protocols.specs.RedisPending.{held_by_pending, unread_by_pending}
 use Rattle.bytes_utils_protocols.proofs.RedisLemmas.{reply_takes}
-use Rattle.bytes_utils_protocols.proofs.PendingReplies.{reply_read}
+use Rattle.bytes_utils_protocols.proofs.PendingReplies.{none_seen, reply_read}
 use Rattle.bytes_utils_protocols.proofs.redis.ReplyReader.next_reply.Goals as goal
 
 pub invariant_of-self-2 : goal.invariant_of-self-2
-invariant_of-self-2 c = c.take.ensures.pending c.self.inside.limits
+invariant_of-self-2 c = (c.take.ensures.pending c.self.inside.limits, none_seen c.self.inside.limits _)
 
 pub returns-clause-reply : goal.returns-clause-reply
 returns-clause-reply c =
