@@ -137,14 +137,14 @@ module _ {Y : Type 0} (like : Vec Y) where
     | inr full ↦ record { reply = TooLong; next = old; is = (full, refl); whole = refl; fits = fits }
   ]
   ample Segments old fits = record { reply = Number (length old.segments); next = old; is = (refl, refl); whole = refl; fits = fits }
-  ample (Read Remaining) old fits = record { reply = Number (length (concat old.segments)); next = old; is = ((refl, refl), refl); whole = refl; fits = fits }
+  ample (Read Remaining) old fits = record { reply = Number (length (concat old.segments)); next = old; is = ((refl, tt, refl), refl); whole = refl; fits = fits }
   ample (Read Chunk) old fits =
       let unread = concat old.segments in
       let size = length-take 1 unread in
       record {
         reply = Shown (vec_of like (take 1 unread) (omega (arith, size)));
         next = old;
-        is = ((first unread, refl), refl);
+        is = ((first unread, tt, refl), refl);
         whole = refl;
         fits = fits;
       }
@@ -153,24 +153,24 @@ module _ {Y : Type 0} (like : Vec Y) where
       first [] = record { front = refl; fits = omega arith; some = λ some. absurd (omega (arith, some)) }
       first (x ∷ xs) = record { front = refl; fits = omega arith; some = λ some. omega arith }
   ample (Read (Advance n)) old fits = elim (cases_lt (length (concat old.segments)) n) [
-    | inl past ↦ record { reply = PastEnd; next = old; is = ((past, refl), refl); whole = refl; fits = fits }
+    | inl past ↦ record { reply = PastEnd; next = old; is = ((past, tt, refl), refl); whole = refl; fits = fits }
     | inr within ↦ (let left = skip old.segments n within in
         record {
           reply = Done;
           next = counted 0 old left.0;
-          is = ((within, left.1), record { turns = cost-counted n 0 old left.0 left.1; given = refl; dropped = refl; calls = omega arith });
+          is = ((within, tt, left.1), record { turns = cost-counted n 0 old left.0 left.1; given = refl; dropped = refl; calls = omega arith });
           whole = refl;
           fits = fits-skip n _ _ left.1 fits;
         })
   ]
   ample (Read (CopyOut n)) old fits = elim (cases_lt (length (concat old.segments)) n) [
-    | inl past ↦ record { reply = PastEnd; next = old; is = ((past, refl), refl); whole = refl; fits = fits }
+    | inl past ↦ record { reply = PastEnd; next = old; is = ((past, tt, refl), refl); whole = refl; fits = fits }
     | inr within ↦ (let left = skip old.segments n within in
         let count = copies n old left.0 left.1 in
         record {
           reply = Piece (take n (concat old.segments));
           next = counted count.0 old left.0;
-          is = (((within, refl), left.1), count.1);
+          is = (((within, refl), tt, left.1), count.1);
           whole = refl;
           fits = fits-skip n _ _ left.1 fits;
         })
@@ -180,7 +180,7 @@ module _ {Y : Type 0} (like : Vec Y) where
       record {
         reply = Slices (vec_of like slices.all (omega (arith, fits, slices.size)));
         next = old;
-        is = ((AreCallSlices-sliced n (concat old.segments) slices, refl), refl);
+        is = ((AreCallSlices-sliced n (concat old.segments) slices, tt, refl), refl);
         whole = refl;
         fits = fits;
       }

@@ -31,5 +31,5 @@ fits-call (Push bytes) old Done new is = λ fits. fits-same _ _ (ap (λ held. he
 fits-call (Push bytes) old TooLong new is = fits-same _ _ (ap (λ held. held.segments) is.1)
 fits-call (Push bytes) old NoMemory new is = fits-same _ _ (ap (λ held. held.segments) is.2)
 fits-call Segments old (Number n) new is = fits-same _ _ (ap (λ held. held.segments) is.1)
-fits-call (Read call) old reply new is = fits-left (skipped_by_read call reply) _ _ is.0.1
+fits-call (Read call) old reply new is = fits-left (skipped_by_read call reply) _ _ is.0.2
 fits-call call old reply new is = absurd is

@@ -5,6 +5,7 @@ use Rattle.std.specs.Option.{option_map_or}
 use Rattle.bytes_utils.specs.Keeping.{AreInclusivePartsToCome, RefusesInclusive, most_inclusive_parts}
 use Rattle.bytes_utils.specs.Lines.{AreLinesToCome, RefusesLine}
 use Rattle.bytes_utils.specs.Splitting.{AreForwardPartsToCome, AreBackwardPartsToCome, RefusesSplit, most_parts}
+use Rattle.bytes_utils.specs.Step.{StepsHaveGiven}
 use Rattle.bytes_utils.specs.Words.{AreWordsToCome, RefusesWord}
 use Rattle.bytes_utils.specs.declared.split.direction.Direction.TheVariants.{Forward, Backward}
 use Rattle.bytes_utils_run.specs.declared.splitter.AnySplitter.{AnySplitter}
@@ -27,6 +28,10 @@ RefusesNext refuses_cut (Lines rest) = RefusesLine refuses_cut rest
 RefusesNext refuses_cut (Split s) = RefusesSplit refuses_cut Forward s
 RefusesNext refuses_cut (RSplit s) = RefusesSplit refuses_cut Backward s
 RefusesNext refuses_cut (Inclusive s) = RefusesInclusive refuses_cut s
+
+-- since the state `start` these parts were given, up to a state in which a step may be refused for this reason
+abbrev pub MayRefuseAfter : {S C E : Type 0} → (Type 0 → E → Type 0) → AnySplitter S C → List (List ℕ) → E → Type 0
+MayRefuseAfter {S} {C} refuses_cut start parts reason = (last : AnySplitter S C) × StepsHaveGiven AreToCome start parts last × RefusesNext refuses_cut last reason
 
 -- a bound on the number of parts to come
 abbrev pub most_to_come : {S C : Type 0} → AnySplitter S C → ℕ

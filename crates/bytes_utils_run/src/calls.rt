@@ -2,7 +2,7 @@
 ghost use Rattle.std.specs.Prelude.{◌≡◌, [], Some, IsNone, IfNone, OnSome, IfSome};
 ghost use Rattle.bytes_utils_buf.specs.Segments.{IsPaid};
 ghost use Rattle.bytes_utils_buf.specs.Tally.{IsBalanced, IsCovered};
-ghost use Rattle.bytes_utils_run.specs.Calls.{IsCall, IsRead, IsRunOfCalls, lists_for_calls};
+ghost use Rattle.bytes_utils_run.specs.Calls.{IsCall, IsRead, IsRunOfCalls, LosesOfBuffer, lists_for_calls};
 ghost use Rattle.bytes_utils_buf.specs.declared.refused.Reason.{Reason as WhyRefused};
 
 mod call;
@@ -79,7 +79,7 @@ pub fn drive<B: BufParts + Drop>(
 
 /// Makes these calls on any buffer, one after another, as `drive` does on a `SegmentedBuf`.
 pub fn read_calls<B: BufParts>(alloc: Global, buf: &mut B, calls: Vec<ReadCall>) -> Replies
-    ensures run { IfNone result.refused (IsRunOfCalls (IsRead B.loses) calls.items (lists_for_calls (B.unread buf.old))
+    ensures run { IfNone result.refused (IsRunOfCalls (IsRead (LosesOfBuffer B.loses)) calls.items (lists_for_calls (B.unread buf.old))
         result.given.items (lists_for_calls (B.unread buf.new))) }
     ensures refused { IfSome result.refused (λ reason. reason ≡ WhyRefused.OutOfMemory) }
     ensures none { OnSome result.refused (result.given.items ≡ []) }

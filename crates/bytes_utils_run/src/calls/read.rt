@@ -1,6 +1,6 @@
 //! One read of any buffer.
 ghost use Rattle.std.specs.Prelude.{◌≡◌};
-ghost use Rattle.bytes_utils_run.specs.Calls.{IsRead, lists_for_calls};
+ghost use Rattle.bytes_utils_run.specs.Calls.{IsRead, LosesOfBuffer, lists_for_calls};
 
 use super::call::{ReadCall, Reply};
 use super::show::{show_chunk, show_slices};
@@ -10,7 +10,7 @@ use std::alloc::Global;
 
 /// Makes this call and returns its reply.
 pub(super) fn make_read<B: BufParts>(alloc: Global, buf: &mut B, call: ReadCall) -> Reply
-    ensures reply { IsRead B.loses call (lists_for_calls (B.unread buf.old)) result (lists_for_calls (B.unread buf.new)) }
+    ensures reply { IsRead (LosesOfBuffer B.loses) call (lists_for_calls (B.unread buf.old)) result (lists_for_calls (B.unread buf.new)) }
     ensures kept { B.kept buf.new ≡ B.kept buf.old }
 {
     match call {
@@ -24,7 +24,7 @@ pub(super) fn make_read<B: BufParts>(alloc: Global, buf: &mut B, call: ReadCall)
 
 #[tactic(auto, using(crate::proofs::CallsLemmas::concat_lists_of, crate::proofs::CallsLemmas::skips_lists_of))]
 fn read_advance<B: BufParts>(buf: &mut B, cnt: usize) -> Reply
-    ensures reply { IsRead B.loses (ReadCall.Advance cnt)
+    ensures reply { IsRead (LosesOfBuffer B.loses) (ReadCall.Advance cnt)
         (lists_for_calls (B.unread buf.old)) result (lists_for_calls (B.unread buf.new)) }
     ensures kept { B.kept buf.new ≡ B.kept buf.old }
 {
@@ -37,7 +37,7 @@ fn read_advance<B: BufParts>(buf: &mut B, cnt: usize) -> Reply
 
 #[tactic(auto, using(crate::proofs::CallsLemmas::concat_lists_of, crate::proofs::CallsLemmas::skips_lists_of))]
 fn read_copy<B: BufParts>(alloc: Global, buf: &mut B, len: usize) -> Reply
-    ensures reply { IsRead B.loses (ReadCall.CopyOut len)
+    ensures reply { IsRead (LosesOfBuffer B.loses) (ReadCall.CopyOut len)
         (lists_for_calls (B.unread buf.old)) result (lists_for_calls (B.unread buf.new)) }
     ensures kept { B.kept buf.new ≡ B.kept buf.old }
 {

@@ -1,6 +1,6 @@
 //! One call on a `SegmentedBuf`.
 ghost use Rattle.bytes_utils_buf.specs.Segments.{IsPaid};
-ghost use Rattle.bytes_utils_run.specs.Calls.{CountsRead, IsCall, IsRead, lost_of_segments};
+ghost use Rattle.bytes_utils_run.specs.Calls.{CountsRead, IsCall, IsRead, LosesOfSegments};
 
 use super::call::{Call, ReadCall, Reply};
 use super::show::{show_chunk, show_slices};
@@ -43,7 +43,7 @@ fn read_segmented<B: BufParts + Drop>(
     buf: &mut SegmentedBuf<B>,
     call: ReadCall,
 ) -> Reply
-    ensures reply { IsRead (lost_of_segments B.loses) call buf.old.segments result buf.new.segments }
+    ensures reply { IsRead (LosesOfSegments B.loses) call buf.old.segments result buf.new.segments }
     ensures counts { CountsRead call buf.old result buf.new }
     ensures paid { IsPaid buf.old buf.new }
 {
@@ -57,7 +57,7 @@ fn read_segmented<B: BufParts + Drop>(
 }
 
 fn advance_segmented<B: BufParts + Drop>(buf: &mut SegmentedBuf<B>, cnt: usize) -> Reply
-    ensures reply { IsRead (lost_of_segments B.loses) (ReadCall.Advance cnt) buf.old.segments result buf.new.segments }
+    ensures reply { IsRead (LosesOfSegments B.loses) (ReadCall.Advance cnt) buf.old.segments result buf.new.segments }
     ensures counts { CountsRead (ReadCall.Advance cnt) buf.old result buf.new }
     ensures paid { IsPaid buf.old buf.new }
 {
@@ -69,7 +69,7 @@ fn advance_segmented<B: BufParts + Drop>(buf: &mut SegmentedBuf<B>, cnt: usize) 
 }
 
 fn copy_segmented<B: BufParts + Drop>(alloc: Global, buf: &mut SegmentedBuf<B>, len: usize) -> Reply
-    ensures reply { IsRead (lost_of_segments B.loses) (ReadCall.CopyOut len) buf.old.segments result buf.new.segments }
+    ensures reply { IsRead (LosesOfSegments B.loses) (ReadCall.CopyOut len) buf.old.segments result buf.new.segments }
     ensures counts { CountsRead (ReadCall.CopyOut len) buf.old result buf.new }
     ensures paid { IsPaid buf.old buf.new }
 {

@@ -10,7 +10,7 @@ use std::alloc::{AllocError, Global};
 
 /// Copies the first chunk.
 pub(super) fn show_chunk<B: BufParts>(alloc: Global, buf: &B) -> Reply
-    ensures { IsReply B.loses Reading.Chunk (B.unread buf.now) result }
+    ensures { IsReply Reading.Chunk (B.unread buf.now) result }
 {
     let chunk = buf.chunk();
     if chunk.is_empty() {
@@ -24,7 +24,7 @@ pub(super) fn show_chunk<B: BufParts>(alloc: Global, buf: &B) -> Reply
 
 /// Copies the slices that a table of `places` places is filled with.
 pub(super) fn show_slices<B: BufParts>(alloc: Global, buf: &B, places: usize) -> Reply
-    ensures { IsReply B.loses (Reading.Chunks places) (B.unread buf.now) result }
+    ensures { IsReply (Reading.Chunks places) (B.unread buf.now) result }
 {
     match shown_slices(alloc, buf, places) {
         Ok(slices) => Reply::Slices(slices),

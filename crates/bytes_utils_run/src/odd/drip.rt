@@ -1,5 +1,5 @@
 //! A buffer that shows one byte at a time.
-ghost use Rattle.std.specs.Prelude.{◌≡◌, ◌≤◌, length, take, drop, All, IsOk, IfOk, IfErr, OnErr};
+ghost use Rattle.std.specs.Prelude.{◌≡◌, ◌<◌, ◌≤◌, length, take, drop, All, IsOk, IfOk, IfErr, OnErr};
 ghost use Rattle.bytes.specs.Unread.{IsChunkOf};
 ghost use Rattle.bytes_utils_buf.specs.Copies.{taken_by_copy};
 ghost use Rattle.bytes_utils_buf.specs.Slices.{FillsSlices};
@@ -53,7 +53,7 @@ impl Buf for Drip {
 
 /// `copy_out` is that of `Bytes`.
 impl BufParts for Drip {
-    ghost loses = { λ _ taken. taken ≡ 0 };
+    ghost loses = { λ held len taken. (taken ≡ 0) × (len < held) };
 
     fn copy_out(&mut self, alloc: Global, len: usize) -> Result<Bytes, CopyRefused> {
         self.bytes.copy_out(alloc, len)

@@ -1,5 +1,5 @@
 //! A storage that grants a limited number of splits.
-ghost use Rattle.std.specs.Prelude.{◌≡◌, ◌-◌, ◌^◌, ◌≤◌, length, take, drop, [], IsErr, IsOkAnd, IfOk, IfErr};
+ghost use Rattle.std.specs.Prelude.{◌≡◌, ◌⊎◌, ◌-◌, ◌^◌, ◌<◌, ◌≤◌, length, take, drop, [], IsErr, IsOk, IsOkAnd, IfOk, IfErr};
 ghost use Rattle.bytes_utils_buf.specs.declared.refused.Reason.TheVariants.{OutOfMemory};
 
 use bytes::{Bytes, BytesMut};
@@ -11,8 +11,9 @@ use std::marker::Model;
 /// Shared bytes that grant a limited number of splits, and refuse the next as if memory were short.
 ///
 /// With no split left, a split fails with [`Reason::OutOfMemory`], as it does if memory is refused.
-/// Otherwise the left piece grants one split less than before, and the right piece two less, or none.
-/// So a splitter that makes two splits a step makes exactly as many splits as were granted.
+/// Otherwise one at an end of the bytes never fails; the left piece grants one split less than before,
+/// and the right piece two less, or none. So a splitter that makes two splits a step makes exactly as
+/// many splits as were granted.
 #[derive(Drop)]
 pub struct RefuseAfter {
     bytes: Bytes,
@@ -46,6 +47,10 @@ impl Storage for RefuseAfter {
 
     ghost refuses = { λ reason. reason ≡ OutOfMemory };
 
+    ghost refuses_empty = { λ reason. reason ≡ OutOfMemory };
+
+    ghost refuses_side = { λ reason. reason ≡ OutOfMemory };
+
     fn empty(_alloc: Global) -> Result<Self, Reason>
         ensures value { IsOkAnd result (λ s. s ≡ record { stored = []; granted = 2 ^ 64 - 1 }) }
         ensures reason { IfErr result (λ reason. reason ≡ OutOfMemory) }
@@ -61,6 +66,7 @@ impl Storage for RefuseAfter {
         ensures ok { IfOk result
             (λ s. s ≡ record { stored = creator.items; granted = 2 ^ 64 - 1 }) }
         ensures err { IfErr result (λ e. e.back.items ≡ creator.items) }
+        ensures none { creator.items ≡ [] → IsOk result }
         ensures reason { IfErr result (λ e. e.reason ≡ OutOfMemory) }
     {
         match creator.freeze() {
@@ -79,6 +85,7 @@ impl Storage for RefuseAfter {
         ensures right { IfOk result (λ pieces. pieces.1
             ≡ record { stored = drop at self.stored; granted = self.granted - 2 }) }
         ensures none_left { self.granted ≡ 0 → IsErr result }
+        ensures ends { 0 < self.granted → (at ≡ 0) ⊎ (at ≡ length self.stored) → IsOk result }
         ensures err { IfErr result (λ e. e.back ≡ self) }
         ensures reason { IfErr result (λ e. e.reason ≡ OutOfMemory) }
     {
@@ -106,6 +113,7 @@ impl Storage for RefuseAfter {
         ensures front { IfOk result (λ front. front
             ≡ record { stored = take at self.stored; granted = self.granted - 1 }) }
         ensures none_left { self.granted ≡ 0 → IsErr result }
+        ensures ends { 0 < self.granted → (at ≡ 0) ⊎ (at ≡ length self.stored) → IsOk result }
         ensures err { IfErr result (λ e. e.back ≡ self) }
         ensures reason { IfErr result (λ e. e.reason ≡ OutOfMemory) }
     {
@@ -118,6 +126,7 @@ impl Storage for RefuseAfter {
         ensures back { IfOk result (λ back. back
             ≡ record { stored = drop at self.stored; granted = self.granted - 2 }) }
         ensures none_left { self.granted ≡ 0 → IsErr result }
+        ensures ends { 0 < self.granted → (at ≡ 0) ⊎ (at ≡ length self.stored) → IsOk result }
         ensures err { IfErr result (λ e. e.back ≡ self) }
         ensures reason { IfErr result (λ e. e.reason ≡ OutOfMemory) }
     {

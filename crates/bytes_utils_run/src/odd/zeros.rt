@@ -68,7 +68,7 @@ impl Buf for Zeros {
 
 /// `copy_out` allocates new bytes.
 impl BufParts for Zeros {
-    ghost loses = { λ _ taken. taken ≡ 0 };
+    ghost loses = { λ _ _ taken. taken ≡ 0 };
 
     fn copy_out(&mut self, alloc: Global, len: usize) -> Result<Bytes, CopyRefused> {
         let Ok(copy) = zero_bytes(alloc, len) else {

@@ -1,12 +1,13 @@
 //! Printing results: parts, replies, and the slices in a reply.
-ghost use Rattle.std.specs.Prelude.{◌≡◌, ◌⊎◌, ℕ, List, None, Some, OnOk, OnErr, IfOk, IfErr, IsErrOf, IsOkUnless, map, length, ◌++◌};
+ghost use Rattle.std.specs.Prelude.{◌≡◌, ◌⊎◌, ℕ, List, None, Some, OnOk, OnErr, IfOk, IfErr, IfSome, IsErrOf, IsOkUnless, map, length, ◌++◌};
 ghost use Rattle.std.specs.Io.KnownBytes.{Appends};
 ghost use Rattle.std.specs.List.{concat};
 ghost use Rattle.std.specs.Str.{chars};
+ghost use Rattle.bytes_utils.specs.Ends.{RefusesCut};
 ghost use Rattle.bytes_utils.specs.Outcome.{Outcome};
 ghost use Rattle.bytes_utils_buf.specs.declared.refused.Reason.{Reason as WhyRefused};
 ghost use Rattle.bytes_utils_run.specs.Answer.{HasParts, PrintsBeginning, PrintsGiven};
-ghost use Rattle.bytes_utils_run.specs.AnySplitter.{AreToCome};
+ghost use Rattle.bytes_utils_run.specs.AnySplitter.{AreToCome, MayRefuseAfter};
 ghost use Rattle.bytes_utils_run.specs.AppendsAndConsumes.{AppendsBeginning};
 ghost use Rattle.bytes_utils_run.specs.Printed.{printed as printed_bytes, printed_number, printed_part, printed_reply};
 
@@ -94,10 +95,10 @@ pub(super) fn print_all<E: Printable, W: Write>(writer: &mut W, entries: &[E]) -
 }
 
 /// Prints the parts that a splitter gives, each as soon as it is split off. Returns `None` if all are
-/// printed, or the reason if a split is refused; then the first of them are printed, and not all. No
-/// clause says that a split was refused. Fails with `Io` if a write fails; then a beginning of what
-/// all parts print was written. Requires that some list of parts is to come, as of each splitter that
-/// `AnySplitter::new` makes.
+/// printed, or the reason if a split is refused, one for which a split may be refused after the parts
+/// before it; then these are printed, and not all. Fails with `Io` if a write fails; then a beginning
+/// of what all parts print was written. Requires that some list of parts is to come, as of each
+/// splitter that `AnySplitter::new` makes.
 pub fn print_parts<S: Storage, W: Write>(
     writer: &mut W,
     splitter: &mut AnySplitter<'_, S>,
@@ -105,6 +106,7 @@ pub fn print_parts<S: Storage, W: Write>(
     requires { (parts : List (List ℕ)) × AreToCome splitter.now parts }
     ensures ok { IfOk result (λ refused. (parts : List (List ℕ))
         × Outcome (AreToCome splitter.old) parts refused
+        × IfSome refused (MayRefuseAfter (RefusesCut S.refuses S.refuses_empty S.refuses_side) splitter.old parts)
         × Appends (W.contents writer.old) (W.contents writer.new)
         (concat (map printed_part parts))) }
     ensures err { OnErr result ((parts : List (List ℕ)) × AreToCome splitter.old parts

@@ -17,12 +17,16 @@ loop-item-init g c = record {
   printed = Appends-nil _;
 }
 
--- a split was refused: the parts that were to come are missing
+-- a split was refused, as it may be in this state: the parts that were to come are missing
 pub returns-in-Err-clause-ok : goal.returns-in-Err-clause-ok
 returns-in-Err-clause-ok g c =
     let before = c.loop-item.invariant in
-    let step = rw c.in-Err.is at c.in-Some.ensures.steps in
-    (before.parts, StepsHaveGiven-refused AreToCome c.args.splitter.now before.had step.some, before.printed)
+    let step = rw c.in-Err.is at c.in-Some.ensures.steps in (
+      before.parts,
+      StepsHaveGiven-refused AreToCome c.args.splitter.now before.had step.some,
+      (_, before.had, step.gives.0),
+      before.printed,
+    )
 
 -- first bytes of the part were printed, and others are to come
 pub returns-in_err-print-in-Ok-clause-err : goal.returns-in_err-print-in-Ok-clause-err
