@@ -9,6 +9,8 @@ use bytes_utils_run::laws::{
     unique_inclusive,
 };
 
+// A law is proved from its bounds alone. The proof of this test takes each at a type, and nothing of
+// it is done at run time.
 #[test]
 fn laws_of_characters_and_texts() {
     unique_forward::<char>();
