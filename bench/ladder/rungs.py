@@ -6,7 +6,7 @@ from pathlib import Path
 
 sys.path.append(os.path.dirname(os.path.dirname(os.path.realpath(__file__))))
 from programs import ROOT, source
-from kit import C_CODE, PROCESSORS, QUIET, TRY, compiled, each, tried_on, turn
+from kit import C_CODE, CLANG, PROCESSORS, QUIET, TRY, each, tried, turn, written
 from table import Rung, said
 
 CRATES = ["bytes_utils_buf", "bytes_utils", "bytes_utils_codec", "bytes_utils_protocols"]
@@ -29,7 +29,7 @@ def rungs(cases, crates=f"{ROOT}/crates", only=""):
         modules = [only] if only else ARM.findall(Path(folder, "src/main.rt").read_text("utf-8"))
         fault = built(room, folder, modules, crates)
         parts = [modules[it::PROCESSORS] for it in range(PROCESSORS)]
-        commands = [[f"{room}/ladder", ",".join(it), *map(str, chain(*cases))] for it in parts if it]
+        commands = [["timeout", "300", f"{room}/ladder", ",".join(it), *map(str, chain(*cases))] for it in parts if it]
         ended = [] if fault else each(ran, commands)
     for status, wrote in ended:
         texts = wrote.split("a rung\n")[1:]
@@ -48,20 +48,19 @@ def rungs(cases, crates=f"{ROOT}/crates", only=""):
 
 def built(room, folder, modules, crates):
     """What is wrong with the build of the program of some modules, which runs once, to copy itself into the room."""
-    compiled(f"{ROOT}/bench/ladder/heap.c", f"{room}/heap.o", "-c")
+    subprocess.run([*CLANG, "-c", "-o", f"{room}/heap.o", f"{ROOT}/bench/ladder/heap.c"], check=True)
     main = Path(folder, "src/main.rt")
     main.write_text(ARM.sub(lambda it: it[0] if it[1] in modules else "", main.read_text("utf-8")), "utf-8")
     heap = [f"{room}/heap.o", *(it for it in C_CODE if "liblibc" not in it)]
-    uses = ["std", *CRATES, "bytes"]
-    cases = [(["copy", f"{room}/ladder"], b"", b"")]
-    [(status, wrote)] = tried_on(cases, "ladder_bench", uses, folder, c_code=heap, crates=crates)
-    return "" if (status, wrote) == (0, b"") else f"status {status}, {wrote.decode(errors='replace')}"
+    written({"copy": "", "copy.args": f"copy\n{room}/ladder\n"}, f"{room}/cases")
+    said = tried("ladder_bench", ["std", *CRATES, "bytes"], folder, f"{room}/cases", crates, heap)
+    return "" if "case=copy run=ended status=0" in said else said[-2000:]
 
 
 def ran(words):
     """The exit status of a program, and what it writes."""
     with turn(TRY):
-        it = subprocess.run(words, timeout=300, **QUIET)
+        it = subprocess.run(words, **QUIET)
     return it.returncode, it.stdout
 
 
