@@ -1,28 +1,24 @@
-"""Wrong bodies: how an edit, whose form CONTRIBUTING.md has, is read and applied, and what the check of a copy says of
-it."""
+"""Wrong bodies, whose form CONTRIBUTING.md has: how an edit is read and applied, and what a check says of it."""
 import re
 from collections import namedtuple
 from pathlib import Path
 
 from kit import CRATES, EXAMPLES, FOLDERS, ROOT, files_of, text_of
-from uses import below
 
 # what is said of a goal that stays open. Else a term of a proof file no longer fits, as it also may for a right body
 OPEN = re.compile(r"src/|\./proofs/.*(does not follow|allow values at which|(found )?no proof\b)")
 BY_PROOF = "by the proof file alone"
 UNREAD = "the prover can't read the copy"
-# a function of a file, which may have no body; one that has at most one line of it; a macro; the head of an impl or a
-# trait; in it the trait and the type; and where a type or a trait is defined
+# a function of a file, which may have no body; one of at most one line, beside one that takes `self` apart; a macro;
+# the head of an impl or a trait; in it the trait and the type; and where a type or a trait is defined
 START = r"(?:pub(?:\([^)]*\))? )?(?:const |unsafe |final )*fn "
 NO_BODY, BODY = rf"[^\n]*{{}}|(?:(?!{{\n|^ *{START}).)*?;", rf"(?:(?!^ *{START}).)*?^\1(?:{{}}|}})"
 FUNCTION = re.compile(rf"^( *){START}(\w+)({NO_BODY}|{BODY})\n", re.M | re.S)
-ONE_LINE = re.compile(r"(?:\{\n.*\n *\}|\{\}|;)\n\Z")
+ONE_LINE = re.compile(r"(?:\{\n(?: *let \w+ \{.*\} = self;\n)?.*\n *\}|\{\}|;)\n\Z")
 MACRO = re.compile(r"^macro_rules! (\w+) \{.*?^\}", re.M | re.S)
 HEAD = re.compile(r"^(?:(?:unsafe )?impl\b|(?:pub(?:\([^)]*\))? )?trait\b)[^{]*", re.M)
 OWNER = re.compile(r".*?(?:trait|impl(?:<(?:->|[^<>]|<[^<>]*>)*>)?) (?:(.*) for )?(.*?)(?:: |\s+where\b|\s*\Z)", re.S)
 TYPE = re.compile(r"^(?:pub(?:\([^)]*\))? )?(?:struct|enum|trait) (\w+)", re.M)
-# it only takes a value apart, so that no wrong body can be written
-ONLY_TAKES_APART = [("bytes_utils", "into_inner")]
 # a program's files are texts by their paths, and its folder is that of its edits; a pair is an old text and a new one
 Program = namedtuple("Program", "name uses files folder functions")
 Edit = namedtuple("Edit", "program name file functions test ladder breaks is_right pairs")
@@ -111,33 +107,27 @@ def fault_of(edit):
 
 
 def unchanged(program):
-    """The public functions of a crate, of more than one line, in which no wrong body is, nor in a private function by
-    which they work."""
+    """The public functions of a crate, of more than one line, in which no wrong body is, nor in a private function that
+    they call."""
     wrong = {name for it in edits_of(program) if not it.is_right for name in it.functions}
-    found, calls, changed = [], {}, set()
+    private = {it[2] for _, it, head, name in program.functions if name in wrong and not is_public(it[0], head)}
     for _, it, head, name in program.functions:
-        is_seen = is_public(it[0], head)
-        calls[name if is_seen else it[2]] = re.findall(r"\b(\w+)\(", it[3])
-        if name in wrong:
-            changed |= set() if is_seen else {it[2]}
-        elif is_seen and not ONE_LINE.search(it[0]) and (program.name, it[2]) not in ONLY_TAKES_APART:
-            found.append(name)
-    return [f"{program.name}/{it}" for it in found if not below(it, calls) & changed]
+        is_bare = name not in wrong and is_public(it[0], head) and not {*re.findall(r"\b(\w+)\(", it[3])} & private
+        if is_bare and not ONE_LINE.search(it[0]):
+            yield f"{program.name}/{name}"
 
 
 def goals_in(said):
     """For each function that a check names, its own goals that are refused. A caller that waits for it has none."""
     found, notes = {}, []
     errors = [" ".join(it.split()) for it in re.findall(r"^\./proofs/\S+: error: .*(?:\n  .*)?", said, re.M)]
-    for line in said.split("\n"):
-        if re.match(r"note: \S+\.rt:\d+:\d+: ", line):
-            notes.append(line.removeprefix("note: "))
-        elif named := re.match(r"(?:fn|impl) \w+::(\S+): (.*)", line):
-            name, verdict = named.groups()
-            own = [it for it in errors if it.startswith(f"./proofs/{name.replace('::', '/')}/")] + notes
-            waits = re.search(r"; it waits for|, which (is not proved|are not proved|has no proof)", verdict)
+    lines = re.findall(r"^(?:note: (\S+\.rt:\d+:\d+: .*)|(?:fn|impl) \w+::(\S+): (.*))", said, re.M)
+    for note, name, verdict in lines:
+        own = [it for it in errors if it.startswith(f"./proofs/{name.replace('::', '/')}/")] + notes
+        waits = re.search(r"; it waits for|, which (is not proved|are not proved|has no proof)", verdict)
+        if name:
             found[name] = [] if verdict.startswith("proved") else own or ([] if waits else [verdict])
-            notes = []
+        notes = [] if name else [*notes, note]
     return found
 
 

@@ -1,11 +1,12 @@
 """What the measurements share: their options, the programs that they build and run, and the count of what is right."""
 import argparse, os, re, shutil, subprocess, sys, tempfile
 from contextlib import contextmanager
+from pathlib import Path
 
 ROOT = os.path.dirname(os.path.dirname(os.path.realpath(__file__)))
 SPEED = f"{ROOT}/docs/SPEED.md"
 sys.path.append(f"{ROOT}/.ci")
-from kit import build, counted, tried_on
+from kit import build, counted, tried
 
 MIB = 1 << 20
 # the crate of our program, and the libraries that it uses
@@ -111,7 +112,7 @@ def ours(room):
     """Builds our program of all benches, over the crates of the repository, which `rt lib` builds before as far as they
     have changed, and the kit's."""
     called(["rt", "lib"], f"{ROOT}/crates/bytes_utils_protocols")
-    said = build(CRATE, USES, source("ours", room), f"{room}/kept", f"{room}/ours_made")
+    said = build(CRATE, USES, source("ours", room), f"{room}/ours_made")
     if not os.path.isfile(f"{room}/ours_made"):
         sys.exit(f"our program isn't proved:\n{said[-3000:]}")
     return f"{room}/ours_made"
@@ -136,6 +137,23 @@ def rust(bench, original=""):
     return built
 
 
+def tried_on(cases, folder):
+    """The exit status and the output of our program, unproved, on each case: its arguments, its input, and the output
+    that is compared to the byte, or nothing, where the output comes with a line feed after it."""
+    with tempfile.TemporaryDirectory(prefix="cases-") as room:
+        for number, (words, given, wanted) in enumerate(cases):
+            Path(room, f"{number:03}").write_bytes(given)
+            Path(room, f"{number:03}.args").write_text("".join(f"{it}\n" for it in words))
+            if wanted is not None:
+                Path(room, f"{number:03}.stdout").write_bytes(wanted)
+        said = tried(CRATE, USES, folder, room)
+    for number, (*_, wanted) in enumerate(cases):
+        name = f"{number:03}"
+        it = re.search(rf"(?:^== {name}\n(.*?))?^case={name} run=ended status=(\d+)(.*?)$", said, re.M | re.S)
+        output = wanted if it and "output=expected" in it[3] else (it and it[1] or said[-2000:]).encode()
+        yield int(it[2]) if it else None, output
+
+
 def judged(benches):
     """Builds our program unproved, runs it on the cases of each bench, and gives each with what is wrong with it, or an
     empty text. A case is its name, the bench's arguments, its input, and what is right: all that the program writes, or
@@ -143,7 +161,7 @@ def judged(benches):
     cases = [(f"{of}: {name}", [of, *words], *more) for of, each in benches.items() for name, words, *more in each]
     given = [(map(str, words), it, right if isinstance(right, bytes) else None) for _, words, it, right in cases]
     with tempfile.TemporaryDirectory(prefix="bench-") as room:
-        ended = [*tried_on(given, CRATE, USES, source("ours", room))]
+        ended = [*tried_on(given, source("ours", room))]
     for (name, *_, right), (status, wrote) in zip(cases, ended):
         seen = wrote if isinstance(right, bytes) else [*map(int, re.findall(rb"\d+", wrote))][: len(right)]
         is_right = status == 0 and seen == right

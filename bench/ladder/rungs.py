@@ -1,12 +1,12 @@
 """The rungs of each call: what the ladder's program says of it on bytes of some length, in some segments."""
-import functools, os, re, sys, tempfile
+import functools, os, re, subprocess, sys, tempfile
 from collections import defaultdict
 from itertools import chain
 from pathlib import Path
 
 sys.path.append(os.path.dirname(os.path.dirname(os.path.realpath(__file__))))
 from programs import ROOT, source
-from kit import C_CODE, compiled, each, tried_on
+from kit import C_CODE, CLANG, PROCESSORS, QUIET, TRY, each, tried, turn, written
 from table import Rung, said
 
 CRATES = ["bytes_utils_buf", "bytes_utils", "bytes_utils_codec", "bytes_utils_protocols"]
@@ -15,24 +15,23 @@ FEW = [(n, k, 0) for n in (0, 1, 16, 513, 4_097) for k in (1, 2, 3) if k <= max(
 FEW += [(4_097, 200, 0), (65_537, 3, 0)]
 # what the heap and then the program print of a rung
 ROW = re.compile(r"^(\d+) (\d+) (-?\d+) (\w+) (.+)$", re.M)
+# where the program comes to a module
+ARM = re.compile(r'^ +"(\w+)" .*=> \w+::climb\(.*\n', re.M)
 
 
-def rungs(lists, crates=f"{ROOT}/crates", only=r"\w+"):
-    """Builds the program unproved, over its own heap and the crates in a folder, for each list of cases, and runs these
-    side by side: the rungs of each call, or of those of one module. It also refuses request after request of each call:
-    what was tried, each with what is wrong with it."""
+def rungs(cases, crates=f"{ROOT}/crates", only=""):
+    """Builds the program unproved, over its own heap and the crates in a folder, and runs it on the cases, on each
+    processor for some of its modules: the rungs of each call, or of those of one module. It also refuses request after
+    request of each call: what was tried, each with what is wrong with it."""
     found, refused = defaultdict(list), []
     with tempfile.TemporaryDirectory(prefix="ladder-") as room:
-        compiled(f"{ROOT}/bench/ladder/heap.c", f"{room}/heap.o", "-c")
-        heap = [f"{room}/heap.o", *(it for it in C_CODE if "liblibc" not in it)]
-        program = ["ladder_bench", ["std", *CRATES, "bytes"], source("ladder/ours", room)]
-        main = Path(program[2], "src/main.rt")
-        others = re.compile(rf"^ +(?!{only}::)\w+::climb\(.*\n", re.M)
-        main.write_text(others.sub("", main.read_text("utf-8")), "utf-8")
-        given = [[(map(str, chain(*cases)), b"", None)] for cases in lists]
-        ended = each(lambda it: [*tried_on(it, *program, c_code=heap, crates=crates)], given)
-    for cases, [(status, wrote)] in zip(lists, ended):
-        wrote = wrote.decode(errors="replace")
+        folder = source("ladder/ours", room)
+        modules = [only] if only else ARM.findall(Path(folder, "src/main.rt").read_text("utf-8"))
+        fault = built(room, folder, modules, crates)
+        parts = [modules[it::PROCESSORS] for it in range(PROCESSORS)]
+        commands = [["timeout", "300", f"{room}/ladder", ",".join(it), *map(str, chain(*cases))] for it in parts if it]
+        ended = [] if fault else each(ran, commands)
+    for status, wrote in ended:
         texts = wrote.split("a rung\n")[1:]
         for (n, k, request), text in zip(cases, texts):
             what = f"request {request} of {n:,} bytes in {said(k, 'segment')}"
@@ -42,7 +41,27 @@ def rungs(lists, crates=f"{ROOT}/crates", only=r"\w+"):
                 refused += [(f"{call}, {what}", it.fault)] * bool(request)
         if status != 0 or len(texts) != len(cases):
             found["the program"].append(Rung(*cases[len(texts) - 1][:2], 0, 0, f"status {status}, {wrote[-1500:]}"))
+    if fault:
+        found["the program"].append(Rung(0, 0, 0, 0, fault))
     return found, refused
+
+
+def built(room, folder, modules, crates):
+    """What is wrong with the build of the program of some modules, which runs once, to copy itself into the room."""
+    subprocess.run([*CLANG, "-c", "-o", f"{room}/heap.o", f"{ROOT}/bench/ladder/heap.c"], check=True)
+    main = Path(folder, "src/main.rt")
+    main.write_text(ARM.sub(lambda it: it[0] if it[1] in modules else "", main.read_text("utf-8")), "utf-8")
+    heap = [f"{room}/heap.o", *(it for it in C_CODE if "liblibc" not in it)]
+    written({"copy": "", "copy.args": f"copy\n{room}/ladder\n"}, f"{room}/cases")
+    said = tried("ladder_bench", ["std", *CRATES, "bytes"], folder, f"{room}/cases", crates, heap)
+    return "" if "case=copy run=ended status=0" in said else said[-2000:]
+
+
+def ran(words):
+    """The exit status of a program, and what it writes."""
+    with turn(TRY):
+        it = subprocess.run(words, **QUIET)
+    return it.returncode, it.stdout
 
 
 def module_of(call):
@@ -55,7 +74,7 @@ def module_of(call):
 @functools.cache
 def few_rungs(module, crates=f"{ROOT}/crates"):
     """The rungs of each call of a module on a few cases."""
-    return rungs([FEW], crates, module)[0]
+    return rungs(FEW, crates, module)[0]
 
 
 def changed_rungs(call, crates):
