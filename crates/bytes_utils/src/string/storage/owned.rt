@@ -1,5 +1,5 @@
 //! Bytes with one owner as a storage.
-ghost use Rattle.std.specs.Prelude.{◌≡◌, ◌≤◌, [], length, take, drop, IsOk, IfOk};
+ghost use Rattle.std.specs.Prelude.{◌≡◌, ◌≤◌, [], ◌++◌, length, take, drop, IsOk, IfOk, OnOk, OnErr};
 ghost use Rattle.bytes_utils_buf.specs.declared.refused.Reason.TheVariants.{OutOfMemory};
 
 use crate::string::{Storage, StorageMut};
@@ -83,7 +83,12 @@ impl StorageMut for BytesMut {
     type Immutable = Bytes;
 
     #[inline]
-    fn push_slice(&mut self, s: &[u8]) -> Result<(), Reason> {
+    fn push_slice(&mut self, s: &[u8]) -> Result<(), Reason>
+        ensures ok { OnOk result (self.new.items ≡ self.old.items ++ s.now) }
+        ensures err { OnErr result (self.new.items ≡ self.old.items) }
+        // It takes memory only for bytes that it has no room for.
+        ensures room { length s.now ≤ self.old.spare → IsOk result }
+    {
         match self.extend_from_slice(s) {
             Ok(()) => Ok(()),
             Err(AllocError) => Err(Reason::OutOfMemory),
