@@ -10,7 +10,7 @@ taken_by_copy len (Ok copy) = len
 taken_by_copy len (Err refused) = refused.taken
 
 -- A refused copy of len of `held` bytes, which are those of many lists, may have taken `taken`: as many as the first list may lose, if that has len bytes,
--- and otherwise none or all.
+-- or none or all.
 abbrev pub LosesAcross : (ℕ → ℕ → ℕ → Type 0) → ℕ → ℕ → ℕ → Type 0
 LosesAcross loses held len taken = ((front : ℕ) × (len ≤ front) × (front ≤ held) × loses front len taken) ⊎ (taken ≡ 0) ⊎ (taken ≡ len)
 

@@ -63,7 +63,7 @@ impl<B: BufParts + Drop> SegmentedBuf<B> {
 }
 
 impl<B: BufParts + Drop> BufParts for SegmentedBuf<B> {
-    // As the first segment's own refusal if it has the bytes, and otherwise nothing or all.
+    // As the first segment's own refusal, or nothing or all: `front` and `refused` say which.
     ghost loses = { LosesAcross B.loses };
 
     fn copy_out(&mut self, alloc: Global, len: usize) -> Result<Bytes, CopyRefused>

@@ -106,7 +106,7 @@ fn copy_from_first_of_slice<B: BufParts>(
 
 /// By `copy_to_bytes` and `chunks_vectored`.
 impl<B: BufParts> BufParts for SegmentedSlice<'_, B> {
-    // As the first buffer's own refusal if it has the bytes, and otherwise nothing or all.
+    // As the first buffer's own refusal, or nothing or all: `front` and `refused` say which.
     ghost loses = { LosesAcross B.loses };
 
     fn copy_out(&mut self, alloc: Global, len: usize) -> Result<Bytes, CopyRefused>
