@@ -1,4 +1,4 @@
-use Rattle.std.proofs.Common.{List, [], ◌∷◌, ◌++◌, ℕ, map, refl, ap}
+use Rattle.std.proofs.Common.{List, [], ◌∷◌, ◌++◌, ℕ, map, refl, sym, ap, subst}
 use Rattle.std.proofs.KnownBytes.{Appends-nil}
 use Rattle.std.specs.List.{concat}
 use Rattle.std.specs.Str.{chars}
@@ -14,6 +14,7 @@ pub loop-item-init : goal.loop-item-init
 loop-item-init g c = record {
   parts = [];
   had = StepsHaveGiven-none AreToCome c.args.splitter.now c.requires refl (ap (λ s. s.now) c.into_iter-item-iterator.ensures.into_iter_gives);
+  none = λ none. subst (λ s. AreToCome s []) (sym (ap (λ s. s.now) c.into_iter-item-iterator.ensures.into_iter_gives)) none;
   printed = Appends-nil _;
 }
 
@@ -43,6 +44,11 @@ returns-in_err-print-in-Ok-clause-err g c =
     ) in
     OnErr-always _ _ begun
 
+-- a part came
+pub returns-in_err-print-in-Ok-clause-none : goal.returns-in_err-print-in-Ok-clause-none
+returns-in_err-print-in-Ok-clause-none g c = λ none.
+    let step = rw c.in-Ok.is at c.in-Some.ensures.steps in absurd (step.some (c.loop-item.invariant.none none))
+
 pub loop-item-preserved : goal.loop-item-preserved
 loop-item-preserved g c =
     let before = c.loop-item.invariant in
@@ -51,5 +57,6 @@ loop-item-preserved g c =
     record {
       parts = before.parts ++ part ∷ [];
       had = StepsHaveGiven-more AreToCome c.args.splitter.now part before.had step.gives;
+      none = λ none. absurd (step.some (before.none none));
       printed = print_after printed_part before.parts part _ _ _ before.printed c.in_ok-print-in-Ok.ensures.ok;
     }

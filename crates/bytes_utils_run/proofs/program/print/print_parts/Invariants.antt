@@ -1,4 +1,4 @@
-use Rattle.std.proofs.Common.{ℕ, List, map}
+use Rattle.std.proofs.Common.{ℕ, List, [], map}
 use Rattle.std.specs.Io.KnownBytes.{Appends}
 use Rattle.std.specs.List.{concat}
 use Rattle.bytes_utils.specs.Step.{StepsHaveGiven}
@@ -11,5 +11,6 @@ abbrev pub invariant-loop-item : goal.invariant-loop-item
 invariant-loop-item g l = record {
   parts : List (List ℕ);
   had : StepsHaveGiven AreToCome l.fn.splitter parts l.item-iterator;
+  none : AreToCome l.fn.splitter [] → AreToCome l.item-iterator [];
   printed : Appends (g.W.Write.contents l.initial.writer) (g.W.Write.contents l.writer) (concat (map printed_part parts));
 }
