@@ -17,10 +17,12 @@ use Rattle.std.specs.Str.{chars, encode_utf8_all as encodes}
 use Rattle.std.specs.Char.{encode_utf8, digit_value, is_ascii}
 use Rattle.std.specs.List.{list_all}
 use Rattle.bytes_utils_run.specs.CallLine.{IsNumberedCallLine}
-use Rattle.bytes_utils_run.specs.Command.{IsCommand, IsCommandCount, IsCommandCountAfter}
+use Rattle.bytes_utils_run.specs.Command.{IsCommand, IsCommandCount, IsCommandCountAfter, IsReadFrom}
 use Rattle.bytes_utils_run.specs.Cutting.{Cutting, ByWords, ByAsciiWords, ByLines, FromFront, FromBack, Keeping, IsCuttingAllowed, cutting}
 use Rattle.bytes_utils_run.specs.declared.how.How.{How}
 use Rattle.bytes_utils_run.specs.Number.{IsNumber}
+use Rattle.bytes_utils_run.specs.declared.program.command.Command.{Command}
+use Rattle.bytes_utils_run.specs.declared.program.command.Command.TheVariants.{Cut, Buf}
 
 -- what follows the word in the bytes follows it in the characters
 pub chars-following : (word line rest : List ℕ) (n : ℕ) → IsUtf8 word → line ≡ word ++ drop n line → rest ≡ drop n line → chars line ≡ chars word ++ chars rest
@@ -167,6 +169,21 @@ pub split_mode_is : (line : List ℕ) → (line ≢ codes "words") × (line ≢ 
     → MatchOption r ((way : Cutting) → ¬ IsCommand way line) (λ how. IsCuttingAllowed how × IsCommand (cutting how) line)
 split_mode_is line plain separator None limit = no-way line plain separator limit
 split_mode_is line plain separator (Some how) is = is
+
+-- no command is empty
+no-empty_cut : (how : Cutting) → ¬ IsCommand how []
+no-empty_cut ByWords is = absurd (omega (arith, ap length is))
+no-empty_cut ByAsciiWords is = absurd (omega (arith, ap length is))
+no-empty_cut ByLines is = absurd (omega (arith, ap length is))
+no-empty_cut (FromFront p None) is = absurd (omega (arith, ap length is))
+no-empty_cut (FromFront p (Some most)) is = absurd (omega (arith, ap length is.2))
+no-empty_cut (FromBack p None) is = absurd (omega (arith, ap length is))
+no-empty_cut (FromBack p (Some most)) is = absurd (omega (arith, ap length is.2))
+no-empty_cut (Keeping p) is = absurd (omega (arith, ap length is.1))
+
+pub no-empty_command : (command : Command) → ¬ IsReadFrom [] command
+no-empty_command (Cut how) is = no-empty_cut (cutting how) is.1
+no-empty_command Buf is = absurd (omega (arith, ap length is))
 
 -- a number after a word, if the rest of the line is a number
 pub call_line_number-is : (line word rest : List ℕ) → chars line ≡ chars word ++ chars rest → (r : Option ℕ)

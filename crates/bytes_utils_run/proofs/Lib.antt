@@ -2,6 +2,7 @@ pub mod Beginnings
 pub mod CommandLemmas
 pub mod OutcomeLemmas
 pub mod Asked
+pub mod AnySplitterLemmas
 pub mod CallLineLemmas
 pub mod NumberLemmas
 pub mod PrintedLemmas

@@ -1,5 +1,5 @@
 -- What follows from an outcome.
-use Rattle.std.proofs.Common.{List, ◌++◌, ◌<◌, length, Option, None, Some, Result, Ok, Err, map, subst, arith}
+use Rattle.std.proofs.Common.{◌≡◌, sym, List, ◌++◌, ◌<◌, length, Option, None, Some, Result, Ok, Err, map, subst, arith, IfErr, IsErrAnd}
 use Rattle.std.proofs.lemmas.Bool.{false≢true}
 use Rattle.std.proofs.lemmas.List.{map-append, length-map}
 use Rattle.std.specs.Result.{IsErr, result_err}
@@ -26,3 +26,8 @@ pub Outcome-refused : {X E : Type 0} (Is : List X → Type 0) (given : List X) (
     → (others : List X) × (0 < length others) × Is (given ++ others) → Outcome Is given (result_err result)
 Outcome-refused Is given (Ok _) none _ = absurd (false≢true none)
 Outcome-refused Is given (Err _) _ missing = missing
+
+-- what holds of an error holds if a result is that error
+pub IfErr-same : {T E : Type 0} (result : Result T E) (e : E) (P : E → Type 0) → IsErrAnd result (λ x. x ≡ e) → P e → IfErr result P
+IfErr-same (Ok _) e P is holds = tt
+IfErr-same (Err _) e P is holds = subst P (sym is) holds

@@ -1,13 +1,16 @@
 -- The parts to come of a text by any of the ways to split, one part a step.
-use Rattle.std.specs.Prelude.{ℕ, List, length}
+use Rattle.std.specs.Prelude.{◌≡◌, ℕ, List, length, Option, None, Some, ⊤}
 use Rattle.std.specs.Char.{is_whitespace, is_ascii_whitespace}
 use Rattle.std.specs.Option.{option_map_or}
-use Rattle.bytes_utils.specs.Keeping.{AreInclusivePartsToCome, RefusesInclusive, most_inclusive_parts}
+use Rattle.bytes_utils.specs.Keeping.{Keeping, AreInclusivePartsToCome, RefusesInclusive, most_inclusive_parts}
 use Rattle.bytes_utils.specs.Lines.{AreLinesToCome, RefusesLine}
-use Rattle.bytes_utils.specs.Splitting.{AreForwardPartsToCome, AreBackwardPartsToCome, RefusesSplit, most_parts}
+use Rattle.bytes_utils.specs.Splitting.{Splitting, AreForwardPartsToCome, AreBackwardPartsToCome, RefusesSplit, all_of, most_parts}
 use Rattle.bytes_utils.specs.Step.{StepsHaveGiven}
 use Rattle.bytes_utils.specs.Words.{AreWordsToCome, RefusesWord}
 use Rattle.bytes_utils.specs.declared.split.direction.Direction.TheVariants.{Forward, Backward}
+use Rattle.bytes_utils_run.specs.declared.how.How.{How}
+use Rattle.bytes_utils_run.specs.declared.how.How.TheVariants.{Words as InWords, AsciiWords as InAsciiWords, Lines as InLines, Split as AtEach, SplitN as AtMost}
+use Rattle.bytes_utils_run.specs.declared.how.How.TheVariants.{RSplit as AtEachFromBack, RSplitN as AtMostFromBack, Inclusive as AfterEach}
 use Rattle.bytes_utils_run.specs.declared.splitter.AnySplitter.{AnySplitter}
 use Rattle.bytes_utils_run.specs.declared.splitter.AnySplitter.TheVariants.{Words, AsciiWords, Lines, Split, RSplit, Inclusive}
 
@@ -29,9 +32,42 @@ RefusesNext refuses_cut (Split s) = RefusesSplit refuses_cut Forward s
 RefusesNext refuses_cut (RSplit s) = RefusesSplit refuses_cut Backward s
 RefusesNext refuses_cut (Inclusive s) = RefusesInclusive refuses_cut s
 
+-- the splitter of a text, in bytes, for a way to split
+abbrev pub splitter_of : {S C : Type 0} → How → List ℕ → AnySplitter S C
+splitter_of InWords text = Words (Some text)
+splitter_of InAsciiWords text = AsciiWords (Some text)
+splitter_of InLines text = Lines (Some text)
+splitter_of (AtEach separator) text = Split (all_of text separator.now None)
+splitter_of (AtMost most separator) text = Split (all_of text separator.now (Some most))
+splitter_of (AtEachFromBack separator) text = RSplit (all_of text separator.now None)
+splitter_of (AtMostFromBack most separator) text = RSplit (all_of text separator.now (Some most))
+splitter_of (AfterEach separator) text = Inclusive (record { rest = Some text; separator = separator.now })
+
+-- the second splitter is of the kind of the first
+abbrev pub IsOfKind : {S C : Type 0} → AnySplitter S C → AnySplitter S C → Type 0
+IsOfKind (Words _) s = (rest : Option (List ℕ)) × (s ≡ Words rest)
+IsOfKind (AsciiWords _) s = (rest : Option (List ℕ)) × (s ≡ AsciiWords rest)
+IsOfKind (Lines _) s = (rest : Option (List ℕ)) × (s ≡ Lines rest)
+IsOfKind (Split _) s = (state : Splitting) × (s ≡ Split state)
+IsOfKind (RSplit _) s = (state : Splitting) × (s ≡ RSplit state)
+IsOfKind (Inclusive _) s = (state : Keeping) × (s ≡ Inclusive state)
+
 -- since the state `start` these parts were given, up to a state in which a step may be refused for this reason
+abbrev RefusesAfter : {T E : Type 0} → (T → List (List ℕ) → Type 0) → (T → E → Type 0) → T → List (List ℕ) → E → Type 0
+RefusesAfter {T} coming refuses start parts reason = (last : T) × StepsHaveGiven coming start parts last × refuses last reason
+
+-- the same of any splitter, which stays of its kind
 abbrev pub MayRefuseAfter : {S C E : Type 0} → (Type 0 → E → Type 0) → AnySplitter S C → List (List ℕ) → E → Type 0
-MayRefuseAfter {S} {C} refuses_cut start parts reason = (last : AnySplitter S C) × StepsHaveGiven AreToCome start parts last × RefusesNext refuses_cut last reason
+MayRefuseAfter refuses_cut (Words rest) = RefusesAfter (AreWordsToCome is_whitespace) (RefusesWord refuses_cut is_whitespace) rest
+MayRefuseAfter refuses_cut (AsciiWords rest) = RefusesAfter (AreWordsToCome is_ascii_whitespace) (RefusesWord refuses_cut is_ascii_whitespace) rest
+MayRefuseAfter refuses_cut (Lines rest) = RefusesAfter AreLinesToCome (RefusesLine refuses_cut) rest
+MayRefuseAfter refuses_cut (Split s) = RefusesAfter AreForwardPartsToCome (RefusesSplit refuses_cut Forward) s
+MayRefuseAfter refuses_cut (RSplit s) = RefusesAfter AreBackwardPartsToCome (RefusesSplit refuses_cut Backward) s
+MayRefuseAfter refuses_cut (Inclusive s) = RefusesAfter AreInclusivePartsToCome (RefusesInclusive refuses_cut) s
+
+-- the same of the splitter of a text, whatever its storage
+abbrev pub MayRefuseTextAfter : {E : Type 0} → (Type 0 → E → Type 0) → How → List ℕ → List (List ℕ) → E → Type 0
+MayRefuseTextAfter refuses_cut how text = MayRefuseAfter {S = ⊤} {C = ⊤} refuses_cut (splitter_of how text)
 
 -- a bound on the number of parts to come
 abbrev pub most_to_come : {S C : Type 0} → AnySplitter S C → ℕ

@@ -1,9 +1,10 @@
 //! A text split into all of its parts.
-ghost use Rattle.std.specs.Prelude.{◌≡◌, ◌+◌, ◌≤◌, ◌⊎◌, ℕ, List, [], IfErr, IfNone, IfSome, length, map};
+ghost use Rattle.std.specs.Prelude.{◌≡◌, ◌+◌, ◌≤◌, ◌⊎◌, ℕ, List, [], IfErr, IfNone, IfSome, length, map, vec_capacity, vec_len};
 ghost use Rattle.std.specs.Result.{result_err};
 ghost use Rattle.std.specs.Str.{chars};
+ghost use Rattle.bytes_utils.specs.Ends.{RefusesCut};
 ghost use Rattle.bytes_utils.specs.Outcome.{Outcome};
-ghost use Rattle.bytes_utils_run.specs.AnySplitter.{AreToCome};
+ghost use Rattle.bytes_utils_run.specs.AnySplitter.{AreToCome, MayRefuseAfter, MayRefuseTextAfter};
 ghost use Rattle.bytes_utils_run.specs.Cutting.{ArePartsBy, JoinTo, cutting, IsCuttingAllowed};
 
 use crate::how::How;
@@ -31,16 +32,23 @@ fn gather_cut<S: Storage>(
     ensures outcome { Outcome (AreToCome splitter.old) (map chars given.new.items) (result_err result) }
     ensures reason { IfErr result
         (λ reason. S.refuses reason ⊎ (reason ≡ Reason.OutOfMemory)) }
+    ensures cause { IfErr result (λ reason.
+        MayRefuseAfter (RefusesCut S.refuses S.refuses_empty S.refuses_side)
+        splitter.old (map chars given.new.items) reason
+        ⊎ ((reason ≡ Reason.OutOfMemory) × (vec_capacity given.new ≤ vec_len given.new))) }
 {
     for item in splitter {
-        given.push(item?)?;
+        let part = item?;
+        given.reserve(1)?; // A refused `push` doesn't say that the list is full.
+        given.push(part)?;
     }
     Ok(())
 }
 
 /// Splits a text into all of its parts. If a split or memory for the list is refused, returns the
-/// first of them, not all, and the reason: one of the storage, or `OutOfMemory`. No clause says which
-/// of the two was refused. Requires that the separator of `Inclusive` isn't empty (test: `is_empty`).
+/// first of them, not all, and the reason: one for which the next split may be refused, or
+/// `OutOfMemory` if the list is full. Requires that the separator of `Inclusive` isn't empty (test:
+/// `is_empty`).
 pub fn cut_all<S: Storage>(alloc: Global, text: StrInner<S>, how: How<'_>) -> Parts<S>
     requires { IsCuttingAllowed how }
     ensures outcome { Outcome (ArePartsBy (cutting how.entry) (chars text))
@@ -51,6 +59,11 @@ pub fn cut_all<S: Storage>(alloc: Global, text: StrInner<S>, how: How<'_>) -> Pa
     // The reasons of the storage, and that of refused memory.
     ensures reason { IfSome result.refused
         (λ reason. S.refuses reason ⊎ (reason ≡ Reason.OutOfMemory)) }
+    // After the given parts a split may be refused for it, or the list is full.
+    ensures cause { IfSome result.refused (λ reason.
+        MayRefuseTextAfter (RefusesCut S.refuses S.refuses_empty S.refuses_side)
+        how.entry text (map chars result.given.items) reason
+        ⊎ ((reason ≡ Reason.OutOfMemory) × (vec_capacity result.given ≤ vec_len result.given))) }
 {
     let mut given = Vec::new(alloc);
     let mut splitter = AnySplitter::new(text, how);

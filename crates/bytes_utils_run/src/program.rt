@@ -1,5 +1,5 @@
 //! The program: reads a command and a text, runs the command on the text, and prints the result.
-ghost use Rattle.std.specs.Prelude.{◌⊎◌, OnOk, IsErrOf};
+ghost use Rattle.std.specs.Prelude.{◌≡◌, ◌⊎◌, [], Some, OnOk, IsErrOf};
 ghost use Rattle.std.specs.Io.KnownBytes.{Keeps};
 ghost use Rattle.bytes_utils_run.specs.Run.{RunFindsNoRequest, RunFindsNotUtf8, RunPrintsAll, RunPrintsFirst, RunWritesBeginning};
 
@@ -23,9 +23,9 @@ use std::io::{Read, Write};
 /// result. The input is read in at most 1,048,576 calls of `read`.
 ///
 /// Fails with `UnknownCommand` or `NotUtf8`; then nothing was written. Fails with `OutOfMemory` if
-/// memory is refused; then some of the first results may have been written, each of them whole, but
-/// not all results. Fails with `Io` if a read, write or flush fails, or the input hasn't ended
-/// after those calls; then some of the first bytes of the output, or all, may have been written.
+/// memory is refused, never for an empty input; then nothing was written, or the first results, each
+/// of them whole, but not all. Fails with `Io` if a read, write or flush fails, or the input hasn't
+/// ended after those calls; then some of the first bytes of the output, or all, may have been written.
 pub fn script<R: Read, W: Write>(alloc: Global, reader: &mut R, writer: &mut W) -> Result<(), Fault>
     ensures ok { OnOk result (RunPrintsAll (R.remaining reader.old) (R.remaining reader.new)
         (W.contents writer.old) (W.contents writer.new)) }
@@ -39,6 +39,7 @@ pub fn script<R: Read, W: Write>(alloc: Global, reader: &mut R, writer: &mut W) 
         → Keeps (W.contents writer.old) (W.contents writer.new)
         ⊎ RunPrintsFirst (R.remaining reader.old) (R.remaining reader.new)
         (W.contents writer.old) (W.contents writer.new) }
+    ensures empty { R.remaining reader.old ≡ Some [] → ¬ IsErrOf result Fault.OutOfMemory }
     ensures io { IsErrOf result Fault.Io
         → Keeps (W.contents writer.old) (W.contents writer.new)
         ⊎ RunWritesBeginning (R.remaining reader.old) (R.remaining reader.new)

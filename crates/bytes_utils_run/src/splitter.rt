@@ -1,10 +1,10 @@
 //! The splitter of a text for any of the ways to split.
-ghost use Rattle.std.specs.Prelude.{ℕ, List};
+ghost use Rattle.std.specs.Prelude.{◌≡◌, ℕ, List};
 ghost use Rattle.std.specs.Iterator.{at_most};
 ghost use Rattle.std.specs.Str.{chars};
 ghost use Rattle.bytes_utils.specs.Ends.{RefusesCut};
 ghost use Rattle.bytes_utils.specs.Step.{IsStep};
-ghost use Rattle.bytes_utils_run.specs.AnySplitter.{AreToCome, RefusesNext, most_to_come};
+ghost use Rattle.bytes_utils_run.specs.AnySplitter.{AreToCome, IsOfKind, RefusesNext, most_to_come, splitter_of};
 ghost use Rattle.bytes_utils_run.specs.Cutting.{ArePartsBy, cutting, IsCuttingAllowed};
 
 use crate::how::How;
@@ -40,6 +40,7 @@ impl<'s, S: Storage> AnySplitter<'s, S> {
         ensures some { (parts : List (List ℕ)) × AreToCome result parts }
         ensures right { (parts : List (List ℕ)) → AreToCome result parts
             → ArePartsBy (cutting how.entry) (chars text) parts }
+        ensures value { result ≡ splitter_of how.entry text }
     {
         match how {
             How::Words => AnySplitter::Words(text.split_whitespace_bytes()),
@@ -63,8 +64,8 @@ impl<'s, S: Storage> AnySplitter<'s, S> {
 impl<'s, S: Storage> Iterator for AnySplitter<'s, S> {
     type Item = Result<StrInner<S>, Reason>;
 
-    ghost next_gives = { IsStep AreToCome
-        (RefusesNext (RefusesCut S.refuses S.refuses_empty S.refuses_side)) };
+    ghost next_gives = { λ s r t. IsOfKind s t × IsStep AreToCome
+        (RefusesNext (RefusesCut S.refuses S.refuses_empty S.refuses_side)) s r t };
 
     ghost remaining = { λ s. at_most (most_to_come s) };
 

@@ -1,5 +1,5 @@
 //! Running the command of an input.
-ghost use Rattle.std.specs.Prelude.{◌≡◌, ◌⊎◌, ℕ, List, Option, IfOk, IfErr, IsErrOf, IsOkUnless};
+ghost use Rattle.std.specs.Prelude.{◌≡◌, ◌⊎◌, ℕ, List, [], Option, IfOk, IfErr, IsErrOf, IsOkUnless};
 ghost use Rattle.std.specs.List.{position};
 ghost use Rattle.std.specs.Str.{chars};
 ghost use Rattle.bytes_utils.specs.Lines.{text_after_line};
@@ -71,6 +71,7 @@ pub(super) fn answer_to(alloc: Global, input: &Str) -> Result<Answer<'_>, Fault>
         → ¬ IsRequest request (command_line (chars input.now)) (text_after_line (chars input.now)) }
     ensures fault { IfErr result
         (λ fault. (fault ≡ Fault.UnknownCommand) ⊎ (fault ≡ Fault.OutOfMemory)) }
+    ensures empty { input.now ≡ [] → IsErrOf result Fault.UnknownCommand }
 {
     let (end, next) = command_line_places(input.as_str());
     let Some(command) = read_command(&input.as_str()[..end]) else {

@@ -1,5 +1,5 @@
 //! Reading all of the input, as a text.
-ghost use Rattle.std.specs.Prelude.{◌≡◌, ◌⊎◌, ◌*◌, ◌<◌, length, OnOk, OnErr, IfOk, IfErr, IsErrOf, IsUtf8};
+ghost use Rattle.std.specs.Prelude.{◌≡◌, ◌⊎◌, ◌*◌, ◌<◌, [], Some, length, OnOk, OnErr, IfOk, IfErr, IsErrOf, IsUtf8};
 ghost use Rattle.bytes_utils_run.specs.AppendsAndConsumes.{ConsumesSome, ConsumesWhole};
 
 use crate::program::Fault;
@@ -22,6 +22,7 @@ pub(super) fn read_input<R: Read>(alloc: Global, reader: &mut R) -> Result<Vec<u
     ensures bounded { IfOk result (λ bytes. length bytes.items < BYTES_PER_READ * MOST_READS) }
     ensures err { OnErr result (ConsumesSome (R.remaining reader.old) (R.remaining reader.new)) }
     ensures fault { IfErr result (λ fault. (fault ≡ Fault.Io) ⊎ (fault ≡ Fault.OutOfMemory)) }
+    ensures empty { R.remaining reader.old ≡ Some [] → ¬ IsErrOf result Fault.OutOfMemory }
 {
     let mut bytes = Vec::new(alloc);
     let mut place = [0; BYTES_PER_READ];
@@ -45,6 +46,7 @@ pub(super) fn input_text(input: Vec<u8>) -> Result<Str, Fault>
     ensures utf8 { OnOk result (IsUtf8 input.items) }
     ensures not_utf8 { IsErrOf result Fault.NotUtf8 → ¬ IsUtf8 input.items }
     ensures fault { IfErr result (λ fault. (fault ≡ Fault.NotUtf8) ⊎ (fault ≡ Fault.OutOfMemory)) }
+    ensures empty { input.items ≡ [] → ¬ IsErrOf result Fault.OutOfMemory }
 {
     let Ok(bytes) = Bytes::from_vec(input) else {
         return Err(Fault::OutOfMemory);

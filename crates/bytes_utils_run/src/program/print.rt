@@ -1,5 +1,5 @@
 //! Printing results: parts, replies, and the slices in a reply.
-ghost use Rattle.std.specs.Prelude.{◌≡◌, ◌⊎◌, ℕ, List, None, Some, OnOk, OnErr, IfOk, IfErr, IfSome, IsErrOf, IsOkUnless, map, length, ◌++◌};
+ghost use Rattle.std.specs.Prelude.{◌≡◌, ◌⊎◌, ℕ, List, [], None, Some, OnOk, OnErr, IsOk, IfOk, IfErr, IfSome, IsErrOf, IsOkUnless, map, length, ◌++◌};
 ghost use Rattle.std.specs.Io.KnownBytes.{Appends};
 ghost use Rattle.std.specs.List.{concat};
 ghost use Rattle.std.specs.Str.{chars};
@@ -96,9 +96,9 @@ pub(super) fn print_all<E: Printable, W: Write>(writer: &mut W, entries: &[E]) -
 
 /// Prints the parts that a splitter gives, each as soon as it is split off. Returns `None` if all are
 /// printed, or the reason if a split is refused, one for which a split may be refused after the parts
-/// before it; then these are printed, and not all. Fails with `Io` if a write fails; then a beginning
-/// of what all parts print was written. Requires that some list of parts is to come, as of each
-/// splitter that `AnySplitter::new` makes.
+/// before it; then these are printed, and not all. Fails with `Io` if a write fails, never if no part
+/// is to come; then a beginning of what all parts print was written. Requires that some list of parts
+/// is to come, as of each splitter that `AnySplitter::new` makes.
 pub fn print_parts<S: Storage, W: Write>(
     writer: &mut W,
     splitter: &mut AnySplitter<'_, S>,
@@ -113,6 +113,7 @@ pub fn print_parts<S: Storage, W: Write>(
         × AppendsBeginning (W.contents writer.old) (W.contents writer.new)
         (concat (map printed_part parts))) }
     ensures fault { IsOkUnless result Fault.Io }
+    ensures none { AreToCome splitter.old [] → IsOk result }
 {
     for item in splitter {
         match item {

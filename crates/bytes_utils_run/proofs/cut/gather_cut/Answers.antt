@@ -1,26 +1,42 @@
-use Rattle.std.proofs.Common.{sym, subst, ◌++◌, ◌<◌, List, ℕ, length, map}
+use Rattle.std.proofs.Common.{inl, sym, ap, ◌∙◌, subst, [], ◌∷◌, ◌++◌, ◌<◌, List, ℕ, length, map}
 use Rattle.std.specs.Str.{chars}
+use Rattle.bytes_utils.specs.Ends.{RefusesCut}
 use Rattle.bytes_utils.proofs.StepLemmas.{StepsHaveGiven-pushed, StepsHaveGiven-refused, StepsHaveGiven-dropped}
 use Rattle.bytes_utils_run.specs.AnySplitter.{AreToCome}
-use Rattle.bytes_utils_run.proofs.OutcomeLemmas.{Outcome-refused}
+use Rattle.bytes_utils_run.proofs.AnySplitterLemmas.{IsOfKind-trans, MayRefuseAfter-now}
+use Rattle.bytes_utils_run.proofs.OutcomeLemmas.{IfErr-same, Outcome-refused}
 use Rattle.bytes_utils_run.proofs.cut.gather_cut.Goals as goal
 
 -- a split was refused: the parts that were to come are missing
-pub returns-in_err-item-clause-outcome : goal.returns-in_err-item-clause-outcome
-returns-in_err-item-clause-outcome g c =
-    let step = rw c.in_err-item.was at c.in-Some.ensures.steps in
+pub returns-in_err-part-clause-outcome : goal.returns-in_err-part-clause-outcome
+returns-in_err-part-clause-outcome g c =
+    let step = rw c.in_err-part.was at c.in-Some.ensures.steps.1 in
     Outcome-refused (AreToCome c.args.splitter.now) (map chars c.loop-item.given.items) c.from_residual.result c.from_residual.ensures.0
-    (StepsHaveGiven-refused AreToCome c.args.splitter.now c.loop-item.invariant step.some)
+    (StepsHaveGiven-refused AreToCome c.args.splitter.now c.loop-item.invariant.had step.some)
+
+-- as it may be after the parts before it
+pub returns-in_err-part-clause-cause : goal.returns-in_err-part-clause-cause
+returns-in_err-part-clause-cause g c =
+    let step = rw c.in_err-part.was at c.in-Some.ensures.steps.1 in
+    let before = c.loop-item.invariant in
+    IfErr-same c.from_residual.result c.in_err-part.field-0.0 _ c.from_residual.ensures.1
+    (inl (MayRefuseAfter-now (RefusesCut g.S.Storage.refuses g.S.Storage.refuses_empty g.S.Storage.refuses_side)
+    (map chars c.loop-item.given.items) c.in_err-part.field-0.0 _ _ before.kind before.had step.gives.0))
 
 pub loop-item-preserved : goal.loop-item-preserved
 loop-item-preserved g c =
-    let step = rw c.in_ok-item.was at c.in-Some.ensures.steps in
-    StepsHaveGiven-pushed AreToCome c.args.splitter.now chars _ _ c.in_ok-item.field-0 c.loop-item.invariant step.gives c.in_ok-push.ensures.items
+    let before = c.loop-item.invariant in
+    let step = rw c.in_ok-part.was at c.in-Some.ensures.steps.1 in
+    let items = c.in_ok-push.ensures.items ∙ ap (λ given. given ++ c.in_ok-part.part ∷ []) c.in_ok-reserve.ensures.items in
+    record {
+      had = StepsHaveGiven-pushed AreToCome c.args.splitter.now chars _ _ c.in_ok-part.part before.had step.gives items;
+      kind = IsOfKind-trans _ _ _ before.kind c.in-Some.ensures.steps.0;
+    }
 
 -- memory for a part was refused: that part and those after it are missing
-pub returns-in_err-push-clause-outcome : goal.returns-in_err-push-clause-outcome
-returns-in_err-push-clause-outcome g c =
-    let step = rw c.in_ok-item.was at c.in-Some.ensures.steps in
-    let others = StepsHaveGiven-dropped AreToCome c.args.splitter.now (chars c.in_ok-item.field-0) c.loop-item.invariant step.gives in
-    Outcome-refused (AreToCome c.args.splitter.now) (map chars c.push.new.self.items) c.from_residual-in_err-push.result c.from_residual-in_err-push.ensures.0
-    (subst (λ given. (more : List (List ℕ)) × (0 < length more) × AreToCome c.args.splitter.now (map chars given ++ more)) (sym c.in_err-push.ensures.items) others)
+pub returns-in_err-reserve-clause-outcome : goal.returns-in_err-reserve-clause-outcome
+returns-in_err-reserve-clause-outcome g c =
+    let step = rw c.in_ok-part.was at c.in-Some.ensures.steps.1 in
+    let others = StepsHaveGiven-dropped AreToCome c.args.splitter.now (chars c.in_ok-part.part) c.loop-item.invariant.had step.gives in
+    Outcome-refused (AreToCome c.args.splitter.now) (map chars c.reserve.new.self.items) c.from_residual-in_err-reserve.result c.from_residual-in_err-reserve.ensures.0
+    (subst (λ given. (more : List (List ℕ)) × (0 < length more) × AreToCome c.args.splitter.now (map chars given ++ more)) (sym c.in_err-reserve.ensures.items) others)

@@ -1,12 +1,14 @@
-use Rattle.std.proofs.Common.{List, [], ◌∷◌, ◌++◌, ℕ, map, refl, ap}
+use Rattle.std.proofs.Common.{List, [], ◌∷◌, ◌++◌, ℕ, map, refl, sym, ap, subst}
 use Rattle.std.proofs.KnownBytes.{Appends-nil}
 use Rattle.std.specs.List.{concat}
 use Rattle.std.specs.Str.{chars}
+use Rattle.bytes_utils.specs.Ends.{RefusesCut}
 use Rattle.bytes_utils.proofs.StepLemmas.{StepsHaveGiven-none, StepsHaveGiven-more, StepsHaveGiven-refused}
-use Rattle.bytes_utils_run.specs.AnySplitter.{AreToCome}
+use Rattle.bytes_utils_run.specs.AnySplitter.{AreToCome, IsOfKind}
 use Rattle.bytes_utils_run.specs.AppendsAndConsumes.{AppendsBeginning}
 use Rattle.bytes_utils_run.specs.Printed.{printed_part}
 use Rattle.bytes_utils_buf.proofs.Results.{OnErr-always}
+use Rattle.bytes_utils_run.proofs.AnySplitterLemmas.{IsOfKind-self, IsOfKind-trans, MayRefuseAfter-now}
 use Rattle.bytes_utils_run.proofs.PrintedLemmas.{print_after, print_begun_after}
 use Rattle.bytes_utils_run.proofs.program.print.print_parts.Goals as goal
 
@@ -14,6 +16,8 @@ pub loop-item-init : goal.loop-item-init
 loop-item-init g c = record {
   parts = [];
   had = StepsHaveGiven-none AreToCome c.args.splitter.now c.requires refl (ap (λ s. s.now) c.into_iter-item-iterator.ensures.into_iter_gives);
+  none = λ none. subst (λ s. AreToCome s []) (sym (ap (λ s. s.now) c.into_iter-item-iterator.ensures.into_iter_gives)) none;
+  kind = subst (IsOfKind c.args.splitter.now) (sym (ap (λ s. s.now) c.into_iter-item-iterator.ensures.into_iter_gives)) (IsOfKind-self c.args.splitter.now);
   printed = Appends-nil _;
 }
 
@@ -21,10 +25,10 @@ loop-item-init g c = record {
 pub returns-in-Err-clause-ok : goal.returns-in-Err-clause-ok
 returns-in-Err-clause-ok g c =
     let before = c.loop-item.invariant in
-    let step = rw c.in-Err.is at c.in-Some.ensures.steps in (
+    let step = rw c.in-Err.is at c.in-Some.ensures.steps.1 in (
       before.parts,
       StepsHaveGiven-refused AreToCome c.args.splitter.now before.had step.some,
-      (_, before.had, step.gives.0),
+      MayRefuseAfter-now (RefusesCut g.S.Storage.refuses g.S.Storage.refuses_empty g.S.Storage.refuses_side) before.parts c.in-Err.reason _ _ before.kind before.had step.gives.0,
       before.printed,
     )
 
@@ -33,7 +37,7 @@ pub returns-in_err-print-in-Ok-clause-err : goal.returns-in_err-print-in-Ok-clau
 returns-in_err-print-in-Ok-clause-err g c =
     let before = c.loop-item.invariant in
     let part = chars c.in-Ok.part in
-    let step = rw c.in-Ok.is at c.in-Some.ensures.steps in
+    let step = rw c.in-Ok.is at c.in-Some.ensures.steps.1 in
     let others = step.gives.some in
     let begun : (parts : List (List ℕ)) × AreToCome c.args.splitter.now parts
     × AppendsBeginning (g.W.Write.contents c.args.writer.now) (g.W.Write.contents c.print.new.writer) (concat (map printed_part parts)) = (
@@ -43,13 +47,20 @@ returns-in_err-print-in-Ok-clause-err g c =
     ) in
     OnErr-always _ _ begun
 
+-- a part came
+pub returns-in_err-print-in-Ok-clause-none : goal.returns-in_err-print-in-Ok-clause-none
+returns-in_err-print-in-Ok-clause-none g c = λ none.
+    let step = rw c.in-Ok.is at c.in-Some.ensures.steps.1 in absurd (step.some (c.loop-item.invariant.none none))
+
 pub loop-item-preserved : goal.loop-item-preserved
 loop-item-preserved g c =
     let before = c.loop-item.invariant in
     let part = chars c.in-Ok.part in
-    let step = rw c.in-Ok.is at c.in-Some.ensures.steps in
+    let step = rw c.in-Ok.is at c.in-Some.ensures.steps.1 in
     record {
       parts = before.parts ++ part ∷ [];
       had = StepsHaveGiven-more AreToCome c.args.splitter.now part before.had step.gives;
+      none = λ none. absurd (step.some (before.none none));
+      kind = IsOfKind-trans _ _ _ before.kind c.in-Some.ensures.steps.0;
       printed = print_after printed_part before.parts part _ _ _ before.printed c.in_ok-print-in-Ok.ensures.ok;
     }
