@@ -69,15 +69,18 @@ module _ (p old : List ℕ) where
       let fits = OccursAt-fits p old n some first.here in
       let rest = drop (n + length p) old in
       let takes = subst (λ bytes. TakesFrame p bytes (take n old) rest) (sym (append-nil old)) (TakesFrame-first n fits first) in
-      omega (arith, within, length-take-le n old (omega (arith, fits)), none [] (take n old) rest takes)
+      omega (arith, within, length-take-le n old (omega (arith, fits)), none.1 [] (take n old) rest takes)
 
   module _ (most : ℕ) (some : 0 < length p) (none : (n : ℕ) → OccursAt p old n → most < n) where
     -- all places within the limit have come, and the needle begins at none of them
     pub CursorHasNoFrameWithin-none : most + length p ≤ length old → CursorHasNoFrameWithin most p old
-    CursorHasNoFrameWithin-none all more front rest takes = ⊎_elim
-        (λ above. above)
-        (λ within. none (length front) (OccursAt-front p old more (length front) takes.first.here (omega (arith, within, all))))
-        (cases_lt most (length front))
+    CursorHasNoFrameWithin-none all = (
+      all,
+      λ more front rest takes. ⊎_elim
+          (λ above. above)
+          (λ within. none (length front) (OccursAt-front p old more (length front) takes.first.here (omega (arith, within, all))))
+          (cases_lt most (length front)),
+    )
 
     -- not all of them have come
     pub lacks_within : length old < most + length p → ¬ Occurs p old

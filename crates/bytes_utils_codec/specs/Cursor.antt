@@ -47,9 +47,10 @@ IsBegunAtCursor wanted bytes = (missing : List ℕ) × (wanted ≡ bytes ++ miss
 abbrev pub NeverBeginsAtCursor : List ℕ → List ℕ → Type 0
 NeverBeginsAtCursor wanted bytes = (more rest : List ℕ) → bytes ++ more ≢ wanted ++ rest
 
--- whatever comes after the bytes, more than this number of them are before the first needle
+-- as many bytes have come as the limit and the needle have, and whatever comes after them, more than the limit are before the first needle
 abbrev pub CursorHasNoFrameWithin : ℕ → List ℕ → List ℕ → Type 0
-CursorHasNoFrameWithin most needle bytes = (more front rest : List ℕ) → TakesFrame needle (bytes ++ more) front rest → most < length front
+CursorHasNoFrameWithin most needle bytes = (most + length needle ≤ length bytes)
+    × ((more front rest : List ℕ) → TakesFrame needle (bytes ++ more) front rest → most < length front)
 
 -- the first place of the needle in the bytes, if that is within the limit
 abbrev pub CursorFindsWithin : ℕ → List ℕ → List ℕ → Option ℕ → Type 0

@@ -158,8 +158,8 @@ impl<'a, B: ContiguousBuf + Drop> Cursor<'a, B> {
 
     /// Passes `len` bytes and returns them, or returns `None` if fewer are there. They are shared
     /// if one segment has them all and shares its own, and else copied into one block. Fails with
-    /// `OutOfMemory` if memory is refused, never for no bytes. The cursor then stays, as with
-    /// `None`.
+    /// `OutOfMemory` if memory for bytes that have all come is refused, never for none. The cursor
+    /// then stays, as with `None`.
     pub fn take(&mut self, len: usize) -> Result<Option<Bytes>, Reason>
         ensures gives { CursorReadsPart (λ part old new. CursorTakesFirst len old part new)
             (λ bytes. length bytes < len) self.old self.new result }

@@ -105,8 +105,8 @@ impl Texts {
     /// Returns the next item: a text of whole characters, up to where a piece ends or isn't UTF-8,
     /// or the character over a border; or bytes that are no text, as early as that is certain.
     /// Returns `None` while the held bytes are the beginning of a character, or none. Fails with
-    /// `OutOfMemory` if memory is refused; it is asked for only if an item has come. Then nothing has
-    /// changed.
+    /// `OutOfMemory` if memory is refused for an item that has come, never for a lossy U+FFFD. Then
+    /// nothing has changed.
     pub fn next_item(&mut self) -> Result<Option<Item>, Reason>
         ensures item { IfOk result (λ next. IfSome next (λ item. TakesTextItem
             (reading_of_pieces self.old) item (reading_of_pieces self.new))) }
@@ -125,8 +125,8 @@ impl Texts {
         }
     }
 
-    /// As `next_item`, at the end of the stream: the bytes of a character that isn't whole are no
-    /// text, too. Returns `None` if no byte is held.
+    /// As `next_item`, at the end of the stream, where the bytes of a character that isn't whole are
+    /// an item too: bytes that are no text. Returns `None` if no byte is held.
     pub fn last_item(&mut self) -> Result<Option<Item>, Reason>
         ensures item { IfOk result (λ next. IfSome next (λ item. TakesLastText
             (reading_of_pieces self.old) item (reading_of_pieces self.new))) }

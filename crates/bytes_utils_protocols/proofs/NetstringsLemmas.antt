@@ -1,14 +1,14 @@
 -- Netstrings, read part by part.
-use Rattle.std.proofs.Common.{◌≡◌, ℕ, ◌+◌, ◌<◌, List, [], ◌∷◌, ◌++◌, length, decimal, ◌^◌, ap, ◌∙◌, sym, refl, subst, arith, inl, append_assoc, append-nil, length-append}
+use Rattle.std.proofs.Common.{◌≡◌, ℕ, ◌<◌, ◌≤◌, List, [], ◌∷◌, ◌++◌, length, decimal, ◌^◌, ap, ◌∙◌, sym, refl, subst, inl, append_assoc}
 use Rattle.std.specs.Str.Parse.{digits_value}
 use Rattle.bytes_utils_buf.specs.declared.refused.Reason.{Reason}
 use Rattle.bytes_utils_buf.specs.declared.refused.Reason.TheVariants.{OutOfMemory, TooLong}
-use Rattle.bytes_utils_codec.specs.Cursor.{CursorHasNoFrameWithin, IsBegunAtCursor, NeverBeginsAtCursor, CursorTakesFirst}
+use Rattle.bytes_utils_codec.specs.Cursor.{CursorHasNoFrameWithin, NeverBeginsAtCursor, CursorTakesFirst}
 use Rattle.bytes_utils_codec.specs.Decoding.{Decoding}
 use Rattle.bytes_utils_codec.specs.Frames.{HasFrameWithin, TakesFrame}
 use Rattle.bytes_utils_codec.proofs.FramesLemmas.{TakesFrame-more, TakesFrame-same}
 use Rattle.bytes_utils.proofs.Joins.{append_same}
-use Rattle.bytes_utils_protocols.specs.Netstrings.{NoNetstring, TakesNetstring, fails_netstring, netstring_bytes, netstring_comma}
+use Rattle.bytes_utils_protocols.specs.Netstrings.{IsNetstringBegun, NoNetstring, TakesNetstring, fails_netstring, netstring_bytes, netstring_comma}
 use Rattle.bytes_utils_protocols.specs.declared.netstrings.Netstrings.{Netstrings}
 use Rattle.bytes_utils_protocols.specs.declared.netstrings.NetstringError.TheVariants.{Refused}
 use Rattle.bytes_utils_protocols.specs.Digits.{WriteNumber, colon}
@@ -33,16 +33,11 @@ module _ (bytes digits after : List ℕ) (front : TakesFrame (colon ∷ []) byte
     whole more text rest takes = (parts more text rest takes).1 ∙ takes.bytes
 
     -- the text and the comma are after the colon
-    pub too_few : length after < len + 1 → NoNetstring bytes
-    too_few few = subst NoNetstring (append-nil bytes) (λ text rest takes.
-        let all = ap length (whole [] text rest takes) in
-        omega (arith, few, size [] text rest takes, all, length-append after [], length-append text (netstring_comma ∷ rest)))
+    pub begun : (limit : ℕ) → length digits ≤ 20 → len ≤ limit → length after ≤ len → IsNetstringBegun limit bytes
+    begun limit few within missing =
+        record { digits = digits; after = after; front = front; few = few; len = len; writes = number; within = within; missing = missing }
 
     module _ (text left : List ℕ) (first : CursorTakesFirst len after text left) where
-      pub no_comma : IsBegunAtCursor (netstring_comma ∷ []) left → NoNetstring bytes
-      no_comma begun = too_few
-          (omega (arith, ap length begun.1, begun.2, length-append left begun.0, ap length first.bytes, first.size, length-append text left))
-
       pub wrong_comma : NeverBeginsAtCursor (netstring_comma ∷ []) left → (more : List ℕ) → NoNetstring (bytes ++ more)
       wrong_comma never more other rest takes =
           let joined : text ++ (left ++ more) ≡ other ++ (netstring_comma ∷ rest) =

@@ -1,7 +1,8 @@
 -- Netstrings (http://cr.yp.to/proto/netstrings.txt): a length in decimal digits, a colon, as many bytes, and a comma.
-use Rattle.std.specs.Prelude.{◌≡◌, ◌<◌, ◌⊎◌, ℕ, List, [], ◌∷◌, ◌++◌, length, codes, decimal}
+use Rattle.std.specs.Prelude.{◌≡◌, ◌<◌, ◌≤◌, ◌⊎◌, ℕ, List, [], ◌∷◌, ◌++◌, length, codes, decimal}
 use Rattle.bytes_utils_buf.specs.Refusals.{refusal_text}
 use Rattle.bytes_utils_buf.specs.declared.refused.Reason.TheVariants.{OutOfMemory, TooLong}
+use Rattle.bytes_utils.specs.Occurrence.{Occurs}
 use Rattle.bytes_utils_codec.specs.Cursor.{CursorHasNoFrameWithin}
 use Rattle.bytes_utils_codec.specs.Frames.{HasFrameWithin, TakesFrame}
 use Rattle.bytes_utils_codec.specs.Decoding.{Decoding, Gives}
@@ -36,16 +37,28 @@ netstring_bytes text = decimal (length text) ++ colon ∷ text ++ netstring_comm
 abbrev pub NoNetstring : List ℕ → Type 0
 NoNetstring bytes = (text rest : List ℕ) → ¬ TakesNetstring bytes text rest
 
--- the next text, and what is left
-abbrev pub takes_netstring : {D : Type 0} → Taking D (List ℕ)
-takes_netstring old text new = (new ≡ record old { held = new.held }) × TakesNetstring old.held text new.held
+-- up to the first colon are at most 20 digits of a length within the limit, and after it at most as many bytes: not all of the text and the comma
+pub record IsNetstringBegun (limit : ℕ) (bytes : List ℕ) : Type 0 where
+  pub digits : List ℕ
+  pub after : List ℕ
+  pub front : TakesFrame (colon ∷ []) bytes digits after
+  pub few : length digits ≤ 20
+  pub len : ℕ
+  pub writes : WriteNumber digits len
+  pub within : len ≤ limit
+  pub missing : length after ≤ len
 
--- no whole netstring has come
-abbrev pub awaits_netstring : {D : Type 0} → Decoding D → Type 0
-awaits_netstring s = NoNetstring s.held
+-- the next text, whose length is within the limit and has at most 20 digits, and what is left
+abbrev pub takes_netstring : Taking Netstrings (List ℕ)
+takes_netstring old text new = (new ≡ record old { held = new.held }) × (length text ≤ old.decoder.max_length)
+    × (takes : TakesNetstring old.held text new.held) × (length takes.digits ≤ 20)
+
+-- at most 20 bytes have come, and no colon; or a length within the limit and a colon, and not all of the text and the comma
+abbrev pub awaits_netstring : Decoding Netstrings → Type 0
+awaits_netstring s = ((¬ Occurs (colon ∷ []) s.held) × (length s.held ≤ 20)) ⊎ IsNetstringBegun s.decoder.max_length s.held
 
 -- what comes next: a text; or at the end of the stream none, and what is held is left
-abbrev pub gives_netstring : {D : Type 0} → Gives D (List ℕ)
+abbrev pub gives_netstring : Gives Netstrings (List ℕ)
 gives_netstring = gives_by takes_netstring awaits_netstring
 
 -- up to the first colon are the digits of a length over the limit

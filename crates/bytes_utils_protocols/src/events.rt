@@ -263,9 +263,9 @@ impl EventReader {
     ///
     /// Fails with `Refused` if memory is refused; then nothing is lost, and the same call can be made
     /// again. Memory is asked for only to take a line that isn't empty and whose end has come, and to
-    /// read data within its limit, a name that isn't empty, an identifier that isn't empty and has no
-    /// NUL, and the empty line that ends an event. That empty line asks for it only if there is an
-    /// identifier that isn't empty, or if the data has a line feed, as data of several lines has.
+    /// read data within its limit but for an empty first line of it, a name that isn't empty, an
+    /// identifier that isn't empty and has no NUL, and the empty line that ends an event. That line
+    /// asks for it only if there is an identifier that isn't empty, or if the data has a line feed.
     pub fn next_event(&mut self) -> Result<Option<Event>, EventError>
         ensures event { IfOk result
             (λ next. IfSome next (λ event. GivesEvent self.old event self.new)) }

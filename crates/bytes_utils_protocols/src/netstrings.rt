@@ -21,8 +21,8 @@ use std::fmt;
 /// Why there is no text.
 #[derive(Clone, Copy, Debug, Eq, PartialEq)]
 pub enum NetstringError {
-    /// Memory was refused, which is asked for only after the colon has come; the text is longer than
-    /// the limit; or the first 21 bytes have no colon.
+    /// Memory was refused, which is asked for only after 1 to 20 bytes and a colon have come; the text
+    /// is longer than the limit; or the first 21 bytes have no colon.
     Refused(Reason),
     /// What came is no netstring, whatever comes after it.
     Malformed,

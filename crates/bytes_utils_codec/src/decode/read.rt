@@ -18,7 +18,7 @@ impl<D: Decoder> Framed<D> {
     /// Returns the next item: one that the held bytes have, or else what is read until there is one.
     /// At the end of the input it is the item that this end ends, or `None`. Each read is one of
     /// `read_from`, and is made again if it was interrupted. Fails with a [`ReadItemError`]; then
-    /// what was read is held, and the call can be made again.
+    /// only bytes that the decoder skips are gone, and the call can be made again.
     pub fn read_item<R: Read>(
         &mut self,
         input: &mut R,
@@ -32,13 +32,13 @@ impl<D: Decoder> Framed<D> {
         ensures none_lost { OnErr result (ReadsMore D.gives
             (R.remaining input.old) (R.remaining input.new) self.old self.new) }
         ensures due { IfErr result
-            (IsItemDue D.gives D.fails D.fails_at_end (R.remaining input.new) self.new) }
+            (IsItemDue D.gives D.fails D.fails_at_end D.keeps (R.remaining input.new) self.new) }
 
         // If an item is held, nothing is read, and the only error is the decoder's.
         ensures unread { (item : D.Item) (after : Decoding D)
             → D.gives self.old (Item item) after → input.new ≡ input.old }
         ensures at_once { (item : D.Item) (after : Decoding D)
-            → D.gives self.old (Item item) after → IfErr result IsReadItemErrorOfDecoder }
+            → D.gives self.old (Item item) after → IfErr result (IsReadItemErrorOfDecoder D.fails self.old) }
     {
         if let Some(held) = self.held_item()? {
             return Ok(Some(held));
@@ -71,7 +71,7 @@ impl<D: Decoder> Framed<D> {
 
     /// Returns the next item that the held bytes have.
     fn held_item(&mut self) -> Result<Option<D::Item>, ReadItemError<D::Error>>
-        ensures { ReadItemTakesHeld D.gives D.fails self.old result self.new }
+        ensures { ReadItemTakesHeld D.gives D.fails D.keeps self.old result self.new }
     {
         match self.next_item() {
             Ok(next) => Ok(next),
@@ -82,7 +82,7 @@ impl<D: Decoder> Framed<D> {
     /// Returns the item that the end of the input ends.
     fn end_item(&mut self) -> Result<Option<D::Item>, ReadItemError<D::Error>>
         requires { LacksItem D.gives self.old }
-        ensures { ReadItemTakesLast D.gives D.fails D.fails_at_end self.old result self.new }
+        ensures { ReadItemTakesLast D.gives D.fails D.fails_at_end D.keeps self.old result self.new }
     {
         match self.last_item() {
             Ok(last) => Ok(last),

@@ -5,7 +5,7 @@ ghost use Rattle.bytes_utils_codec.specs.declared.decode.read.error.ReadItemErro
 use std::error::Error;
 use std::{fmt, io};
 
-/// Why no item was read. No byte is lost: what was read is held.
+/// Why no item was read. What was read is held, but for bytes that the decoder skips.
 #[derive(Debug, Drop)]
 pub enum ReadItemError<E> {
     /// The decoder failed.
