@@ -15,7 +15,7 @@ use Rattle.bytes_utils_codec.proofs.FramesLemmas.{TakesFrame-more, TakesFrame-sa
 use Rattle.bytes_utils_codec.proofs.SearchLemmas.{NoneBeginsInSearch-missed, first_of_all, frame_of_all, nowhere_left}
 use Rattle.bytes_utils_protocols.specs.Multipart.{AreMultipartFields, HasMultipartParameter, IsMultipartFieldLine, IsMultipartHead, IsMultipartPadding, NoMultipartDisposition, multipart_dashes, multipart_file_name, multipart_head_end, multipart_name}
 use Rattle.bytes_utils_protocols.specs.MultipartWaiting.{IsAheadOfNeedle, IsSearchWithin, MultipartWaiting}
-use Rattle.bytes_utils_protocols.specs.MultipartStream.{PartStreaming, DropsPreamble, PassesPreamble, AfterPreamble, TakesPartHead, NoPartFieldsCome, NoPartHeadComes, HasPartHeadNotUtf8, AwaitsPartHead, HasPartHeadEnd, HasPartPiece, IsWithinPartRoom, GivesPartPiece, GivesPartEnd, GivesPartEvent, IsPartStreamCall, IsPartAwaited, IsPartStreamFault, IsPartStreamStep, IsPartStreamReturn, IsPartHeadFault, PartStreamAsks, PassesPartRoom, has_part_stream_ended, part_stream_appended, part_streaming}
+use Rattle.bytes_utils_protocols.specs.MultipartStream.{PartStreaming, DropsPreamble, PassesPreamble, AfterPreamble, TakesPartHead, NoPartFieldsCome, NoPartHeadComes, HasPartHeadNotUtf8, AwaitsPartHead, IsPartHeadOverLimit, HasPartHeadEnd, HasPartPiece, IsWithinPartRoom, GivesPartPiece, GivesPartEnd, GivesPartEvent, IsPartStreamCall, IsPartAwaited, IsPartStreamFault, IsPartStreamStep, IsPartStreamReturn, IsPartHeadFault, PartStreamAsks, PassesPartRoom, has_part_stream_ended, part_stream_appended, part_streaming}
 use Rattle.bytes_utils_protocols.specs.declared.multipart.event.PartEvent.{PartEvent}
 use Rattle.bytes_utils_protocols.specs.declared.multipart.event.PartEvent.TheVariants.{Head, Body, End}
 use Rattle.bytes_utils_protocols.specs.declared.multipart.head.PartHead.{PartHead}
@@ -155,20 +155,26 @@ module _ (d held : List ℕ) (some : 0 < length d) where
       pub malformed_without : ahead.has_come ≡ true → NoPartFieldsCome d held
       malformed_without come any more head rest takes _ = no_head_after ahead.len (come_at come) (λ k here. absurd (none (k, here))) any more head rest takes
 
-      pub large_without : limits.head ≤ length held → NoPartHeadComes d limits held
-      large_without long = no_head_within limits long (λ k here. absurd (none (k, here)))
+      pub large_without : ahead.has_come ≡ false → max limits.head (length multipart_dashes) ≤ length held → NoPartHeadComes d limits held × IsPartHeadOverLimit d limits held
+      large_without lacks long =
+          (no_head_within limits (omega (arith, long)) (λ k here. absurd (none (k, here))), inl (record { no_next = is.lacks lacks; no_end = none; many = long }))
 
-      pub awaits_without : ahead.has_come ≡ false → length held < max limits.head 2 → AwaitsPartHead d limits held
+      pub awaits_without : ahead.has_come ≡ false → length held < max limits.head (length multipart_dashes) → AwaitsPartHead d limits held
       awaits_without lacks few = record {
         none = is.lacks lacks;
         short = λ front rest takes. absurd (none (length front, takes.first.here));
-        few = omega (arith, few, some);
+        small = λ front rest takes. absurd (none (length front, takes.first.here));
+        few = λ _. few;
       }
 
     -- a head ends
     module _ (len : ℕ) (cut : TakesFrame multipart_head_end held (take len held) (drop (len + length multipart_head_end) held)) (within : len + length multipart_head_end ≤ length held) where
       size : length (take len held) ≡ len
       size = length-take-le len held (omega (arith, within))
+
+      one_front : (front rest : List ℕ) → TakesFrame multipart_head_end held front rest → length front ≡ len
+      one_front front rest takes =
+          ap length (TakesFrame-same multipart_head_end held front (take len held) rest (drop (len + length multipart_head_end) held) takes cut).0 ∙ size
 
       not_before : (k : ℕ) → OccursAt multipart_head_end held k → len ≤ k
       not_before k here = let first = cut.first.none_before k here in omega (arith, first, size)
@@ -177,16 +183,19 @@ module _ (d held : List ℕ) (some : 0 < length d) where
       malformed_late late come any more head rest takes _ =
           no_head_after ahead.len (come_at come) (λ k here. let first = not_before k here in omega (arith, first, late)) any more head rest takes
 
-      pub large_late : limits.head < len + length multipart_head_end → NoPartHeadComes d limits held
-      large_late over = no_head_within limits (omega (arith, within, over)) (λ k here. let first = not_before k here in omega (arith, first, over))
+      pub large_late : limits.head < len + length multipart_head_end → NoPartHeadComes d limits held × IsPartHeadOverLimit d limits held
+      large_late over = (
+        no_head_within limits (omega (arith, within, over)) (λ k here. let first = not_before k here in omega (arith, first, over)),
+        inr (take len held, drop (len + length multipart_head_end) held, cut, omega (arith, over, size)),
+      )
 
       pub awaits_late : ahead.len < len + length multipart_head_end → ahead.has_come ≡ false → len + length multipart_head_end ≤ limits.head → AwaitsPartHead d limits held
-      awaits_late late lacks small = record {
+      awaits_late late lacks fits = record {
         none = is.lacks lacks;
         short = λ front rest takes.
-            let same = ap length (TakesFrame-same multipart_head_end held front (take len held) rest (drop (len + length multipart_head_end) held) takes cut).0 in
-            omega (arith, is.most lacks, some, late, same, size, ap length takes.bytes, length-append front (multipart_head_end ++ rest), length-append multipart_head_end rest);
-        few = omega (arith, is.most lacks, some, late, small);
+            omega (arith, is.most lacks, some, late, one_front front rest takes, ap length takes.bytes, length-append front (multipart_head_end ++ rest), length-append multipart_head_end rest);
+        small = λ front rest takes. omega (arith, fits, one_front front rest takes);
+        few = λ none. absurd (none (length (take len held), cut.first.here));
       }
 
       -- it is certain
@@ -346,7 +355,7 @@ awaits_elsewhere old Ended few not_head not_body = tt
 pub fault_at_head : (e : PartError) (s : PartStreaming) → s.place ≡ AtHead → IsPartHeadFault e s.delimiter s.limits s.held → IsPartStreamFault e s
 fault_at_head Malformed s place why = (place, why)
 fault_at_head NotUtf8 s place why = (place, why)
-fault_at_head TooLarge s place why = inl (place, why)
+fault_at_head TooLarge s place why = inl (place, why.0, why.1)
 fault_at_head (Refused reason) s place why = absurd why
 
 -- the step fails, and nothing has changed
