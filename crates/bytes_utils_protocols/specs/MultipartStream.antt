@@ -136,11 +136,11 @@ IsPartHeadFault TooLarge delimiter limits held = NoPartHeadComes delimiter limit
 IsPartHeadFault NotUtf8 delimiter limits held = HasPartHeadNotUtf8 delimiter limits held
 IsPartHeadFault (Refused reason) delimiter limits held = ⊥
 
--- what is found of a head: how many bytes are before its end, and then no more are awaited; that more are awaited; or why there is none
+-- what is found of a head: how many bytes are before its end; that more are awaited; or why there is none. Only in the second case more are awaited.
 abbrev pub FindsPartHead : List ℕ → Limits → List ℕ → Result (Option ℕ) PartError → Type 0
 FindsPartHead delimiter limits held (Ok (Some len)) = HasPartHeadEnd delimiter limits held len × (¬ AwaitsPartHead delimiter limits held)
 FindsPartHead delimiter limits held (Ok None) = AwaitsPartHead delimiter limits held
-FindsPartHead delimiter limits held (Err e) = IsPartHeadFault e delimiter limits held
+FindsPartHead delimiter limits held (Err e) = IsPartHeadFault e delimiter limits held × (¬ AwaitsPartHead delimiter limits held)
 
 -- ---- what a call gives
 
@@ -217,14 +217,22 @@ PartStreamAsks AtHead s =
 PartStreamAsks InBody s = HasPartPiece s.delimiter s.held × IsWithinPartRoom s
 PartStreamAsks Ended s = ⊥
 
--- Why a call fails, after the preamble. A call that waits asks for no memory.
-abbrev pub IsPartStreamFault : PartError → PartStreaming → Type 0
-IsPartStreamFault Malformed s = (s.place ≡ AtHead) × NoPartFieldsCome s.delimiter s.held
-IsPartStreamFault NotUtf8 s = (s.place ≡ AtHead) × HasPartHeadNotUtf8 s.delimiter s.limits s.held
-IsPartStreamFault TooLarge s =
-    ((s.place ≡ AtHead) × NoPartHeadComes s.delimiter s.limits s.held × IsPartHeadOverLimit s.delimiter s.limits s.held)
+-- a head comes next: after a delimiter that no two dashes follow
+abbrev pub IsAtPartHead : PartStreaming → Type 0
+IsAtPartHead s = (s.place ≡ AtHead) × (take (length multipart_dashes) s.held ≢ multipart_dashes)
+
+-- what is wrong, after the preamble
+abbrev pub IsPartStreamWrong : PartError → PartStreaming → Type 0
+IsPartStreamWrong Malformed s = IsAtPartHead s × NoPartFieldsCome s.delimiter s.held
+IsPartStreamWrong NotUtf8 s = IsAtPartHead s × HasPartHeadNotUtf8 s.delimiter s.limits s.held
+IsPartStreamWrong TooLarge s =
+    (IsAtPartHead s × NoPartHeadComes s.delimiter s.limits s.held × IsPartHeadOverLimit s.delimiter s.limits s.held)
     ⊎ (((s.place ≡ Preamble) ⊎ (s.place ≡ InBody)) × PassesPartRoom s)
-IsPartStreamFault (Refused reason) s = (reason ≡ OutOfMemory) × PartStreamAsks s.place s × (¬ IsPartAwaited s.place s)
+IsPartStreamWrong (Refused reason) s = (reason ≡ OutOfMemory) × PartStreamAsks s.place s
+
+-- Why a call fails, after the preamble. A call that waits doesn't fail.
+abbrev pub IsPartStreamFault : PartError → PartStreaming → Type 0
+IsPartStreamFault e s = IsPartStreamWrong e s × (¬ IsPartAwaited s.place s)
 
 -- a call after the preamble, whatever it returns
 abbrev pub IsPartStreamStep : PartStreaming → Result (Option PartEvent) PartError → PartStreaming → Type 0
