@@ -13,7 +13,7 @@ use Rattle.bytes_utils_codec.specs.Pushing.{IsPush}
 use Rattle.bytes_utils_buf.specs.declared.refused.Refused.{Refused}
 use Rattle.bytes_utils_codec.proofs.FramesLemmas.{TakesFrame-more, TakesFrame-same}
 use Rattle.bytes_utils.proofs.OccurrenceLemmas.{OccursAt-front}
-use Rattle.bytes_utils_protocols.specs.Multipart.{AreMultipartFields, IsMultipartFieldLine, FewWaitInMultipart, IsMultipartIdle, MultipartReading, multipart_appended, multipart_closed, multipart_line_end, multipart_dashes, multipart_head_end, MultipartBytes, multipart_bytes, IsMultipartHead, IsMultipartPart, TakesMultipart, IsMultipartDue, AsksForMultipart, HasNextInMultipart, IsMultipartSearchFault, EachMultipart, NoMultipart, ClosesMultipart, LacksNextInMultipart, held_in_multipart_sections, AreMultipartSectionsApart, multipart_sections_have_ended, held_by_multipart, IsMultipartDivided, SameMultipartSections, AfterMultipartSearch, HasMultipartDisposition, IsFirstMultipartDisposition, IsMultipartDisposition, IsMultipartFolded, NoMultipartDisposition, ReadsMultipartDisposition}
+use Rattle.bytes_utils_protocols.specs.Multipart.{AreMultipartFields, IsMultipartFieldLine, FewWaitInMultipart, IsMultipartIdle, MultipartReading, multipart_appended, multipart_closed, multipart_line_end, multipart_dashes, multipart_head_end, MultipartBytes, multipart_bytes, IsMultipartHead, IsMultipartPart, TakesMultipart, IsMultipartDue, AsksForMultipart, HasNextInMultipart, IsMultipartSearchFault, EachMultipart, NoMultipart, ClosesMultipart, LacksNextInMultipart, held_in_multipart_sections, AreMultipartSectionsApart, multipart_sections_have_ended, held_by_multipart, IsMultipartDivided, WaitsInMultipart, SameMultipartSections, AfterMultipartSearch, HasMultipartDisposition, IsFirstMultipartDisposition, IsMultipartDisposition, IsMultipartFolded, NoMultipartDisposition, ReadsMultipartDisposition}
 use Rattle.bytes_utils_protocols.specs.MultipartWaiting.{MultipartWaiting}
 use Rattle.bytes_utils_protocols.specs.declared.multipart.limits.Limits.{Limits}
 use Rattle.bytes_utils_protocols.specs.declared.multipart.limits.PartError.{PartError}
@@ -243,19 +243,21 @@ seen_more s w piece limits is on =
     held_apart s.stage d p f (s.waiting.held ++ piece) on ∙ sym (append_assoc before s.waiting.held piece) ∙ ap (λ l. l ++ piece) (sym (held_apart s.stage d p f s.waiting.held on)) in
     rw (is, on) (λ i. record { delimiter = d; limits = limits; ended = false; held = more i })
 
--- the bytes that wait are the last ones that are held
-pub waiting_last : (s : Sections) → multipart_sections_have_ended s.stage ≡ false → (front : List ℕ) × (held_by_multipart s ≡ front ++ s.waiting.held)
-waiting_last s on = (
-  held_before s.stage s.waiting.delimiter s.preamble (concat s.found.segments),
-  held_apart s.stage s.waiting.delimiter s.preamble (concat s.found.segments) s.waiting.held on,
-)
+-- which of the held bytes wait
+pub waits_in : (stage : Stage) (d p f w : List ℕ) → AreMultipartSectionsApart stage d p f w → WaitsInMultipart d (held_in_multipart_sections stage d p f w) w
+waits_in Preamble d p f w parts = inl refl
+waits_in Waiting d p f w parts = inr (inl (p, parts))
+waits_in Found d p f w parts = inr (inr (p, f ++ (d ++ w), f, parts.0, parts.1))
+waits_in Ended d p f w parts = inl parts.1
 
 pub is_pushed : (s : Sections) (w : MultipartWaiting) (limits : Limits) (piece : List ℕ) (result : Result (Unit {0}) (Refused (List ℕ))) → IsPush s.waiting.held piece result (w ≡ waits_more s piece) (w ≡ s.waiting)
-    → multipart_sections_have_ended s.stage ≡ false → (front : List ℕ) × (waiting : List ℕ) × (held_by_multipart s ≡ front ++ waiting)
+    → multipart_sections_have_ended s.stage ≡ false → IsMultipartDivided s → (waiting : List ℕ) × WaitsInMultipart s.waiting.delimiter (held_by_multipart s) waiting
     × IsPush waiting piece result (seen limits (record s { waiting = w }) ≡ multipart_appended (seen limits s) piece) (seen limits (record s { waiting = w }) ≡ seen limits s)
-is_pushed s w limits piece result push on =
-    let last = waiting_last s on in
-    (last.0, s.waiting.held, last.1, push_of_all s.waiting.held piece result push (λ more. seen_more s w piece limits more on) (ap (λ (w : MultipartWaiting). seen limits (record s { waiting = w }))))
+is_pushed s w limits piece result push on parts = (
+  s.waiting.held,
+  waits_in s.stage s.waiting.delimiter s.preamble (concat s.found.segments) s.waiting.held parts,
+  push_of_all s.waiting.held piece result push (λ more. seen_more s w piece limits more on) (ap (λ (w : MultipartWaiting). seen limits (record s { waiting = w }))),
+)
 
 -- ---- without a part
 

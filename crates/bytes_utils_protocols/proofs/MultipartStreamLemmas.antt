@@ -15,7 +15,7 @@ use Rattle.bytes_utils_codec.proofs.FramesLemmas.{TakesFrame-more, TakesFrame-sa
 use Rattle.bytes_utils_codec.proofs.SearchLemmas.{NoneBeginsInSearch-missed, first_of_all, frame_of_all, nowhere_left}
 use Rattle.bytes_utils_protocols.specs.Multipart.{AreMultipartFields, HasMultipartParameter, IsMultipartFieldLine, IsMultipartHead, IsMultipartPadding, NoMultipartDisposition, multipart_dashes, multipart_file_name, multipart_head_end, multipart_name}
 use Rattle.bytes_utils_protocols.specs.MultipartWaiting.{IsAheadOfNeedle, IsSearchWithin, MultipartWaiting}
-use Rattle.bytes_utils_protocols.specs.MultipartStream.{PartStreaming, DropsPreamble, PassesPreamble, AfterPreamble, TakesPartHead, NoPartFieldsCome, NoPartHeadComes, HasPartHeadNotUtf8, AwaitsPartHead, HasPartHeadEnd, HasPartPiece, IsWithinPartRoom, GivesPartPiece, GivesPartEnd, GivesPartEvent, IsPartStreamCall, IsPartAwaited, IsPartStreamFault, IsPartStreamStep, IsPartStreamReturn, IsPartHeadFault, PartStreamAsks, PassesPartRoom, has_part_stream_ended, part_stream_appended, part_streaming}
+use Rattle.bytes_utils_protocols.specs.MultipartStream.{PartStreaming, DropsPreamble, PassesPreamble, AfterPreamble, TakesPartHead, NoPartFieldsCome, NoPartHeadComes, HasPartHeadNotUtf8, AwaitsPartHead, HasPartHeadEnd, HasPartPiece, IsWithinPartRoom, GivesPartPiece, GivesPartEnd, GivesPartEvent, IsPartStreamCall, IsPartAwaited, IsAtPartHead, IsPartStreamFault, IsPartStreamStep, IsPartStreamReturn, IsPartHeadFault, PartStreamAsks, PassesPartRoom, has_part_stream_ended, part_stream_appended, part_streaming}
 use Rattle.bytes_utils_protocols.specs.declared.multipart.event.PartEvent.{PartEvent}
 use Rattle.bytes_utils_protocols.specs.declared.multipart.event.PartEvent.TheVariants.{Head, Body, End}
 use Rattle.bytes_utils_protocols.specs.declared.multipart.head.PartHead.{PartHead}
@@ -124,6 +124,11 @@ module _ (d held : List ℕ) (from : ℕ) (some : 0 < length d) (none : NoneBegi
     some = some;
   }
 
+-- some bytes are before the next delimiter, or before where it may begin: at least as many have come as it has
+pub many_ahead : (d held : List ℕ) (ahead : Ahead) → IsAheadOfNeedle d held ahead → 0 < ahead.len → (come : Bool) → ahead.has_come ≡ come → length d ≤ length held
+many_ahead d held ahead is some true come = let fits = is.fits come in omega (arith, fits)
+many_ahead d held ahead is some false lacks = omega (arith, is.most lacks, some)
+
 -- ---- the end of a head
 
 module _ (d held : List ℕ) (some : 0 < length d) where
@@ -150,19 +155,27 @@ module _ (d held : List ℕ) (some : 0 < length d) where
     come_at : ahead.has_come ≡ true → OccursAt d held ahead.len
     come_at come = subst (OccursAt d held) (length-take-le ahead.len held is.within) (is.here come).first.here
 
+    come_ends : ahead.has_come ≡ true → ¬ AwaitsPartHead d limits held
+    come_ends come awaits = awaits.none (ahead.len, come_at come)
+
     -- no head ends
     module _ (none : ¬ Occurs multipart_head_end held) where
-      pub malformed_without : ahead.has_come ≡ true → NoPartFieldsCome d held
-      malformed_without come any more head rest takes _ = no_head_after ahead.len (come_at come) (λ k here. absurd (none (k, here))) any more head rest takes
+      pub malformed_without : ahead.has_come ≡ true → IsPartHeadFault Malformed d limits held × (¬ AwaitsPartHead d limits held)
+      malformed_without come =
+          (λ any more head rest takes _. no_head_after ahead.len (come_at come) (λ k here. absurd (none (k, here))) any more head rest takes, come_ends come)
 
-      pub large_without : limits.head ≤ length held → NoPartHeadComes d limits held
-      large_without long = no_head_within limits long (λ k here. absurd (none (k, here)))
+      pub large_without : ahead.has_come ≡ false → max limits.head (length multipart_dashes) ≤ length held → IsPartHeadFault TooLarge d limits held × (¬ AwaitsPartHead d limits held)
+      large_without lacks long = (
+        (no_head_within limits (omega (arith, long)) (λ k here. absurd (none (k, here))), inl (record { no_next = is.lacks lacks; no_end = none; many = long })),
+        λ awaits. let few = awaits.few none in omega (arith, few, long),
+      )
 
-      pub awaits_without : ahead.has_come ≡ false → length held < max limits.head 2 → AwaitsPartHead d limits held
+      pub awaits_without : ahead.has_come ≡ false → length held < max limits.head (length multipart_dashes) → AwaitsPartHead d limits held
       awaits_without lacks few = record {
         none = is.lacks lacks;
         short = λ front rest takes. absurd (none (length front, takes.first.here));
-        few = omega (arith, few, some);
+        small = λ front rest takes. absurd (none (length front, takes.first.here));
+        few = λ _. few;
       }
 
     -- a head ends
@@ -170,28 +183,39 @@ module _ (d held : List ℕ) (some : 0 < length d) where
       size : length (take len held) ≡ len
       size = length-take-le len held (omega (arith, within))
 
+      one_front : (front rest : List ℕ) → TakesFrame multipart_head_end held front rest → length front ≡ len
+      one_front front rest takes =
+          ap length (TakesFrame-same multipart_head_end held front (take len held) rest (drop (len + length multipart_head_end) held) takes cut).0 ∙ size
+
       not_before : (k : ℕ) → OccursAt multipart_head_end held k → len ≤ k
       not_before k here = let first = cut.first.none_before k here in omega (arith, first, size)
 
-      pub malformed_late : ahead.len < len + length multipart_head_end → ahead.has_come ≡ true → NoPartFieldsCome d held
-      malformed_late late come any more head rest takes _ =
-          no_head_after ahead.len (come_at come) (λ k here. let first = not_before k here in omega (arith, first, late)) any more head rest takes
+      pub malformed_late : ahead.len < len + length multipart_head_end → ahead.has_come ≡ true → IsPartHeadFault Malformed d limits held × (¬ AwaitsPartHead d limits held)
+      malformed_late late come = (
+        λ any more head rest takes _. no_head_after ahead.len (come_at come) (λ k here. let first = not_before k here in omega (arith, first, late)) any more head rest takes,
+        come_ends come,
+      )
 
-      pub large_late : limits.head < len + length multipart_head_end → NoPartHeadComes d limits held
-      large_late over = no_head_within limits (omega (arith, within, over)) (λ k here. let first = not_before k here in omega (arith, first, over))
+      pub large_late : limits.head < len + length multipart_head_end → IsPartHeadFault TooLarge d limits held × (¬ AwaitsPartHead d limits held)
+      large_late over =
+          let rest = drop (len + length multipart_head_end) held in
+          let none = no_head_within limits (omega (arith, within, over)) (λ k here. let first = not_before k here in omega (arith, first, over)) in (
+            (none, inr (take len held, rest, cut, omega (arith, over, size))),
+            λ awaits. let small = awaits.small (take len held) rest cut in omega (arith, small, over, size),
+          )
 
       pub awaits_late : ahead.len < len + length multipart_head_end → ahead.has_come ≡ false → len + length multipart_head_end ≤ limits.head → AwaitsPartHead d limits held
-      awaits_late late lacks small = record {
+      awaits_late late lacks fits = record {
         none = is.lacks lacks;
         short = λ front rest takes.
-            let same = ap length (TakesFrame-same multipart_head_end held front (take len held) rest (drop (len + length multipart_head_end) held) takes cut).0 in
-            omega (arith, is.most lacks, some, late, same, size, ap length takes.bytes, length-append front (multipart_head_end ++ rest), length-append multipart_head_end rest);
-        few = omega (arith, is.most lacks, some, late, small);
+            omega (arith, is.most lacks, some, late, one_front front rest takes, ap length takes.bytes, length-append front (multipart_head_end ++ rest), length-append multipart_head_end rest);
+        small = λ front rest takes. omega (arith, fits, one_front front rest takes);
+        few = λ none. absurd (none (length (take len held), cut.first.here));
       }
 
       -- it is certain
       head_is_certain : len + length multipart_head_end ≤ ahead.len → (come : Bool) → ahead.has_come ≡ come → ¬ AwaitsPartHead d limits held
-      head_is_certain early true come awaits = awaits.none (ahead.len, come_at come)
+      head_is_certain early true come awaits = come_ends come awaits
       head_is_certain early false lacks awaits =
           let rest = drop (len + length multipart_head_end) held in
           omega (arith, awaits.short (take len held) rest cut, is.most lacks, early, length-drop (len + length multipart_head_end) held)
@@ -308,14 +332,10 @@ module _ (old : Progress) (ahead : Ahead) (is : IsAheadOfNeedle old.waiting.deli
       subst (λ place. PartStreamAsks place (part_streaming old)) (sym place) (come, within_room ahead.has_come refl)
 
   -- a piece is given: the call does not wait
-  piece_is_certain : 0 < ahead.len → (come : Bool) → ahead.has_come ≡ come → length old.waiting.delimiter ≤ length old.waiting.held
-  piece_is_certain some true come = omega (arith, is.fits come)
-  piece_is_certain some false lacks = omega (arith, is.most lacks, some)
-
   pub no_wait_in_body : old.place ≡ InBody → 0 < ahead.len → ¬ IsPartAwaited old.place (part_streaming old)
   no_wait_in_body place some awaits =
       let few : length old.waiting.held < length old.waiting.delimiter = subst (λ place. IsPartAwaited place (part_streaming old)) place awaits in
-      omega (arith, few, piece_is_certain some ahead.has_come refl)
+      omega (arith, few, many_ahead old.waiting.delimiter old.waiting.held ahead is some ahead.has_come refl)
 
   -- the body has ended
   pub end_given : (p : Progress) (w : MultipartWaiting) → p ≡ old → old.place ≡ InBody → ahead.len ≡ 0 → ahead.has_come ≡ true → w ≡ without_front (ahead.len + length p.waiting.delimiter) p.waiting
@@ -343,11 +363,11 @@ awaits_elsewhere old InBody few not_head not_body = absurd (not_body refl)
 awaits_elsewhere old Ended few not_head not_body = tt
 
 -- why there is no head is why the call fails
-pub fault_at_head : (e : PartError) (s : PartStreaming) → s.place ≡ AtHead → IsPartHeadFault e s.delimiter s.limits s.held → IsPartStreamFault e s
-fault_at_head Malformed s place why = (place, why)
-fault_at_head NotUtf8 s place why = (place, why)
-fault_at_head TooLarge s place why = inl (place, why)
-fault_at_head (Refused reason) s place why = absurd why
+pub fault_at_head : (e : PartError) (s : PartStreaming) → IsAtPartHead s → (¬ IsPartAwaited s.place s) → IsPartHeadFault e s.delimiter s.limits s.held → IsPartStreamFault e s
+fault_at_head Malformed s head certain why = ((head, why), certain)
+fault_at_head NotUtf8 s head certain why = ((head, why), certain)
+fault_at_head TooLarge s head certain why = (inl (head, why.0, why.1), certain)
+fault_at_head (Refused reason) s head certain why = absurd why
 
 -- the step fails, and nothing has changed
 pub failed_step : (old new : PartStreaming) (result : Result (Option PartEvent) PartError) (e : PartError) → result ≡ Err e → new ≡ old → IsPartStreamFault e old → IsPartStreamStep old result new
@@ -356,11 +376,19 @@ failed_step old new result e is same why = rw (is, same) (refl, why)
 -- the step fails, as memory is refused
 pub refused_step : (old new : PartStreaming) (result : Result (Option PartEvent) PartError) (e : PartError) (reason : Reason) → result ≡ Err e → e ≡ Refused reason → reason ≡ OutOfMemory → PartStreamAsks old.place old
     → (¬ IsPartAwaited old.place old) → new ≡ old → IsPartStreamStep old result new
-refused_step old new result e reason is refused want asks goes_on same = failed_step old new result e is same (rw refused (want, asks, goes_on))
+refused_step old new result e reason is refused want asks goes_on same = failed_step old new result e is same (rw refused ((want, asks), goes_on))
 
 -- too many bytes are before the next delimiter
-pub over_step : (s : PartStreaming) (e : PartError) → (s.place ≡ Preamble) ⊎ (s.place ≡ InBody) → e ≡ TooLarge → PassesPartRoom s → IsPartStreamFault e s
-over_step s e place is over = rw is (inr (place, over))
+no_wait_over : (s : PartStreaming) (place : Place) → (place ≡ Preamble) ⊎ (place ≡ InBody) → length s.delimiter ≤ length s.held → ¬ IsPartAwaited place s
+no_wait_over s place (inl is) many awaits =
+    let few : length s.held < length s.delimiter = subst (λ place. IsPartAwaited place s) is awaits in
+    omega (arith, few, many)
+no_wait_over s place (inr is) many awaits =
+    let few : length s.held < length s.delimiter = subst (λ place. IsPartAwaited place s) is awaits in
+    omega (arith, few, many)
+
+pub over_step : (s : PartStreaming) (e : PartError) → (s.place ≡ Preamble) ⊎ (s.place ≡ InBody) → e ≡ TooLarge → PassesPartRoom s → length s.delimiter ≤ length s.held → IsPartStreamFault e s
+over_step s e place is over many = rw is (inr (place, over), no_wait_over s s.place place many)
 
 -- a piece is pushed
 pub stream_pushed : (old : Progress) (w : MultipartWaiting) (piece : List ℕ) → has_part_stream_ended old.place ≡ false → w ≡ record old.waiting { held = old.waiting.held ++ piece }
@@ -418,10 +446,10 @@ no_wait_at_head old place certain awaits = certain (subst (λ place. IsPartAwait
 pub parse_fault : (old : Progress) (len : ℕ) → old.place ≡ AtHead → take (length multipart_dashes) old.waiting.held ≢ multipart_dashes → HasPartHeadEnd old.waiting.delimiter old.limits old.waiting.held len × (¬ AwaitsPartHead old.waiting.delimiter old.limits old.waiting.held)
     → (¬ IsMultipartPadding (take len old.waiting.held)) → (e : PartError) → (e ≡ Malformed → (head : List ℕ) → IsMultipartHead (take len old.waiting.held) head → ¬ AreMultipartFields head) → e ≢ TooLarge
     → (e ≡ NotUtf8 → (head : List ℕ) × IsMultipartHead (take len old.waiting.held) head × (¬ IsUtf8 head)) → ((reason : Reason) → e ≡ Refused reason → reason ≡ OutOfMemory) → IsPartStreamFault e (part_streaming old)
-parse_fault old len place on found some Malformed malformed large not_text want = (place, no_fields_come old.waiting.delimiter old.limits old.waiting.held len found.0 (malformed refl))
-parse_fault old len place on found some NotUtf8 malformed large not_text want = (place, not_utf8_come old.waiting.delimiter old.limits old.waiting.held len found.0 (not_text refl))
+parse_fault old len place on found some Malformed malformed large not_text want = (((place, on), no_fields_come old.waiting.delimiter old.limits old.waiting.held len found.0 (malformed refl)), no_wait_at_head old place found.1)
+parse_fault old len place on found some NotUtf8 malformed large not_text want = (((place, on), not_utf8_come old.waiting.delimiter old.limits old.waiting.held len found.0 (not_text refl)), no_wait_at_head old place found.1)
 parse_fault old len place on found some TooLarge malformed large not_text want = absurd (large refl)
-parse_fault old len place on found some (Refused reason) malformed large not_text want = (want reason refl, asks_at_head old len place on found.0 some, no_wait_at_head old place found.1)
+parse_fault old len place on found some (Refused reason) malformed large not_text want = ((want reason refl, asks_at_head old len place on found.0 some), no_wait_at_head old place found.1)
 
 -- ---- what a call returned
 

@@ -207,6 +207,11 @@ held_in_multipart_sections Waiting delimiter preamble found waiting = preamble +
 held_in_multipart_sections Found delimiter preamble found waiting = preamble ++ (delimiter ++ (found ++ (delimiter ++ waiting)))
 held_in_multipart_sections Ended delimiter preamble found waiting = []
 
+-- The bytes that wait for a delimiter are all that are held, or those after the first delimiter, or those after the next one.
+abbrev pub WaitsInMultipart : List ℕ → List ℕ → List ℕ → Type 0
+WaitsInMultipart delimiter held waiting =
+    (waiting ≡ held) ⊎ (((preamble : List ℕ) × TakesFrame delimiter held preamble waiting) ⊎ ((preamble : List ℕ) × (after : List ℕ) × (raw : List ℕ) × TakesFrame delimiter held preamble after × TakesFrame delimiter after raw waiting))
+
 -- Each delimiter is the first one there, and no dashes follow it where the next one was found. Before the first one, and after the close delimiter,
 -- nothing else is kept.
 abbrev pub AreMultipartSectionsApart : Stage → List ℕ → List ℕ → List ℕ → List ℕ → Type 0

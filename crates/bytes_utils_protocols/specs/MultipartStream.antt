@@ -1,5 +1,5 @@
 -- Parts that are given as they come: heads, pieces of bodies, and their ends.
-use Rattle.std.specs.Prelude.{◌≡◌, ◌≢◌, ◌⊎◌, ⊤, ℕ, ◌+◌, ◌-◌, ◌^◌, ◌<◌, ◌≤◌, min, Bool, true, false, List, [], ◌∷◌, ◌++◌, length, take, drop, Option, None, Some, IfSome, Result, Ok, Err, option_map, IsUtf8, if◌then◌else◌}
+use Rattle.std.specs.Prelude.{◌≡◌, ◌≢◌, ◌⊎◌, ⊤, ℕ, ◌+◌, ◌-◌, ◌^◌, ◌<◌, ◌≤◌, max, min, Bool, true, false, List, [], ◌∷◌, ◌++◌, length, take, drop, Option, None, Some, IfSome, Result, Ok, Err, option_map, IsUtf8, if◌then◌else◌}
 use Rattle.std.specs.Option.{option_to_list}
 use Rattle.bytes_utils.specs.Occurrence.{Occurs}
 use Rattle.bytes_utils_codec.specs.Frames.{TakesFrame}
@@ -99,11 +99,28 @@ NoPartHeadComes delimiter limits held = (more head rest : List ℕ) → ¬ Takes
 abbrev pub HasPartHeadNotUtf8 : List ℕ → Limits → List ℕ → Type 0
 HasPartHeadNotUtf8 delimiter limits held = (head : List ℕ) × (rest : List ℕ) × TakesPartHead delimiter limits held head rest × (¬ IsUtf8 head)
 
--- Neither the next delimiter nor a head with all bytes has come that a delimiter has after its first one. Few bytes wait for them.
+-- Neither the next delimiter nor a head with all bytes has come that a delimiter has after its first one. If the end of a head has come, that head is
+-- within the limit; if not, fewer bytes wait than the limit allows or two dashes have.
 pub record AwaitsPartHead (delimiter : List ℕ) (limits : Limits) (held : List ℕ) : Type 0 where
   pub none : ¬ Occurs delimiter held
   pub short : (front rest : List ℕ) → TakesFrame multipart_head_end held front rest → length rest + 1 < length delimiter
-  pub few : length held ≤ limits.head + length delimiter
+  pub small : (front rest : List ℕ) → TakesFrame multipart_head_end held front rest → length front + length multipart_head_end ≤ limits.head
+  pub few : (¬ Occurs multipart_head_end held) → length held < max limits.head (length multipart_dashes)
+
+-- Neither the next delimiter nor the end of a head has come, and no fewer bytes wait than the limit allows and two dashes have.
+pub record LacksPartHeadEnd (delimiter : List ℕ) (limits : Limits) (held : List ℕ) : Type 0 where
+  pub no_next : ¬ Occurs delimiter held
+  pub no_end : ¬ Occurs multipart_head_end held
+  pub many : max limits.head (length multipart_dashes) ≤ length held
+
+-- the end of a head has come, which is over the limit with it
+abbrev pub HasLongPartHead : Limits → List ℕ → Type 0
+HasLongPartHead limits held =
+    (front : List ℕ) × (rest : List ℕ) × TakesFrame multipart_head_end held front rest × (limits.head < length front + length multipart_head_end)
+
+-- a head is over the limit, whether its end has come or not
+abbrev pub IsPartHeadOverLimit : List ℕ → Limits → List ℕ → Type 0
+IsPartHeadOverLimit delimiter limits held = LacksPartHeadEnd delimiter limits held ⊎ HasLongPartHead limits held
 
 -- what is found of a head: `len` bytes are before its end
 pub record HasPartHeadEnd (delimiter : List ℕ) (limits : Limits) (held : List ℕ) (len : ℕ) : Type 0 where
@@ -115,15 +132,15 @@ pub record HasPartHeadEnd (delimiter : List ℕ) (limits : Limits) (held : List 
 -- why there is no head
 abbrev pub IsPartHeadFault : PartError → List ℕ → Limits → List ℕ → Type 0
 IsPartHeadFault Malformed delimiter limits held = NoPartFieldsCome delimiter held
-IsPartHeadFault TooLarge delimiter limits held = NoPartHeadComes delimiter limits held
+IsPartHeadFault TooLarge delimiter limits held = NoPartHeadComes delimiter limits held × IsPartHeadOverLimit delimiter limits held
 IsPartHeadFault NotUtf8 delimiter limits held = HasPartHeadNotUtf8 delimiter limits held
 IsPartHeadFault (Refused reason) delimiter limits held = ⊥
 
--- what is found of a head: how many bytes are before its end, and then no more are awaited; that more are awaited; or why there is none
+-- what is found of a head: how many bytes are before its end; that more are awaited; or why there is none. Only in the second case more are awaited.
 abbrev pub FindsPartHead : List ℕ → Limits → List ℕ → Result (Option ℕ) PartError → Type 0
 FindsPartHead delimiter limits held (Ok (Some len)) = HasPartHeadEnd delimiter limits held len × (¬ AwaitsPartHead delimiter limits held)
 FindsPartHead delimiter limits held (Ok None) = AwaitsPartHead delimiter limits held
-FindsPartHead delimiter limits held (Err e) = IsPartHeadFault e delimiter limits held
+FindsPartHead delimiter limits held (Err e) = IsPartHeadFault e delimiter limits held × (¬ AwaitsPartHead delimiter limits held)
 
 -- ---- what a call gives
 
@@ -200,13 +217,22 @@ PartStreamAsks AtHead s =
 PartStreamAsks InBody s = HasPartPiece s.delimiter s.held × IsWithinPartRoom s
 PartStreamAsks Ended s = ⊥
 
--- Why a call fails, after the preamble. A call that waits asks for no memory.
+-- a head comes next: after a delimiter that no two dashes follow
+abbrev pub IsAtPartHead : PartStreaming → Type 0
+IsAtPartHead s = (s.place ≡ AtHead) × (take (length multipart_dashes) s.held ≢ multipart_dashes)
+
+-- what is wrong, after the preamble
+abbrev pub IsPartStreamWrong : PartError → PartStreaming → Type 0
+IsPartStreamWrong Malformed s = IsAtPartHead s × NoPartFieldsCome s.delimiter s.held
+IsPartStreamWrong NotUtf8 s = IsAtPartHead s × HasPartHeadNotUtf8 s.delimiter s.limits s.held
+IsPartStreamWrong TooLarge s =
+    (IsAtPartHead s × NoPartHeadComes s.delimiter s.limits s.held × IsPartHeadOverLimit s.delimiter s.limits s.held)
+    ⊎ (((s.place ≡ Preamble) ⊎ (s.place ≡ InBody)) × PassesPartRoom s)
+IsPartStreamWrong (Refused reason) s = (reason ≡ OutOfMemory) × PartStreamAsks s.place s
+
+-- Why a call fails, after the preamble. A call that waits doesn't fail.
 abbrev pub IsPartStreamFault : PartError → PartStreaming → Type 0
-IsPartStreamFault Malformed s = (s.place ≡ AtHead) × NoPartFieldsCome s.delimiter s.held
-IsPartStreamFault NotUtf8 s = (s.place ≡ AtHead) × HasPartHeadNotUtf8 s.delimiter s.limits s.held
-IsPartStreamFault TooLarge s =
-    ((s.place ≡ AtHead) × NoPartHeadComes s.delimiter s.limits s.held) ⊎ (((s.place ≡ Preamble) ⊎ (s.place ≡ InBody)) × PassesPartRoom s)
-IsPartStreamFault (Refused reason) s = (reason ≡ OutOfMemory) × PartStreamAsks s.place s × (¬ IsPartAwaited s.place s)
+IsPartStreamFault e s = IsPartStreamWrong e s × (¬ IsPartAwaited s.place s)
 
 -- a call after the preamble, whatever it returns
 abbrev pub IsPartStreamStep : PartStreaming → Result (Option PartEvent) PartError → PartStreaming → Type 0

@@ -3,7 +3,7 @@
 ghost use Rattle.std.specs.Prelude.{◌≡◌, ◌≢◌, ◌+◌, ◌-◌, ◌^◌, ◌<◌, ◌≤◌, ◌↔◌, ℕ, List, [], ◌++◌, length, false, true, IsUtf8, IsOk, IsTrue, IfOk, IfErr, IfSome, IfNone, OnOk, OnErr};
 ghost use Rattle.bytes_utils_codec.specs.Pushing.{IsPush};
 ghost use Rattle.bytes_utils_protocols.specs.Disposition.{SameDispositionParameterLaw};
-ghost use Rattle.bytes_utils_protocols.specs.Multipart.{AreMultipartFields, AsksForMultipart, FewWaitInMultipart, HasMultipartParameter, IsMultipartDivided, IsMultipartIdle, IsMultipartDue, NoMultipart, NoMultipartWithFields, MultipartBytes, MultipartLaw, SameMultipartLaw, TakesMultipart, multipart_appended, bytes_of_multipart, multipart_delimiter, multipart_file_name, held_by_multipart, multipart_line_end, multipart_name};
+ghost use Rattle.bytes_utils_protocols.specs.Multipart.{AreMultipartFields, AsksForMultipart, FewWaitInMultipart, HasMultipartParameter, IsMultipartDivided, IsMultipartIdle, IsMultipartDue, NoMultipart, NoMultipartWithFields, MultipartBytes, MultipartLaw, SameMultipartLaw, TakesMultipart, WaitsInMultipart, multipart_appended, bytes_of_multipart, multipart_delimiter, multipart_file_name, held_by_multipart, multipart_line_end, multipart_name};
 
 mod delimiter;
 mod disposition;
@@ -115,8 +115,8 @@ impl PartReader {
     /// a delimiter would pass `usize::MAX`, and with `OutOfMemory` if memory is refused; then
     /// nothing has changed and `piece` comes back. An empty piece is never refused.
     pub fn push(&mut self, piece: Bytes) -> Result<(), Refused<Bytes>>
-        ensures pushed { (front : List ℕ) × (waiting : List ℕ)
-            × (self.old.held ≡ front ++ waiting)
+        ensures pushed { (waiting : List ℕ)
+            × WaitsInMultipart self.old.delimiter self.old.held waiting
             × IsPush waiting piece result
             (self.new ≡ multipart_appended self.old piece) (self.new ≡ self.old) }
         ensures drops { self.old.ended ≡ true → IsOk result }
@@ -133,8 +133,8 @@ impl PartReader {
     pub fn push_slice(&mut self, piece: &[u8]) -> Result<(), Reason>
         ensures ok { OnOk result (self.new ≡ multipart_appended self.old piece.now) }
         ensures err { OnErr result (self.new ≡ self.old) }
-        ensures too_long { (front : List ℕ) × (waiting : List ℕ)
-            × (self.old.held ≡ front ++ waiting)
+        ensures too_long { (waiting : List ℕ)
+            × WaitsInMultipart self.old.delimiter self.old.held waiting
             × IfErr result (λ reason. (reason ≡ Reason.TooLong)
             ↔ (2 ^ 64 ≤ length waiting + length piece.now)) }
         ensures empty { piece.now ≡ [] → IsOk result }

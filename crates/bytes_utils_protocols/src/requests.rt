@@ -109,7 +109,7 @@ impl Requests {
     }
 
     /// Returns the head before the next empty line, or `None` while that line is to come. A head
-    /// over the limit is reported once, in its place, as soon as that is certain, and is skipped.
+    /// over the limit is reported once, in its place, when a `Delimited` does so, and is skipped.
     /// Fails with `OutOfMemory` if memory is refused, which is asked for only if a head within the
     /// limit that isn't empty has come; then the call can be made again.
     pub fn next_head(&mut self) -> Result<Option<Head>, Reason>

@@ -56,6 +56,8 @@ impl Progress {
         ensures err { OnErr result (self.new ≡ self.old) }
         ensures over { IfErr result (λ e. (e ≡ PartError.TooLarge)
             × (self.old.place ≡ Place.Preamble) × PassesPartRoom (part_streaming self.old)) }
+        ensures many { OnErr result
+            (length self.old.waiting.delimiter ≤ length self.old.waiting.held) }
     {
         let Place::Preamble = self.place else {
             return Ok(());
@@ -80,6 +82,8 @@ impl Progress {
         ensures within { IfOk result (λ ahead. ahead.len ≤ self.old.room) }
         ensures over { IfErr result (λ e. (e ≡ PartError.TooLarge)
             × PassesPartRoom (part_streaming self.old)) }
+        ensures many { OnErr result
+            (length self.old.waiting.delimiter ≤ length self.old.waiting.held) }
     {
         let ahead = self.waiting.search();
         if ahead.len > self.room {

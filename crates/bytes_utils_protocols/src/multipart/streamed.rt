@@ -130,12 +130,12 @@ impl PartStream {
     /// bytes of it are to come, and after the close delimiter. A piece is the bytes that wait, as far
     /// as no delimiter may begin in them and as they lie in one segment.
     ///
-    /// Fails with `TooLarge` as soon as a head, a body or what is before the first delimiter is
-    /// certainly over its limit, with `Malformed` if the next head isn't header fields or has no end
-    /// before the next delimiter, with `NotUtf8` if it isn't UTF-8, and with `Refused` if memory is
-    /// refused, which is asked for only if a piece of a body, or the end of a head that isn't empty,
-    /// has certainly come. Then nothing has changed, except that what has come up to the first
-    /// delimiter, and that one, may have been dropped.
+    /// Fails with `TooLarge` if a head, a body or what is before the first delimiter is certainly over
+    /// its limit, with `Malformed` if the next head isn't header fields or has no end before the next
+    /// delimiter, with `NotUtf8` if it isn't UTF-8, and with `Refused` if memory is refused, which is
+    /// asked for only if a piece of a body, or the end of a head that isn't empty, has certainly come.
+    /// Then nothing has changed, except that what has come up to the first delimiter, and that one,
+    /// may have been dropped.
     pub fn next_event(&mut self) -> Result<Option<PartEvent>, PartError>
         ensures call { IfOk result (λ next. IsPartStreamCall self.old next self.new) }
         ensures waits { IfOk result (λ next. IfNone next (IsPartAwaited self.new.place self.new)) }

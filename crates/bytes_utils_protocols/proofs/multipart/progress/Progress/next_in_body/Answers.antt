@@ -9,7 +9,7 @@ returns-in_err-ahead-clause-step c =
     let old = part_streaming c.args.self.now in
     let why = c.in_err-ahead.ensures.over in
     let out = err_from_is_err_and c.from_residual.result c.from_residual.ensures.1 in
-    failed_step old (part_streaming c.look_ahead.new.self) c.from_residual.result out.0 out.1 (ap part_streaming c.look_ahead.ensures.same) (over_step old out.0 (inr c.requires) (out.2 ∙ why.0) why.1)
+    failed_step old (part_streaming c.look_ahead.new.self) c.from_residual.result out.0 out.1 (ap part_streaming c.look_ahead.ensures.same) (over_step old out.0 (inr c.requires) (out.2 ∙ why.0) why.1 c.in_err-ahead.ensures.many)
 
 pub returns-in_err-piece-clause-step : goal.returns-in_err-piece-clause-step
 returns-in_err-piece-clause-step c =

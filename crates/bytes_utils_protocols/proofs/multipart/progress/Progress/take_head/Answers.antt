@@ -15,9 +15,9 @@ pub returns-in_err-len-clause-step : goal.returns-in_err-len-clause-step
 returns-in_err-len-clause-step c =
     let old = c.args.self.now in
     let out = err_from_is_err_and c.from_residual.result c.from_residual.ensures.1 in
-    let why = subst (λ e. IsPartHeadFault e old.waiting.delimiter old.limits old.waiting.held) (sym out.2) c.in_err-len.ensures.found in
+    let why = subst (λ e. IsPartHeadFault e old.waiting.delimiter old.limits old.waiting.held) (sym out.2) c.in_err-len.ensures.found.0 in
     failed_step (part_streaming old) (part_streaming c.head_len.new.self) c.from_residual.result out.0 out.1 (ap part_streaming c.head_len.ensures.same)
-    (fault_at_head out.0 (part_streaming old) c.requires.place why)
+    (fault_at_head out.0 (part_streaming old) (c.requires.place, c.requires.goes_on) (no_wait_at_head old c.requires.place c.in_err-len.ensures.found.1) why)
 
 pub returns-in_default-clause-step : goal.returns-in_default-clause-step
 returns-in_default-clause-step c =
