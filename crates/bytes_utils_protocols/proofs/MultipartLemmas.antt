@@ -1,8 +1,8 @@
 -- Parts between boundaries.
-use Rattle.std.proofs.Common.{IfSome, IfNone, option_map, IsTrue, ◌↔◌, not, Bool, ◌≡◌, ◌≢◌, ℕ, ◌+◌, ◌<◌, ◌≤◌, List, [], ◌∷◌, ◌++◌, length, take, drop, get_or, ap, ◌∙◌, sym, refl, subst, arith, length-append, length-drop, ◌-◌, append_assoc, append-nil, ⊎_elim, inl, inr, true, false, ◌⊎◌, All, Option, None, Some, MatchOption, Result, Ok, Err, OnOk, OnErr}
+use Rattle.std.proofs.Common.{IfSome, IfNone, option_map, IsTrue, ◌↔◌, not, Bool, ◌≡◌, ◌≢◌, ℕ, ◌+◌, ◌<◌, ◌≤◌, List, [], ◌∷◌, ◌++◌, length, take, drop, get_or, ap, ◌∙◌, sym, refl, subst, arith, length-append, append_assoc, append-nil, ⊎_elim, inl, inr, true, false, ◌⊎◌, All, Option, None, Some, MatchOption, Result, Ok, Err, OnOk, OnErr, IsUtf8}
 use Rattle.std.proofs.lemmas.Bool.{cases_lt, false≢true}
 use Rattle.std.proofs.lemmas.List.Elements.{All-nil, All-push}
-use Rattle.std.proofs.lemmas.List.{append_cancel_left, length-take, length-take-le, take-append-le}
+use Rattle.std.proofs.lemmas.List.{append_cancel_left, length-take, take-append-le}
 use Rattle.std.specs.Bool.{MatchBool}
 use Rattle.std.specs.List.{concat}
 use Rattle.std.specs.Str.Lines.{lines}
@@ -10,10 +10,12 @@ use Rattle.std.proofs.lemmas.List.Folds.{concat-append}
 use Rattle.bytes_utils_codec.specs.Frames.{TakesFrame}
 use Rattle.bytes_utils.specs.Occurrence.{Occurs}
 use Rattle.bytes_utils_codec.specs.Pushing.{IsPush}
+use Rattle.bytes_utils_buf.specs.declared.refused.Reason.{Reason}
+use Rattle.bytes_utils_buf.specs.declared.refused.Reason.TheVariants.{OutOfMemory}
 use Rattle.bytes_utils_buf.specs.declared.refused.Refused.{Refused}
 use Rattle.bytes_utils_codec.proofs.FramesLemmas.{TakesFrame-more, TakesFrame-same}
 use Rattle.bytes_utils.proofs.OccurrenceLemmas.{OccursAt-front}
-use Rattle.bytes_utils_protocols.specs.Multipart.{AreMultipartFields, IsMultipartFieldLine, FewWaitInMultipart, IsMultipartIdle, MultipartReading, multipart_appended, multipart_closed, multipart_line_end, multipart_dashes, multipart_head_end, MultipartBytes, multipart_bytes, IsMultipartHead, IsMultipartPart, TakesMultipart, IsMultipartDue, AsksForMultipart, HasNextInMultipart, IsMultipartSearchFault, EachMultipart, NoMultipart, ClosesMultipart, LacksNextInMultipart, held_in_multipart_sections, AreMultipartSectionsApart, multipart_sections_have_ended, held_by_multipart, IsMultipartDivided, WaitsInMultipart, SameMultipartSections, AfterMultipartSearch, HasMultipartDisposition, IsFirstMultipartDisposition, IsMultipartDisposition, IsMultipartFolded, NoMultipartDisposition, ReadsMultipartDisposition}
+use Rattle.bytes_utils_protocols.specs.Multipart.{AreMultipartFields, IsMultipartFieldLine, FewWaitInMultipart, IsMultipartIdle, MultipartReading, multipart_appended, multipart_closed, multipart_line_end, multipart_dashes, multipart_head_end, MultipartBytes, multipart_bytes, HasMultipartHeadAt, IsMultipartHead, IsMultipartPart, TakesMultipart, IsMultipartDue, IsMultipartRawFault, IsMultipartFault, EachMultipart, NoMultipart, ClosesMultipart, LacksNextInMultipart, held_in_multipart_sections, AreMultipartSectionsApart, multipart_sections_have_ended, held_by_multipart, IsMultipartDivided, WaitsInMultipart, SameMultipartSections, AfterMultipartSearch, HasMultipartDisposition, IsFirstMultipartDisposition, IsMultipartDisposition, IsMultipartFolded, NoMultipartDisposition, ReadsMultipartDisposition}
 use Rattle.bytes_utils_protocols.specs.MultipartWaiting.{MultipartWaiting}
 use Rattle.bytes_utils_protocols.specs.declared.multipart.limits.Limits.{Limits}
 use Rattle.bytes_utils_protocols.specs.declared.multipart.limits.PartError.{PartError}
@@ -60,13 +62,13 @@ one_head front a b (inr p) (inr q) = append_cancel_left multipart_line_end a b (
 -- what is between two delimiters is one part, whatever the limits are
 pub IsMultipartPart-same : (limits other : Limits) (raw : List ℕ) (x y : MultipartBytes) → IsMultipartPart limits raw x → IsMultipartPart other raw y → x ≡ y
 IsMultipartPart-same limits other raw x y p q =
-    let same = TakesFrame-same multipart_head_end raw p.front q.front x.body y.body p.cut q.cut in
+    let same = TakesFrame-same multipart_head_end raw p.front q.front x.body y.body p.ends.cut q.ends.cut in
     let head = one_head p.front x.head y.head p.head (subst (λ l. IsMultipartHead l y.head) (sym same.0) q.head) in
     λ i. multipart_bytes (head i) (same.1 i)
 
 part_size : (limits : Limits) (raw : List ℕ) (part : MultipartBytes) → IsMultipartPart limits raw part → length raw ≤ limits.head + limits.body
 part_size limits raw part is =
-    omega (arith, ap length is.cut.bytes, length-append is.front (multipart_head_end ++ part.body), length-append multipart_head_end part.body, is.small, is.short)
+    omega (arith, ap length is.ends.cut.bytes, length-append is.front (multipart_head_end ++ part.body), length-append multipart_head_end part.body, is.ends.small, is.ends.short)
 
 module _ (d : List ℕ) (limits : Limits) where
   -- the delimiter after a part has not come
@@ -116,6 +118,18 @@ module _ (d : List ℕ) (limits : Limits) where
         let raw = TakesFrame-same d ((f ++ (d ++ v)) ++ more) f takes.raw (v ++ more) takes.next (TakesFrame-more d (f ++ (d ++ v)) f v more ends) next in
         each part (subst (λ l. IsMultipartPart limits l part) (sym raw.0) takes.is)
 
+module _ (d : List ℕ) (limits : Limits) (p f v : List ℕ) (begins : TakesFrame d (p ++ (d ++ (f ++ (d ++ v)))) p (f ++ (d ++ v))) (ends : TakesFrame d (f ++ (d ++ v)) f v) (goes_on : take 2 (f ++ d) ≢ multipart_dashes)
+    (few : length p ≤ limits.head + limits.body) where
+  abbrev due : IsMultipartDue d limits (p ++ (d ++ (f ++ (d ++ v))))
+  due = record { preamble = p; after = f ++ (d ++ v); begins = begins; raw = f; next = v; ends = ends; goes_on = goes_on; few = few }
+
+  -- why what is between two delimiters is no part is why there is none
+  pub fault_between : (e : PartError) → IsMultipartRawFault e limits f → IsMultipartFault e d limits (p ++ (d ++ (f ++ (d ++ v))))
+  fault_between Malformed why = (due, λ any more. each_found d any p f v begins ends (λ part. ¬ AreMultipartFields part.head) (why any) more)
+  fault_between NotUtf8 why = (due, why.0, d ++ v, found_part d limits p f v begins ends why.0 why.1 few, why.2)
+  fault_between TooLarge why = each_found d limits p f v begins ends (λ _. ⊥) why
+  fault_between (RefusedPart reason) why = (why.0, (due, why.1, why.2, why.3))
+
 -- ---- what is found
 
 module _ (s : Sections) (waiting : s.stage ≡ Waiting) (divided : IsMultipartDivided s) where
@@ -144,12 +158,14 @@ module _ (s : Sections) (waiting : s.stage ≡ Waiting) (divided : IsMultipartDi
         no_dashes_before d s.waiting.held f v takes other,
       )
 
-  -- memory is refused for what is before the next delimiter
-  pub asks_before_next : HasNextInMultipart s.waiting.delimiter s.waiting.held → take 2 s.waiting.held ≢ multipart_dashes → (limits : Limits) → length s.preamble ≤ limits.head + limits.body → AsksForMultipart s.waiting.delimiter limits (held_by_multipart s)
-  asks_before_next next other limits few =
-      let goes_on = no_dashes_before s.waiting.delimiter s.waiting.held next.0 next.1 next.2 other in
-      of_waiting (AsksForMultipart s.waiting.delimiter limits)
-      (record { preamble = s.preamble; after = s.waiting.held; begins = begins; raw = next.0; next = next.1; ends = next.2; goes_on = goes_on; few = few }, next.3)
+  -- why what is before the next delimiter is no part is why there is none
+  pub fault_before_next : (limits : Limits) (f v : List ℕ) → TakesFrame s.waiting.delimiter s.waiting.held f v → take 2 s.waiting.held ≢ multipart_dashes → length s.preamble ≤ limits.head + limits.body
+      → (e : PartError) → IsMultipartRawFault e limits f → IsMultipartFault e s.waiting.delimiter limits (held_by_multipart s)
+  fault_before_next limits f v takes other few e why =
+      let d = s.waiting.delimiter in
+      let parts = found_apart f v takes other in
+      of_waiting (IsMultipartFault e d limits)
+      (subst (λ w. IsMultipartFault e d limits (s.preamble ++ (d ++ w))) (sym takes.bytes) (fault_between d limits s.preamble f v parts.0 parts.1 parts.2 few e why))
 
 module _ (s : Sections) (is_found : s.stage ≡ Found) (divided : IsMultipartDivided s) where
   both : AreMultipartSectionsApart Found s.waiting.delimiter s.preamble (concat s.found.segments) s.waiting.held
@@ -159,33 +175,12 @@ module _ (s : Sections) (is_found : s.stage ≡ Found) (divided : IsMultipartDiv
   of_found : (P : List ℕ → Type 0) → P (s.preamble ++ (s.waiting.delimiter ++ (concat s.found.segments ++ (s.waiting.delimiter ++ s.waiting.held)))) → P (held_by_multipart s)
   of_found P here = subst (λ stage. P (held_in_multipart_sections stage s.waiting.delimiter s.preamble (concat s.found.segments) s.waiting.held)) (sym is_found) here
 
-  module _ (limits : Limits) where
-    -- what was found is a part
-    pub part_in_found : (part : MultipartBytes) → IsMultipartPart limits (concat s.found.segments) part → length s.preamble ≤ limits.head + limits.body
-        → (rest : List ℕ) × TakesMultipart s.waiting.delimiter limits (held_by_multipart s) part rest
-    part_in_found part is few =
-        let d = s.waiting.delimiter in
-        let rest = d ++ s.waiting.held in
-        (rest, of_found (λ held. TakesMultipart d limits held part rest) (found_part d limits s.preamble (concat s.found.segments) s.waiting.held both.0 both.1 part is few))
-
-    -- the delimiters before and after it have come
-    pub due_in_found : length s.preamble ≤ limits.head + limits.body → IsMultipartDue s.waiting.delimiter limits (held_by_multipart s)
-    due_in_found few =
-        of_found (IsMultipartDue s.waiting.delimiter limits)
-        (record { preamble = s.preamble; after = concat s.found.segments ++ (s.waiting.delimiter ++ s.waiting.held); begins = both.0; raw = concat s.found.segments; next = s.waiting.held; ends = both.1; goes_on = both.2; few = few })
-
-    -- memory is refused for what was found
-    pub asks_in_found : 0 < length (concat s.found.segments) → length s.preamble ≤ limits.head + limits.body → AsksForMultipart s.waiting.delimiter limits (held_by_multipart s)
-    asks_in_found some few =
-        of_found (AsksForMultipart s.waiting.delimiter limits)
-        (record { preamble = s.preamble; after = concat s.found.segments ++ (s.waiting.delimiter ++ s.waiting.held); begins = both.0; raw = concat s.found.segments; next = s.waiting.held; ends = both.1; goes_on = both.2; few = few }, some)
-
-    -- what is true of each part that was found is true of each that is there
-    pub each_in_found : (P : MultipartBytes → Type 0) → ((part : MultipartBytes) → IsMultipartPart limits (concat s.found.segments) part → P part) → (more : List ℕ)
-        → EachMultipart P s.waiting.delimiter limits (held_by_multipart s ++ more)
-    each_in_found P each more =
-        let d = s.waiting.delimiter in
-        of_found (λ held. EachMultipart P d limits (held ++ more)) (each_found d limits s.preamble (concat s.found.segments) s.waiting.held both.0 both.1 P each more)
+  -- why what was found is no part is why there is none
+  pub fault_in_found : (limits : Limits) → length s.preamble ≤ limits.head + limits.body → (e : PartError) → IsMultipartRawFault e limits (concat s.found.segments)
+      → IsMultipartFault e s.waiting.delimiter limits (held_by_multipart s)
+  fault_in_found limits few e why =
+      let d = s.waiting.delimiter in
+      of_found (IsMultipartFault e d limits) (fault_between d limits s.preamble (concat s.found.segments) s.waiting.held both.0 both.1 both.2 few e why)
 
 -- ---- a piece is pushed
 
@@ -263,7 +258,7 @@ is_pushed s w limits piece result push on parts = (
 
 -- no part begins as a close delimiter goes on
 no_dashes : (limits : Limits) (raw : List ℕ) (part : MultipartBytes) (after : List ℕ) → IsMultipartPart limits raw part → raw ++ after ≢ multipart_dashes ++ drop 2 (raw ++ after)
-no_dashes limits raw part after is same = not_first is.front is.head (sym (ap (λ l. l ++ after) is.cut.bytes) ∙ same)
+no_dashes limits raw part after is same = not_first is.front is.head (sym (ap (λ l. l ++ after) is.ends.cut.bytes) ∙ same)
   where
     follows : List ℕ
     follows = drop 2 (raw ++ after)
@@ -286,7 +281,7 @@ module _ (d : List ℕ) (limits : Limits) where
         length-append d takes.after,
         ap length takes.ends.bytes,
         length-append takes.raw (d ++ takes.next),
-        ap length takes.is.cut.bytes,
+        ap length takes.is.ends.cut.bytes,
         length-append takes.is.front (multipart_head_end ++ part.body),
         length-append multipart_head_end part.body,
       )
@@ -408,46 +403,47 @@ module _ (limits : Limits) (old s : Sections) where
 
 -- ---- why there is no part
 
--- a part is due where the same bytes are held
-pub due_of_same : (old new : Sections) → SameMultipartSections old new → (limits : Limits) → IsMultipartDue new.waiting.delimiter limits (held_by_multipart new) → IsMultipartDue old.waiting.delimiter limits (held_by_multipart old)
-due_of_same old new same limits due =
-    subst (λ d. IsMultipartDue d limits (held_by_multipart old)) same.delimiter (subst (IsMultipartDue new.waiting.delimiter limits) same.held due)
+-- it is the same where the same bytes are held
+pub fault_of_same : (old new : Sections) → SameMultipartSections old new → (limits : Limits) (e : PartError) → IsMultipartFault e new.waiting.delimiter limits (held_by_multipart new)
+    → IsMultipartFault e old.waiting.delimiter limits (held_by_multipart old)
+fault_of_same old new same limits e why =
+    subst (λ d. IsMultipartFault e d limits (held_by_multipart old)) same.delimiter (subst (IsMultipartFault e new.waiting.delimiter limits) same.held why)
 
--- memory is asked for where the same bytes are held
-pub asks_of_same : (old new : Sections) → SameMultipartSections old new → (limits : Limits) → AsksForMultipart new.waiting.delimiter limits (held_by_multipart new) → AsksForMultipart old.waiting.delimiter limits (held_by_multipart old)
-asks_of_same old new same limits asks =
-    subst (λ d. AsksForMultipart d limits (held_by_multipart old)) same.delimiter (subst (AsksForMultipart new.waiting.delimiter limits) same.held asks)
+module _ (s : Sections) (limits : Limits) where
+  -- the same of an error that is this one
+  pub fault_is : (e other : PartError) → IsMultipartFault e s.waiting.delimiter limits (held_by_multipart s) → e ≡ other → IsMultipartFault other s.waiting.delimiter limits (held_by_multipart s)
+  fault_is e other why is = subst (λ e. IsMultipartFault e s.waiting.delimiter limits (held_by_multipart s)) is why
 
--- but for one that is too large, a part is due
-pub due_by_fault : (e : PartError) (d : List ℕ) (limits : Limits) (held : List ℕ) → IsMultipartSearchFault e d limits held → e ≢ TooLarge → IsMultipartDue d limits held
-due_by_fault Malformed d limits held why not_large = absurd why
-due_by_fault NotUtf8 d limits held why not_large = absurd why
-due_by_fault TooLarge d limits held why not_large = absurd (not_large refl)
-due_by_fault (RefusedPart reason) d limits held why not_large = why.1.0
+  -- but for one that is too large, a part is due
+  pub due_by_fault : (e : PartError) → IsMultipartFault e s.waiting.delimiter limits (held_by_multipart s) → e ≢ TooLarge → IsMultipartDue s.waiting.delimiter limits (held_by_multipart s)
+  due_by_fault Malformed why not_large = why.0
+  due_by_fault NotUtf8 why not_large = why.0
+  due_by_fault TooLarge why not_large = absurd (not_large refl)
+  due_by_fault (RefusedPart reason) why not_large = why.1.0
 
 -- ---- what is in a raw part
 
 -- no head ends
 pub no_head_end : (limits : Limits) (raw : List ℕ) (part : MultipartBytes) → (¬ Occurs multipart_head_end raw) → ¬ IsMultipartPart limits raw part
-no_head_end limits raw part none is = none (length is.front, is.cut.first.here)
+no_head_end limits raw part none is = none (length is.front, is.ends.cut.first.here)
 
 -- what is before the end of the head is no head of header fields
 pub no_head_fields : (limits : Limits) (raw front body : List ℕ) (part : MultipartBytes) → TakesFrame multipart_head_end raw front body → ((head : List ℕ) → IsMultipartHead front head → ¬ AreMultipartFields head) → IsMultipartPart limits raw part → ¬ AreMultipartFields part.head
 no_head_fields limits raw front body part cut none is =
-    let same = TakesFrame-same multipart_head_end raw front is.front body part.body cut is.cut in
+    let same = TakesFrame-same multipart_head_end raw front is.front body part.body cut is.ends.cut in
     none part.head (subst (λ l. IsMultipartHead l part.head) (sym same.0) is.head)
 
--- a head that ends within the limits, and a body within them
-pub is_part : (limits : Limits) (raw : List ℕ) (len : ℕ) (head : List ℕ) → TakesFrame multipart_head_end raw (take len raw) (drop (len + length multipart_head_end) raw) → IsMultipartHead (take len raw) head
-    → len + length multipart_head_end ≤ length raw → len + length multipart_head_end ≤ limits.head → length raw - (len + length multipart_head_end) ≤ limits.body
-    → IsMultipartPart limits raw (multipart_bytes head (drop (len + length multipart_head_end) raw))
-is_part limits raw len head cut is within small short = record {
-  front = take len raw;
-  cut = cut;
-  head = is;
-  small = omega (arith, small, length-take-le len raw (omega (arith, within)));
-  short = omega (arith, short, length-drop (len + length multipart_head_end) raw);
-}
+-- why what is before the end of the head isn't read
+pub raw_fault : (limits : Limits) (raw : List ℕ) (len : ℕ) → HasMultipartHeadAt limits raw len → (e : PartError)
+    → (e ≡ Malformed → (head : List ℕ) → IsMultipartHead (take len raw) head → ¬ AreMultipartFields head) → e ≢ TooLarge
+    → (e ≡ NotUtf8 → (head : List ℕ) × IsMultipartHead (take len raw) head × (¬ IsUtf8 head))
+    → ((reason : Reason) → e ≡ RefusedPart reason → reason ≡ OutOfMemory) → IsMultipartRawFault e limits raw
+raw_fault limits raw len at Malformed lines large text refused = λ any part is. no_head_fields any raw (take len raw) (drop (len + length multipart_head_end) raw) part at.1.cut (lines refl) is
+raw_fault limits raw len at NotUtf8 lines large text refused =
+    let head = text refl in
+    (multipart_bytes head.0 (drop (len + length multipart_head_end) raw), record { front = take len raw; ends = at.1; head = head.1 }, head.2)
+raw_fault limits raw len at TooLarge lines large text refused = absurd (large refl)
+raw_fault limits raw len at (RefusedPart reason) lines large text refused = (refused reason refl, take len raw, drop (len + length multipart_head_end) raw, at.1)
 
 -- ---- the disposition
 

@@ -284,10 +284,8 @@ module _ (d : List ℕ) (limits : Limits) where
         ends = subst (λ l. TakesFrame d (raw ++ held) l next) (append-nil raw) ends;
         is = record {
           front = h.front;
-          cut = cut_before rest held room part h;
+          ends = record { cut = cut_before rest held room part h; small = h.small; short = omega (arith, h.short) };
           head = h.head;
-          small = h.small;
-          short = omega (arith, h.short);
         };
         few = h.after.few;
         left = refl;
@@ -371,7 +369,7 @@ module _ (d : List ℕ) (limits : Limits) where
       let cut : TakesFrame he takes.raw h.front (given.body ++ tail) =
       subst (λ l. TakesFrame he l h.front (given.body ++ tail)) (sym whole) (TakesFrame-more he raw h.front given.body tail (cut_before rest held room given h)) in
       let is = takes.is in
-      let parts = TakesFrame-same he takes.raw is.front h.front part.body (given.body ++ tail) is.cut cut in
+      let parts = TakesFrame-same he takes.raw is.front h.front part.body (given.body ++ tail) is.ends.cut cut in
       record {
         head = one_head h.front part.head given.head (subst (λ l. IsMultipartHead l part.head) parts.0 is.head) h.head;
         others = tail;

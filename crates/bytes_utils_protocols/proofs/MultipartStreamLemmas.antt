@@ -1,6 +1,6 @@
 -- Bytes that wait for a delimiter, and what is given of a part.
 use Rattle.std.proofs.Common.{◌≡◌, ◌≢◌, ◌⊎◌, ℕ, ◌+◌, ◌-◌, ◌<◌, ◌≤◌, max, List, [], ◌++◌, length, take, drop, Option, None, Some, Result, Ok, Err, OnErr, IfOk, IfErr, IfSome, IfNone, IsUtf8, Bool, not, true, false, ap, ◌∙◌, sym, refl, subst, arith, inl, inr, append_assoc, append-nil, length-append, length-drop, take-append-drop}
-use Rattle.std.proofs.lemmas.List.{drop-append-le, drop-drop, drop_at, take_at, length-take-le}
+use Rattle.std.proofs.lemmas.List.{drop-append-le, drop-drop, drop_at, take_at, length-take, length-take-le}
 use Rattle.std.proofs.lemmas.List.Elements.{All-nil}
 use Rattle.std.proofs.lemmas.Bool.{false≢true}
 use Rattle.memchr.specs.Find.{FindsNeedle}
@@ -8,7 +8,7 @@ use Rattle.bytes_utils_buf.specs.declared.refused.Reason.{Reason}
 use Rattle.bytes_utils_buf.specs.declared.refused.Reason.TheVariants.{OutOfMemory}
 use Rattle.bytes_utils.specs.Occurrence.{Occurs, OccursAt, OccursFirstAt}
 use Rattle.bytes_utils.proofs.Boundaries.{OccursAt-fits}
-use Rattle.bytes_utils.proofs.OccurrenceLemmas.{OccursAt-append, OccursAt-front, OccursFirstAt-append}
+use Rattle.bytes_utils.proofs.OccurrenceLemmas.{OccursAt-append, OccursAt-front, OccursFirstAt-append, OccursFirstAt-front, cut_whole}
 use Rattle.bytes_utils_codec.specs.Frames.{TakesFrame}
 use Rattle.bytes_utils_codec.specs.Search.{NoneBeginsInSearch, Searching}
 use Rattle.bytes_utils_codec.proofs.FramesLemmas.{TakesFrame-more, TakesFrame-same}
@@ -128,6 +128,35 @@ module _ (d held : List ℕ) (from : ℕ) (some : 0 < length d) (none : NoneBegi
 pub many_ahead : (d held : List ℕ) (ahead : Ahead) → IsAheadOfNeedle d held ahead → 0 < ahead.len → (come : Bool) → ahead.has_come ≡ come → length d ≤ length held
 many_ahead d held ahead is some true come = let fits = is.fits come in omega (arith, fits)
 many_ahead d held ahead is some false lacks = omega (arith, is.most lacks, some)
+
+-- ---- the first bytes
+
+module _ (d held : List ℕ) (len : ℕ) (some : 0 < length d) where
+  in_all : (i : ℕ) → OccursAt d (take len held) i → OccursAt d held i
+  in_all i here = subst (λ l. OccursAt d l i) (take-append-drop len held) (OccursAt-append d (take len held) (drop len held) i some here)
+
+  -- no delimiter is in them, if none is in all bytes
+  pub none_in_front : (¬ Occurs d held) → ¬ Occurs d (take len held)
+  none_in_front none occurs = none (occurs.0, in_all occurs.0 occurs.1)
+
+  module _ (at : ℕ) (first : OccursFirstAt d held at) where
+    -- nor if the first one ends after them
+    pub late_in_front : len < at + length d → ¬ Occurs d (take len held)
+    late_in_front late occurs =
+        let fits = OccursAt-fits d (take len held) occurs.0 some occurs.1 in
+        let after = first.none_before occurs.0 (in_all occurs.0 occurs.1) in
+        omega (arith, late, fits, after, length-take len held)
+
+    -- otherwise that one is the first one in them
+    pub first_in_front : len ≤ length held → at + length d ≤ len → TakesFrame d (take len held) (take at (take len held)) (drop (at + length d) (take len held))
+    first_in_front come early =
+        let size : length (take len held) ≡ len = length-take-le len held come in
+        let all = subst (λ l. OccursFirstAt d l at) (sym (take-append-drop len held)) first in
+        let there = OccursFirstAt-front d (take len held) (drop len held) at some all (omega (arith, early, size)) in
+        record {
+          bytes = sym (cut_whole d (take len held) at there.here);
+          first = subst (OccursFirstAt d (take len held)) (sym (length-take-le at (take len held) (omega (arith, early, size)))) there;
+        }
 
 -- ---- the end of a head
 

@@ -1,5 +1,5 @@
 -- Parts between boundaries: multipart/form-data (RFC 2046, 5.1.1; RFC 7578).
-use Rattle.std.specs.Prelude.{◌≡◌, ◌≢◌, ◌⊎◌, ℕ, ◌+◌, ◌<◌, ◌≤◌, ◌==◌, ◌||◌, not, Bool, true, false, List, [], ◌∷◌, ◌++◌, length, take, codes, Option, None, Some, MatchOption, All, if◌then◌else◌}
+use Rattle.std.specs.Prelude.{◌≡◌, ◌≢◌, ◌⊎◌, ℕ, ◌+◌, ◌<◌, ◌≤◌, ◌==◌, ◌||◌, not, Bool, true, false, List, [], ◌∷◌, ◌++◌, length, take, drop, codes, Option, None, Some, MatchOption, All, IsUtf8, if◌then◌else◌}
 use Rattle.std.specs.Bool.{MatchBool}
 use Rattle.std.specs.List.{AllPass, concat, prefix_len, position_or_len, before_first, after_first, flat_map}
 use Rattle.std.specs.Option.{option_to_list}
@@ -65,13 +65,22 @@ IsMultipartPadding front = without_header_blanks front ≡ []
 abbrev pub IsMultipartHead : List ℕ → List ℕ → Type 0
 IsMultipartHead front head = (IsMultipartPadding front × (head ≡ [])) ⊎ (without_header_blanks front ≡ multipart_line_end ++ head)
 
+-- What is between two delimiters is a front, the end of a head, which is nowhere before, and a body. Front and body are within the limits.
+pub record HasMultipartHeadEnd (limits : Limits) (raw front body : List ℕ) : Type 0 where
+  pub cut : TakesFrame multipart_head_end raw front body
+  pub small : length front + length multipart_head_end ≤ limits.head
+  pub short : length body ≤ limits.body
+
+-- the same, with a front of this many bytes
+abbrev pub HasMultipartHeadAt : Limits → List ℕ → ℕ → Type 0
+HasMultipartHeadAt limits raw len =
+    (len + length multipart_head_end ≤ length raw) × HasMultipartHeadEnd limits raw (take len raw) (drop (len + length multipart_head_end) raw)
+
 -- what is between two delimiters: up to the first empty line the head, and after it the body
 pub record IsMultipartPart (limits : Limits) (raw : List ℕ) (part : MultipartBytes) : Type 0 where
   pub front : List ℕ
-  pub cut : TakesFrame multipart_head_end raw front part.body
+  pub ends : HasMultipartHeadEnd limits raw front part.body
   pub head : IsMultipartHead front part.head
-  pub small : length front + length multipart_head_end ≤ limits.head
-  pub short : length part.body ≤ limits.body
 
 -- The old bytes are a preamble, a delimiter, what is between this one and the next, and that next one with the bytes after it, which are left.
 pub record TakesMultipart (delimiter : List ℕ) (limits : Limits) (old : List ℕ) (part : MultipartBytes) (rest : List ℕ) : Type 0 where
@@ -97,13 +106,9 @@ pub record IsMultipartDue (delimiter : List ℕ) (limits : Limits) (bytes : List
   pub goes_on : take (length multipart_dashes) (raw ++ delimiter) ≢ multipart_dashes
   pub few : length preamble ≤ limits.head + limits.body
 
--- When a call asks for memory: the next part is due, and some bytes are between the delimiters.
+-- When a call asks for memory: the next part is due, its head has an end, and what is before and after that is within the limits.
 abbrev pub AsksForMultipart : List ℕ → Limits → List ℕ → Type 0
-AsksForMultipart delimiter limits bytes = (due : IsMultipartDue delimiter limits bytes) × (0 < length due.raw)
-
--- the next delimiter has come, after some bytes
-abbrev pub HasNextInMultipart : List ℕ → List ℕ → Type 0
-HasNextInMultipart delimiter bytes = (frame : List ℕ) × (rest : List ℕ) × TakesFrame delimiter bytes frame rest × (0 < length frame)
+AsksForMultipart delimiter limits bytes = (due : IsMultipartDue delimiter limits bytes) × (front : List ℕ) × (body : List ℕ) × HasMultipartHeadEnd limits due.raw front body
 
 -- `P` is true of each part that is in the bytes
 abbrev pub EachMultipart : (MultipartBytes → Type 0) → List ℕ → Limits → List ℕ → Type 0
@@ -235,6 +240,10 @@ held_by_multipart s = held_in_multipart_sections s.stage s.waiting.delimiter s.p
 abbrev pub IsMultipartDivided : Sections → Type 0
 IsMultipartDivided s = AreMultipartSectionsApart s.stage s.waiting.delimiter s.preamble (concat s.found.segments) s.waiting.held
 
+-- What was found is within the limits, with the end of its head where it was noted.
+abbrev pub IsMultipartWithin : Limits → Sections → Type 0
+IsMultipartWithin limits s = s.stage ≡ Found → HasMultipartHeadAt limits (concat s.found.segments) s.head_len
+
 -- the same delimiter, end and bytes
 pub record SameMultipartSections (old new : Sections) : Type 0 where
   pub delimiter : new.waiting.delimiter ≡ old.waiting.delimiter
@@ -257,12 +266,20 @@ part_error_text Malformed = codes "the part is malformed"
 part_error_text NotUtf8 = codes "the head is not UTF-8"
 part_error_text TooLarge = codes "the part is too large"
 
--- why a search fails: no part within the limits comes, or memory is refused for what is between two delimiters
-abbrev pub IsMultipartSearchFault : PartError → List ℕ → Limits → List ℕ → Type 0
-IsMultipartSearchFault Malformed delimiter limits held = ⊥
-IsMultipartSearchFault NotUtf8 delimiter limits held = ⊥
-IsMultipartSearchFault TooLarge delimiter limits held = (more : List ℕ) → NoMultipart delimiter limits (held ++ more)
-IsMultipartSearchFault (Refused reason) delimiter limits held = (reason ≡ OutOfMemory) × AsksForMultipart delimiter limits held
+-- why what is between two delimiters is no part, or isn't read
+abbrev pub IsMultipartRawFault : PartError → Limits → List ℕ → Type 0
+IsMultipartRawFault Malformed limits raw = (any : Limits) (part : MultipartBytes) → IsMultipartPart any raw part → ¬ AreMultipartFields part.head
+IsMultipartRawFault NotUtf8 limits raw = (part : MultipartBytes) × IsMultipartPart limits raw part × (¬ IsUtf8 part.head)
+IsMultipartRawFault TooLarge limits raw = (part : MultipartBytes) → ¬ IsMultipartPart limits raw part
+IsMultipartRawFault (Refused reason) limits raw = (reason ≡ OutOfMemory) × (front : List ℕ) × (body : List ℕ) × HasMultipartHeadEnd limits raw front body
+
+-- why there is no part in the held bytes
+abbrev pub IsMultipartFault : PartError → List ℕ → Limits → List ℕ → Type 0
+IsMultipartFault Malformed delimiter limits held = IsMultipartDue delimiter limits held × ((any : Limits) (more : List ℕ) → NoMultipartWithFields delimiter any (held ++ more))
+IsMultipartFault NotUtf8 delimiter limits held =
+    IsMultipartDue delimiter limits held × (part : MultipartBytes) × (rest : List ℕ) × TakesMultipart delimiter limits held part rest × (¬ IsUtf8 part.head)
+IsMultipartFault TooLarge delimiter limits held = (more : List ℕ) → NoMultipart delimiter limits (held ++ more)
+IsMultipartFault (Refused reason) delimiter limits held = (reason ≡ OutOfMemory) × AsksForMultipart delimiter limits held
 
 -- ---- a run of calls
 

@@ -3,7 +3,7 @@
 ghost use Rattle.std.specs.Prelude.{◌≡◌, ◌≢◌, ◌+◌, ◌-◌, ◌^◌, ◌<◌, ◌≤◌, ◌↔◌, ℕ, List, [], ◌++◌, length, false, true, IsUtf8, IsOk, IsTrue, IfOk, IfErr, IfSome, IfNone, OnOk, OnErr};
 ghost use Rattle.bytes_utils_codec.specs.Pushing.{IsPush};
 ghost use Rattle.bytes_utils_protocols.specs.Disposition.{SameDispositionParameterLaw};
-ghost use Rattle.bytes_utils_protocols.specs.Multipart.{AreMultipartFields, AsksForMultipart, FewWaitInMultipart, HasMultipartParameter, IsMultipartDivided, IsMultipartIdle, IsMultipartDue, NoMultipart, NoMultipartWithFields, MultipartBytes, MultipartLaw, SameMultipartLaw, TakesMultipart, WaitsInMultipart, multipart_appended, bytes_of_multipart, multipart_delimiter, multipart_file_name, held_by_multipart, multipart_line_end, multipart_name};
+ghost use Rattle.bytes_utils_protocols.specs.Multipart.{AreMultipartFields, AsksForMultipart, FewWaitInMultipart, HasMultipartParameter, IsMultipartDivided, IsMultipartDue, IsMultipartFault, IsMultipartIdle, IsMultipartWithin, NoMultipart, NoMultipartWithFields, MultipartBytes, MultipartLaw, SameMultipartLaw, TakesMultipart, WaitsInMultipart, multipart_appended, bytes_of_multipart, multipart_delimiter, multipart_file_name, held_by_multipart, multipart_line_end, multipart_name};
 
 mod delimiter;
 mod disposition;
@@ -22,7 +22,7 @@ use bytes_utils::{Reason, Refused, SegmentedBuf, Str};
 use delimiter::delimiter_of;
 pub use event::PartEvent;
 pub use head::PartHead;
-use head::read_head;
+use head::{HEAD_END, parse_head};
 use limits::most_multipart_bytes;
 pub use limits::{Limits, PartError};
 use sections::{Sections, Stage};
@@ -75,7 +75,7 @@ pub struct PartReader {
 }
 
 impl Model for PartReader {
-    ghost use Rattle.bytes_utils_protocols.specs.Multipart.{IsMultipartDivided, MultipartReading, multipart_sections_have_ended, held_by_multipart};
+    ghost use Rattle.bytes_utils_protocols.specs.Multipart.{IsMultipartDivided, IsMultipartWithin, MultipartReading, multipart_sections_have_ended, held_by_multipart};
 
     ghost Value = { MultipartReading };
 
@@ -86,7 +86,7 @@ impl Model for PartReader {
       held = held_by_multipart r.sections;
     } };
 
-    ghost invariant = { λ r. IsMultipartDivided r.sections };
+    ghost invariant = { λ r. IsMultipartDivided r.sections × IsMultipartWithin r.limits r.sections };
 }
 
 impl PartReader {
@@ -161,7 +161,7 @@ impl PartReader {
     /// `NotUtf8` if the head isn't UTF-8, and with `Refused` if memory is refused; then nothing has
     /// changed. Each but `TooLarge` comes only after the delimiter at the end of the part, and only if
     /// what is before the first delimiter is within the limits. Memory is asked for only then, and only
-    /// if some bytes are between the delimiters.
+    /// if the head has an end, and head and body are within the limits.
     pub fn next_part(&mut self) -> Result<Option<Part>, PartError>
         ensures part { IfOk result (λ next. IfSome next (λ part. TakesMultipart self.old.delimiter
             self.old.limits self.old.held (bytes_of_multipart part) self.new.held)) }
@@ -221,6 +221,7 @@ pub fn part_laws()
 /// Takes the part that was found.
 fn take_part(sections: &mut Sections, alloc: Global, limits: Limits) -> Result<Part, PartError>
     requires divided { IsMultipartDivided sections.old }
+    requires within { IsMultipartWithin limits sections.old }
     requires found { sections.old.stage ≡ Stage.Found }
     requires few { length sections.old.preamble ≤ limits.head + limits.body }
     ensures divided { IsMultipartDivided sections.new }
@@ -232,28 +233,16 @@ fn take_part(sections: &mut Sections, alloc: Global, limits: Limits) -> Result<P
     ensures goes_on { OnOk result (sections.new.stage ≡ Stage.Waiting) }
     ensures delimiter { sections.new.waiting.delimiter ≡ sections.old.waiting.delimiter }
     ensures err { OnErr result (sections.new ≡ sections.old) }
-    ensures malformed { IfErr result (λ e. e ≡ PartError.Malformed
-        → (any : Limits) (more : List ℕ)
-        → NoMultipartWithFields sections.old.waiting.delimiter any (held_by_multipart sections.old ++ more)) }
-    ensures due { IfErr result (λ e. e ≢ PartError.TooLarge
-        → IsMultipartDue sections.old.waiting.delimiter limits (held_by_multipart sections.old)) }
-    ensures too_large { IfErr result (λ e. e ≡ PartError.TooLarge → (more : List ℕ)
-        → NoMultipart sections.old.waiting.delimiter limits (held_by_multipart sections.old ++ more)) }
-    ensures not_utf8 { IfErr result (λ e. e ≡ PartError.NotUtf8
-        → (part : MultipartBytes) × (rest : List ℕ)
-        × TakesMultipart sections.old.waiting.delimiter limits (held_by_multipart sections.old) part rest
-        × (¬ IsUtf8 part.head)) }
-    ensures reason { IfErr result (λ e. (reason : _) → e ≡ PartError.Refused reason
-        → reason ≡ Reason.OutOfMemory) }
-    ensures asks { IfErr result (λ e. (reason : _) → e ≡ PartError.Refused reason
-        → AsksForMultipart sections.old.waiting.delimiter limits (held_by_multipart sections.old)) }
+    ensures fault { IfErr result (λ e. IsMultipartFault e
+        sections.old.waiting.delimiter limits (held_by_multipart sections.old)) }
 {
-    let (head, start) = read_head(&sections.found, alloc, limits)?;
+    let front = sections.found.peek_bytes(alloc, sections.head_len)?;
     let PartHead {
         text,
         name,
         file_name,
-    } = head;
+    } = parse_head(alloc, front)?;
+    let start = sections.head_len + HEAD_END.len();
     let mut body = sections.take(alloc);
     body.advance(start);
     Ok(Part {

@@ -1,19 +1,17 @@
 //! The head of a part.
-ghost use Rattle.std.specs.Prelude.{◌≡◌, ◌≢◌, ◌<◌, ◌≤◌, ℕ, List, [], length, drop, None, IsUtf8, IfOk, IfErr, IfSome, IfNone};
-ghost use Rattle.std.specs.List.{concat};
+ghost use Rattle.std.specs.Prelude.{◌≡◌, ◌≢◌, ◌≤◌, ℕ, List, [], length, take, None, IsUtf8, IfOk, IfErr, IfSome, IfNone};
 ghost use Rattle.bytes_utils.specs.Occurrence.{Occurs};
-ghost use Rattle.bytes_utils_protocols.specs.Multipart.{AreMultipartFields, HasMultipartParameter, IsMultipartHead, IsMultipartPart, MultipartBytes, multipart_bytes, multipart_file_name, multipart_head_end, multipart_name};
+ghost use Rattle.bytes_utils_protocols.specs.Multipart.{AreMultipartFields, HasMultipartHeadAt, HasMultipartParameter, IsMultipartHead, IsMultipartRawFault, multipart_file_name, multipart_head_end, multipart_name};
 ghost use Rattle.bytes_utils_protocols.specs.MultipartStream.{FindsPartHead};
 ghost use Rattle.bytes_utils_protocols.specs.MultipartWaiting.{IsAheadOfNeedle};
 
 use super::disposition::read_parameter;
 use super::fields::{disposition_of_head, has_fields};
 use super::limits::{Limits, PartError};
-use super::waiting::{Ahead, DASHES};
+use super::waiting::{Ahead, DASHES, Waiting};
 use crate::header::header_blanks_len;
 use bytes::{Buf, Bytes};
-use bytes_utils::{Reason, SegmentedBuf, Str};
-use bytes_utils_codec::find::find;
+use bytes_utils::{Reason, Str};
 use std::alloc::Global;
 
 /// What ends each line.
@@ -46,42 +44,21 @@ impl PartHead {
     }
 }
 
-/// The head of a part, and the place of its body.
-pub(super) fn read_head(
-    raw: &SegmentedBuf<Bytes>,
-    alloc: Global,
-    limits: Limits,
-) -> Result<(PartHead, usize), PartError>
-    ensures within { IfOk result (λ read. read.1 ≤ length (concat raw.now.segments)) }
-    ensures part { IfOk result (λ read. IsMultipartPart limits (concat raw.now.segments)
-        (multipart_bytes read.0.text (drop read.1 (concat raw.now.segments)))) }
-    ensures fields { IfOk result (λ read. AreMultipartFields read.0.text) }
-    ensures name { IfOk result
-        (λ read. HasMultipartParameter multipart_name read.0.text read.0.name) }
-    ensures file_name { IfOk result
-        (λ read. HasMultipartParameter multipart_file_name read.0.text read.0.file_name) }
-    ensures malformed { IfErr result (λ e. e ≡ PartError.Malformed
-        → (any : Limits) (part : MultipartBytes)
-        → IsMultipartPart any (concat raw.now.segments) part → ¬ AreMultipartFields part.head) }
-    ensures too_large { IfErr result (λ e. e ≡ PartError.TooLarge
-        → (part : MultipartBytes) → ¬ IsMultipartPart limits (concat raw.now.segments) part) }
-    ensures not_utf8 { IfErr result (λ e. e ≡ PartError.NotUtf8 → (part : MultipartBytes)
-        × IsMultipartPart limits (concat raw.now.segments) part × (¬ IsUtf8 part.head)) }
-    ensures reason { IfErr result (λ e. (reason : _) → e ≡ PartError.Refused reason
-        → reason ≡ Reason.OutOfMemory) }
-    ensures some { IfErr result (λ e. (reason : _) → e ≡ PartError.Refused reason
-        → 0 < length (concat raw.now.segments)) }
+/// How many bytes are before the end of the head, in the first `len` bytes that wait. These are all
+/// before the next delimiter. Requires that they have come.
+pub(super) fn head_len(waiting: &Waiting, len: usize, limits: Limits) -> Result<usize, PartError>
+    requires { len ≤ length waiting.now.held }
+    ensures at { IfOk result (HasMultipartHeadAt limits (take len waiting.now.held)) }
+    ensures fault { IfErr result (λ e. IsMultipartRawFault e limits (take len waiting.now.held)) }
 {
-    let all = raw.remaining();
-    let Some(len) = find(raw, HEAD_END) else {
+    let Some(front) = waiting.find_before(HEAD_END, len) else {
         return Err(PartError::Malformed);
     };
-    let start = len + HEAD_END.len();
-    if start > limits.head || all - start > limits.body {
+    let start = front + HEAD_END.len();
+    if start > limits.head || len - start > limits.body {
         return Err(PartError::TooLarge);
     }
-    let head = parse_head(alloc, raw.peek_bytes(alloc, len)?)?;
-    Ok((head, start))
+    Ok(front)
 }
 
 /// The head in the bytes before its end, which begin after a delimiter.

@@ -1,10 +1,11 @@
 //! What is between the delimiters of a stream.
-ghost use Rattle.std.specs.Prelude.{◌≡◌, ◌≢◌, ◌↔◌, ◌+◌, ◌^◌, ◌<◌, ◌≤◌, [], length, IsTrue, OnOk, OnErr, IfOk, IfErr, IfSome, IfNone};
+ghost use Rattle.std.specs.Prelude.{◌≡◌, ◌≢◌, ◌↔◌, ◌+◌, ◌^◌, ◌<◌, ◌≤◌, [], length, take, drop, IsTrue, OnOk, OnErr, IfOk, IfErr, IfSome, IfNone};
 ghost use Rattle.std.specs.List.{concat};
 ghost use Rattle.bytes_utils.specs.Occurrence.{Occurs};
 ghost use Rattle.bytes_utils_codec.specs.Frames.{TakesFrame};
-ghost use Rattle.bytes_utils_protocols.specs.Multipart.{AfterMultipartSearch, AsksForMultipart, HasNextInMultipart, IsMultipartDivided, IsMultipartSearchFault, SameMultipartSections, held_by_multipart};
+ghost use Rattle.bytes_utils_protocols.specs.Multipart.{AfterMultipartSearch, HasMultipartHeadAt, IsMultipartDivided, IsMultipartFault, IsMultipartRawFault, IsMultipartWithin, SameMultipartSections, held_by_multipart};
 
+use super::head::head_len;
 use super::limits::{Limits, PartError, most_multipart_bytes};
 use super::preamble::Preamble;
 use super::waiting::{DASHES, Waiting};
@@ -34,6 +35,8 @@ pub(super) struct Sections {
     pub(super) stage: Stage,
     pub(super) preamble: Preamble,
     pub(super) found: SegmentedBuf<Bytes>,
+    /// How many bytes of what was found are before the end of its head.
+    pub(super) head_len: usize,
 }
 
 impl Sections {
@@ -53,19 +56,23 @@ impl Sections {
             stage: Stage::Preamble,
             preamble,
             found: SegmentedBuf::new(alloc),
+            head_len: 0,
         })
     }
 
     /// Searches for the delimiters before and after the next part, or for the close delimiter. Fails
-    /// if what is before the first one is over the limits.
+    /// if what is before the first one is over the limits, or if what is between them has no end of a
+    /// head or is over its limits.
     pub(super) fn search(&mut self, alloc: Global, limits: Limits) -> Result<(), PartError>
-        requires { IsMultipartDivided self.old }
+        requires divided { IsMultipartDivided self.old }
+        requires within { IsMultipartWithin limits self.old }
         ensures divided { IsMultipartDivided self.new }
+        ensures within { IsMultipartWithin limits self.new }
         ensures ok { OnOk result (AfterMultipartSearch self.new.stage self.old self.new) }
         ensures few { OnOk result (length self.new.preamble ≤ limits.head + limits.body) }
         ensures err { OnErr result (SameMultipartSections self.old self.new) }
         ensures delimiter { self.new.waiting.delimiter ≡ self.old.waiting.delimiter }
-        ensures fault { IfErr result (λ e. IsMultipartSearchFault e
+        ensures fault { IfErr result (λ e. IsMultipartFault e
             self.old.waiting.delimiter limits (held_by_multipart self.old)) }
     {
         self.pass_preamble();
@@ -73,7 +80,7 @@ impl Sections {
             return Err(PartError::TooLarge);
         }
         if self.stage == Stage::Waiting {
-            self.find_next(alloc)?;
+            self.find_next(alloc, limits)?;
         }
         Ok(())
     }
@@ -86,6 +93,7 @@ impl Sections {
         ensures waits { self.new.stage ≡ Stage.Preamble
             → ¬ Occurs self.old.waiting.delimiter self.new.waiting.held }
         ensures ended { self.new.stage ≡ Stage.Ended → self.old.stage ≡ Stage.Ended }
+        ensures found { self.new.stage ≡ Stage.Found → self.new ≡ self.old }
     {
         if self.stage == Stage::Preamble
             && let Some(preamble) = self.next_preamble()
@@ -116,51 +124,52 @@ impl Sections {
 
     /// Finds the delimiter after the next part, if it has come, or ends, if two dashes follow the
     /// one before it.
-    fn find_next(&mut self, alloc: Global) -> Result<(), Reason>
+    fn find_next(&mut self, alloc: Global, limits: Limits) -> Result<(), PartError>
         requires divided { IsMultipartDivided self.old }
         requires waiting { self.old.stage ≡ Stage.Waiting }
+        requires few { length self.old.preamble ≤ limits.head + limits.body }
         ensures divided { IsMultipartDivided self.new }
+        ensures within { IsMultipartWithin limits self.new }
         ensures ok { OnOk result (AfterMultipartSearch self.new.stage self.old self.new) }
         ensures shorter { OnOk result (length self.new.preamble ≤ length self.old.preamble) }
         ensures err { OnErr result (SameMultipartSections self.old self.new) }
         ensures delimiter { self.new.waiting.delimiter ≡ self.old.waiting.delimiter }
-        ensures asks { OnErr result ((limits : Limits) → length self.old.preamble ≤ limits.head + limits.body
-            → AsksForMultipart self.old.waiting.delimiter limits (held_by_multipart self.old)) }
-        ensures reason { IfErr result (λ reason. reason ≡ Reason.OutOfMemory) }
+        ensures fault { IfErr result (λ e. IsMultipartFault e
+            self.old.waiting.delimiter limits (held_by_multipart self.old)) }
     {
         if self.waiting.strip_prefix(DASHES) {
             self.end(alloc);
             return Ok(());
         }
-        if let Some(found) = self.next_section(alloc)? {
-            self.found = found;
-            self.stage = Stage::Found;
+        let ahead = self.waiting.search();
+        if ahead.has_come {
+            self.take_section(alloc, limits, ahead.len)?;
         }
         Ok(())
     }
 
-    /// Takes the bytes before the next delimiter, and drops that, or returns `None` if it has not
-    /// come.
-    fn next_section(&mut self, alloc: Global) -> Result<Option<SegmentedBuf<Bytes>>, Reason>
-        ensures section { IfOk result (λ next. IfSome next (λ section. TakesFrame
-            self.old.waiting.delimiter self.old.waiting.held
-            (concat section.segments) self.new.waiting.held)) }
-        ensures some { IfOk result (λ next. IfSome next (λ _. self.new ≡ record self.old {
-          waiting = record self.old.waiting { held = self.new.waiting.held };
-        })) }
-        ensures lacks { IfOk result
-            (λ next. IfNone next (¬ Occurs self.old.waiting.delimiter self.old.waiting.held)) }
-        ensures none { IfOk result (λ next. IfNone next (self.new ≡ self.old)) }
+    /// Takes the first `len` bytes that wait, and drops the delimiter after them. Requires that these
+    /// have come.
+    fn take_section(&mut self, alloc: Global, limits: Limits, len: usize) -> Result<(), PartError>
+        requires { len + length self.old.waiting.delimiter ≤ length self.old.waiting.held }
+        ensures stage { OnOk result (self.new.stage ≡ Stage.Found) }
+        ensures found { OnOk result
+            (concat self.new.found.segments ≡ take len self.old.waiting.held) }
+        ensures head { OnOk result
+            (HasMultipartHeadAt limits (take len self.old.waiting.held) self.new.head_len) }
+        ensures preamble { self.new.preamble ≡ self.old.preamble }
+        ensures waiting { OnOk result (self.new.waiting ≡ record self.old.waiting {
+          held = drop (len + length self.old.waiting.delimiter) self.old.waiting.held;
+        }) }
         ensures err { OnErr result (self.new ≡ self.old) }
-        ensures asks { OnErr result
-            (HasNextInMultipart self.old.waiting.delimiter self.old.waiting.held) }
-        ensures reason { IfErr result (λ reason. reason ≡ Reason.OutOfMemory) }
+        ensures fault { IfErr result
+            (λ e. IsMultipartRawFault e limits (take len self.old.waiting.held)) }
     {
-        let ahead = self.waiting.search();
-        if !ahead.has_come {
-            return Ok(None);
-        }
-        Ok(Some(self.waiting.split_at_delimiter(alloc, ahead.len)?))
+        let head_len = head_len(&self.waiting, len, limits)?;
+        self.found = self.waiting.split_at_delimiter(alloc, len)?;
+        self.head_len = head_len;
+        self.stage = Stage::Found;
+        Ok(())
     }
 
     /// Ends, and lets go of all that is held.

@@ -1,6 +1,8 @@
 //! Bytes of a stream that wait for the next delimiter.
-ghost use Rattle.std.specs.Prelude.{◌≡◌, ◌↔◌, ◌+◌, ◌-◌, ◌^◌, ◌<◌, ◌≤◌, [], ◌++◌, false, length, get_or, take, drop, IsOk, IsTrue, OnOk, OnErr, IfOk, IfErr};
+ghost use Rattle.std.specs.Prelude.{◌≡◌, ◌↔◌, ◌+◌, ◌-◌, ◌^◌, ◌<◌, ◌≤◌, [], ◌++◌, false, length, get_or, take, drop, IsOk, IsTrue, OnOk, OnErr, IfOk, IfErr, IfSome, IfNone};
 ghost use Rattle.std.specs.List.{concat};
+ghost use Rattle.bytes_utils.specs.Occurrence.{Occurs};
+ghost use Rattle.bytes_utils_codec.specs.Frames.{TakesFrame};
 ghost use Rattle.bytes_utils_codec.specs.Pushing.{IsPush};
 ghost use Rattle.bytes_utils_protocols.specs.Headers.{is_header_blank};
 ghost use Rattle.bytes_utils_protocols.specs.Multipart.{IsMultipartPadding};
@@ -10,6 +12,7 @@ use crate::header::is_header_blank;
 use bytes::{Buf, Bytes};
 use bytes_utils::segmented::PackedBuf;
 use bytes_utils::{Reason, Refused, SegmentedBuf};
+use bytes_utils_codec::find::find;
 use bytes_utils_codec::search::Search;
 use std::alloc::Global;
 use std::marker::Model;
@@ -152,6 +155,26 @@ impl Waiting {
         ensures ahead { IsAheadOfNeedle search.old.needle self.now.held result }
     {
         look_ahead(search, &self.pieces)
+    }
+
+    /// Returns the first place of `needle` in the first `len` bytes, or `None` if it isn't there.
+    /// Requires that `needle` is not empty, and that `len` is at most `len()`.
+    pub(super) fn find_before(&self, needle: &[u8], len: usize) -> Option<usize>
+        requires some { 0 < length needle.now }
+        requires come { len ≤ length self.now.held }
+        ensures within { IfSome result (λ at. at + length needle.now ≤ len) }
+        ensures frame { IfSome result (λ at. TakesFrame needle.now (take len self.now.held)
+            (take at (take len self.now.held))
+            (drop (at + length needle.now) (take len self.now.held))) }
+        ensures none { IfNone result (¬ Occurs needle.now (take len self.now.held)) }
+    {
+        let Some(at) = find(self.pieces.as_segmented(), needle) else {
+            return None;
+        };
+        if len.saturating_sub(at) < needle.len() {
+            return None;
+        }
+        Some(at)
     }
 
     /// Takes bytes off the front: `most`, or those of the first segment if it has fewer. A piece that

@@ -1,36 +1,29 @@
-use Rattle.std.proofs.Common.{◌∙◌, sym}
+use Rattle.std.proofs.Common.{◌∙◌, sym, take, drop, ◌+◌, length}
 use Rattle.std.proofs.lemmas.Result.{err_from_is_err_and}
-use Rattle.bytes_utils_protocols.specs.Multipart.{AreMultipartFields}
-use Rattle.bytes_utils_protocols.proofs.MultipartLemmas.{asks_in_found, due_in_found, each_in_found, part_in_found}
+use Rattle.std.specs.List.{concat}
+use Rattle.bytes_utils_protocols.specs.Multipart.{multipart_head_end}
+use Rattle.bytes_utils_protocols.specs.declared.multipart.limits.PartError.TheVariants.{Refused}
+use Rattle.bytes_utils_protocols.proofs.MultipartLemmas.{fault_in_found, raw_fault}
 use Rattle.bytes_utils_protocols.proofs.multipart.take_part.Goals as goal
 
-pub returns-in_err-head-clause-malformed : goal.returns-in_err-head-clause-malformed
-returns-in_err-head-clause-malformed c =
-    let out = err_from_is_err_and c.from_residual.result c.from_residual.ensures.1 in
-    rw out.1 (λ is any more. each_in_found c.args.sections.now c.requires.found c.requires.divided any (λ part. ¬ AreMultipartFields part.head) (c.in_err-head.ensures.malformed (sym out.2 ∙ is) any) more)
-
-pub returns-in_err-head-clause-too_large : goal.returns-in_err-head-clause-too_large
-returns-in_err-head-clause-too_large c =
-    let out = err_from_is_err_and c.from_residual.result c.from_residual.ensures.1 in
-    rw out.1 (λ is more. each_in_found c.args.sections.now c.requires.found c.requires.divided c.args.limits (λ _. ⊥) (c.in_err-head.ensures.too_large (sym out.2 ∙ is)) more)
-
-pub returns-in_err-head-clause-due : goal.returns-in_err-head-clause-due
-returns-in_err-head-clause-due c =
+pub returns-in_err-front-clause-fault : goal.returns-in_err-front-clause-fault
+returns-in_err-front-clause-fault c =
     let s = c.args.sections.now in
+    let raw = concat s.found.segments in
+    let at = c.requires.within c.requires.found in
     let out = err_from_is_err_and c.from_residual.result c.from_residual.ensures.1 in
-    rw out.1 (λ is. due_in_found s c.requires.found c.requires.divided c.args.limits c.requires.few)
+    rw (out.1, out.2) (fault_in_found s c.requires.found c.requires.divided c.args.limits c.requires.few (Refused c.in_err-front.field-0.0) (c.in_err-front.ensures.reason, take s.head_len raw, drop (s.head_len + length multipart_head_end) raw, at.1))
 
-pub returns-in_err-head-clause-asks : goal.returns-in_err-head-clause-asks
-returns-in_err-head-clause-asks c =
+pub returns-in_err-text-clause-fault : goal.returns-in_err-text-clause-fault
+returns-in_err-text-clause-fault c =
     let s = c.args.sections.now in
-    let out = err_from_is_err_and c.from_residual.result c.from_residual.ensures.1 in
-    rw out.1 (λ reason is. asks_in_found s c.requires.found c.requires.divided c.args.limits (c.in_err-head.ensures.some reason (sym out.2 ∙ is)) c.requires.few)
-
-pub returns-in_err-head-clause-not_utf8 : goal.returns-in_err-head-clause-not_utf8
-returns-in_err-head-clause-not_utf8 c =
-    let s = c.args.sections.now in
-    let out = err_from_is_err_and c.from_residual.result c.from_residual.ensures.1 in
-    rw out.1 (λ is.
-    let found = c.in_err-head.ensures.not_utf8 (sym out.2 ∙ is) in
-    let takes = part_in_found s c.requires.found c.requires.divided c.args.limits found.0 found.1 c.requires.few in
-    (found.0, takes.0, takes.1, found.2))
+    let at = c.requires.within c.requires.found in
+    let front = c.in_ok-front.ensures.value in
+    let why = c.in_err-text.ensures in
+    let out = err_from_is_err_and c.from_residual-in_err-text.result c.from_residual-in_err-text.ensures.1 in
+    rw out.1 (fault_in_found s c.requires.found c.requires.divided c.args.limits c.requires.few out.0
+    (raw_fault c.args.limits (concat s.found.segments) s.head_len at out.0
+    (λ is. rw front at why.malformed (sym out.2 ∙ is))
+    (λ is. why.too_large (sym out.2 ∙ is))
+    (λ is. rw front at why.not_utf8 (sym out.2 ∙ is))
+    (λ reason is. why.reason reason (sym out.2 ∙ is))))

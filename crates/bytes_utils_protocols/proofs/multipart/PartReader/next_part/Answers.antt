@@ -1,47 +1,39 @@
 use Rattle.std.proofs.Common.{arith, ◌<◌, ◌≤◌, ◌+◌, ◌∙◌, sym, refl, subst, length}
 use Rattle.std.proofs.lemmas.Bool.{false≢true}
 use Rattle.std.proofs.lemmas.Result.{err_from_is_err_and}
-use Rattle.bytes_utils_protocols.specs.Multipart.{AfterMultipartSearch, AreMultipartFields, IsMultipartSearchFault, held_by_multipart}
-use Rattle.bytes_utils_protocols.proofs.MultipartLemmas.{asks_of_same, due_by_fault, due_of_same, few_wait, idle_after, none_after, each_of_same, over_limits}
+use Rattle.bytes_utils_protocols.specs.Multipart.{AfterMultipartSearch}
+use Rattle.bytes_utils_protocols.proofs.MultipartLemmas.{due_by_fault, fault_is, fault_of_same, few_wait, idle_after, none_after, over_limits}
 use Rattle.bytes_utils_protocols.proofs.multipart.PartReader.next_part.Goals as goal
 
 pub returns-in_err-search-clause-malformed : goal.returns-in_err-search-clause-malformed
 returns-in_err-search-clause-malformed c =
-    let s = c.self.inside.sections in
     let out = err_from_is_err_and c.from_residual.result c.from_residual.ensures.1 in
-    rw out.1 (λ is. absurd (subst (λ e. IsMultipartSearchFault e s.waiting.delimiter c.self.inside.limits (held_by_multipart s)) (sym out.2 ∙ is) c.in_err-search.ensures.fault))
+    rw (← c.self.view_is) (rw out.1 (λ is. (fault_is c.self.inside.sections c.self.inside.limits _ _ c.in_err-search.ensures.fault (sym out.2 ∙ is)).1))
 
 pub returns-in_err-search-clause-due : goal.returns-in_err-search-clause-due
 returns-in_err-search-clause-due c =
-    let s = c.self.inside.sections in
     let out = err_from_is_err_and c.from_residual.result c.from_residual.ensures.1 in
-    rw (← c.self.view_is) (rw out.1 (λ not_large. due_by_fault out.0 s.waiting.delimiter c.self.inside.limits (held_by_multipart s)
-    (subst (λ e. IsMultipartSearchFault e s.waiting.delimiter c.self.inside.limits (held_by_multipart s)) (sym out.2) c.in_err-search.ensures.fault) not_large))
+    rw (← c.self.view_is) (rw out.1 (λ not_large. due_by_fault c.self.inside.sections c.self.inside.limits _ c.in_err-search.ensures.fault (λ is. not_large (out.2 ∙ is))))
 
 pub returns-in_err-search-clause-too_large : goal.returns-in_err-search-clause-too_large
 returns-in_err-search-clause-too_large c =
-    let s = c.self.inside.sections in
     let out = err_from_is_err_and c.from_residual.result c.from_residual.ensures.1 in
-    rw (← c.self.view_is) (rw out.1 (λ is. subst (λ e. IsMultipartSearchFault e s.waiting.delimiter c.self.inside.limits (held_by_multipart s)) (sym out.2 ∙ is) c.in_err-search.ensures.fault))
+    rw (← c.self.view_is) (rw out.1 (λ is. fault_is c.self.inside.sections c.self.inside.limits _ _ c.in_err-search.ensures.fault (sym out.2 ∙ is)))
 
 pub returns-in_err-search-clause-not_utf8 : goal.returns-in_err-search-clause-not_utf8
 returns-in_err-search-clause-not_utf8 c =
-    let s = c.self.inside.sections in
     let out = err_from_is_err_and c.from_residual.result c.from_residual.ensures.1 in
-    rw out.1 (λ is. absurd (subst (λ e. IsMultipartSearchFault e s.waiting.delimiter c.self.inside.limits (held_by_multipart s)) (sym out.2 ∙ is) c.in_err-search.ensures.fault))
+    rw (← c.self.view_is) (rw out.1 (λ is. let f = fault_is c.self.inside.sections c.self.inside.limits _ _ c.in_err-search.ensures.fault (sym out.2 ∙ is) in (f.1, f.2, f.3, f.4)))
 
 pub returns-in_err-search-clause-reason : goal.returns-in_err-search-clause-reason
 returns-in_err-search-clause-reason c =
-    let s = c.self.inside.sections in
     let out = err_from_is_err_and c.from_residual.result c.from_residual.ensures.1 in
-    rw out.1 (λ reason is. (subst (λ e. IsMultipartSearchFault e s.waiting.delimiter c.self.inside.limits (held_by_multipart s)) (sym out.2 ∙ is) c.in_err-search.ensures.fault).0)
+    rw out.1 (λ reason is. (fault_is c.self.inside.sections c.self.inside.limits _ _ c.in_err-search.ensures.fault (sym out.2 ∙ is)).0)
 
 pub returns-in_err-search-clause-asks : goal.returns-in_err-search-clause-asks
 returns-in_err-search-clause-asks c =
-    let s = c.self.inside.sections in
     let out = err_from_is_err_and c.from_residual.result c.from_residual.ensures.1 in
-    rw (← c.self.view_is)
-    (rw out.1 (λ reason is. (subst (λ e. IsMultipartSearchFault e s.waiting.delimiter c.self.inside.limits (held_by_multipart s)) (sym out.2 ∙ is) c.in_err-search.ensures.fault).1))
+    rw (← c.self.view_is) (rw out.1 (λ reason is. (fault_is c.self.inside.sections c.self.inside.limits _ _ c.in_err-search.ensures.fault (sym out.2 ∙ is)).1))
 
 pub returns-then-is_over-clause-too_large : goal.returns-then-is_over-clause-too_large
 returns-then-is_over-clause-too_large c _ =
@@ -51,33 +43,53 @@ returns-then-is_over-clause-too_large c _ =
     let long : limits.head + limits.body + length new.waiting.delimiter < length new.waiting.held = omega (arith, waits.1, c.is_over.ensures.fits, c.most_multipart_bytes.ensures) in
     rw (← c.self.view_is) (λ more. over_limits limits c.self.inside.sections new more new.stage refl c.in_ok-search.ensures.ok c.search.ensures.divided waits.0 long)
 
-pub returns-in_err-take_part-in-Found-clause-due : goal.returns-in_err-take_part-in-Found-clause-due
-returns-in_err-take_part-in-Found-clause-due c =
-    let same = subst (λ stage. AfterMultipartSearch stage c.self.inside.sections c.search.new.self) c.in-Found.is c.in_ok-search.ensures.ok in
-    let out = err_from_is_err_and c.from_residual-in_err-take_part-in-Found.result c.from_residual-in_err-take_part-in-Found.ensures.1 in
-    rw (← c.self.view_is) (rw out.1 (λ not_large.
-    due_of_same c.self.inside.sections c.search.new.self same c.self.inside.limits (c.in_err-take_part-in-Found.ensures.due (λ is. not_large (out.2 ∙ is)))))
-
 pub returns-in_err-take_part-in-Found-clause-malformed : goal.returns-in_err-take_part-in-Found-clause-malformed
 returns-in_err-take_part-in-Found-clause-malformed c =
-    let same = subst (λ stage. AfterMultipartSearch stage c.self.inside.sections c.search.new.self) c.in-Found.is c.in_ok-search.ensures.ok in
+    let s = c.self.inside.sections in
+    let same = subst (λ stage. AfterMultipartSearch stage s c.search.new.self) c.in-Found.is c.in_ok-search.ensures.ok in
+    let why = fault_of_same s c.search.new.self same c.self.inside.limits _ c.in_err-take_part-in-Found.ensures.fault in
     let out = err_from_is_err_and c.from_residual-in_err-take_part-in-Found.result c.from_residual-in_err-take_part-in-Found.ensures.1 in
-    rw (← c.self.view_is) (rw out.1 (λ is any more.
-    each_of_same (λ part. ¬ AreMultipartFields part.head) c.self.inside.sections c.search.new.self same any more (c.in_err-take_part-in-Found.ensures.malformed (sym out.2 ∙ is) any more)))
+    rw (← c.self.view_is) (rw out.1 (λ is. (fault_is s c.self.inside.limits _ _ why (sym out.2 ∙ is)).1))
+
+pub returns-in_err-take_part-in-Found-clause-due : goal.returns-in_err-take_part-in-Found-clause-due
+returns-in_err-take_part-in-Found-clause-due c =
+    let s = c.self.inside.sections in
+    let same = subst (λ stage. AfterMultipartSearch stage s c.search.new.self) c.in-Found.is c.in_ok-search.ensures.ok in
+    let why = fault_of_same s c.search.new.self same c.self.inside.limits _ c.in_err-take_part-in-Found.ensures.fault in
+    let out = err_from_is_err_and c.from_residual-in_err-take_part-in-Found.result c.from_residual-in_err-take_part-in-Found.ensures.1 in
+    rw (← c.self.view_is) (rw out.1 (λ not_large. due_by_fault s c.self.inside.limits _ why (λ is. not_large (out.2 ∙ is))))
 
 pub returns-in_err-take_part-in-Found-clause-too_large : goal.returns-in_err-take_part-in-Found-clause-too_large
 returns-in_err-take_part-in-Found-clause-too_large c =
-    let same = subst (λ stage. AfterMultipartSearch stage c.self.inside.sections c.search.new.self) c.in-Found.is c.in_ok-search.ensures.ok in
+    let s = c.self.inside.sections in
+    let same = subst (λ stage. AfterMultipartSearch stage s c.search.new.self) c.in-Found.is c.in_ok-search.ensures.ok in
+    let why = fault_of_same s c.search.new.self same c.self.inside.limits _ c.in_err-take_part-in-Found.ensures.fault in
     let out = err_from_is_err_and c.from_residual-in_err-take_part-in-Found.result c.from_residual-in_err-take_part-in-Found.ensures.1 in
-    rw (← c.self.view_is) (rw out.1 (λ is more.
-    each_of_same (λ _. ⊥) c.self.inside.sections c.search.new.self same c.self.inside.limits more (c.in_err-take_part-in-Found.ensures.too_large (sym out.2 ∙ is) more)))
+    rw (← c.self.view_is) (rw out.1 (λ is. fault_is s c.self.inside.limits _ _ why (sym out.2 ∙ is)))
+
+pub returns-in_err-take_part-in-Found-clause-not_utf8 : goal.returns-in_err-take_part-in-Found-clause-not_utf8
+returns-in_err-take_part-in-Found-clause-not_utf8 c =
+    let s = c.self.inside.sections in
+    let same = subst (λ stage. AfterMultipartSearch stage s c.search.new.self) c.in-Found.is c.in_ok-search.ensures.ok in
+    let why = fault_of_same s c.search.new.self same c.self.inside.limits _ c.in_err-take_part-in-Found.ensures.fault in
+    let out = err_from_is_err_and c.from_residual-in_err-take_part-in-Found.result c.from_residual-in_err-take_part-in-Found.ensures.1 in
+    rw (← c.self.view_is) (rw out.1 (λ is. let f = fault_is s c.self.inside.limits _ _ why (sym out.2 ∙ is) in (f.1, f.2, f.3, f.4)))
+
+pub returns-in_err-take_part-in-Found-clause-reason : goal.returns-in_err-take_part-in-Found-clause-reason
+returns-in_err-take_part-in-Found-clause-reason c =
+    let s = c.self.inside.sections in
+    let same = subst (λ stage. AfterMultipartSearch stage s c.search.new.self) c.in-Found.is c.in_ok-search.ensures.ok in
+    let why = fault_of_same s c.search.new.self same c.self.inside.limits _ c.in_err-take_part-in-Found.ensures.fault in
+    let out = err_from_is_err_and c.from_residual-in_err-take_part-in-Found.result c.from_residual-in_err-take_part-in-Found.ensures.1 in
+    rw out.1 (λ reason is. (fault_is s c.self.inside.limits _ _ why (sym out.2 ∙ is)).0)
 
 pub returns-in_err-take_part-in-Found-clause-asks : goal.returns-in_err-take_part-in-Found-clause-asks
 returns-in_err-take_part-in-Found-clause-asks c =
-    let same = subst (λ stage. AfterMultipartSearch stage c.self.inside.sections c.search.new.self) c.in-Found.is c.in_ok-search.ensures.ok in
+    let s = c.self.inside.sections in
+    let same = subst (λ stage. AfterMultipartSearch stage s c.search.new.self) c.in-Found.is c.in_ok-search.ensures.ok in
+    let why = fault_of_same s c.search.new.self same c.self.inside.limits _ c.in_err-take_part-in-Found.ensures.fault in
     let out = err_from_is_err_and c.from_residual-in_err-take_part-in-Found.result c.from_residual-in_err-take_part-in-Found.ensures.1 in
-    rw (← c.self.view_is) (rw out.1 (λ reason is.
-    asks_of_same c.self.inside.sections c.search.new.self same c.self.inside.limits (c.in_err-take_part-in-Found.ensures.asks reason (sym out.2 ∙ is))))
+    rw (← c.self.view_is) (rw out.1 (λ reason is. (fault_is s c.self.inside.limits _ _ why (sym out.2 ∙ is)).1))
 
 pub returns-in_default-clause-waits : goal.returns-in_default-clause-waits
 returns-in_default-clause-waits c =

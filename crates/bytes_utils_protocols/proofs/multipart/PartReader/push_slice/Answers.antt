@@ -6,7 +6,7 @@ use Rattle.bytes_utils_protocols.proofs.multipart.PartReader.push_slice.Goals as
 
 pub invariant_of-self : goal.invariant_of-self
 invariant_of-self c =
-    still_divided c.self.inside.sections c.push_slice.new.self c.args.piece.now c.push_slice.result c.push_slice.ensures.ok c.push_slice.ensures.err (search rules) c.self.invariant
+    (still_divided c.self.inside.sections c.push_slice.new.self c.args.piece.now c.push_slice.result c.push_slice.ensures.ok c.push_slice.ensures.err (search rules) c.self.invariant.0, c.self.invariant.1)
 
 pub returns-in_err-push_slice-clause-too_long : goal.returns-in_err-push_slice-clause-too_long
 returns-in_err-push_slice-clause-too_long c =

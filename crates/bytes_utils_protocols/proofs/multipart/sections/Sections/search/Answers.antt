@@ -1,6 +1,6 @@
-use Rattle.std.proofs.Common.{◌<◌, ◌≤◌, ◌+◌, arith, refl, length}
+use Rattle.std.proofs.Common.{◌<◌, ◌+◌, arith, refl, length}
 use Rattle.std.proofs.lemmas.Result.{err_from_is_err_and}
-use Rattle.bytes_utils_protocols.proofs.MultipartLemmas.{asks_of_same, much_before}
+use Rattle.bytes_utils_protocols.proofs.MultipartLemmas.{fault_of_same, much_before}
 use Rattle.bytes_utils_protocols.proofs.multipart.sections.Sections.search.Goals as goal
 
 pub returns-then-len-most_multipart_bytes-clause-fault : goal.returns-then-len-most_multipart_bytes-clause-fault
@@ -13,5 +13,5 @@ pub returns-in_err-find_next-clause-fault : goal.returns-in_err-find_next-clause
 returns-in_err-find_next-clause-fault c =
     let s = c.pass_preamble.new.self in
     let out = err_from_is_err_and c.from_residual.result c.from_residual.ensures.1 in
-    let few : length s.preamble ≤ c.args.limits.head + c.args.limits.body = omega (arith, c.if-len-most_multipart_bytes.false, c.len.ensures.value, c.len.ensures.fits, c.most_multipart_bytes.ensures) in
-    rw (out.1, out.2) (c.in_err-find_next.ensures.reason, asks_of_same c.args.self.now s c.pass_preamble.ensures.same c.args.limits (c.in_err-find_next.ensures.asks c.args.limits few))
+    let why = fault_of_same c.args.self.now s c.pass_preamble.ensures.same c.args.limits _ c.in_err-find_next.ensures.fault in
+    rw (out.1, out.2) why
