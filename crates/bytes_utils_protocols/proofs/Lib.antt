@@ -7,6 +7,7 @@ pub mod ReplyBeginnings
 pub mod LineSteps
 pub mod ReplyEnds
 pub mod PendingReplies
+pub mod ReplyAsks
 pub mod DispositionLemmas
 pub mod UnescapedLemmas
 pub mod DigitsLemmas

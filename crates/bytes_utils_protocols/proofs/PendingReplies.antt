@@ -12,7 +12,7 @@ use Rattle.bytes_utils_codec.specs.StreamRuns.{AreFirstOfRun}
 use Rattle.bytes_utils_codec.proofs.CursorLemmas.{CursorTakesFirst-passed}
 use Rattle.bytes_utils_codec.proofs.FramesLemmas.{TakesFrame-more}
 use Rattle.bytes_utils_codec.proofs.StreamRunsLemmas.{AreFirstOfRun-more}
-use Rattle.bytes_utils_protocols.specs.Redis.{redis_line_end, BeginsRedisBody, HasNoRedisBody, IsRedisLineOf, IsRedisTextLine, TakesRedisItem, TakesRedisReply, LeaveRedisItemsDue, NoRedisItem, redis_items_in}
+use Rattle.bytes_utils_protocols.specs.Redis.{redis_line_end, BeginsRedisBody, BeginsRedisReply, HasNoRedisBody, IsRedisLineOf, IsRedisTextLine, TakesRedisItem, TakesRedisReply, LeaveRedisItemsDue, NoRedisItem, NoRedisReply, redis_items_in}
 use Rattle.bytes_utils_protocols.specs.RedisLine.{IsRedisLineReadAs}
 use Rattle.bytes_utils_protocols.specs.RedisPending.{AreSeen, AwaitsPendingBody, AwaitsPendingItem, HasPendingItem, IsPendingNext, IsNoPendingItem, IsPending, held_by_pending, unread_by_pending}
 use Rattle.bytes_utils_protocols.specs.declared.redis.item.Item.{Item}
@@ -94,9 +94,6 @@ module _ (u : List ℕ) (len : ℕ) (line : IsRedisTextLine (take len u)) where
       some : 1 ≤ len
       some = omega (arith, ap length line.parts, length-take len u)
 
-  pub text_some : len ≤ length u → 1 ≢ len → 1 < length u
-  text_some within other = omega (arith, within, other, ap length line.parts, length-take len u)
-
   pub simple_text : (text : List ℕ) → text ≡ slice_range u 1 len → slice_get u 0 ≡ Some 43 → IsRedisLineOf (Simple text) (take len u)
   simple_text text is first =
       let kind : line.kind ≡ 43 = same_Some line.kind 43 (sym begins_with ∙ first) in
@@ -118,8 +115,8 @@ pub body_passed : (first next : CursorReading) (len : ℕ) → len ≤ length (u
 body_passed first next len some passed = subst (λ r. CursorTakesFirst len (unread first) (take len (unread first)) (unread r)) (sym passed) (CursorTakesFirst-passed first len some)
 
 module _ (limits : Limits) (room : ℕ) (u : List ℕ) (start len : ℕ) (awaits : AwaitsPendingBody limits u start len) where
-  pub wrong_bulk : ((more : List ℕ) → HasNoRedisBody len (drop start u ++ more)) → IsNoPendingItem limits room u Malformed
-  wrong_bulk none = record {
+  pub wrong_bulk : (seen : ℕ) → ((more : List ℕ) → HasNoRedisBody len (drop start u ++ more)) → IsNoPendingItem limits room u seen Malformed
+  wrong_bulk seen none = record {
     malformed = λ _ any more. no_body any u more awaits.line (drop start u) awaits.framed len awaits.is (none more);
     too_large = λ is. cc;
     memory = λ r is. cc;
@@ -157,3 +154,18 @@ reply_read limits p is some none =
 
 pub none_seen : (limits : Limits) (bytes : List ℕ) → AreSeen limits bytes 0
 none_seen limits bytes = record { within = omega arith; none = λ some. absurd (omega (arith, some)); begins = λ some. absurd (omega (arith, some)) }
+
+more_seen : (limits : Limits) (old piece : List ℕ) (seen : ℕ) → AreSeen limits old seen → AreSeen limits (old ++ piece) seen
+more_seen limits old piece seen are =
+    let same = take-append-le seen old piece are.within in
+    record {
+      within = omega (arith, are.within, length-append old piece);
+      none = λ some. subst (NoRedisReply limits) (sym same) (are.none some);
+      begins = λ some. subst (BeginsRedisReply limits) (sym same) (are.begins some);
+    }
+
+-- after a push, or a refused one
+pub still_seen : {U E : Type 0} (limits : Limits) (old new : Pending) (piece : List ℕ) (seen : ℕ) (result : Result U E) → OnOk result (held_by_pending new ≡ held_by_pending old ++ piece) → OnErr result (new ≡ old)
+    → AreSeen limits (held_by_pending old) seen → AreSeen limits (held_by_pending new) seen
+still_seen limits old new piece seen (Ok u) more same are = subst (λ l. AreSeen limits l seen) (sym more) (more_seen limits (held_by_pending old) piece seen are)
+still_seen limits old new piece seen (Err e) more same are = subst (λ p. AreSeen limits (held_by_pending p) seen) (sym same) are

@@ -273,12 +273,6 @@ whole_reply limits bytes items rest are pending few = record { are = are; whole 
 
 -- ---- a reply takes bytes
 
-pub item_some : (limits : Limits) (old : List ℕ) (item : Item) (rest : List ℕ) → TakesRedisItem limits old item rest → 1 < length old
-item_some limits old item rest takes =
-    let two : length redis_line_end ≡ 2 = refl in
-    let following = after_redis_line item ++ rest in
-    omega (arith, two, ap length takes.bytes.bytes, length-append takes.line (redis_line_end ++ following), length-append redis_line_end following)
-
 pub item_takes : (limits : Limits) (old : List ℕ) (item : Item) (rest : List ℕ) → TakesRedisItem limits old item rest → length rest < length old
 item_takes limits old item rest takes =
     let two : length redis_line_end ≡ 2 = refl in

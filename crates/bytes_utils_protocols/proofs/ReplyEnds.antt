@@ -163,14 +163,14 @@ module _ (limits : Limits) (room : ℕ) (u : List ℕ) (len : ℕ) (fits : len �
     NeverWithin = (bytes : List ℕ) → IsRedisLineReadAs line bytes → length bytes ≡ len → (item : Item) (more : List ℕ) → ¬ IsRedisLineWithin limits room item (bytes ++ more)
 
     -- a line that was checked is none
-    pub not_checked : (ended : Bool) → MatchBool ended ((after : List ℕ) × (drop len u ≡ carriage_return ∷ after)) (Unit {0}) → (e : ReplyError)
-        → (e ≡ Malformed → NeverHas ended) → (e ≡ TooLarge → NeverWithin) → ((reason : Reason) → ¬ (e ≡ Refused reason)) → IsNoPendingItem limits room u e
-    not_checked true return e malformed too_large reason = record {
+    pub not_checked : (seen : ℕ) (ended : Bool) → MatchBool ended ((after : List ℕ) × (drop len u ≡ carriage_return ∷ after)) (Unit {0}) → (e : ReplyError)
+        → (e ≡ Malformed → NeverHas ended) → (e ≡ TooLarge → NeverWithin) → ((reason : Reason) → ¬ (e ≡ Refused reason)) → IsNoPendingItem limits room u seen e
+    not_checked seen true return e malformed too_large reason = record {
       malformed = λ is. stays_ended return.0 return.1 (malformed is (take len u) read);
       too_large = λ is. stays_large (too_large is (take len u) read size);
       memory = λ r is. absurd (reason r is);
     }
-    not_checked false return e malformed too_large reason = record {
+    not_checked seen false return e malformed too_large reason = record {
       malformed = λ is. stays_none (malformed is (take len u) read);
       too_large = λ is. stays_large (too_large is (take len u) read size);
       memory = λ r is. absurd (reason r is);
@@ -229,9 +229,9 @@ module _ (limits : Limits) (room : ℕ) (u : List ℕ) (len : ℕ) (fits : len �
         fits = omega (arith, ap length whole, length-append (take len u) (redis_line_end ++ drop (len + 2) u), length-append redis_line_end (drop (len + 2) u), size);
       }
 
-      pub finds_head : u ≡ take len u ++ (redis_line_end ++ drop (len + 2) u) → (result : Result (Option LineHead) ReplyError) → IfOk result (λ next. IfSome next Gives) → IfOk result (λ next. IfNone next (Lacks true))
+      pub finds_head : (seen : ℕ) → u ≡ take len u ++ (redis_line_end ++ drop (len + 2) u) → (result : Result (Option LineHead) ReplyError) → IfOk result (λ next. IfSome next Gives) → IfOk result (λ next. IfNone next (Lacks true))
           → IfErr result (λ e. e ≡ Malformed → NeverHas true) → IfErr result (λ e. e ≡ TooLarge → NeverWithin) → IfErr result (λ e. (reason : Reason) → ¬ (e ≡ Refused reason))
-          → FindsPendingHead limits room u result len
-      finds_head whole (Ok (Some head)) gives lacks malformed too_large reason = is_head whole head gives
-      finds_head whole (Ok None) gives lacks malformed too_large reason = absurd (lacks.1 refl)
-      finds_head whole (Err e) gives lacks malformed too_large reason = not_checked true (10 ∷ drop (len + 2) u, end_after u len fits whole) e malformed too_large reason
+          → FindsPendingHead limits room u seen result len
+      finds_head seen whole (Ok (Some head)) gives lacks malformed too_large reason = is_head whole head gives
+      finds_head seen whole (Ok None) gives lacks malformed too_large reason = absurd (lacks.1 refl)
+      finds_head seen whole (Err e) gives lacks malformed too_large reason = not_checked seen true (10 ∷ drop (len + 2) u, end_after u len fits whole) e malformed too_large reason

@@ -5,6 +5,7 @@ use Rattle.std.specs.Str.Parse.{IsNumeral, signed_digits_value, without_leading_
 use Rattle.memchr.specs.Find.{Nowhere, Passes, is_byte2}
 use Rattle.bytes_utils_codec.specs.Frames.{TakesFrame}
 use Rattle.bytes_utils.specs.Lines.{carriage_return, line_feed}
+use Rattle.bytes_utils.specs.Occurrence.{OccursAt}
 use Rattle.bytes_utils_codec.specs.StreamRuns.{AreFirstOfRun}
 use Rattle.bytes_utils_buf.specs.Refusals.{refusal_text}
 use Rattle.bytes_utils_protocols.specs.Digits.{WriteNumber}
@@ -176,3 +177,34 @@ NoRedisReply limits bytes = (items : List Item) (rest : List ℕ) → ¬ TakesRe
 -- the bytes are a beginning of a reply: with some bytes after them, they are one whole reply
 abbrev pub BeginsRedisReply : Limits → List ℕ → Type 0
 BeginsRedisReply limits bytes = (more : List ℕ) × (items : List Item) × TakesRedisReply limits (bytes ++ more) items []
+
+-- What has come of the first line of the bytes, and the bytes after it: its end, of which all or a part may be to come, and what follows. Whatever
+-- comes, no line ends earlier.
+pub record HasFirstRedisLine (bytes line after : List ℕ) : Type 0 where
+  pub parts : bytes ≡ line ++ after
+  pub end : (more rest : List ℕ) × (after ++ more ≡ redis_line_end ++ rest)
+  pub first : (more : List ℕ) (place : ℕ) → OccursAt redis_line_end (bytes ++ more) place → length line ≤ place
+
+-- memory may be asked for to look at what has come of the first line: it has two bytes or more, and is within the limit
+pub record AsksForRedisLine (limits : Limits) (bytes after : List ℕ) : Type 0 where
+  pub line : List ℕ
+  pub has : HasFirstRedisLine bytes line after
+  pub some : 1 < length line
+  pub short : length line ≤ limits.line
+
+-- memory may be asked for to look at the first line, or to keep the item that the bytes begin with; after it these bytes come
+abbrev pub AsksForRedisItem : Limits → List ℕ → List ℕ → Type 0
+AsksForRedisItem limits bytes after = AsksForRedisLine limits bytes after ⊎ ((item : Item) × TakesRedisItem limits bytes item after)
+
+-- Memory may be asked for: after these items, within the limit, a further one is due. Not all bytes of its line, or of the whole item, were seen.
+pub record AsksForRedisReply (limits : Limits) (held : List ℕ) (seen : ℕ) : Type 0 where
+  pub items : List Item
+  pub rest : List ℕ
+  pub due : ℕ
+  pub after : List ℕ
+  pub are : AreFirstOfRun (TakesRedisItem limits) held items rest
+  pub leave : LeaveRedisItemsDue 1 items due
+  pub some : 0 < due
+  pub few : length items + due ≤ limits.items
+  pub asks : AsksForRedisItem limits rest after
+  pub unseen : seen + length after < length held

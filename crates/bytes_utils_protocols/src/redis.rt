@@ -2,7 +2,7 @@
 //! that comes in pieces.
 ghost use Rattle.std.specs.Prelude.{◌≡◌, ℕ, ◌+◌, ◌^◌, ◌<◌, ◌≤◌, ◌↔◌, List, [], ◌++◌, length, IfOk, IfErr, IfSome, IfNone, IsOk, OnOk, OnErr};
 ghost use Rattle.bytes_utils_codec.specs.Pushing.{IsPush};
-ghost use Rattle.bytes_utils_protocols.specs.Redis.{BeginsRedisReply, NoRedisReply, TakesRedisReply};
+ghost use Rattle.bytes_utils_protocols.specs.Redis.{AsksForRedisReply, BeginsRedisReply, NoRedisReply, TakesRedisReply};
 
 mod commands;
 mod item;
@@ -44,8 +44,9 @@ pub struct ReplyReader {
 }
 
 impl Model for ReplyReader {
+    ghost use Rattle.std.specs.Prelude.{◌≤◌};
     ghost use Rattle.bytes_utils_protocols.specs.Redis.{RedisReplying};
-    ghost use Rattle.bytes_utils_protocols.specs.RedisPending.{IsPending, AreSeen, held_by_pending};
+    ghost use Rattle.bytes_utils_protocols.specs.RedisPending.{IsPending, AreSeen, held_by_pending, most_seen_by_pending};
 
     ghost Value = { RedisReplying };
 
@@ -56,7 +57,8 @@ impl Model for ReplyReader {
     } };
 
     ghost invariant = { λ r. IsPending r.limits r.pending
-        × AreSeen r.limits (held_by_pending r.pending) r.seen };
+        × AreSeen r.limits (held_by_pending r.pending) r.seen
+        × (r.seen ≤ most_seen_by_pending r.pending) };
 }
 
 impl ReplyReader {
@@ -111,8 +113,9 @@ impl ReplyReader {
     /// beginning of one within the limits. A bulk item in one piece of more than 512 bytes is
     /// shared. Fails with `Malformed` if they begin with no reply, whatever comes after them, with
     /// `TooLarge` if they begin with none within the limits, and with `Refused` if memory is
-    /// refused; then nothing has changed. Memory is asked for only if more than one byte is held,
-    /// a byte has come since the last call that returned `None`, and `items` isn't 0.
+    /// refused; then nothing has changed. Memory is asked for only to look at a line of an item that
+    /// is due, of two bytes or more and within its limit, or to keep such an item once it is whole,
+    /// and only if bytes of that line or item have come since the last call that returned `None`.
     pub fn next_reply(&mut self) -> Result<Option<Vec<Item>>, ReplyError>
         ensures reply { IfOk result (λ next. IfSome next (λ items.
             TakesRedisReply self.old.limits self.old.held items.items self.new.held)) }
@@ -131,9 +134,8 @@ impl ReplyReader {
             → (more : List ℕ) → NoRedisReply self.old.limits (self.old.held ++ more)) }
         ensures reason { IfErr result (λ e. (reason : _) → e ≡ ReplyError.Refused reason
             → reason ≡ Reason.OutOfMemory) }
-        ensures due { IfErr result (λ e. (reason : _) → e ≡ ReplyError.Refused reason
-            → (0 < self.old.limits.items) × (1 < length self.old.held)
-            × (self.old.seen < length self.old.held)) }
+        ensures asks { IfErr result (λ e. (reason : _) → e ≡ ReplyError.Refused reason
+            → AsksForRedisReply self.old.limits self.old.held self.old.seen) }
         ensures limits { self.new.limits ≡ self.old.limits }
     {
         if self.limits.items == 0 {

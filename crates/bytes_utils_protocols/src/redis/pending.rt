@@ -6,7 +6,7 @@ ghost use Rattle.bytes_utils_codec.specs.Cursor.{unread};
 ghost use Rattle.bytes_utils_codec.specs.Pushing.{IsPush};
 ghost use Rattle.bytes_utils_protocols.specs.Redis.{BeginsRedisBody, BeginsRedisReply, HasNoRedisBody, IsRedisLineOf, IsRedisTextLine, NoRedisReply, after_redis_line, redis_body, redis_items_in, redis_line_end};
 ghost use Rattle.bytes_utils_protocols.specs.RedisLine.{RedisLineEndsAt, IsRedisLineReadTo, NoLineReturn, NoLineEnds};
-ghost use Rattle.bytes_utils_protocols.specs.RedisPending.{AwaitsPendingBody, FindsPendingHead, FindsPendingItem, IsPendingNext, IsPending, held_by_pending, unread_by_pending};
+ghost use Rattle.bytes_utils_protocols.specs.RedisPending.{AsksForPending, AwaitsPendingBody, FindsPendingHead, FindsPendingItem, IsPendingNext, IsPending, held_by_pending, most_seen_by_pending, most_seen_of_next, unread_by_pending};
 
 use super::item::{Item, redis_items_in};
 use super::limits::{Limits, ReplyError};
@@ -73,6 +73,7 @@ impl Pending {
         ensures pending { (limits : Limits) → IsPending limits self.old → IsPending limits self.new }
         ensures pushed { IsPush (held_by_pending self.old) piece result
             (held_by_pending self.new ≡ held_by_pending self.old ++ piece) (self.new ≡ self.old) }
+        ensures seen { most_seen_by_pending self.new ≡ most_seen_by_pending self.old }
     {
         if !self.fits(piece.len()) {
             return Err(Refused {
@@ -92,6 +93,7 @@ impl Pending {
         ensures too_long { IfErr result (λ reason. (reason ≡ Reason.TooLong)
             ↔ (2 ^ 64 ≤ length (held_by_pending self.old) + length piece.now)) }
         ensures empty { piece.now ≡ [] → IsOk result }
+        ensures seen { most_seen_by_pending self.new ≡ most_seen_by_pending self.old }
     {
         if !self.fits(piece.len()) {
             return Err(Reason::TooLong);
@@ -130,8 +132,11 @@ impl Pending {
             → (more : List ℕ) → NoRedisReply limits (held_by_pending self.old ++ more)) }
         ensures reason { IfErr result (λ e. (reason : _) → e ≡ ReplyError.Refused reason
             → reason ≡ Reason.OutOfMemory) }
-        ensures due { IfErr result (λ e. (reason : _) → e ≡ ReplyError.Refused reason
-            → 1 < length (held_by_pending self.old)) }
+        ensures asks { IfErr result (λ e. (reason : _) → e ≡ ReplyError.Refused reason
+            → AsksForPending limits self.new (most_seen_by_pending self.old)) }
+        ensures further { most_seen_by_pending self.old ≤ most_seen_by_pending self.new }
+        ensures seen { IfOk result (λ whole. OnFalse whole
+            (length (held_by_pending self.old) ≤ most_seen_by_pending self.new)) }
     {
         while self.due > 0 {
             let room = limits.items - self.items.len() - self.due; // for the items of the next one
@@ -161,8 +166,10 @@ impl Pending {
         ensures unread { OnOk result (unread_by_pending self.new ≡ drop len (unread_by_pending self.old)) }
         ensures held { held_by_pending self.new ≡ held_by_pending self.old }
         ensures next { OnOk result ((limits : Limits) → IsPendingNext limits (unread_by_pending self.new) self.new.next) }
+        ensures passed { OnOk result (length self.old.passed + len ≤ most_seen_by_pending self.new) }
         ensures err { OnErr result
             ((limits : Limits) → IsPending limits self.old → IsPending limits self.new) }
+        ensures stays { OnErr result (self.new ≡ record self.old { items = self.new.items }) }
         ensures reason { IfErr result (λ reason. reason ≡ Reason.OutOfMemory) }
     {
         let of_its_own = redis_items_in(&item);
@@ -210,7 +217,12 @@ fn next_pending_item(
     requires next { IsPendingNext limits (concat pieces.now.held.segments) next.old }
     requires fits { length (concat pieces.now.held.segments) < 2 ^ 64 }
     ensures next { IsPendingNext limits (concat pieces.now.held.segments) next.new }
-    ensures found { FindsPendingItem limits room (concat pieces.now.held.segments) result }
+    ensures found { FindsPendingItem limits room (concat pieces.now.held.segments)
+        (most_seen_of_next next.old) result }
+    ensures further { most_seen_of_next next.old ≤ most_seen_of_next next.new }
+    ensures passed { IfOk result (λ found. IfSome found (λ read. most_seen_of_next next.old < read.1)) }
+    ensures seen { IfOk result (λ found. IfNone found
+        (length (concat pieces.now.held.segments) ≤ most_seen_of_next next.new)) }
 {
     let mut begun = match *next {
         Next::InLine(begun) => begun,
@@ -242,7 +254,11 @@ fn read_pending_line(
 ) -> Result<Option<LineHead>, ReplyError>
     requires { IsRedisLineReadTo (concat pieces.now.held.segments) begun.old }
     ensures read { IsRedisLineReadTo (concat pieces.now.held.segments) begun.new }
-    ensures head { FindsPendingHead limits room (concat pieces.now.held.segments) result begun.new.len }
+    ensures head { FindsPendingHead limits room (concat pieces.now.held.segments) (begun.old.len + 1)
+        result begun.new.len }
+    ensures further { begun.old.len ≤ begun.new.len }
+    ensures seen { IfOk result (λ head. IfNone head
+        (length (concat pieces.now.held.segments) ≤ begun.new.len + 1)) }
 {
     let (len, end) = end_of_pending_line(pieces, begun.len);
     if len > limits.line {
@@ -314,7 +330,6 @@ fn pending_text(pieces: &PackedBuf, alloc: Global, len: usize) -> Result<Item, R
     ensures item { IfOk result (λ item.
         IsRedisLineOf item (take len (concat pieces.now.held.segments))
         × (after_redis_line item ≡ []) × (redis_body item ≡ []) × (redis_items_in item ≡ 0)) }
-    ensures due { OnErr result (1 < length (concat pieces.now.held.segments)) }
     ensures reason { IfErr result (λ reason. reason ≡ Reason.OutOfMemory) }
 {
     let bytes = pieces.as_segmented().copy_range(alloc, 1..len)?;
@@ -332,9 +347,12 @@ fn pending_bulk(
     len: usize,
 ) -> Result<Option<(Item, usize)>, ReplyError>
     requires { start ≤ length (concat pieces.now.held.segments) }
-    ensures found { (limits : Limits) (room : ℕ)
+    ensures found { (limits : Limits) (room seen : ℕ) → seen ≤ start + len + 1
         → AwaitsPendingBody limits (concat pieces.now.held.segments) start len
-        → FindsPendingItem limits room (concat pieces.now.held.segments) result }
+        → FindsPendingItem limits room (concat pieces.now.held.segments) seen result }
+    ensures passed { IfOk result (λ found. IfSome found (λ read. start + len + 1 < read.1)) }
+    ensures seen { IfOk result (λ found. IfNone found
+        (length (concat pieces.now.held.segments) ≤ start + len + 1)) }
 {
     let mut cursor = Cursor::new(alloc, pieces.as_segmented());
     cursor.advance(start);
@@ -355,6 +373,7 @@ fn pass_pending_body<B: ContiguousBuf + Drop>(
     ensures len { IfOk result (λ whole. OnTrue whole (len ≤ length (unread cursor.old))) }
     ensures segments { cursor.new.segments ≡ cursor.old.segments }
     ensures waits { IfOk result (λ whole. OnFalse whole (HasNoRedisBody len (unread cursor.old))) }
+    ensures few { IfOk result (λ whole. OnFalse whole (length (unread cursor.old) ≤ len + 1)) }
     ensures begins { IfOk result (λ whole. OnFalse whole (BeginsRedisBody len (unread cursor.old))) }
     ensures malformed { IfErr result (λ _. (more : List ℕ) → HasNoRedisBody len (unread cursor.old ++ more)) }
     ensures err { IfErr result (λ e. e ≡ ReplyError.Malformed) }

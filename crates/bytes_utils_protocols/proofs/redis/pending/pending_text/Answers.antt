@@ -1,8 +1,6 @@
 use Rattle.std.proofs.Common.{◌≡◌, ◌≢◌, Some, ◌∙◌, sym, refl, ap}
-use Rattle.std.proofs.lemmas.Bool.{false≢true}
-use Rattle.std.proofs.lemmas.Result.{err_from_is_err_and}
 use Rattle.std.specs.List.{concat, slice_get, slice_range}
-use Rattle.bytes_utils_protocols.proofs.PendingReplies.{error_text, simple_text, text_some}
+use Rattle.bytes_utils_protocols.proofs.PendingReplies.{error_text, simple_text}
 use Rattle.bytes_utils_protocols.proofs.ReplyEnds.{option_is, option_is_not}
 use Rattle.bytes_utils_protocols.proofs.redis.pending.pending_text.Goals as goal
 
@@ -19,8 +17,3 @@ returns-clause-item c =
     let is : c.in_ok-bytes.bytes ≡ slice_range u 1 c.args.len = rw c.as_segmented.ensures at c.in_ok-bytes.ensures.value in
     let first : slice_get u 0 ≢ Some 43 = λ plus. option_is_not c.byte_at.result 43 (sym c.if-eq.ensures) (c.byte_at.ensures ∙ ap (λ held. slice_get (concat held.segments) 0) c.as_segmented-2.ensures ∙ plus) in
     (error_text u c.args.len c.requires.line c.in_ok-bytes.bytes is first, refl, refl, refl)
-
-pub returns-in_err-bytes-clause-due : goal.returns-in_err-bytes-clause-due
-returns-in_err-bytes-clause-due c =
-    let out = err_from_is_err_and c.from_residual.result c.from_residual.ensures.1 in
-    rw out.1 (text_some (concat c.args.pieces.now.held.segments) c.args.len c.requires.line c.requires.within (λ same. false≢true (c.in_err-bytes.ensures.none same)))

@@ -1,4 +1,4 @@
-use Rattle.std.proofs.Common.{arith, ◌≡◌, ◌≤◌, ◌++◌, ◌∙◌, List, ℕ, [], true, false, sym, subst}
+use Rattle.std.proofs.Common.{arith, ◌≡◌, ◌+◌, ◌≤◌, ◌++◌, ◌∙◌, List, ℕ, [], true, false, sym, subst}
 use Rattle.std.specs.List.{concat}
 use Rattle.std.proofs.lemmas.Result.{err_from_is_err_and}
 use Rattle.bytes_utils_protocols.specs.RedisLine.{RedisLineEndsAt, NoLineEnds}
@@ -6,6 +6,7 @@ use Rattle.bytes_utils_protocols.specs.declared.redis.pending.LineEnd.{LineEnd}
 use Rattle.bytes_utils_protocols.specs.declared.redis.pending.LineEnd.TheVariants.{Missing, Half, Here}
 use Rattle.bytes_utils_protocols.proofs.LineSteps.{read_no_return}
 use Rattle.bytes_utils_protocols.proofs.ReplyEnds.{awaits_feed, awaits_line, finds_head, half_after, not_checked, stays_none}
+use Rattle.bytes_utils_protocols.proofs.ReplyAsks.{asks_for_line}
 use Rattle.bytes_utils_protocols.proofs.redis.pending.read_pending_line.Goals.{In_ok-begun}
 use Rattle.bytes_utils_protocols.proofs.redis.pending.read_pending_line.Goals as goal
 
@@ -22,7 +23,8 @@ returns-in_err-begun-clause-head c =
       too_large = λ is. absurd (c.in_err-begun.ensures.too_large (sym out.2 ∙ is));
       memory = λ reason is. (
         c.in_err-begun.ensures.reason reason (sym out.2 ∙ is),
-        omega (arith, c.in_err-begun.ensures.due reason (sym out.2 ∙ is), c.end_of_pending_line-len.ensures.within.1),
+        asks_for_line u c.end_of_pending_line-len.result.0 c.end_of_pending_line-len.ensures.within.1 c.args.limits c.args.begun.now.len c.end_of_pending_line-len.result.1
+            c.end_of_pending_line-len.ensures.end c.end_of_pending_line-len.ensures.none (omega (arith, c.if-len-limits.false)) (c.in_err-begun.ensures.due reason (sym out.2 ∙ is)),
       );
     })
 
@@ -53,7 +55,7 @@ returns-in_err-check-in-Missing-clause-head c =
     let read = c.in_ok-begun.ensures.read.1 in
     let out = err_from_is_err_and c.from_residual-in_err-check-in-Missing.result c.from_residual-in_err-check-in-Missing.ensures.1 in
     let check = c.in_err-check-in-Missing.ensures in
-    rw out.1 (not_checked c.args.limits c.args.room (bytes line) (len line) read.0 (none line) c.in_ok-begun.field-0.line read.1 false
+    rw out.1 (not_checked c.args.limits c.args.room (bytes line) (len line) read.0 (none line) c.in_ok-begun.field-0.line read.1 (c.args.begun.now.len + 1) false
     tt out.0 (λ is. check.malformed (sym out.2 ∙ is)) (λ is. check.too_large (sym out.2 ∙ is)) (λ reason is. check.reason reason (sym out.2 ∙ is)))
 
 pub returns-in_err-check-in-Half-clause-head : goal.returns-in_err-check-in-Half-clause-head
@@ -63,7 +65,7 @@ returns-in_err-check-in-Half-clause-head c =
     let after = half_after (bytes line) (len line) read.0 (ends line Half c.in-Half.is) in
     let out = err_from_is_err_and c.from_residual-in_err-check-in-Half.result c.from_residual-in_err-check-in-Half.ensures.1 in
     let check = c.in_err-check-in-Half.ensures in
-    rw out.1 (not_checked c.args.limits c.args.room (bytes line) (len line) read.0 (none line) c.in_ok-begun.field-0.line read.1 true
+    rw out.1 (not_checked c.args.limits c.args.room (bytes line) (len line) read.0 (none line) c.in_ok-begun.field-0.line read.1 (c.args.begun.now.len + 1) true
     ([], after) out.0 (λ is. check.malformed (sym out.2 ∙ is)) (λ is. check.too_large (sym out.2 ∙ is))
     (λ reason is. check.reason reason (sym out.2 ∙ is)))
 
@@ -89,4 +91,4 @@ returns-in-Here-clause-head c =
     let read = c.in_ok-begun.ensures.read.1 in
     let check = c.check-in-Here.ensures in
     finds_head c.args.limits c.args.room (bytes line) (len line) read.0 (none line) c.in_ok-begun.field-0.line read.1 (short line)
-    (ends line Here c.in-Here.is) c.check-in-Here.result check.head check.lacks check.malformed check.too_large check.reason
+    (c.args.begun.now.len + 1) (ends line Here c.in-Here.is) c.check-in-Here.result check.head check.lacks check.malformed check.too_large check.reason

@@ -1,10 +1,11 @@
-use Rattle.std.proofs.Common.{[], ap, drop, length, length-append, ◌++◌, ◌-◌, ◌∙◌, sym, subst, arith, append-nil}
+use Rattle.std.proofs.Common.{[], ap, ◌++◌, ◌-◌, ◌∙◌, sym, subst, arith, append-nil}
 use Rattle.std.proofs.lemmas.Result.{err_from_is_err_and}
 use Rattle.bytes_utils_protocols.specs.Redis.{BeginsRedisReply, NoRedisItem, NoRedisReply}
-use Rattle.bytes_utils_protocols.specs.RedisPending.{held_by_pending, unread_by_pending}
-use Rattle.bytes_utils_protocols.proofs.RedisLemmas.{item_some, no_next, no_room}
+use Rattle.bytes_utils_protocols.specs.RedisPending.{AsksForPending, held_by_pending, most_seen_by_pending, most_seen_of_next, unread_by_pending}
+use Rattle.bytes_utils_protocols.proofs.RedisLemmas.{no_next, no_room}
 use Rattle.bytes_utils_protocols.proofs.ReplyBeginnings.{begins_reply}
 use Rattle.bytes_utils_protocols.proofs.PendingReplies.{one_kept}
+use Rattle.bytes_utils_protocols.proofs.ReplyAsks.{asks_for_kept, asks_in_pending}
 use Rattle.bytes_utils_protocols.proofs.redis.pending.Pending.read.Goals as goal
 
 pub returns-in_err-item-clause-malformed : goal.returns-in_err-item-clause-malformed
@@ -54,18 +55,36 @@ loop-self-preserved c =
       pending = one_kept c.args.limits (c.args.limits.items - c.len.result - p.due) p c.keep.new.self c.in-Some.item c.in-Some.len now.pending (omega (arith, c.loop-self-test.true))
           (omega (arith, now.pending.within c.requires.some, c.len.ensures)) found keep.items keep.due keep.unread keep.held (keep.next c.args.limits);
       same = keep.held ∙ now.same;
+      further = omega (arith, now.further, rw c.in-Some.is at c.in_ok-item.ensures.passed, keep.passed);
     }
 
-pub returns-in_err-item-clause-due : goal.returns-in_err-item-clause-due
-returns-in_err-item-clause-due c =
+pub returns-in_err-item-clause-asks : goal.returns-in_err-item-clause-asks
+returns-in_err-item-clause-asks c =
     let p = c.loop-self.self in
     let out = err_from_is_err_and c.from_residual.result c.from_residual.ensures.1 in
-    rw out.1 (λ reason is. omega (arith, (c.in_err-item.ensures.found.memory reason (sym out.2 ∙ is)).1, length-append p.passed (unread_by_pending p), ap length c.loop-self.invariant.same))
+    rw out.1 (λ reason is. asks_in_pending c.args.limits _ (most_seen_of_next p.next) _ (omega (arith, c.loop-self-test.true))
+    (c.in_err-item.ensures.found.memory reason (sym out.2 ∙ is)).1 c.loop-self.invariant.further)
 
-pub returns-in_err-keep-clause-due : goal.returns-in_err-keep-clause-due
-returns-in_err-keep-clause-due c =
+pub returns-in_err-item-clause-further : goal.returns-in_err-item-clause-further
+returns-in_err-item-clause-further c = omega (arith, c.loop-self.invariant.further, c.in_err-item.ensures.further)
+
+pub returns-in_default-clause-further : goal.returns-in_default-clause-further
+returns-in_default-clause-further c = omega (arith, c.loop-self.invariant.further, c.in_ok-item.ensures.further)
+
+pub returns-in_err-keep-clause-asks : goal.returns-in_err-keep-clause-asks
+returns-in_err-keep-clause-asks c =
     let p = c.loop-self.self in
     let out = err_from_is_err_and c.from_residual-in_err-keep.result c.from_residual-in_err-keep.ensures.1 in
     let found = rw c.in-Some.is at c.in_ok-item.ensures.found in
-    let some = item_some c.args.limits (unread_by_pending p) c.in-Some.item (drop c.in-Some.len (unread_by_pending p)) found.takes in
-    rw out.1 (λ reason is. omega (arith, some, length-append p.passed (unread_by_pending p), ap length c.loop-self.invariant.same))
+    let passed = rw c.in-Some.is at c.in_ok-item.ensures.passed in
+    rw out.1 (λ reason is. subst (λ q. AsksForPending c.args.limits q (most_seen_by_pending c.args.self.now)) (sym c.in_err-keep.ensures.stays)
+    (asks_in_pending c.args.limits _ (most_seen_of_next p.next) _ (omega (arith, c.loop-self-test.true))
+    (asks_for_kept c.args.limits (c.args.limits.items - c.len.result - p.due) (unread_by_pending p) c.in-Some.item c.in-Some.len (most_seen_of_next p.next) found passed)
+    c.loop-self.invariant.further))
+
+pub returns-in_err-keep-clause-further : goal.returns-in_err-keep-clause-further
+returns-in_err-keep-clause-further c =
+    omega (arith, c.loop-self.invariant.further, c.in_ok-item.ensures.further, ap most_seen_by_pending c.in_err-keep.ensures.stays)
+
+pub returns-clause-further : goal.returns-clause-further
+returns-clause-further c = c.loop-self.invariant.further
