@@ -1,5 +1,5 @@
 //! Bytes with one owner as a storage.
-ghost use Rattle.std.specs.Prelude.{◌≡◌, ◌≤◌, [], ◌++◌, length, take, drop, IsOk, IfOk, OnOk, OnErr};
+ghost use Rattle.std.specs.Prelude.{◌≡◌, ◌≤◌, [], ◌++◌, length, take, drop, IsOk, IfOk, IfErr, OnOk, OnErr};
 ghost use Rattle.bytes_utils_buf.specs.declared.refused.Reason.TheVariants.{OutOfMemory};
 
 use crate::string::{Storage, StorageMut};
@@ -88,6 +88,8 @@ impl StorageMut for BytesMut {
         ensures err { OnErr result (self.new.items ≡ self.old.items) }
         // It takes memory only for bytes that it has no room for.
         ensures room { length s.now ≤ self.old.spare → IsOk result }
+        ensures empty { s.now ≡ [] → IsOk result }
+        ensures reason { IfErr result (λ reason. reason ≡ OutOfMemory) }
     {
         match self.extend_from_slice(s) {
             Ok(()) => Ok(()),
