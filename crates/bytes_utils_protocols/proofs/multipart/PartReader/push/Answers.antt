@@ -11,4 +11,4 @@ pub returns-clause-pushed : goal.returns-clause-pushed
 returns-clause-pushed c =
     let s = c.self.inside.sections in
     let on = sym c.has_ended.ensures.value ∙ c.if-has_ended.false in
-    rw (← c.self.view_is) (is_pushed s c.push.new.self c.self.inside.limits c.args.piece c.push.result c.push.ensures (rw (← c.self.view_is) at on) c.self.invariant)
+    rw (← c.self.view_is) (is_pushed s c.push.new.self c.self.inside.limits c.args.piece c.push.result c.push.ensures (rw (← c.self.view_is) at on) c.self.invariant.0)

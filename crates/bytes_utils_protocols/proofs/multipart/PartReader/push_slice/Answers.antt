@@ -12,7 +12,7 @@ pub returns-in_err-push_slice-clause-too_long : goal.returns-in_err-push_slice-c
 returns-in_err-push_slice-clause-too_long c =
     let s = c.self.inside.sections in
     let over : IfErr c.from_residual.result (λ reason. (reason ≡ TooLong) ↔ (2 ^ 64 ≤ length s.waiting.held + length c.args.piece.now)) = search rules in
-    let waits = waits_in s.stage s.waiting.delimiter s.preamble (concat s.found.segments) s.waiting.held c.self.invariant in
+    let waits = waits_in s.stage s.waiting.delimiter s.preamble (concat s.found.segments) s.waiting.held c.self.invariant.0 in
     rw (← c.self.view_is) (s.waiting.held, waits, over)
 
 pub returns-in_ok-push_slice-clause-too_long : goal.returns-in_ok-push_slice-clause-too_long
