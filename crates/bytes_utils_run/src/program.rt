@@ -23,8 +23,8 @@ use std::io::{Read, Write};
 /// result. The input is read in at most 1,048,576 calls of `read`.
 ///
 /// Fails with `UnknownCommand` or `NotUtf8`; then nothing was written. Fails with `OutOfMemory` if
-/// memory is refused, never for an empty input; then nothing was written, or the first results, each
-/// of them whole, but not all. Fails with `Io` if a read, write or flush fails, or the input hasn't
+/// memory is refused, never for an empty input; then nothing was written, or some of the first
+/// results, each of them whole. Fails with `Io` if a read, write or flush fails, or the input hasn't
 /// ended after those calls; then some of the first bytes of the output, or all, may have been written.
 pub fn script<R: Read, W: Write>(alloc: Global, reader: &mut R, writer: &mut W) -> Result<(), Fault>
     ensures ok { OnOk result (RunPrintsAll (R.remaining reader.old) (R.remaining reader.new)

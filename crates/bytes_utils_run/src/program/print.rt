@@ -96,9 +96,9 @@ pub(super) fn print_all<E: Printable, W: Write>(writer: &mut W, entries: &[E]) -
 
 /// Prints the parts that a splitter gives, each as soon as it is split off. Returns `None` if all are
 /// printed, or the reason if a split is refused, one for which a split may be refused after the parts
-/// before it; then these are printed, and not all. Fails with `Io` if a write fails, never if no part
-/// is to come; then a beginning of what all parts print was written. Requires that some list of parts
-/// is to come, as of each splitter that `AnySplitter::new` makes.
+/// before it; then these are printed, and not all. Fails with `Io` if a write fails; then a beginning
+/// of what all parts print was written. It never fails if no part is to come. Requires that some list
+/// of parts is to come, as of each splitter that `AnySplitter::new` makes.
 pub fn print_parts<S: Storage, W: Write>(
     writer: &mut W,
     splitter: &mut AnySplitter<'_, S>,
