@@ -15,7 +15,7 @@ use Rattle.bytes_utils_codec.proofs.FramesLemmas.{TakesFrame-more, TakesFrame-sa
 use Rattle.bytes_utils_codec.proofs.SearchLemmas.{NoneBeginsInSearch-missed, first_of_all, frame_of_all, nowhere_left}
 use Rattle.bytes_utils_protocols.specs.Multipart.{AreMultipartFields, HasMultipartParameter, IsMultipartFieldLine, IsMultipartHead, IsMultipartPadding, NoMultipartDisposition, multipart_dashes, multipart_file_name, multipart_head_end, multipart_name}
 use Rattle.bytes_utils_protocols.specs.MultipartWaiting.{IsAheadOfNeedle, IsSearchWithin, MultipartWaiting}
-use Rattle.bytes_utils_protocols.specs.MultipartStream.{PartStreaming, DropsPreamble, PassesPreamble, AfterPreamble, TakesPartHead, NoPartFieldsCome, NoPartHeadComes, HasPartHeadNotUtf8, AwaitsPartHead, HasPartHeadEnd, HasPartPiece, IsWithinPartRoom, GivesPartPiece, GivesPartEnd, GivesPartEvent, IsPartStreamCall, IsPartAwaited, IsAtPartHead, IsPartStreamFault, IsPartStreamStep, IsPartStreamReturn, IsPartHeadFault, PartStreamAsks, PassesPartRoom, has_part_stream_ended, part_stream_appended, part_streaming}
+use Rattle.bytes_utils_protocols.specs.MultipartStream.{PartStreaming, DropsPreamble, PassesPreamble, AfterPreamble, TakesPartHead, NoPartFieldsCome, NoPartHeadComes, HasPartHeadNotUtf8, AwaitsPartHead, HasLongPartHead, HasPartHeadEnd, HasPartPiece, IsWithinPartRoom, GivesPartPiece, GivesPartEnd, GivesPartEvent, IsPartStreamCall, IsPartAwaited, IsAtPartHead, IsPartStreamFault, IsPartStreamStep, IsPartStreamReturn, IsPartHeadFault, PartStreamAsks, PassesPartRoom, has_part_stream_ended, part_stream_appended, part_streaming}
 use Rattle.bytes_utils_protocols.specs.declared.multipart.event.PartEvent.{PartEvent}
 use Rattle.bytes_utils_protocols.specs.declared.multipart.event.PartEvent.TheVariants.{Head, Body, End}
 use Rattle.bytes_utils_protocols.specs.declared.multipart.head.PartHead.{PartHead}
@@ -225,11 +225,25 @@ module _ (d held : List ℕ) (some : 0 < length d) where
         come_ends come,
       )
 
-      pub large_late : limits.head < len + length multipart_head_end → IsPartHeadFault TooLarge d limits held × (¬ AwaitsPartHead d limits held)
-      large_late over =
+      -- no delimiter has come that begins before that end is over
+      none_inside : (come : Bool) → ahead.has_come ≡ come → (come ≡ true → len + length multipart_head_end ≤ ahead.len) → (k : ℕ) → OccursAt d held k → len + length multipart_head_end ≤ k
+      none_inside true come early k here =
+          let first = (is.here come).first.none_before k here in
+          omega (arith, early refl, first, length-take-le ahead.len held is.within)
+      none_inside false lacks early k here = absurd (is.lacks lacks (k, here))
+
+      pub large_late : (ahead.has_come ≡ true → len + length multipart_head_end ≤ ahead.len) → limits.head < len + length multipart_head_end → IsPartHeadFault TooLarge d limits held × (¬ AwaitsPartHead d limits held)
+      large_late early over =
           let rest = drop (len + length multipart_head_end) held in
-          let none = no_head_within limits (omega (arith, within, over)) (λ k here. let first = not_before k here in omega (arith, first, over)) in (
-            (none, inr (take len held, rest, cut, omega (arith, over, size))),
+          let none = no_head_within limits (omega (arith, within, over)) (λ k here. let first = not_before k here in omega (arith, first, over)) in
+          let long : HasLongPartHead d limits held = record {
+            front = take len held;
+            rest = rest;
+            cut = cut;
+            apart = λ k here. let after = none_inside ahead.has_come refl early k here in omega (arith, after, size);
+            over = omega (arith, over, size);
+          } in (
+            (none, inr long),
             λ awaits. let small = awaits.small (take len held) rest cut in omega (arith, small, over, size),
           )
 

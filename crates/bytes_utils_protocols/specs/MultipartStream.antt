@@ -1,7 +1,7 @@
 -- Parts that are given as they come: heads, pieces of bodies, and their ends.
 use Rattle.std.specs.Prelude.{◌≡◌, ◌≢◌, ◌⊎◌, ⊤, ℕ, ◌+◌, ◌-◌, ◌^◌, ◌<◌, ◌≤◌, max, min, Bool, true, false, List, [], ◌∷◌, ◌++◌, length, take, drop, Option, None, Some, IfSome, Result, Ok, Err, option_map, IsUtf8, if◌then◌else◌}
 use Rattle.std.specs.Option.{option_to_list}
-use Rattle.bytes_utils.specs.Occurrence.{Occurs}
+use Rattle.bytes_utils.specs.Occurrence.{Occurs, OccursAt}
 use Rattle.bytes_utils_codec.specs.Frames.{TakesFrame}
 use Rattle.bytes_utils_codec.specs.Search.{NoneBeginsInSearch}
 use Rattle.bytes_utils_codec.specs.StreamRuns.{StreamEvent, IsRunOver, AreFirstOfRun, pushed_in_stream, given_in_stream}
@@ -113,14 +113,17 @@ pub record LacksPartHeadEnd (delimiter : List ℕ) (limits : Limits) (held : Lis
   pub no_end : ¬ Occurs multipart_head_end held
   pub many : max limits.head (length multipart_dashes) ≤ length held
 
--- the end of a head has come, which is over the limit with it
-abbrev pub HasLongPartHead : Limits → List ℕ → Type 0
-HasLongPartHead limits held =
-    (front : List ℕ) × (rest : List ℕ) × TakesFrame multipart_head_end held front rest × (limits.head < length front + length multipart_head_end)
+-- The end of a head has come, which is over the limit with it. No delimiter has come that begins before that end is over.
+pub record HasLongPartHead (delimiter : List ℕ) (limits : Limits) (held : List ℕ) : Type 0 where
+  pub front : List ℕ
+  pub rest : List ℕ
+  pub cut : TakesFrame multipart_head_end held front rest
+  pub apart : (place : ℕ) → OccursAt delimiter held place → length front + length multipart_head_end ≤ place
+  pub over : limits.head < length front + length multipart_head_end
 
 -- a head is over the limit, whether its end has come or not
 abbrev pub IsPartHeadOverLimit : List ℕ → Limits → List ℕ → Type 0
-IsPartHeadOverLimit delimiter limits held = LacksPartHeadEnd delimiter limits held ⊎ HasLongPartHead limits held
+IsPartHeadOverLimit delimiter limits held = LacksPartHeadEnd delimiter limits held ⊎ HasLongPartHead delimiter limits held
 
 -- what is found of a head: `len` bytes are before its end
 pub record HasPartHeadEnd (delimiter : List ℕ) (limits : Limits) (held : List ℕ) (len : ℕ) : Type 0 where

@@ -127,14 +127,14 @@ pub(super) fn found_head(
         return awaited_head(next, all, limits);
     }
     let whole = end.len.saturating_add(HEAD_END.len());
+    if next.has_come && next.len < whole {
+        return Err(PartError::Malformed);
+    }
     if whole > limits.head {
         return Err(PartError::TooLarge);
     }
     if whole <= next.len {
         return Ok(Some(end.len));
-    }
-    if next.has_come {
-        return Err(PartError::Malformed);
     }
     Ok(None)
 }

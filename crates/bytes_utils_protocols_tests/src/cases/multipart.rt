@@ -120,6 +120,10 @@ end: not ended
 --b\r\nA: b\r\n\r\n--b => always Malformed
 --
 
+# one whose empty line comes after the next delimiter, and after the limit
+--b\r\nA: b\r\n--b => always Malformed
+\r\nA: <92 1>\r\n\r\n
+
 # a folded line of another field
 --b\r\nX: y\r\n z\r\nContent-Disposition: form-data; name=a\r\n\r\n\r\n--b =>
     "X: y\r\n z\r\nContent-Disposition: form-data; name=a" Some("a") None b""
