@@ -78,8 +78,9 @@ HasNetstringDigits bytes = (has : HasFrameWithin 20 (colon ∷ []) bytes) × (1 
 abbrev pub HasNetstring : Decoding Netstrings → Type 0
 HasNetstring s = (text : List ℕ) × (new : Decoding Netstrings) × takes_netstring s text new × (0 < length text)
 
--- `Malformed` only if the bytes begin with no netstring, whatever comes after them; memory is refused only for the bytes before the colon, 2 to 20, or for
--- a text that has come whole and isn't empty; `TooLong` only if the length is over the limit, or more than 20 bytes are before the first colon, whatever comes after them
+-- `Malformed` only if the bytes begin with no netstring, whatever comes after them; memory is refused only if 2 to 20 bytes are before the first colon,
+-- or for a text that has come with its comma and isn't empty; `TooLong` only if the length is over the limit, or more than 20 bytes are before the
+-- first colon, whatever comes after them
 abbrev pub fails_netstring : Decoding Netstrings → NetstringError → Type 0
 fails_netstring s (Refused TooLong) = CursorHasNoFrameWithin 20 (colon ∷ []) s.held ⊎ IsNetstringOverLimit s.decoder.max_length s.held
 fails_netstring s (Refused OutOfMemory) = HasNetstringDigits s.held ⊎ HasNetstring s

@@ -86,7 +86,7 @@ impl Netstrings {
         let Some(len) = number(&digits) else {
             return Err(NetstringError::Malformed);
         };
-        drop(digits);
+        drop(digits); // borrowed from `held`
         if len > self.max_length {
             return Err(NetstringError::Refused(Reason::TooLong));
         }
@@ -101,7 +101,7 @@ impl Netstrings {
             Err(_) => return Err(NetstringError::Malformed),
             Ok(Some(())) => {}
         }
-        // The text is taken once, when its comma has come too.
+        // The text is taken only after its comma.
         let text = held.as_segmented().copy_range(alloc, start..end)?;
         let passed = cursor.at();
         held.advance(passed);
