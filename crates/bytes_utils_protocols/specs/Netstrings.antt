@@ -70,9 +70,18 @@ pub record IsNetstringOverLimit (limit : ℕ) (bytes : List ℕ) : Type 0 where
   pub writes : WriteNumber digits len
   pub over : limit < len
 
--- `Malformed` only if the bytes begin with no netstring, whatever comes after them; memory is refused only if some bytes, at most 20, and a colon have
--- come; `TooLong` only if the length is over the limit, or more than 20 bytes are before the first colon, whatever comes after them
+-- 2 to 20 bytes have come, and after them the first colon
+abbrev pub HasNetstringDigits : List ℕ → Type 0
+HasNetstringDigits bytes = (has : HasFrameWithin 20 (colon ∷ []) bytes) × (1 < length has.0.frame)
+
+-- a text that can be taken has come, and isn't empty
+abbrev pub HasNetstring : Decoding Netstrings → Type 0
+HasNetstring s = (text : List ℕ) × (new : Decoding Netstrings) × takes_netstring s text new × (0 < length text)
+
+-- `Malformed` only if the bytes begin with no netstring, whatever comes after them; memory is refused only if 2 to 20 bytes are before the first colon,
+-- or for a text that has come with its comma and isn't empty; `TooLong` only if the length is over the limit, or more than 20 bytes are before the
+-- first colon, whatever comes after them
 abbrev pub fails_netstring : Decoding Netstrings → NetstringError → Type 0
 fails_netstring s (Refused TooLong) = CursorHasNoFrameWithin 20 (colon ∷ []) s.held ⊎ IsNetstringOverLimit s.decoder.max_length s.held
-fails_netstring s (Refused OutOfMemory) = HasFrameWithin 20 (colon ∷ []) s.held
+fails_netstring s (Refused OutOfMemory) = HasNetstringDigits s.held ⊎ HasNetstring s
 fails_netstring s Malformed = (more : List ℕ) → NoNetstring (s.held ++ more)

@@ -21,8 +21,9 @@ use std::fmt;
 /// Why there is no text.
 #[derive(Clone, Copy, Debug, Eq, PartialEq)]
 pub enum NetstringError {
-    /// Memory was refused, which is asked for only after 1 to 20 bytes and a colon have come; the text
-    /// is longer than the limit; or the first 21 bytes have no colon.
+    /// Memory was refused, which is asked for only if 2 to 20 bytes are before a colon, or for a text
+    /// that has come with its comma and isn't empty; the text is longer than the limit; or the first
+    /// 21 bytes have no colon.
     Refused(Reason),
     /// What came is no netstring, whatever comes after it.
     Malformed,
@@ -79,27 +80,29 @@ impl Netstrings {
             × (decoding self held.new ≡ decoding self held.old)) }
     {
         let mut cursor = Cursor::new(alloc, held.as_segmented());
-        let Some(digits) = cursor.take_until_within(b":", 20)? else {
+        let Some(digits) = cursor.read_until_within(b":", 20)? else {
             return Ok(None);
         };
         let Some(len) = number(&digits) else {
             return Err(NetstringError::Malformed);
         };
+        drop(digits); // borrowed from `held`
         if len > self.max_length {
             return Err(NetstringError::Refused(Reason::TooLong));
         }
-        // The text is taken once, when its comma has come too.
         if cursor.remaining() <= len {
             return Ok(None);
         }
-        let Some(text) = cursor.take(len)? else {
-            return Ok(None);
-        };
+        let start = cursor.at();
+        cursor.advance(len);
+        let end = cursor.at();
         match cursor.tag(b",") {
             Ok(None) => return Ok(None),
             Err(_) => return Err(NetstringError::Malformed),
             Ok(Some(())) => {}
         }
+        // The text is taken only after its comma.
+        let text = held.as_segmented().copy_range(alloc, start..end)?;
         let passed = cursor.at();
         held.advance(passed);
         Ok(Some(text))
