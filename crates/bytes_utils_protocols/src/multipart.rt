@@ -155,13 +155,13 @@ impl PartReader {
     }
 
     /// Returns the next part, or `None` while some of it or of the delimiter after it is to come,
-    /// and after the close delimiter; then no more bytes wait than the limits and a delimiter have.
-    /// Fails with `Malformed` if the held bytes begin with no part whose head is header fields,
-    /// whatever comes after them, with `TooLarge` if they begin with none within the limits, with
-    /// `NotUtf8` if the head isn't UTF-8, and with `Refused` if memory is refused; then nothing has
-    /// changed. Each but `TooLarge` comes only after the delimiter at the end of the part, and only if
-    /// what is before the first delimiter is within the limits. Memory is asked for only then, and only
-    /// if the head has an end, and head and body are within the limits.
+    /// and after the close delimiter. At `None` no more bytes wait than the limits and a delimiter
+    /// have. Fails with `Malformed` only if the held bytes begin with no part whose head is header
+    /// fields, whatever comes after them, with `TooLarge` only if they begin with none within the
+    /// limits, with `NotUtf8` if the head isn't UTF-8, and with `Refused` if memory is refused; then
+    /// nothing has changed. Each but `TooLarge` comes only after the delimiter at the end of the
+    /// part, and only if what is before the first delimiter is within the limits. Memory is asked for
+    /// only then, and only if the head has an end, and head and body are within the limits.
     pub fn next_part(&mut self) -> Result<Option<Part>, PartError>
         ensures part { IfOk result (λ next. IfSome next (λ part. TakesMultipart self.old.delimiter
             self.old.limits self.old.held (bytes_of_multipart part) self.new.held)) }

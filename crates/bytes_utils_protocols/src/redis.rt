@@ -111,9 +111,9 @@ impl ReplyReader {
 
     /// Returns the next reply, as its items in order, or `None` while the held bytes are only a
     /// beginning of one within the limits. A bulk item in one piece of more than 512 bytes is
-    /// shared. Fails with `Malformed` if they begin with no reply, whatever comes after them, with
-    /// `TooLarge` if they begin with none within the limits, and with `Refused` if memory is
-    /// refused; then nothing has changed. Memory is asked for only to look at a line of an item that
+    /// shared. Fails with `Malformed` only if they begin with no reply, whatever comes after them,
+    /// with `TooLarge` only if they begin with none within the limits, and with `Refused` if memory
+    /// is refused; then nothing has changed. Memory is asked for only to look at a line of an item that
     /// is due, of two bytes or more and within its limit, or to keep such an item once it is whole,
     /// and only if bytes of that line or item have come since the last call that returned `None`.
     pub fn next_reply(&mut self) -> Result<Option<Vec<Item>>, ReplyError>
