@@ -1,7 +1,7 @@
 -- The data of an event while its lines are read.
 use Rattle.std.specs.Prelude.{ℕ, List, Option, None, Some}
-use Rattle.bytes_utils_protocols.specs.declared.events.Data.{Data}
-use Rattle.bytes_utils_protocols.specs.declared.events.Data.TheVariants.{One, More as Several}
+use Rattle.bytes_utils_protocols.specs.declared.events.«data».Data.{Data}
+use Rattle.bytes_utils_protocols.specs.declared.events.«data».Data.TheVariants.{One, More as Several}
 
 -- the text of some lines of data
 abbrev pub event_data_text : Data → List ℕ
