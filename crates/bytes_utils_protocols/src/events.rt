@@ -2,7 +2,6 @@
 ghost use Rattle.std.specs.Prelude.{◌≡◌, ◌≢◌, ◌+◌, ◌^◌, ◌<◌, ◌≤◌, ◌⊎◌, ◌↔◌, [], length, IfOk, IfErr, IfSome, IfNone, IsOk, IsSomeAnd, IsUtf8, None, OnOk, OnErr, Some};
 ghost use Rattle.bytes_utils_codec.specs.Pushing.{IsPush};
 ghost use Rattle.bytes_utils_codec.specs.UniversalReading.{AwaitsUniversal, fails_universal};
-ghost use Rattle.bytes_utils_protocols.specs.EventData.{event_data_text};
 ghost use Rattle.bytes_utils_protocols.specs.Events.{AsksForEventData, AsksForEventEnd, AsksForEventField, AsksForEventLine, DoesEventLine, EndsEvent, EventRunLaw, GivesEvent, IsEndOfEventLine, IsEventTooLarge, KeepsEvents, LargeEventLaw, LosesNoEvent, NoEventLaw, PassesEventFault, RefusesEventLine, SameEventLaw, TakesEventFault, TakesNextEventLine, WaitsForEventLine, WaitsWithEventTooLarge, after_event_field, event_field_name, event_field_value, event_text_len, events_left_to_read, no_event_bytes_held, pushed_to_events, with_event_line};
 
 mod data;
@@ -11,7 +10,7 @@ mod line;
 use bytes::Bytes;
 use bytes_utils::{Reason, Refused, Str};
 use bytes_utils_codec::decode::{Framed, LineFault, UniversalLines};
-use data::{Data, add_line, has_room_in_event};
+use data::{Data, add_line, has_room_in_event, take_event_data};
 use line::{end_of_event_line, event_content, event_field_of, event_name_of, set_event_retry};
 use std::alloc::Global;
 use std::error::Error;
@@ -326,17 +325,17 @@ impl EventReader {
             (λ text. AsksForEventEnd text self.old.buffers.id)) }
         ensures reason { IfErr result (λ reason. reason ≡ Reason.OutOfMemory) }
     {
-        let Some(data) = self.text.take() else {
+        let Some(data) = take_event_data(self.alloc, &mut self.text)? else {
             self.name = None;
             return Ok(None);
         };
-        match event_data_and_id(self.alloc, data, &self.id) {
-            Ok((data, id)) => {
+        match same_event_id(&self.id) {
+            Ok(id) => {
                 let name = self.name.take();
                 Ok(Some(Event { name, data, id }))
             }
-            Err(Refused { reason, back }) => {
-                self.text = Some(back);
+            Err(reason) => {
+                self.text = Some(Data::One(data));
                 Err(reason)
             }
         }
@@ -413,37 +412,6 @@ pub fn event_laws()
     ensures none { NoEventLaw }
     ensures large { LargeEventLaw }
 {}
-
-/// The data as one text, and the identifier once more. If either is refused, the data comes back.
-fn event_data_and_id(
-    alloc: Global,
-    so_far: Data,
-    id: &Option<Str>,
-) -> Result<(Str, Option<Str>), Refused<Data>>
-    ensures text { IfOk result (λ both. both.0 ≡ event_data_text so_far) }
-    ensures id { IfOk result (λ both. both.1 ≡ id.now) }
-    ensures back { IfErr result (λ e. event_data_text e.back ≡ event_data_text so_far) }
-    ensures asks { OnErr result (AsksForEventEnd (event_data_text so_far) id.now) }
-    ensures reason { IfErr result (λ e. e.reason ≡ Reason.OutOfMemory) }
-{
-    let id = match same_event_id(id) {
-        Ok(id) => id,
-        Err(reason) => return Err(Refused {
-            reason,
-            back: so_far,
-        }),
-    };
-    match so_far {
-        Data::One(text) => Ok((text, id)),
-        Data::More(lines) => match lines.into_text(alloc) {
-            Ok(text) => Ok((text, id)),
-            Err(Refused { reason, back }) => Err(Refused {
-                reason,
-                back: Data::More(back),
-            }),
-        },
-    }
-}
 
 /// The same text once more, if there is one.
 fn same_event_id(text: &Option<Str>) -> Result<Option<Str>, Reason>

@@ -1,5 +1,5 @@
 //! Lines of data, joined.
-ghost use Rattle.std.specs.Prelude.{◌≡◌, ◌≤◌, ◌↔◌, ◌++◌, ◌∷◌, length, string_bytes, IfOk, IfErr, IsTrue, OnOk, OnErr, Some};
+ghost use Rattle.std.specs.Prelude.{◌≡◌, ◌≤◌, ◌↔◌, ◌++◌, ◌∷◌, length, string_bytes, IfOk, IfErr, IsSomeAnd, IsTrue, None, OnOk, OnErr, Some};
 ghost use Rattle.std.specs.List.{Contains};
 ghost use Rattle.bytes_utils.specs.Lines.{line_feed};
 ghost use Rattle.bytes_utils_protocols.specs.EventData.{event_data_if_any};
@@ -10,9 +10,10 @@ use bytes_utils::{Reason, Refused, Str};
 use std::alloc::Global;
 use std::marker::Model;
 
-/// Lines of data, joined. One line shares its bytes.
+/// Lines of data, joined.
 #[derive(Drop)]
 pub(super) enum Data {
+    /// One line, which shares its bytes, or the text of more lines once it was taken.
     One(Str),
     More(JoinedLines),
 }
@@ -61,22 +62,6 @@ impl JoinedLines {
     {
         self.text.len()
     }
-
-    /// Makes one text of the lines. If memory is refused, they come back.
-    pub(super) fn into_text(self, alloc: Global) -> Result<Str, Refused<JoinedLines>>
-        ensures ok { IfOk result (λ text. text ≡ self) }
-        ensures back { IfErr result (λ e. e.back ≡ self) }
-        ensures asks { OnErr result (Contains self line_feed) }
-        ensures reason { IfErr result (λ e. e.reason ≡ Reason.OutOfMemory) }
-    {
-        match Str::from_string(alloc, self.text) {
-            Ok(text) => Ok(text),
-            Err(Refused { reason, back }) => Err(Refused {
-                reason,
-                back: JoinedLines { text: back },
-            }),
-        }
-    }
 }
 
 /// Whether the data may have one more line.
@@ -112,6 +97,31 @@ pub(super) fn add_line(
     };
     *so_far = Some(more);
     Ok(())
+}
+
+/// Takes the data as one text, if there is any. If memory is refused, it stays.
+pub(super) fn take_event_data(
+    alloc: Global,
+    so_far: &mut Option<Data>,
+) -> Result<Option<Str>, Reason>
+    ensures ok { IfOk result (λ text. text ≡ event_data_if_any so_far.old) }
+    ensures after { OnOk result (so_far.new ≡ None) }
+    ensures err { OnErr result (event_data_if_any so_far.new ≡ event_data_if_any so_far.old) }
+    ensures asks { OnErr result
+        (IsSomeAnd (event_data_if_any so_far.old) (λ text. Contains text line_feed)) }
+    ensures reason { IfErr result (λ reason. reason ≡ Reason.OutOfMemory) }
+{
+    match so_far.take() {
+        Some(Data::More(lines)) => match Str::from_string(alloc, lines.text) {
+            Ok(text) => Ok(Some(text)),
+            Err(Refused { reason, back }) => {
+                *so_far = Some(Data::More(JoinedLines { text: back }));
+                Err(reason)
+            }
+        },
+        Some(Data::One(text)) => Ok(Some(text)),
+        None => Ok(None),
+    }
 }
 
 /// Appends a line feed and a line. Fails with `OutOfMemory`; then nothing has changed.
