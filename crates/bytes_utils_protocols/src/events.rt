@@ -1,24 +1,21 @@
 //! Server-sent events, of a stream that comes in pieces.
-ghost use Rattle.std.specs.Prelude.{◌≡◌, ◌≢◌, ◌+◌, ◌^◌, ◌<◌, ◌≤◌, ◌⊎◌, ◌↔◌, [], ◌++◌, ◌∷◌, true, false, length, string_bytes, IfOk, IfErr, IfSome, IfNone, IsOk, IsSomeAnd, IsTrue, IsUtf8, None, OnOk, OnErr, Some};
-ghost use Rattle.std.specs.List.{Contains};
-ghost use Rattle.std.specs.Option.{option_or};
-ghost use Rattle.bytes_utils.specs.Lines.{line_feed};
+ghost use Rattle.std.specs.Prelude.{◌≡◌, ◌≢◌, ◌+◌, ◌^◌, ◌<◌, ◌≤◌, ◌⊎◌, ◌↔◌, [], length, IfOk, IfErr, IfSome, IfNone, IsOk, IsSomeAnd, IsUtf8, None, OnOk, OnErr, Some};
 ghost use Rattle.bytes_utils_codec.specs.Pushing.{IsPush};
 ghost use Rattle.bytes_utils_codec.specs.UniversalReading.{AwaitsUniversal, fails_universal};
-ghost use Rattle.bytes_utils_protocols.specs.EventData.{event_data_if_any, event_data_text};
-ghost use Rattle.bytes_utils_protocols.specs.Events.{AsksForEventData, AsksForEventEnd, AsksForEventField, AsksForEventLine, DoesEventLine, EndsEvent, EventRunLaw, GivesEvent, IsEndOfEventLine, IsEventTooLarge, KeepsEvents, LargeEventLaw, LosesNoEvent, NoEventLaw, PassesEventFault, RefusesEventLine, SameEventLaw, TakesEventFault, TakesNextEventLine, WaitsForEventLine, WaitsWithEventTooLarge, after_event_field, event_content, event_field_name, event_field_value, event_name_of, event_number_of, event_text_len, event_value_of, events_left_to_read, no_event_bytes_held, pushed_to_events, with_event_line};
+ghost use Rattle.bytes_utils_protocols.specs.Events.{AsksForEventData, AsksForEventEnd, AsksForEventField, AsksForEventLine, DoesEventLine, EndsEvent, EventRunLaw, GivesEvent, IsEndOfEventLine, IsEventTooLarge, KeepsEvents, LargeEventLaw, LosesNoEvent, NoEventLaw, PassesEventFault, RefusesEventLine, SameEventLaw, TakesEventFault, TakesNextEventLine, WaitsForEventLine, WaitsWithEventTooLarge, after_event_field, event_field_name, event_field_value, event_text_len, events_left_to_read, no_event_bytes_held, pushed_to_events, with_event_line};
 
-use crate::number::number;
+mod data;
+mod line;
+
 use bytes::Bytes;
 use bytes_utils::{Reason, Refused, Str};
 use bytes_utils_codec::decode::{Framed, LineFault, UniversalLines};
+use data::{Data, add_line, has_room_in_event, take_event_data};
+use line::{end_of_event_line, event_content, event_field_of, event_name_of, set_event_retry};
 use std::alloc::Global;
 use std::error::Error;
 use std::fmt;
 use std::marker::Model;
-
-/// What may be at the start of a stream, and is no part of its first line.
-const BYTE_ORDER_MARK: &str = "\u{feff}";
 
 /// An event.
 #[derive(Debug, Drop)]
@@ -94,75 +91,6 @@ impl fmt::Display for EventError {
 }
 
 impl Error for EventError {}
-
-/// Lines of data, joined. One line shares its bytes.
-#[derive(Drop)]
-enum Data {
-    One(Str),
-    More(JoinedLines),
-}
-
-/// Two lines of data or more, joined with line feeds.
-#[derive(Drop)]
-struct JoinedLines {
-    text: String,
-}
-
-impl Model for JoinedLines {
-    ghost use Rattle.std.specs.Prelude.{ℕ, List, string_bytes};
-    ghost use Rattle.std.specs.List.{Contains};
-    ghost use Rattle.bytes_utils.specs.Lines.{line_feed};
-
-    ghost Value = { List ℕ };
-
-    ghost view = { λ lines. string_bytes lines.text };
-
-    ghost invariant = { λ lines. Contains (string_bytes lines.text) line_feed };
-}
-
-impl JoinedLines {
-    /// Joins two lines.
-    fn new(alloc: Global, first: &str, second: &str) -> Result<JoinedLines, Reason>
-        ensures ok { IfOk result (λ lines. lines ≡ first.now ++ line_feed ∷ second.now) }
-        ensures reason { IfErr result (λ reason. reason ≡ Reason.OutOfMemory) }
-    {
-        let mut text = String::from_str(alloc, first)?;
-        push_event_line(&mut text, second)?;
-        Ok(JoinedLines { text })
-    }
-
-    /// Adds a line. Fails with `OutOfMemory`; then nothing has changed.
-    fn push(&mut self, line: &str) -> Result<(), Reason>
-        ensures ok { OnOk result (self.new ≡ self.old ++ line_feed ∷ line.now) }
-        ensures err { OnErr result (self.new ≡ self.old) }
-        ensures reason { IfErr result (λ reason. reason ≡ Reason.OutOfMemory) }
-    {
-        push_event_line(&mut self.text, line)
-    }
-
-    /// Returns the number of bytes.
-    fn len(&self) -> usize
-        ensures { result ≡ length self.now }
-    {
-        self.text.len()
-    }
-
-    /// Makes one text of the lines. If memory is refused, they come back.
-    fn into_text(self, alloc: Global) -> Result<Str, Refused<JoinedLines>>
-        ensures ok { IfOk result (λ text. text ≡ self) }
-        ensures back { IfErr result (λ e. e.back ≡ self) }
-        ensures asks { OnErr result (Contains self line_feed) }
-        ensures reason { IfErr result (λ e. e.reason ≡ Reason.OutOfMemory) }
-    {
-        match Str::from_string(alloc, self.text) {
-            Ok(text) => Ok(text),
-            Err(Refused { reason, back }) => Err(Refused {
-                reason,
-                back: JoinedLines { text: back },
-            }),
-        }
-    }
-}
 
 /// A stream that comes in pieces, and the events in it.
 ///
@@ -397,17 +325,17 @@ impl EventReader {
             (λ text. AsksForEventEnd text self.old.buffers.id)) }
         ensures reason { IfErr result (λ reason. reason ≡ Reason.OutOfMemory) }
     {
-        let Some(data) = self.text.take() else {
+        let Some(data) = take_event_data(self.alloc, &mut self.text)? else {
             self.name = None;
             return Ok(None);
         };
-        match event_data_and_id(self.alloc, data, &self.id) {
-            Ok((data, id)) => {
+        match same_event_id(&self.id) {
+            Ok(id) => {
                 let name = self.name.take();
                 Ok(Some(Event { name, data, id }))
             }
-            Err(Refused { reason, back }) => {
-                self.text = Some(back);
+            Err(reason) => {
+                self.text = Some(Data::One(data));
                 Err(reason)
             }
         }
@@ -485,67 +413,6 @@ pub fn event_laws()
     ensures large { LargeEventLaw }
 {}
 
-/// Whether the data may have one more line.
-fn has_room_in_event(so_far: &Option<Data>, line: &str, limit: usize) -> bool
-    ensures { IsTrue result ↔ (length (with_event_line (event_data_if_any so_far.now) line.now) ≤ limit) }
-{
-    let len = match so_far {
-        Some(Data::One(text)) => text.len(),
-        Some(Data::More(lines)) => lines.len(),
-        None => return line.len() <= limit,
-    };
-    len < limit && line.len() < limit - len
-}
-
-/// Adds `value` to the data, as one more line: it is the end of `line`.
-fn add_line(alloc: Global, so_far: &mut Option<Data>, line: &Str, value: &str) -> Result<(), Reason>
-    requires { IsEndOfEventLine line.now value.now }
-    ensures ok { OnOk result
-        (event_data_if_any so_far.new ≡ Some (with_event_line (event_data_if_any so_far.old) value.now)) }
-    ensures err { OnErr result (event_data_if_any so_far.new ≡ event_data_if_any so_far.old) }
-    ensures asks { OnErr result (AsksForEventData (event_data_if_any so_far.old) value.now) }
-    ensures reason { IfErr result (λ reason. reason ≡ Reason.OutOfMemory) }
-{
-    let more = match so_far {
-        Some(Data::More(lines)) => return lines.push(value),
-        Some(Data::One(first)) => Data::More(JoinedLines::new(alloc, first.as_str(), value)?),
-        None => Data::One(end_of_event_line(line, value)?),
-    };
-    *so_far = Some(more);
-    Ok(())
-}
-
-/// The data as one text, and the identifier once more. If either is refused, the data comes back.
-fn event_data_and_id(
-    alloc: Global,
-    so_far: Data,
-    id: &Option<Str>,
-) -> Result<(Str, Option<Str>), Refused<Data>>
-    ensures text { IfOk result (λ both. both.0 ≡ event_data_text so_far) }
-    ensures id { IfOk result (λ both. both.1 ≡ id.now) }
-    ensures back { IfErr result (λ e. event_data_text e.back ≡ event_data_text so_far) }
-    ensures asks { OnErr result (AsksForEventEnd (event_data_text so_far) id.now) }
-    ensures reason { IfErr result (λ e. e.reason ≡ Reason.OutOfMemory) }
-{
-    let id = match same_event_id(id) {
-        Ok(id) => id,
-        Err(reason) => return Err(Refused {
-            reason,
-            back: so_far,
-        }),
-    };
-    match so_far {
-        Data::One(text) => Ok((text, id)),
-        Data::More(lines) => match lines.into_text(alloc) {
-            Ok(text) => Ok((text, id)),
-            Err(Refused { reason, back }) => Err(Refused {
-                reason,
-                back: Data::More(back),
-            }),
-        },
-    }
-}
-
 /// The same text once more, if there is one.
 fn same_event_id(text: &Option<Str>) -> Result<Option<Str>, Reason>
     ensures ok { IfOk result (λ copy. copy ≡ text.now) }
@@ -556,77 +423,4 @@ fn same_event_id(text: &Option<Str>) -> Result<Option<Str>, Reason>
         Some(text) => Ok(Some(text.try_clone()?)),
         None => Ok(None),
     }
-}
-
-/// A line without a byte order mark at its start, if it is the first one.
-fn event_content(at_start: bool, line: &str) -> &str
-    ensures { result.now ≡ event_content at_start line.now }
-{
-    if !at_start {
-        return line;
-    }
-    line.strip_prefix(BYTE_ORDER_MARK).unwrap_or(line)
-}
-
-/// The name and the value of a field.
-fn event_field_of(text: &str) -> (&str, &str)
-    ensures name { result.0.now ≡ event_field_name text.now }
-    ensures value { result.1.now ≡ event_field_value text.now }
-{
-    let (name, value) = text.split_once(':').unwrap_or((text, ""));
-    (name, event_value_of(value))
-}
-
-/// A text without one space at its start.
-fn event_value_of(text: &str) -> &str
-    ensures { result.now ≡ event_value_of text.now }
-{
-    text.strip_prefix(' ').unwrap_or(text)
-}
-
-/// The end of a line as a name, which is none if it is empty.
-fn event_name_of(line: &Str, end: &str) -> Result<Option<Str>, Reason>
-    requires { IsEndOfEventLine line.now end.now }
-    ensures ok { IfOk result (λ name. name ≡ event_name_of end.now) }
-    ensures some { OnErr result (0 < length end.now) }
-    ensures reason { IfErr result (λ reason. reason ≡ Reason.OutOfMemory) }
-{
-    if end.is_empty() {
-        return Ok(None);
-    }
-    Ok(Some(end_of_event_line(line, end)?))
-}
-
-/// The end of a line as a text that shares its bytes.
-fn end_of_event_line(line: &Str, end: &str) -> Result<Str, Reason>
-    requires { IsEndOfEventLine line.now end.now }
-    ensures ok { IfOk result (λ text. text ≡ end.now) }
-    ensures some { OnErr result (0 < length end.now) }
-    ensures reason { IfErr result (λ reason. reason ≡ Reason.OutOfMemory) }
-{
-    line.slice_from(line.len() - end.len())
-}
-
-/// Sets the number to the one that the text writes, if it writes one.
-fn set_event_retry(number_so_far: &mut Option<u64>, text: &str)
-    ensures { number_so_far.new ≡ option_or (event_number_of text.now) number_so_far.old }
-{
-    if let Some(n) = number(text.as_bytes()) {
-        *number_so_far = Some(n as u64);
-    }
-}
-
-/// Appends a line feed and a line. Fails with `OutOfMemory`; then nothing has changed.
-fn push_event_line(text: &mut String, line: &str) -> Result<(), Reason>
-    ensures ok { OnOk result
-        (string_bytes text.new ≡ string_bytes text.old ++ line_feed ∷ line.now) }
-    ensures err { OnErr result (string_bytes text.new ≡ string_bytes text.old) }
-    ensures reason { IfErr result (λ reason. reason ≡ Reason.OutOfMemory) }
-{
-    text.push('\n')?;
-    if let Err(refused) = text.push_str(line) {
-        text.pop();
-        return Err(refused.into());
-    }
-    Ok(())
 }

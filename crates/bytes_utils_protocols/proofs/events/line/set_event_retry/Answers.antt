@@ -2,7 +2,7 @@ use Rattle.std.proofs.Common.{◌≡◌, ◌∙◌, None, Option, ap, rules, sym
 use Rattle.std.specs.Option.{option_or}
 use Rattle.bytes_utils_protocols.specs.Events.{event_number_of}
 use Rattle.bytes_utils_protocols.proofs.EventsLemmas.{number_found}
-use Rattle.bytes_utils_protocols.proofs.events.set_event_retry.Goals as goal
+use Rattle.bytes_utils_protocols.proofs.events.line.set_event_retry.Goals as goal
 
 pub returns-in-Some : goal.returns-in-Some
 returns-in-Some c =

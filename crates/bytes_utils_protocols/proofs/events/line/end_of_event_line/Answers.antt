@@ -1,7 +1,7 @@
 use Rattle.std.proofs.Common.{◌-◌, length, subst, sym}
 use Rattle.std.specs.Str.{IsCharBoundary}
 use Rattle.bytes_utils_protocols.proofs.EventsLemmas.{end_boundary}
-use Rattle.bytes_utils_protocols.proofs.events.end_of_event_line.Goals as goal
+use Rattle.bytes_utils_protocols.proofs.events.line.end_of_event_line.Goals as goal
 
 pub slice_from-requires : goal.slice_from-requires
 slice_from-requires c =

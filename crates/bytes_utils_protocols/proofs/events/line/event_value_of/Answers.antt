@@ -1,7 +1,7 @@
 use Rattle.std.proofs.Common.{◌∙◌, ap, arith, refl}
 use Rattle.std.proofs.lemmas.Str.Pattern.{strip_prefix_char}
 use Rattle.bytes_utils_protocols.proofs.EventsLemmas.{without_space_found}
-use Rattle.bytes_utils_protocols.proofs.events.event_value_of.Goals as goal
+use Rattle.bytes_utils_protocols.proofs.events.line.event_value_of.Goals as goal
 
 pub returns : goal.returns
 returns c =
