@@ -1,116 +1,101 @@
 -- Netstrings, read part by part.
-use Rattle.std.proofs.Common.{◌≡◌, ℕ, ◌+◌, ◌-◌, ◌<◌, ◌≤◌, ⊎_elim, List, [], ◌∷◌, ◌++◌, length, take, drop, decimal, ◌^◌, ap, ◌∙◌, sym, refl, subst, arith, inl, inr, append_assoc, length-append}
-use Rattle.std.specs.List.{concat, slice_range}
-use Rattle.std.specs.Str.Parse.{digits_value}
-use Rattle.std.proofs.lemmas.Bool.{cases_lt}
+use Rattle.std.proofs.Common.{◌≡◌, ◌≢◌, ℕ, ◌+◌, ◌-◌, ◌<◌, ◌≤◌, ◌^◌, List, [], ◌∷◌, ◌++◌, length, take, drop, decimal, None, Some, ap, ◌∙◌, sym, refl, subst, arith, append_assoc, drop-drop, length-take, take-append-drop}
+use Rattle.std.proofs.lemmas.List.{drop-append-le, length-take-le}
+use Rattle.std.specs.List.{slice_range}
+use Rattle.memchr.specs.Find.{IsFirstByte, is_byte}
 use Rattle.bytes_utils_buf.specs.declared.refused.Reason.{Reason}
 use Rattle.bytes_utils_buf.specs.declared.refused.Reason.TheVariants.{OutOfMemory, TooLong}
-use Rattle.bytes_utils.specs.Occurrence.{OccursFirstAt}
-use Rattle.bytes_utils_buf.specs.Segments.{IsInOneSegment}
-use Rattle.bytes_utils_codec.specs.Cursor.{AreInOneSegment, CursorHasNoFrameWithin, CursorReading, NeverBeginsAtCursor, CursorTakesFirst, passed_on, unread}
+use Rattle.bytes_utils.specs.Occurrence.{Occurs, OccursAt}
+use Rattle.bytes_utils.proofs.Boundaries.{OccursAt-fits}
+use Rattle.bytes_utils.proofs.NeedleLemmas.{found_by_byte, missed_by_byte}
+use Rattle.bytes_utils.proofs.OccurrenceLemmas.{OccursAt-between, OccursAt-front, cut_whole}
 use Rattle.bytes_utils_codec.specs.Decoding.{Decoding}
-use Rattle.bytes_utils_codec.specs.Frames.{HasFrameWithin, TakesFrame}
+use Rattle.bytes_utils_codec.specs.Frames.{TakesFrame}
+use Rattle.bytes_utils_codec.proofs.CursorLemmas.{missed_after}
+use Rattle.bytes_utils_codec.proofs.FoundLemmas.{frame_at_front}
 use Rattle.bytes_utils_codec.proofs.FramesLemmas.{TakesFrame-more, TakesFrame-same}
-use Rattle.bytes_utils.proofs.Joins.{append_same}
-use Rattle.bytes_utils_protocols.specs.Netstrings.{HasNetstring, HasNetstringDigits, IsNetstringBegun, NoNetstring, TakesNetstring, fails_netstring, netstring_bytes, netstring_comma}
+use Rattle.bytes_utils_protocols.specs.Digits.{WriteNumber, colon}
+use Rattle.bytes_utils_protocols.specs.Netstrings.{BeginsNetstring, BeginsNetstringWithin, HasNetstring, TakesNetstring, TakesNetstringWithin, fails_netstring, netstring_bytes, netstring_comma}
+use Rattle.bytes_utils_protocols.specs.NetstringsLaws.{framed_length, length_stays, one_length}
 use Rattle.bytes_utils_protocols.specs.declared.netstrings.Netstrings.{Netstrings}
 use Rattle.bytes_utils_protocols.specs.declared.netstrings.NetstringError.TheVariants.{Refused}
-use Rattle.bytes_utils_protocols.specs.Digits.{WriteNumber, colon}
-use Rattle.bytes_utils_protocols.proofs.DigitsLemmas.{WriteNumber-decimal, framed_digits}
-use Rattle.bytes_utils_protocols.proofs.ReplyEnds.{byte_in_segment}
+use Rattle.bytes_utils_protocols.proofs.DigitsLemmas.{WriteNumber-decimal, decimal_short}
 
--- the bytes up to the first colon, and those after it
-module _ (bytes digits after : List ℕ) (front : TakesFrame (colon ∷ []) bytes digits after) where
-  -- they stay the same, whatever comes after the bytes
-  parts : (more text rest : List ℕ) → (takes : TakesNetstring (bytes ++ more) text rest) → (digits ≡ takes.digits) × (after ++ more ≡ takes.after)
-  parts more text rest takes =
-      TakesFrame-same (colon ∷ []) (bytes ++ more) digits takes.digits (after ++ more) takes.after (TakesFrame-more (colon ∷ []) bytes digits after more front) takes.front
+-- no colon was found
+pub colon_missed : (front : List ℕ) → IsFirstByte (is_byte colon) front None → ¬ Occurs (colon ∷ []) front
+colon_missed front missed = missed_after (colon ∷ []) front 0 (omega arith) (missed_by_byte (colon ∷ []) front (omega arith) missed)
 
-  pub no_number : ((n : ℕ) → ¬ WriteNumber digits n) → (more : List ℕ) → NoNetstring (bytes ++ more)
+-- the first colon was found among the first 21 bytes
+module _ (bytes front : List ℕ) (seen : front ≡ take 21 bytes) (at : ℕ) (found : IsFirstByte (is_byte colon) front (Some at)) where
+  framed : TakesFrame (colon ∷ []) bytes (take at front) (drop (at + 1) bytes)
+  framed =
+      let rest = drop 21 bytes in
+      let whole : front ++ rest ≡ bytes = ap (λ l. l ++ rest) seen ∙ take-append-drop 21 bytes in
+      let needle = found_by_byte (colon ∷ []) front at refl found in
+      let of_front = frame_at_front (colon ∷ []) front (Some at) needle in
+      subst (λ l. TakesFrame (colon ∷ []) l (take at front) (drop (at + 1) l)) whole
+      (subst (TakesFrame (colon ∷ []) (front ++ rest) (take at front)) (sym (drop-append-le (at + 1) front rest (omega (arith, found.0.high))))
+      (TakesFrame-more (colon ∷ []) front (take at front) (drop (at + 1) front) rest of_front))
+
+  pub no_number : ((n : ℕ) → ¬ WriteNumber (take at front) n) → (more text rest : List ℕ) → ¬ TakesNetstring (bytes ++ more) text rest
   no_number none more text rest takes =
-      none (length text) (subst (λ d. WriteNumber d (length text)) (sym (parts more text rest takes).0) takes.len)
+      let all = TakesFrame-more (colon ∷ []) bytes (take at front) (drop (at + 1) bytes) more framed in
+      let same = TakesFrame-same (colon ∷ []) (bytes ++ more) (take at front) takes.digits _ _ all (framed_length (bytes ++ more) (length text) _ takes) in
+      none (length text) (subst (λ d. WriteNumber d (length text)) (sym same.0) takes.writes)
 
-  module _ (len : ℕ) (number : WriteNumber digits len) where
-    size : (more text rest : List ℕ) → TakesNetstring (bytes ++ more) text rest → len ≡ length text
-    size more text rest takes = sym number.1 ∙ ap (digits_value 10) (parts more text rest takes).0 ∙ takes.len.1
+  pub length_read : (len : ℕ) → WriteNumber (take at front) len → (begins : BeginsNetstring bytes len (drop (at + 1) bytes)) × (length begins.digits ≤ 20)
+  length_read len writes = (
+    record { digits = take at front; writes = writes; are = framed.bytes },
+    omega (arith, found.0.high, ap length seen, length-take 21 bytes, length-take at front),
+  )
 
-    whole : (more text rest : List ℕ) → TakesNetstring (bytes ++ more) text rest → after ++ more ≡ text ++ (netstring_comma ∷ rest)
-    whole more text rest takes = (parts more text rest takes).1 ∙ takes.bytes
+-- the byte after the text was looked at
+module _ (limit : ℕ) (bytes : List ℕ) (start len : ℕ) (begins : BeginsNetstringWithin limit bytes len (drop start bytes)) where
+  looked_at : slice_range bytes (start + len) (start + len + 1) ≡ take 1 (drop len (drop start bytes))
+  looked_at =
+      let one : start + len + 1 - (start + len) ≡ 1 = omega arith in
+      ap (λ n. take n (drop (start + len) bytes)) one ∙ ap (take 1) (sym (drop-drop len start bytes))
 
-    -- the text and the comma are after the colon
-    pub begun : (limit : ℕ) → length digits ≤ 20 → len ≤ limit → length after ≤ len → IsNetstringBegun limit bytes
-    begun limit few within missing =
-        record { digits = digits; after = after; front = front; few = few; len = len; writes = number; within = within; missing = missing }
+  pub whole_text : slice_range bytes (start + len) (start + len + 1) ≡ netstring_comma ∷ []
+      → TakesNetstringWithin limit bytes (slice_range bytes start (start + len)) (drop (start + len + 1) bytes)
+  whole_text is =
+      let after = drop start bytes in
+      let here : OccursAt (netstring_comma ∷ []) after len = sym looked_at ∙ is in
+      let fits = OccursAt-fits (netstring_comma ∷ []) after len (omega arith) here in
+      let text = slice_range bytes start (start + len) in
+      let rest = drop (start + len + 1) bytes in
+      let its : take len after ≡ text = ap (λ n. take n after) (omega arith) in
+      let size : len ≡ length text = sym (length-take-le len after (omega (arith, fits))) ∙ ap length its in
+      let left : drop (len + 1) after ≡ rest = drop-drop (len + 1) start bytes ∙ ap (λ n. drop n bytes) (omega arith) in
+      let whole : after ≡ text ++ (netstring_comma ∷ rest) =
+      sym (cut_whole (netstring_comma ∷ []) after len here) ∙ ap (λ l. l ++ (netstring_comma ∷ drop (len + 1) after)) its
+      ∙ ap (λ l. text ++ (netstring_comma ∷ l)) left in
+      subst (λ n. BeginsNetstringWithin limit bytes n (text ++ (netstring_comma ∷ rest))) size (subst (BeginsNetstringWithin limit bytes len) whole begins)
 
-    module _ (text left : List ℕ) (first : CursorTakesFirst len after text left) where
-      pub whole_text : (rest : List ℕ) → left ≡ netstring_comma ∷ rest → length digits ≤ 20 → (takes : TakesNetstring bytes text rest) × (length takes.digits ≤ 20)
-      whole_text rest comma few = (
-        record {
-          digits = digits;
-          after = after;
-          front = front;
-          len = subst (WriteNumber digits) (sym first.size) number;
-          bytes = first.bytes ∙ ap (λ l. text ++ l) comma;
-        },
-        few,
-      )
-
-      pub wrong_comma : NeverBeginsAtCursor (netstring_comma ∷ []) left → (more : List ℕ) → NoNetstring (bytes ++ more)
-      wrong_comma never more other rest takes =
-          let joined : text ++ (left ++ more) ≡ other ++ (netstring_comma ∷ rest) =
-          sym (append_assoc text left more) ∙ ap (λ l. l ++ more) (sym first.bytes) ∙ whole more other rest takes in
-          never more rest (append_same text other (left ++ more) (netstring_comma ∷ rest) (first.size ∙ size more other rest takes) joined).1
+  pub wrong_comma : slice_range bytes (start + len) (start + len + 1) ≢ netstring_comma ∷ [] → len < length (drop start bytes)
+      → (more text rest : List ℕ) → ¬ TakesNetstring (bytes ++ more) text rest
+  wrong_comma other some more text rest takes =
+      let after = drop start bytes in
+      let comma = netstring_comma ∷ [] in
+      let same = one_length (bytes ++ more) len (length text) (after ++ more) (text ++ (netstring_comma ∷ rest)) (length_stays limit bytes len after more begins).0 takes in
+      let there : OccursAt comma (after ++ more) len =
+      subst (λ l. OccursAt comma l len) (sym same.1) (subst (OccursAt comma (text ++ (netstring_comma ∷ rest))) (sym same.0) (OccursAt-between text comma rest)) in
+      other (looked_at ∙ OccursAt-front comma after more len there (omega (arith, some)))
 
 -- what is written is read again
-pub takes_written : (text rest : List ℕ) → length text < 2 ^ 64 → TakesNetstring (netstring_bytes text ++ rest) text rest
-takes_written text rest fits =
-    let digits = decimal (length text) in
-    let after = text ++ (netstring_comma ∷ rest) in
-    let writes = WriteNumber-decimal (length text) fits in
-    let same : netstring_bytes text ++ rest ≡ digits ++ (colon ∷ after) =
-    append_assoc (digits ++ colon ∷ text) (netstring_comma ∷ []) rest ∙ append_assoc digits (colon ∷ text) (netstring_comma ∷ rest) in
-    record {
-      digits = digits;
-      after = after;
-      front = subst (λ l. TakesFrame (colon ∷ []) l digits after) (sym same) (framed_digits digits after writes.0.1);
-      len = writes;
-      bytes = refl;
-    }
-
--- the bytes that were passed are those of this range
-pub text_in_range : (segments : List (List ℕ)) (start end : CursorReading) (len : ℕ) → start.segments ≡ segments → end ≡ passed_on len start
-    → slice_range (concat segments) start.at end.at ≡ take len (unread start)
-text_in_range segments start end len same passed =
-    let place : end.at ≡ start.at + len = ap (λ r. r.at) passed in
-    let size : end.at - start.at ≡ len = omega (arith, place) in
-    ap (λ n. take n (drop start.at (concat segments))) size ∙ ap (λ l. take len (drop start.at (concat l))) (sym same)
-
--- digits that aren't in one segment are more than one
-several_digits : (segments : List (List ℕ)) → HasFrameWithin 20 (colon ∷ []) (concat segments)
-    → ((n : ℕ) → OccursFirstAt (colon ∷ []) (concat segments) n → n ≤ 20 → ¬ IsInOneSegment 0 (0 + n) segments) → HasNetstringDigits (concat segments)
-several_digits segments has none =
-    let frame = has.0.frame in
-    let within : 0 + length frame ≤ length (concat segments) = omega (arith, ap length has.0.takes.bytes, length-append frame (colon ∷ has.0.rest)) in (
-      has,
-      ⊎_elim (λ high. high)
-          (λ low. absurd (none (length frame) has.0.takes.first has.1 (byte_in_segment segments 0 (0 + length frame) (omega (arith, low, has.0.some)) within)))
-          (cases_lt 1 (length frame)),
+pub takes_written : (limit : ℕ) (text rest : List ℕ) → length text < 2 ^ 64 → length text ≤ limit → TakesNetstringWithin limit (netstring_bytes text ++ rest) text rest
+takes_written limit text rest fits within =
+    let digits = decimal (length text) in (
+      record {
+        digits = digits;
+        writes = WriteNumber-decimal (length text) fits;
+        are = append_assoc (digits ++ colon ∷ text) (netstring_comma ∷ []) rest ∙ append_assoc digits (colon ∷ text) (netstring_comma ∷ rest);
+      },
+      decimal_short (length text) fits,
+      within,
     )
 
-pub digits_of_segments : (segments : List (List ℕ)) (cursor : CursorReading) → cursor ≡ record { segments = segments; at = 0 }
-    → HasFrameWithin 20 (colon ∷ []) (unread cursor)
-    → ((n : ℕ) → OccursFirstAt (colon ∷ []) (unread cursor) n → n ≤ 20 → ¬ AreInOneSegment n cursor) → HasNetstringDigits (concat segments)
-digits_of_segments segments cursor is has none =
-    several_digits segments (subst (λ r. HasFrameWithin 20 (colon ∷ []) (unread r)) is has)
-    (subst (λ r. (n : ℕ) → OccursFirstAt (colon ∷ []) (unread r) n → n ≤ 20 → ¬ AreInOneSegment n r) is none)
-
--- while the digits are read memory is refused only for two bytes or more before a colon; and `TooLong` comes only if more than 20 are
-pub refused_digits : (s : Decoding Netstrings) (reason : Reason) → (reason ≡ OutOfMemory → HasNetstringDigits s.held)
-    → (reason ≡ TooLong → CursorHasNoFrameWithin 20 (colon ∷ []) s.held) → fails_netstring s (Refused reason)
-refused_digits s TooLong has lacks = inl (lacks refl)
-refused_digits s OutOfMemory has lacks = inl (has refl)
-
--- and while the text is copied only for one that has come, and isn't empty
+-- memory is refused only for a text that has come, and isn't empty
 pub refused_text : (s : Decoding Netstrings) (reason : Reason) → reason ≡ OutOfMemory → HasNetstring s → fails_netstring s (Refused reason)
 refused_text s TooLong is has = cc
-refused_text s OutOfMemory is has = inr has
+refused_text s OutOfMemory is has = has

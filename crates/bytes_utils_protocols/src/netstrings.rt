@@ -1,19 +1,19 @@
 //! Netstrings, and a decoder of them: `5:hello,` is `hello` (http://cr.yp.to/proto/netstrings.txt).
-ghost use Rattle.std.specs.Prelude.{◌≡◌, ℕ, ◌≤◌, List, [], ◌∷◌, ◌++◌, length, decimal, IfOk, IfErr, IfSome, IfNone};
+ghost use Rattle.std.specs.Prelude.{◌≡◌, ℕ, ◌≤◌, List, [], ◌∷◌, ◌++◌, length, drop, decimal, IfOk, IfErr, IfSome, IfNone};
 ghost use Rattle.std.specs.List.{concat};
 ghost use Rattle.bytes_utils_codec.specs.Decoding.{decoding};
 ghost use Rattle.bytes_utils_codec.specs.Taking.{keeps_same, taken_same, taken_single, taken_stable, taken_waits};
 ghost use Rattle.bytes_utils_protocols.specs.Digits.{colon};
-ghost use Rattle.bytes_utils_protocols.specs.Netstrings.{TakesNetstring, awaits_netstring, fails_netstring, gives_netstring, netstring_bytes, takes_netstring};
+ghost use Rattle.bytes_utils_protocols.specs.Netstrings.{BeginsNetstringWithin, TakesNetstringWithin, awaits_netstring, fails_netstring, gives_netstring, netstring_bytes, takes_netstring};
 ghost use Rattle.bytes_utils_protocols.specs.NetstringsLaws.{netstring_facts};
 
 use crate::number::number;
 use bytes::{Buf, Bytes, BytesMut};
 use bytes_utils::Reason;
 use bytes_utils::segmented::{PackedBuf, SegmentedBuf};
-use bytes_utils_codec::cursor::Cursor;
 use bytes_utils_codec::decode::Decoder;
 use itoa::Buffer;
+use memchr::memchr;
 use std::alloc::Global;
 use std::error::Error;
 use std::fmt;
@@ -21,9 +21,8 @@ use std::fmt;
 /// Why there is no text.
 #[derive(Clone, Copy, Debug, Eq, PartialEq)]
 pub enum NetstringError {
-    /// Memory was refused, which is asked for only if 2 to 20 bytes are before a colon, or for a text
-    /// that has come with its comma and isn't empty; the text is longer than the limit; or the first
-    /// 21 bytes have no colon.
+    /// Memory was refused, which is asked for only for a text that has come with its comma and isn't
+    /// empty; the text is longer than the limit; or the first 21 bytes have no colon.
     Refused(Reason),
     /// What came is no netstring, whatever comes after it.
     Malformed,
@@ -79,33 +78,49 @@ impl Netstrings {
         ensures err { IfErr result (λ error. fails_netstring (decoding self held.old) error
             × (decoding self held.new ≡ decoding self held.old)) }
     {
-        let mut cursor = Cursor::new(alloc, held.as_segmented());
-        let Some(digits) = cursor.read_until_within(b":", 20)? else {
+        let Some((start, len)) = self.front(held)? else {
             return Ok(None);
         };
-        let Some(len) = number(&digits) else {
+        if held.remaining() - start <= len {
+            return Ok(None);
+        }
+        let end = start + len;
+        let pieces = held.as_segmented();
+        if !pieces.holds_at(end, b",") {
+            return Err(NetstringError::Malformed);
+        }
+        let text = pieces.copy_range(alloc, start..end)?;
+        held.advance(end + 1);
+        Ok(Some(text))
+    }
+
+    /// Returns where the next text begins, and its length, or `None` if no colon has come yet.
+    fn front(self, held: &PackedBuf) -> Result<Option<(usize, usize)>, NetstringError>
+        ensures within { IfOk result (λ next. IfSome next
+            (λ text. text.0 ≤ length (concat held.now.held.segments))) }
+        ensures begins { IfOk result (λ next. IfSome next
+            (λ text. BeginsNetstringWithin self.max_length (concat held.now.held.segments) text.1
+            (drop text.0 (concat held.now.held.segments)))) }
+        ensures none { IfOk result (λ next. IfNone next (awaits_netstring (decoding self held.now))) }
+        ensures err { IfErr result (λ error. fails_netstring (decoding self held.now) error) }
+    {
+        // 20 digits and a colon.
+        let mut front = [0; 21];
+        let count = held.as_segmented().peek(&mut front);
+        let front = &front[..count];
+        let Some(colon) = memchr(b':', front) else {
+            if count > 20 {
+                return Err(NetstringError::Refused(Reason::TooLong));
+            }
+            return Ok(None);
+        };
+        let Some(len) = number(&front[..colon]) else {
             return Err(NetstringError::Malformed);
         };
-        drop(digits); // borrowed from `held`
         if len > self.max_length {
             return Err(NetstringError::Refused(Reason::TooLong));
         }
-        if cursor.remaining() <= len {
-            return Ok(None);
-        }
-        let start = cursor.at();
-        cursor.advance(len);
-        let end = cursor.at();
-        match cursor.tag(b",") {
-            Ok(None) => return Ok(None),
-            Err(_) => return Err(NetstringError::Malformed),
-            Ok(Some(())) => {}
-        }
-        // The text is taken only after its comma.
-        let text = held.as_segmented().copy_range(alloc, start..end)?;
-        let passed = cursor.at();
-        held.advance(passed);
-        Ok(Some(text))
+        Ok(Some((colon + 1, len)))
     }
 }
 
@@ -147,12 +162,12 @@ impl Decoder for Netstrings {
 
 /// Returns the bytes of a netstring: the length of `text` in decimal digits, a colon, `text`, whose
 /// block is shared and not copied, and a comma (http://cr.yp.to/proto/netstrings.txt).
-/// `write_all_of` writes them. They read as `text` again, whatever follows. Fails with `OutOfMemory`
-/// if memory is refused; then `text` is dropped.
+/// `write_all_of` writes them. `Netstrings` reads them as `text` again, if that is within its limit,
+/// whatever follows. Fails with `OutOfMemory` if memory is refused; then `text` is dropped.
 pub fn netstring(alloc: Global, text: Bytes) -> Result<SegmentedBuf<Bytes>, Reason>
     ensures bytes { IfOk result (λ whole. concat whole.segments ≡ netstring_bytes text) }
-    ensures reads { IfOk result (λ whole. (rest : List ℕ)
-        → TakesNetstring (concat whole.segments ++ rest) text rest) }
+    ensures reads { IfOk result (λ whole. (limit : ℕ) (rest : List ℕ) → length text ≤ limit
+        → TakesNetstringWithin limit (concat whole.segments ++ rest) text rest) }
     ensures reason { IfErr result (λ reason. reason ≡ Reason.OutOfMemory) }
 {
     let front = netstring_front(alloc, text.len())?;
