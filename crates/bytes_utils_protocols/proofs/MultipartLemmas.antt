@@ -15,7 +15,7 @@ use Rattle.bytes_utils_buf.specs.declared.refused.Reason.TheVariants.{OutOfMemor
 use Rattle.bytes_utils_buf.specs.declared.refused.Refused.{Refused}
 use Rattle.bytes_utils_codec.proofs.FramesLemmas.{TakesFrame-more, TakesFrame-same}
 use Rattle.bytes_utils.proofs.OccurrenceLemmas.{OccursAt-front}
-use Rattle.bytes_utils_protocols.specs.Multipart.{AreMultipartFields, IsMultipartFieldLine, FewWaitInMultipart, IsMultipartIdle, MultipartReading, multipart_appended, multipart_closed, multipart_line_end, multipart_dashes, multipart_head_end, MultipartBytes, multipart_bytes, HasMultipartHeadAt, IsMultipartHead, IsMultipartPart, TakesMultipart, IsMultipartDue, IsMultipartRawFault, IsMultipartFault, EachMultipart, NoMultipart, ClosesMultipart, LacksNextInMultipart, held_in_multipart_sections, AreMultipartSectionsApart, multipart_sections_have_ended, held_by_multipart, IsMultipartDivided, WaitsInMultipart, SameMultipartSections, AfterMultipartSearch, HasMultipartDisposition, IsFirstMultipartDisposition, IsMultipartDisposition, IsMultipartFolded, NoMultipartDisposition, ReadsMultipartDisposition}
+use Rattle.bytes_utils_protocols.specs.Multipart.{AreMultipartFields, IsMultipartFieldLine, FewWaitInMultipart, IsMultipartIdle, MultipartReading, multipart_appended, multipart_closed, multipart_line_end, multipart_dashes, multipart_head_end, MultipartBytes, multipart_bytes, HasMultipartHeadAt, IsMultipartHead, IsMultipartPart, TakesMultipart, IsMultipartDue, IsMultipartOverLimit, IsMultipartRawOverLimit, IsMultipartRawFault, IsMultipartFault, PassesMultipartRoom, EachMultipart, NoMultipart, ClosesMultipart, LacksNextInMultipart, held_in_multipart_sections, AreMultipartSectionsApart, multipart_sections_have_ended, held_by_multipart, IsMultipartDivided, WaitsInMultipart, SameMultipartSections, AfterMultipartSearch, HasMultipartDisposition, IsFirstMultipartDisposition, IsMultipartDisposition, IsMultipartFolded, NoMultipartDisposition, ReadsMultipartDisposition}
 use Rattle.bytes_utils_protocols.specs.MultipartWaiting.{MultipartWaiting}
 use Rattle.bytes_utils_protocols.specs.declared.multipart.limits.Limits.{Limits}
 use Rattle.bytes_utils_protocols.specs.declared.multipart.limits.PartError.{PartError}
@@ -45,10 +45,12 @@ no_dashes_before d w f v takes other two =
     let long : 2 ≤ length (f ++ d) = omega (arith, ap length two, length-take 2 (f ++ d)) in
     other (ap (take 2) (takes.bytes ∙ sym (append_assoc f d v)) ∙ take-append-le 2 (f ++ d) v long ∙ two)
 
--- what is before the next delimiter has almost as many bytes as have come, or more
-pub long_frame : (d bytes more frame rest : List ℕ) → (¬ Occurs d bytes) → TakesFrame d (bytes ++ more) frame rest → length bytes < length frame + length d
-long_frame d bytes more frame rest none takes =
-    ⊎_elim (λ below. below) (λ within. absurd (none (length frame, OccursAt-front d bytes more (length frame) takes.first.here within))) (cases_lt (length bytes) (length frame + length d))
+-- more bytes have come than there is room for with a delimiter
+pub passes_room : (d bytes : List ℕ) (room : ℕ) → (¬ Occurs d bytes) → room + length d < length bytes → PassesMultipartRoom d room bytes
+passes_room d bytes room none many more frame rest takes = ⊎_elim
+    (λ below. omega (arith, below, many))
+    (λ within. absurd (none (length frame, OccursAt-front d bytes more (length frame) takes.first.here within)))
+    (cases_lt (length bytes) (length frame + length d))
 
 -- ---- one part
 
@@ -75,48 +77,54 @@ module _ (d : List ℕ) (limits : Limits) where
   pub no_part_yet : (bytes : List ℕ) → LacksNextInMultipart d bytes → NoMultipart d limits bytes
   no_part_yet bytes lacks part rest takes = lacks takes.preamble takes.after takes.begins (length takes.raw, takes.ends.first.here)
 
-  pub long_preamble : (bytes : List ℕ) → (¬ Occurs d bytes) → limits.head + limits.body + length d < length bytes → (more : List ℕ) → NoMultipart d limits (bytes ++ more)
-  long_preamble bytes none long more part rest takes = omega (arith, long, takes.few, long_frame d bytes more takes.preamble takes.after none takes.begins)
-
-  module _ (p w : List ℕ) (begins : TakesFrame d (p ++ (d ++ w)) p w) where
+  module _ (old p w : List ℕ) (begins : TakesFrame d old p w) where
     -- what is before the first delimiter, and what is after it
-    around : (more : List ℕ) (part : MultipartBytes) (rest : List ℕ) (takes : TakesMultipart d limits ((p ++ (d ++ w)) ++ more) part rest) → (p ≡ takes.preamble) × (w ++ more ≡ takes.after)
-    around more part rest takes =
-        TakesFrame-same d ((p ++ (d ++ w)) ++ more) p takes.preamble (w ++ more) takes.after (TakesFrame-more d (p ++ (d ++ w)) p w more begins) takes.begins
+    around : (more frame rest : List ℕ) → TakesFrame d (old ++ more) frame rest → (p ≡ frame) × (w ++ more ≡ rest)
+    around more frame rest takes = TakesFrame-same d (old ++ more) p frame (w ++ more) rest (TakesFrame-more d old p w more begins) takes
+
+    -- what is before the next one
+    between : (more : List ℕ) (part : MultipartBytes) (rest : List ℕ) (takes : TakesMultipart d limits (old ++ more) part rest) → TakesFrame d (w ++ more) takes.raw takes.next
+    between more part rest takes = subst (λ l. TakesFrame d l takes.raw takes.next) (sym (around more takes.preamble takes.after takes.begins).1) takes.ends
 
     -- the preamble is too long
-    pub many_before : limits.head + limits.body < length p → (more : List ℕ) → NoMultipart d limits ((p ++ (d ++ w)) ++ more)
-    many_before long more part rest takes = omega (arith, long, takes.few, ap length (around more part rest takes).0)
+    pub many_before : (room : ℕ) → room < length p → PassesMultipartRoom d room old
+    many_before room long more frame rest takes = omega (arith, long, ap length (around more frame rest takes).0)
 
-    -- what is before the next delimiter is too long
-    pub long_part : (¬ Occurs d w) → limits.head + limits.body + length d < length w → (more : List ℕ) → NoMultipart d limits ((p ++ (d ++ w)) ++ more)
-    long_part none long more part rest takes =
-        let same = around more part rest takes in
-        let ends = subst (λ l. TakesFrame d l takes.raw takes.next) (sym same.1) takes.ends in
-        omega (arith, long, long_frame d w more takes.raw takes.next none ends, part_size limits takes.raw part takes.is)
+    module _ (f v : List ℕ) (ends : TakesFrame d w f v) where
+      -- what was found is a part
+      pub found_part : (part : MultipartBytes) → IsMultipartPart limits f part → length p ≤ limits.head + limits.body → TakesMultipart d limits old part (d ++ v)
+      found_part part is few = record {
+        preamble = p;
+        after = w;
+        begins = begins;
+        raw = f;
+        next = v;
+        ends = ends;
+        is = is;
+        few = few;
+        left = refl;
+      }
 
-  module _ (p f v : List ℕ) (begins : TakesFrame d (p ++ (d ++ (f ++ (d ++ v)))) p (f ++ (d ++ v))) (ends : TakesFrame d (f ++ (d ++ v)) f v) where
-    -- what was found is a part
-    pub found_part : (part : MultipartBytes) → IsMultipartPart limits f part → length p ≤ limits.head + limits.body → TakesMultipart d limits (p ++ (d ++ (f ++ (d ++ v)))) part (d ++ v)
-    found_part part is few = record {
-      preamble = p;
-      after = f ++ (d ++ v);
-      begins = begins;
-      raw = f;
-      next = v;
-      ends = ends;
-      is = is;
-      few = few;
-      left = refl;
-    }
+      -- what is true of each part that was found is true of each that is there
+      pub each_found : (P : MultipartBytes → Type 0) → ((part : MultipartBytes) → IsMultipartPart limits f part → P part) → (more : List ℕ) → EachMultipart P d limits (old ++ more)
+      each_found P each more part rest takes =
+          let raw = TakesFrame-same d (w ++ more) f takes.raw (v ++ more) takes.next (TakesFrame-more d w f v more ends) (between more part rest takes) in
+          each part (subst (λ l. IsMultipartPart limits l part) (sym raw.0) takes.is)
 
-    -- what is true of each part that was found is true of each that is there
-    pub each_found : (P : MultipartBytes → Type 0) → ((part : MultipartBytes) → IsMultipartPart limits f part → P part) → (more : List ℕ) → EachMultipart P d limits ((p ++ (d ++ (f ++ (d ++ v)))) ++ more)
-    each_found P each more part rest takes =
-        let same = around p (f ++ (d ++ v)) begins more part rest takes in
-        let next = subst (λ l. TakesFrame d l takes.raw takes.next) (sym same.1) takes.ends in
-        let raw = TakesFrame-same d ((f ++ (d ++ v)) ++ more) f takes.raw (v ++ more) takes.next (TakesFrame-more d (f ++ (d ++ v)) f v more ends) next in
-        each part (subst (λ l. IsMultipartPart limits l part) (sym raw.0) takes.is)
+  -- what is between two delimiters is over a limit
+  none_in_raw : (raw : List ℕ) → IsMultipartRawOverLimit limits raw → (part : MultipartBytes) → ¬ IsMultipartPart limits raw part
+  none_in_raw raw passes part is =
+      let same = TakesFrame-same multipart_head_end raw passes.front is.front passes.body part.body passes.cut is.ends.cut in
+      ⊎_elim (λ head. omega (arith, head, is.ends.small, ap length same.0)) (λ body. omega (arith, body, is.ends.short, ap length same.1)) passes.over
+
+  -- no part comes where a limit is passed
+  pub none_over : (bytes : List ℕ) → IsMultipartOverLimit d limits bytes → (more : List ℕ) → NoMultipart d limits (bytes ++ more)
+  none_over bytes (inl passes) more part rest takes = omega (arith, passes more takes.preamble takes.after takes.begins, takes.few)
+  none_over bytes (inr (inl next)) more part rest takes =
+      let ends = between bytes next.preamble next.after next.begins more part rest takes in
+      omega (arith, next.passes more takes.raw takes.next ends, part_size limits takes.raw part takes.is)
+  none_over bytes (inr (inr (due, passes))) more part rest takes =
+      each_found bytes due.preamble due.after due.begins due.raw due.next due.ends (λ _. ⊥) (none_in_raw due.raw passes) more part rest takes
 
 module _ (d : List ℕ) (limits : Limits) (p f v : List ℕ) (begins : TakesFrame d (p ++ (d ++ (f ++ (d ++ v)))) p (f ++ (d ++ v))) (ends : TakesFrame d (f ++ (d ++ v)) f v) (goes_on : take 2 (f ++ d) ≢ multipart_dashes)
     (few : length p ≤ limits.head + limits.body) where
@@ -125,9 +133,10 @@ module _ (d : List ℕ) (limits : Limits) (p f v : List ℕ) (begins : TakesFram
 
   -- why what is between two delimiters is no part is why there is none
   pub fault_between : (e : PartError) → IsMultipartRawFault e limits f → IsMultipartFault e d limits (p ++ (d ++ (f ++ (d ++ v))))
-  fault_between Malformed why = (due, λ any more. each_found d any p f v begins ends (λ part. ¬ AreMultipartFields part.head) (why any) more)
-  fault_between NotUtf8 why = (due, why.0, d ++ v, found_part d limits p f v begins ends why.0 why.1 few, why.2)
-  fault_between TooLarge why = each_found d limits p f v begins ends (λ _. ⊥) why
+  fault_between Malformed why =
+      (due, λ any more. each_found d any (p ++ (d ++ (f ++ (d ++ v)))) p (f ++ (d ++ v)) begins f v ends (λ part. ¬ AreMultipartFields part.head) (why any) more)
+  fault_between NotUtf8 why = (due, why.0, d ++ v, found_part d limits (p ++ (d ++ (f ++ (d ++ v)))) p (f ++ (d ++ v)) begins f v ends why.0 why.1 few, why.2)
+  fault_between TooLarge why = inr (inr (due, why))
   fault_between (RefusedPart reason) why = (why.0, (due, why.1, why.2, why.3))
 
 -- ---- what is found
@@ -292,12 +301,6 @@ module _ (d : List ℕ) (limits : Limits) where
       let whole : takes.raw ++ (d ++ takes.next) ≡ multipart_dashes ++ closing.1 = sym takes.ends.bytes ∙ sym same.1 in
       no_dashes limits takes.raw part (d ++ takes.next) takes.is (whole ∙ ap (λ l. multipart_dashes ++ l) (sym (ap (drop 2) whole)))
 
--- the bytes that are held now are those from before
-pub each_of_same : (P : MultipartBytes → Type 0) (old new : Sections) → SameMultipartSections old new → (limits : Limits) (more : List ℕ) → EachMultipart P new.waiting.delimiter limits (held_by_multipart new ++ more)
-    → EachMultipart P old.waiting.delimiter limits (held_by_multipart old ++ more)
-each_of_same P old new same limits more each =
-    subst (λ l. EachMultipart P l limits (held_by_multipart old ++ more)) same.delimiter (subst (λ l. EachMultipart P new.waiting.delimiter limits (l ++ more)) same.held each)
-
 -- ---- few bytes wait
 
 module _ (limits : Limits) (d : List ℕ) where
@@ -324,6 +327,12 @@ module _ (limits : Limits) (d : List ℕ) where
   }
 
 -- ---- after a search
+
+-- why there is no part is the same where the same bytes are held
+pub fault_of_same : (old new : Sections) → SameMultipartSections old new → (limits : Limits) (e : PartError) → IsMultipartFault e new.waiting.delimiter limits (held_by_multipart new)
+    → IsMultipartFault e old.waiting.delimiter limits (held_by_multipart old)
+fault_of_same old new same limits e why =
+    subst (λ d. IsMultipartFault e d limits (held_by_multipart old)) same.delimiter (subst (IsMultipartFault e new.waiting.delimiter limits) same.held why)
 
 module _ (limits : Limits) (old s : Sections) where
   -- if it found no part, there is none
@@ -371,48 +380,58 @@ module _ (limits : Limits) (old s : Sections) where
     few_wait Found after not_found parts = absurd (not_found refl)
     few_wait Ended after not_found parts = few_in_nothing limits s.waiting.delimiter
 
-  -- if they are not, no part comes
-  module _ (more : List ℕ) where
-    same_none : (stage : Stage) → s.stage ≡ stage → SameMultipartSections old s
-        → NoMultipart s.waiting.delimiter limits (held_in_multipart_sections stage s.waiting.delimiter s.preamble (concat s.found.segments) s.waiting.held ++ more) → NoMultipart old.waiting.delimiter limits (held_by_multipart old ++ more)
-    same_none stage is same none =
-        each_of_same (λ _. ⊥) old s same limits more
-        (subst (λ stage. NoMultipart s.waiting.delimiter limits (held_in_multipart_sections stage s.waiting.delimiter s.preamble (concat s.found.segments) s.waiting.held ++ more)) (sym is) none)
+  -- a limit that the bytes pass that are held now is passed by those that were held
+  over_of_same : (stage : Stage) → s.stage ≡ stage → SameMultipartSections old s
+      → IsMultipartOverLimit s.waiting.delimiter limits (held_in_multipart_sections stage s.waiting.delimiter s.preamble (concat s.found.segments) s.waiting.held)
+      → IsMultipartOverLimit old.waiting.delimiter limits (held_by_multipart old)
+  over_of_same stage is same over =
+      fault_of_same old s same limits TooLarge
+      (subst (λ stage. IsMultipartOverLimit s.waiting.delimiter limits (held_in_multipart_sections stage s.waiting.delimiter s.preamble (concat s.found.segments) s.waiting.held)) (sym is) over)
 
-    -- too many bytes are before the first delimiter
-    pub much_before : (stage : Stage) → s.stage ≡ stage → SameMultipartSections old s → AreMultipartSectionsApart stage s.waiting.delimiter s.preamble (concat s.found.segments) s.waiting.held
-        → limits.head + limits.body < length s.preamble → NoMultipart old.waiting.delimiter limits (held_by_multipart old ++ more)
-    much_before Preamble is same parts much = absurd (omega (arith, much, ap length parts))
-    much_before Waiting is same parts much = same_none Waiting is same (many_before s.waiting.delimiter limits s.preamble s.waiting.held parts much more)
-    much_before Found is same parts much =
-        same_none Found is same
-        (many_before s.waiting.delimiter limits s.preamble (concat s.found.segments ++ (s.waiting.delimiter ++ s.waiting.held)) parts.0 much more)
-    much_before Ended is same parts much = absurd (omega (arith, much, ap length parts.0))
+  -- too many bytes are before the first delimiter
+  pub much_before : (stage : Stage) → s.stage ≡ stage → SameMultipartSections old s → AreMultipartSectionsApart stage s.waiting.delimiter s.preamble (concat s.found.segments) s.waiting.held
+      → limits.head + limits.body < length s.preamble → IsMultipartOverLimit old.waiting.delimiter limits (held_by_multipart old)
+  much_before Preamble is same parts much = absurd (omega (arith, much, ap length parts))
+  much_before Waiting is same parts much =
+      over_of_same Waiting is same (inl (many_before s.waiting.delimiter limits _ s.preamble s.waiting.held parts (limits.head + limits.body) much))
+  much_before Found is same parts much =
+      over_of_same Found is same
+      (inl (many_before s.waiting.delimiter limits _ s.preamble (concat s.found.segments ++ (s.waiting.delimiter ++ s.waiting.held)) parts.0 (limits.head + limits.body) much))
+  much_before Ended is same parts much = absurd (omega (arith, much, ap length parts.0))
 
-    -- too many bytes wait for the next one
-    pub over_limits : (stage : Stage) → s.stage ≡ stage → AfterMultipartSearch stage old s → AreMultipartSectionsApart stage s.waiting.delimiter s.preamble (concat s.found.segments) s.waiting.held
-        → s.stage ≢ Found → limits.head + limits.body + length s.waiting.delimiter < length s.waiting.held → NoMultipart old.waiting.delimiter limits (held_by_multipart old ++ more)
-    over_limits Preamble is after parts not_found long =
-        same_none Preamble is after.0
-        (long_preamble s.waiting.delimiter limits s.waiting.held (subst (λ d. ¬ Occurs d s.waiting.held) (sym after.0.delimiter) after.1) long more)
-    over_limits Waiting is after parts not_found long =
-        same_none Waiting is after.0
-        (long_part s.waiting.delimiter limits s.preamble s.waiting.held parts (subst (λ d. ¬ Occurs d s.waiting.held) (sym after.0.delimiter) after.1) long more)
-    over_limits Found is after parts not_found long = absurd (not_found is)
-    over_limits Ended is after parts not_found long = absurd (omega (arith, long, ap length parts.1))
+  -- too many bytes wait for the next one
+  pub over_limits : (stage : Stage) → s.stage ≡ stage → AfterMultipartSearch stage old s → AreMultipartSectionsApart stage s.waiting.delimiter s.preamble (concat s.found.segments) s.waiting.held
+      → s.stage ≢ Found → limits.head + limits.body + length s.waiting.delimiter < length s.waiting.held → IsMultipartOverLimit old.waiting.delimiter limits (held_by_multipart old)
+  over_limits Preamble is after parts not_found long =
+      over_of_same Preamble is after.0
+      (inl (passes_room s.waiting.delimiter s.waiting.held (limits.head + limits.body) (subst (λ d. ¬ Occurs d s.waiting.held) (sym after.0.delimiter) after.1) long))
+  over_limits Waiting is after parts not_found long =
+      let d = s.waiting.delimiter in
+      let held = s.preamble ++ (d ++ s.waiting.held) in
+      let none : ¬ Occurs d s.waiting.held = subst (λ d. ¬ Occurs d s.waiting.held) (sym after.0.delimiter) after.1 in
+      let same : held ≡ held_by_multipart old =
+      sym (ap (λ stage. held_in_multipart_sections stage d s.preamble (concat s.found.segments) s.waiting.held) is) ∙ after.0.held in
+      over_of_same Waiting is after.0 (inr (inl (record {
+        goes_on = subst (λ l. ¬ ClosesMultipart d l) (sym same) (subst (λ l. ¬ ClosesMultipart l (held_by_multipart old)) (sym after.0.delimiter) after.2);
+        lacks = lacks_next d s.preamble s.waiting.held parts none;
+        preamble = s.preamble;
+        after = s.waiting.held;
+        begins = parts;
+        passes = passes_room d s.waiting.held (limits.head + limits.body) none long;
+      })))
+  over_limits Found is after parts not_found long = absurd (not_found is)
+  over_limits Ended is after parts not_found long = absurd (omega (arith, long, ap length parts.1))
 
 -- ---- why there is no part
-
--- it is the same where the same bytes are held
-pub fault_of_same : (old new : Sections) → SameMultipartSections old new → (limits : Limits) (e : PartError) → IsMultipartFault e new.waiting.delimiter limits (held_by_multipart new)
-    → IsMultipartFault e old.waiting.delimiter limits (held_by_multipart old)
-fault_of_same old new same limits e why =
-    subst (λ d. IsMultipartFault e d limits (held_by_multipart old)) same.delimiter (subst (IsMultipartFault e new.waiting.delimiter limits) same.held why)
 
 module _ (s : Sections) (limits : Limits) where
   -- the same of an error that is this one
   pub fault_is : (e other : PartError) → IsMultipartFault e s.waiting.delimiter limits (held_by_multipart s) → e ≡ other → IsMultipartFault other s.waiting.delimiter limits (held_by_multipart s)
   fault_is e other why is = subst (λ e. IsMultipartFault e s.waiting.delimiter limits (held_by_multipart s)) is why
+
+  -- if a limit is passed, no part comes within the limits
+  pub none_by_fault : (e : PartError) → IsMultipartFault e s.waiting.delimiter limits (held_by_multipart s) → e ≡ TooLarge → (more : List ℕ) → NoMultipart s.waiting.delimiter limits (held_by_multipart s ++ more)
+  none_by_fault e why is = none_over s.waiting.delimiter limits (held_by_multipart s) (fault_is e TooLarge why is)
 
   -- but for one that is too large, a part is due
   pub due_by_fault : (e : PartError) → IsMultipartFault e s.waiting.delimiter limits (held_by_multipart s) → e ≢ TooLarge → IsMultipartDue s.waiting.delimiter limits (held_by_multipart s)

@@ -13,7 +13,7 @@ use Rattle.bytes_utils_codec.proofs.FramesLemmas.{TakesFrame-more, TakesFrame-sa
 use Rattle.bytes_utils.proofs.Joins.{append_same}
 use Rattle.bytes_utils_codec.proofs.StreamRunsLemmas.{AreFirstOfRun-next}
 use Rattle.bytes_utils_protocols.specs.Digits.{WriteNumber}
-use Rattle.bytes_utils_protocols.specs.Redis.{redis_line_end, redis_no_length, IsRedisPlain, WriteRedisInteger, WriteRedisLength, redis_first_byte, IsRedisLineRest, IsRedisLineOf, redis_body, after_redis_line, redis_items_in, HasNoRedisBody, TakesRedisItem, NoRedisItem, NoRedisItemWithin, AreWholeRedisItems, LeaveRedisItemsDue, TakesRedisReply, NoRedisReply}
+use Rattle.bytes_utils_protocols.specs.Redis.{redis_line_end, redis_no_length, IsRedisPlain, WriteRedisInteger, WriteRedisLength, redis_first_byte, IsRedisLineRest, IsRedisLineOf, redis_body, after_redis_line, redis_items_in, HasNoRedisBody, TakesRedisItem, NoRedisItem, AreWholeRedisItems, LeaveRedisItemsDue, TakesRedisReply, NoRedisReply}
 use Rattle.bytes_utils_protocols.specs.RedisLine.{IsRedisLineHeadOf}
 use Rattle.bytes_utils_protocols.specs.declared.redis.line.LineHead.TheVariants.{Body}
 use Rattle.bytes_utils_protocols.specs.declared.redis.item.Item.{Item}
@@ -210,6 +210,10 @@ no_array said none = of_kind 42 said no_item
 
 -- ---- items in a row
 
+-- the bytes don't begin with an item that has at most `room` items of its own
+abbrev pub NoRedisItemWithin : Limits → ℕ → List ℕ → Type 0
+NoRedisItemWithin limits room bytes = (item : Item) (rest : List ℕ) → TakesRedisItem limits bytes item rest → room < redis_items_in item
+
 pub LeaveRedisItemsDue-next : (n : ℕ) (items : List Item) (item : Item) (due : ℕ) → 0 < due → LeaveRedisItemsDue n items due → LeaveRedisItemsDue n (items ++ item ∷ []) ((due - 1) + redis_items_in item)
 LeaveRedisItemsDue-next n [] item due some pending = (omega (arith, some, pending), ap (λ k. (k - 1) + redis_items_in item) pending)
 LeaveRedisItemsDue-next n (x ∷ items) item due some pending = (pending.0, LeaveRedisItemsDue-next ((n - 1) + redis_items_in x) items item due some pending.1)
@@ -254,6 +258,12 @@ module _ (limits other : Limits) (more : List ℕ) where
         has_none : (k : ℕ) (ys : List Item) → 0 < k → AreWholeRedisItems k ys → AreFirstOfRun (TakesRedisItem other) (left ++ more) ys rest → ⊥
         has_none k [] some whole are = omega (arith, some, whole)
         has_none k (y ∷ ys) some whole are = none y are.0 are.1
+
+    -- more are to come than the limit allows
+    pub too_many : other.items < length xs + due → NoRedisReply other (bytes ++ more)
+    too_many many zs rest takes =
+        let later = walk 1 bytes xs left due zs rest are pending takes.are takes.whole in
+        omega (arith, many, takes.few, ap length later.1, length-append xs later.0, at_least due later.0 later.2)
 
     -- an item is to come, and it has more items than the limit allows
     pub no_room : (room : ℕ) → 0 < due → other.items ≤ length xs + due + room → NoRedisItemWithin other room (left ++ more) → NoRedisReply other (bytes ++ more)

@@ -1,14 +1,12 @@
 -- When a reader of replies may ask for memory.
-use Rattle.std.proofs.Common.{◌≡◌, ℕ, ◌+◌, ◌<◌, ◌≤◌, inl, inr, ⊎_elim, List, [], ◌∷◌, ◌++◌, length, take, drop, Some, ap, ◌∙◌, sym, refl, subst, arith, append_assoc, append-nil, length-append}
-use Rattle.std.proofs.lemmas.Bool.{cases_lt}
-use Rattle.std.proofs.lemmas.List.{length-drop, length-take-le, take-append-drop}
+use Rattle.std.proofs.Common.{◌≡◌, ℕ, ◌+◌, ◌<◌, ◌≤◌, inl, inr, ⊎_elim, List, [], ◌∷◌, ◌++◌, length, take, drop, Some, ap, ◌∙◌, sym, refl, subst, arith, append_assoc, length-append}
+use Rattle.std.proofs.lemmas.List.{length-drop, length-take-le}
 use Rattle.bytes_utils_buf.specs.declared.refused.Reason.{Reason}
 use Rattle.bytes_utils_buf.specs.declared.refused.Reason.TheVariants.{OutOfMemory}
 use Rattle.bytes_utils_codec.specs.Cursor.{IsBegunAtCursor, CursorTakesFirst}
 use Rattle.bytes_utils_codec.specs.Frames.{TakesFrame}
-use Rattle.bytes_utils.specs.Lines.{line_feed}
 use Rattle.bytes_utils_protocols.specs.Digits.{WriteNumber}
-use Rattle.bytes_utils_protocols.specs.Redis.{redis_line_end, AsksForRedisReply, HasFirstRedisLine, IsRedisLineOf, IsRedisTextLine, TakesRedisItem, after_redis_line, redis_body}
+use Rattle.bytes_utils_protocols.specs.Redis.{redis_line_end, AsksForRedisReply, IsRedisLineOf, IsRedisTextLine, TakesRedisItem, after_redis_line, redis_body}
 use Rattle.bytes_utils_protocols.specs.RedisLine.{IsRedisLineHead, NoLineEnds, RedisLineEndsAt}
 use Rattle.bytes_utils_protocols.specs.RedisPending.{AsksForPending, AsksForPendingItem, AwaitsPendingBody, HasPendingItem, IsNoPendingItem, IsPending, held_by_pending, unread_by_pending}
 use Rattle.bytes_utils_protocols.specs.declared.redis.item.Item.{Item}
@@ -17,33 +15,12 @@ use Rattle.bytes_utils_protocols.specs.declared.redis.limits.Limits.{Limits}
 use Rattle.bytes_utils_protocols.specs.declared.redis.limits.ReplyError.TheVariants.{Refused}
 use Rattle.bytes_utils_protocols.specs.declared.redis.line.LineHead.TheVariants.{Plain}
 use Rattle.bytes_utils_protocols.specs.declared.redis.pending.LineEnd.{LineEnd}
-use Rattle.bytes_utils_protocols.specs.declared.redis.pending.LineEnd.TheVariants.{Missing, Half, Here}
 use Rattle.bytes_utils_protocols.specs.declared.redis.pending.Pending.{Pending}
-use Rattle.bytes_utils_protocols.proofs.ReplyEnds.{end_after, half_after}
+use Rattle.bytes_utils_protocols.proofs.ReplyEnds.{first_line}
 
--- ---- the first line
-
-nothing : (bytes : List ℕ) → length bytes ≡ 0 → bytes ≡ []
-nothing [] size = refl
-nothing (b ∷ bytes) size = absurd (omega (arith, size))
+-- ---- a line
 
 module _ (u : List ℕ) (len : ℕ) (fits : len ≤ length u) where
-  -- what follows it
-  its_end : (end : LineEnd) → RedisLineEndsAt end len u → (more rest : List ℕ) × (drop len u ++ more ≡ redis_line_end ++ rest)
-  its_end Missing is = (redis_line_end, [], ap (λ l. l ++ redis_line_end) (nothing (drop len u) (omega (arith, is, length-drop len u))) ∙ sym (append-nil redis_line_end))
-  its_end Half is = (line_feed ∷ [], [], ap (λ l. l ++ line_feed ∷ []) (half_after u len fits is))
-  its_end Here is = ([], drop (len + 2) u, append-nil (drop len u) ∙ end_after u len fits is)
-
-  first_line : (end : LineEnd) → RedisLineEndsAt end len u → ((more : List ℕ) → NoLineEnds len (u ++ more)) → HasFirstRedisLine u (take len u) (drop len u)
-  first_line end is none = record {
-    parts = sym (take-append-drop len u);
-    end = its_end end is;
-    first = λ more place here. ⊎_elim
-        (λ low. absurd (none more place (omega (arith, low, length-take-le len u fits)) here))
-        (λ high. high)
-        (cases_lt place (length (take len u)));
-  }
-
   -- two bytes or more of it are looked at
   pub asks_for_line : (limits : Limits) (read : ℕ) (end : LineEnd) → RedisLineEndsAt end len u → ((more : List ℕ) → NoLineEnds len (u ++ more)) → len ≤ limits.line → read + 1 < len
       → AsksForPendingItem limits u (read + 1)
@@ -51,7 +28,7 @@ module _ (u : List ℕ) (len : ℕ) (fits : len ≤ length u) where
       let size = length-take-le len u fits in
       record {
         after = drop len u;
-        asks = inl (record { line = take len u; has = first_line end is none; some = omega (arith, some, size); short = omega (arith, short, size) });
+        asks = inl (record { line = take len u; has = first_line u len fits end is none; some = omega (arith, some, size); short = omega (arith, short, size) });
         unseen = omega (arith, some, fits, length-drop len u);
       }
 

@@ -6,18 +6,19 @@ use Rattle.std.proofs.lemmas.List.{append_cancel_left, length-replicate}
 use Rattle.bytes_utils_codec.specs.Cursor.{IsBegunAtCursor, CursorTakesFirst}
 use Rattle.bytes_utils_codec.specs.Frames.{TakesFrame}
 use Rattle.bytes_utils.specs.Lines.{carriage_return, line_feed}
+use Rattle.bytes_utils.specs.Occurrence.{OccursAt}
 use Rattle.bytes_utils_codec.specs.StreamRuns.{AreFirstOfRun}
 use Rattle.bytes_utils_codec.proofs.FramesLemmas.{TakesFrame-more}
 use Rattle.bytes_utils_codec.proofs.StreamRunsLemmas.{AreFirstOfRun-more}
 use Rattle.bytes_utils_protocols.specs.Digits.{WriteNumber}
-use Rattle.bytes_utils_protocols.specs.Redis.{redis_line_end, BeginsRedisBody, BeginsRedisItem, BeginsRedisReply, IsRedisLineOf, IsRedisLineWithin, NoRedisItem, NoRedisItemWithin, TakesRedisItem, AreWholeRedisItems, LeaveRedisItemsDue, after_redis_line, redis_items_in}
+use Rattle.bytes_utils_protocols.specs.Redis.{redis_line_end, BeginsRedisBody, BeginsRedisItem, BeginsRedisReply, IsRedisItemOverLimit, IsRedisLineOf, IsRedisReplyOverLimit, NoRedisItem, NoRedisReply, TakesRedisItem, AreWholeRedisItems, LeaveRedisItemsDue, after_redis_line, redis_items_in}
 use Rattle.bytes_utils_protocols.specs.RedisLine.{IsRedisLineHeadOf, NoLineReturn, NoLineEnds}
 use Rattle.bytes_utils_protocols.specs.declared.redis.line.LineHead.TheVariants.{Body}
 use Rattle.bytes_utils_protocols.specs.declared.redis.item.Item.{Item}
 use Rattle.bytes_utils_protocols.specs.declared.redis.item.Item.TheVariants.{Simple, Bulk}
 use Rattle.bytes_utils_protocols.specs.declared.redis.limits.Limits.{Limits}
-use Rattle.bytes_utils_protocols.proofs.RedisLemmas.{TakesRedisItem-more}
-use Rattle.bytes_utils_protocols.proofs.ReplyLines.{line_no_return, no_return_within, framed_line}
+use Rattle.bytes_utils_protocols.proofs.RedisLemmas.{NoRedisItemWithin, TakesRedisItem-more, no_room, too_many}
+use Rattle.bytes_utils_protocols.proofs.ReplyLines.{IsRedisLineWithin, line_no_return, no_return_within, framed_line, over_line}
 
 -- ---- a line can become an item
 
@@ -71,7 +72,7 @@ module _ (limits : Limits) (front rest more : List ℕ) (none : NoLineEnds (leng
   pub no_begun : ((item : Item) (x : List ℕ) → ¬ IsRedisLineOf item (front ++ x)) → NoRedisItem limits ((front ++ rest) ++ more)
   no_begun never item left takes = let x = its_line item left takes in never item x.0 (subst (IsRedisLineOf item) x.1 takes.is)
 
-  pub large_begun : (room : ℕ) → ((item : Item) (x : List ℕ) → ¬ IsRedisLineWithin limits room item (front ++ x)) → NoRedisItemWithin limits room ((front ++ rest) ++ more)
+  large_begun : (room : ℕ) → ((item : Item) (x : List ℕ) → ¬ IsRedisLineWithin limits room item (front ++ x)) → NoRedisItemWithin limits room ((front ++ rest) ++ more)
   large_begun room never item left takes = ⊎_elim (λ large. large) (λ few. absurd (within few)) (cases_lt room (redis_items_in item))
     where
       within : redis_items_in item ≤ room → ⊥
@@ -94,6 +95,15 @@ module _ (limits : Limits) (front rest more : List ℕ) (none : NoLineEnds (leng
           let return : carriage_return ≡ c = ap (λ l. get_or l 0 0) (ap (λ l. l ++ more) (sym ended) ∙ tail) in
           absurd (no_return_within front x
           (subst NoLineReturn (same ∙ ap (λ b. front ++ b ∷ x) (sym return) ∙ sym (append_assoc front (carriage_return ∷ []) x)) (line_no_return item takes.line takes.is)))
+
+-- where a limit is passed, no item within the limits comes
+none_over : (limits : Limits) (room : ℕ) (bytes : List ℕ) → IsRedisItemOverLimit limits room bytes → (more : List ℕ) → NoRedisItemWithin limits room (bytes ++ more)
+none_over limits room bytes over more =
+    subst (λ l. NoRedisItemWithin limits room (l ++ more)) (sym over.has.parts)
+    (large_begun limits over.line over.after more none room (over_line limits room over.line over.after over.over))
+  where
+    none : NoLineEnds (length over.line) ((over.line ++ over.after) ++ more)
+    none k low here = omega (arith, low, over.has.first more k (subst (λ l. OccursAt redis_line_end (l ++ more) k) (sym over.has.parts) here))
 
 -- ---- the bytes of a bulk item
 
@@ -191,3 +201,13 @@ module _ (limits : Limits) (bytes : List ℕ) (xs : List Item) (left : List ℕ)
           few = omega (arith, some, full, few, length-append xs (item ∷ texts n), length-texts n);
         },
       )
+
+-- where a limit is passed, no reply within the limits comes
+pub no_reply_over : (limits : Limits) (held : List ℕ) → IsRedisReplyOverLimit limits held → (more : List ℕ) → NoRedisReply limits (held ++ more)
+no_reply_over limits held passes more =
+    let full : limits.items ≤ length passes.items + passes.due + (limits.items - (length passes.items + passes.due)) = omega arith in
+    ⊎_elim
+    (too_many limits limits more held passes.items passes.rest passes.due passes.are passes.leave)
+    (λ next. no_room limits limits more held passes.items passes.rest passes.due passes.are passes.leave (limits.items - (length passes.items + passes.due)) passes.some full
+    (none_over limits (limits.items - (length passes.items + passes.due)) passes.rest next more))
+    passes.over

@@ -11,10 +11,10 @@ use Rattle.std.proofs.Math.Seq.{take-add}
 use Rattle.bytes_utils_buf.specs.Segments.{IsInOneSegment}
 use Rattle.bytes_utils_buf.specs.declared.refused.Reason.{Reason}
 use Rattle.bytes_utils_codec.specs.Frames.{TakesFrame}
-use Rattle.bytes_utils.specs.Lines.{carriage_return}
+use Rattle.bytes_utils.specs.Lines.{carriage_return, line_feed}
 use Rattle.bytes_utils.specs.Occurrence.{Occurs, OccursAt}
-use Rattle.bytes_utils_protocols.specs.Redis.{redis_line_end, BeginsRedisItem, IsRedisLineOf, IsRedisLineWithin, LacksRedisByte, NoRedisItem, NoRedisItemWithin}
-use Rattle.bytes_utils_protocols.specs.RedisLine.{IsRedisLineHead, IsRedisLineHeadOf, IsRedisLineHeadWithin, IsRedisLineReadAs, NoLineEnds, NoLineReturn}
+use Rattle.bytes_utils_protocols.specs.Redis.{redis_line_end, BeginsRedisItem, HasFirstRedisLine, IsRedisLineOf, IsRedisLineOverLimit, LacksRedisByte, NoRedisItem}
+use Rattle.bytes_utils_protocols.specs.RedisLine.{IsRedisLineHead, IsRedisLineHeadOf, IsRedisLineHeadWithin, IsRedisLineReadAs, NoLineEnds, NoLineReturn, RedisLineEndsAt}
 use Rattle.bytes_utils_protocols.specs.RedisPending.{AwaitsPendingItem, FindsPendingHead, IsNoPendingItem}
 use Rattle.bytes_utils_protocols.specs.declared.redis.item.Item.{Item}
 use Rattle.bytes_utils_protocols.specs.declared.redis.limits.Limits.{Limits}
@@ -22,9 +22,11 @@ use Rattle.bytes_utils_protocols.specs.declared.redis.limits.ReplyError.{ReplyEr
 use Rattle.bytes_utils_protocols.specs.declared.redis.limits.ReplyError.TheVariants.{Refused, Malformed, TooLarge}
 use Rattle.bytes_utils_protocols.specs.declared.redis.line.LineHead.{LineHead}
 use Rattle.bytes_utils_protocols.specs.declared.redis.line.Line.{Line}
+use Rattle.bytes_utils_protocols.specs.declared.redis.pending.LineEnd.{LineEnd}
+use Rattle.bytes_utils_protocols.specs.declared.redis.pending.LineEnd.TheVariants.{Missing, Half, Here}
 use Rattle.bytes_utils_protocols.proofs.RedisLemmas.{no_line}
-use Rattle.bytes_utils_protocols.proofs.ReplyLines.{completed_within, framed_line, line_within, long_line}
-use Rattle.bytes_utils_protocols.proofs.ReplyBeginnings.{begun_item, ended_item, large_begun, no_begun, no_ended}
+use Rattle.bytes_utils_protocols.proofs.ReplyLines.{IsRedisLineWithin, completed_within, framed_line, line_within}
+use Rattle.bytes_utils_protocols.proofs.ReplyBeginnings.{begun_item, ended_item, no_begun, no_ended}
 use Rattle.bytes_utils_protocols.proofs.LineSteps.{read_no_return}
 
 -- ---- one byte
@@ -125,6 +127,34 @@ half_after u len fits half = append_cancel_left (take len u) (drop len u) (carri
 pub end_after : (u : List ℕ) (len : ℕ) → len ≤ length u → u ≡ take len u ++ (redis_line_end ++ drop (len + 2) u) → drop len u ≡ carriage_return ∷ (10 ∷ drop (len + 2) u)
 end_after u len fits whole = append_cancel_left (take len u) (drop len u) (redis_line_end ++ drop (len + 2) u) (take-append-drop len u ∙ whole)
 
+-- ---- the first line
+
+nothing : (bytes : List ℕ) → length bytes ≡ 0 → bytes ≡ []
+nothing [] size = refl
+nothing (b ∷ bytes) size = absurd (omega (arith, size))
+
+pub none_after : (u : List ℕ) (len : ℕ) → length u ≡ len → drop len u ≡ []
+none_after u len all = nothing (drop len u) (omega (arith, all, length-drop len u))
+
+module _ (u : List ℕ) (len : ℕ) (fits : len ≤ length u) where
+  -- what follows it
+  its_end : (end : LineEnd) → RedisLineEndsAt end len u → (more rest : List ℕ) × (drop len u ++ more ≡ redis_line_end ++ rest)
+  its_end Missing is = (redis_line_end, [], ap (λ l. l ++ redis_line_end) (none_after u len is) ∙ sym (append-nil redis_line_end))
+  its_end Half is = (line_feed ∷ [], [], ap (λ l. l ++ line_feed ∷ []) (half_after u len fits is))
+  its_end Here is = ([], drop (len + 2) u, append-nil (drop len u) ∙ end_after u len fits is)
+
+  pub first_line : (end : LineEnd) → RedisLineEndsAt end len u → ((more : List ℕ) → NoLineEnds len (u ++ more)) → HasFirstRedisLine u (take len u) (drop len u)
+  first_line end is none = record {
+    parts = sym (take-append-drop len u);
+    end = its_end end is;
+    first = λ more place here. ⊎_elim
+        (λ low. absurd (none more place (omega (arith, low, length-take-le len u fits)) here))
+        (λ high. high)
+        (cases_lt place (length (take len u)));
+  }
+
+-- ---- what it is
+
 module _ (limits : Limits) (room : ℕ) (u : List ℕ) (len : ℕ) (fits : len ≤ length u) (none : (more : List ℕ) → NoLineEnds len (u ++ more)) where
   size : length (take len u) ≡ len
   size = length-take-le len u fits
@@ -136,17 +166,18 @@ module _ (limits : Limits) (room : ℕ) (u : List ℕ) (len : ℕ) (fits : len �
   pub stays_none : ((item : Item) (x : List ℕ) → ¬ IsRedisLineOf item (take len u ++ x)) → (any : Limits) (more : List ℕ) → NoRedisItem any (u ++ more)
   stays_none never any more = subst (λ l. NoRedisItem any (l ++ more)) (take-append-drop len u) (no_begun any (take len u) (drop len u) more (none_in_front more) never)
 
-  pub stays_large : ((item : Item) (x : List ℕ) → ¬ IsRedisLineWithin limits room item (take len u ++ x)) → (more : List ℕ) → NoRedisItemWithin limits room (u ++ more)
-  stays_large never more = subst (λ l. NoRedisItemWithin limits room (l ++ more)) (take-append-drop len u) (large_begun limits (take len u) (drop len u) more (none_in_front more) room never)
-
   -- these bytes are a line, and that of no item
   stays_ended : (after : List ℕ) → drop len u ≡ carriage_return ∷ after → ((item : Item) → ¬ IsRedisLineOf item (take len u)) → (any : Limits) (more : List ℕ) → NoRedisItem any (u ++ more)
   stays_ended after ended never any more =
       subst (λ l. NoRedisItem any (l ++ more)) (take-append-drop len u) (no_ended any (take len u) (drop len u) more (none_in_front more) after ended never)
 
   -- the line is too long
-  pub too_long : limits.line < len → (more : List ℕ) → NoRedisItemWithin limits room (u ++ more)
-  too_long long = stays_large (long_line limits room (take len u) (omega (arith, long, size)))
+  pub too_long : (seen : ℕ) (end : LineEnd) → RedisLineEndsAt end len u → limits.line < len → IsNoPendingItem limits room u seen TooLarge
+  too_long seen end is long = record {
+    malformed = λ other. cc;
+    too_large = λ _. record { line = take len u; after = drop len u; has = first_line u len fits end is none; over = inl (omega (arith, long, size)) };
+    memory = λ reason other. cc;
+  }
 
   module _ (line : Line) (read : IsRedisLineReadAs line (take len u)) where
     -- what a check of the line found
@@ -159,20 +190,26 @@ module _ (limits : Limits) (room : ℕ) (u : List ℕ) (len : ℕ) (fits : len �
     abbrev NeverHas : Bool → Type 0
     NeverHas ended = (bytes : List ℕ) → IsRedisLineReadAs line bytes → MatchBool ended ((item : Item) → ¬ IsRedisLineOf item bytes) ((item : Item) (more : List ℕ) → ¬ IsRedisLineOf item (bytes ++ more))
 
-    abbrev NeverWithin : Type 0
-    NeverWithin = (bytes : List ℕ) → IsRedisLineReadAs line bytes → length bytes ≡ len → (item : Item) (more : List ℕ) → ¬ IsRedisLineWithin limits room item (bytes ++ more)
+    abbrev Passes : Bool → Type 0
+    Passes ended =
+        (bytes after : List ℕ) → IsRedisLineReadAs line bytes → length bytes ≡ len → (ended ≡ false → after ≡ []) → IsRedisLineOverLimit limits room bytes after
 
     -- a line that was checked is none
-    pub not_checked : (seen : ℕ) (ended : Bool) → MatchBool ended ((after : List ℕ) × (drop len u ≡ carriage_return ∷ after)) (Unit {0}) → (e : ReplyError)
-        → (e ≡ Malformed → NeverHas ended) → (e ≡ TooLarge → NeverWithin) → ((reason : Reason) → ¬ (e ≡ Refused reason)) → IsNoPendingItem limits room u seen e
-    not_checked seen true return e malformed too_large reason = record {
+    pub not_checked : (seen : ℕ) (ended : Bool) → HasFirstRedisLine u (take len u) (drop len u) → MatchBool ended ((after : List ℕ) × (drop len u ≡ carriage_return ∷ after)) (drop len u ≡ []) → (e : ReplyError)
+        → (e ≡ Malformed → NeverHas ended) → (e ≡ TooLarge → Passes ended) → ((reason : Reason) → ¬ (e ≡ Refused reason)) → IsNoPendingItem limits room u seen e
+    not_checked seen true has return e malformed too_large reason = record {
       malformed = λ is. stays_ended return.0 return.1 (malformed is (take len u) read);
-      too_large = λ is. stays_large (too_large is (take len u) read size);
+      too_large = λ is. record {
+        line = take len u;
+        after = drop len u;
+        has = has;
+        over = too_large is (take len u) (drop len u) read size (λ other. absurd (true≢false other));
+      };
       memory = λ r is. absurd (reason r is);
     }
-    not_checked seen false return e malformed too_large reason = record {
+    not_checked seen false has empty e malformed too_large reason = record {
       malformed = λ is. stays_none (malformed is (take len u) read);
-      too_large = λ is. stays_large (too_large is (take len u) read size);
+      too_large = λ is. record { line = take len u; after = drop len u; has = has; over = too_large is (take len u) (drop len u) read size (λ _. empty) };
       memory = λ r is. absurd (reason r is);
     }
 
@@ -230,8 +267,8 @@ module _ (limits : Limits) (room : ℕ) (u : List ℕ) (len : ℕ) (fits : len �
       }
 
       pub finds_head : (seen : ℕ) → u ≡ take len u ++ (redis_line_end ++ drop (len + 2) u) → (result : Result (Option LineHead) ReplyError) → IfOk result (λ next. IfSome next Gives) → IfOk result (λ next. IfNone next (Lacks true))
-          → IfErr result (λ e. e ≡ Malformed → NeverHas true) → IfErr result (λ e. e ≡ TooLarge → NeverWithin) → IfErr result (λ e. (reason : Reason) → ¬ (e ≡ Refused reason))
+          → IfErr result (λ e. e ≡ Malformed → NeverHas true) → IfErr result (λ e. e ≡ TooLarge → Passes true) → IfErr result (λ e. (reason : Reason) → ¬ (e ≡ Refused reason))
           → FindsPendingHead limits room u seen result len
       finds_head seen whole (Ok (Some head)) gives lacks malformed too_large reason = is_head whole head gives
       finds_head seen whole (Ok None) gives lacks malformed too_large reason = absurd (lacks.1 refl)
-      finds_head seen whole (Err e) gives lacks malformed too_large reason = not_checked seen true (10 ∷ drop (len + 2) u, end_after u len fits whole) e malformed too_large reason
+      finds_head seen whole (Err e) gives lacks malformed too_large reason = not_checked seen true (first_line u len fits Here whole none) (10 ∷ drop (len + 2) u, end_after u len fits whole) e malformed too_large reason

@@ -1,5 +1,5 @@
 -- Lines of replies of the Redis protocol, whole and begun.
-use Rattle.std.proofs.Common.{◌≡◌, ◌≢◌, ℕ, zero, suc, ◌==◌, Bool, true, false, cond, ◌<◌, ◌≤◌, ◌⊎◌, inl, inr, ⊎_elim, List, [], ◌∷◌, ◌++◌, length, take, drop, get_or, Option, None, Some, ap, ◌∙◌, sym, refl, subst, arith, length-append}
+use Rattle.std.proofs.Common.{◌≡◌, ◌≢◌, ℕ, zero, suc, ◌==◌, Bool, true, false, cond, ◌<◌, ◌≤◌, ◌⊎◌, inl, inr, ⊎_elim, List, [], ◌∷◌, ◌++◌, length, take, drop, get_or, Option, None, Some, ap, ◌∙◌, sym, refl, subst, arith, append-nil, length-append}
 use Rattle.std.specs.Prelude.{ℤ, pos, neg_ℤ, FitsSigned, replicate}
 use Rattle.std.specs.Int.{w64}
 use Rattle.std.specs.Option.{option_map}
@@ -12,7 +12,7 @@ use Rattle.bytes_utils_codec.specs.Frames.{TakesFrame}
 use Rattle.bytes_utils.specs.Lines.{carriage_return, line_feed}
 use Rattle.bytes_utils.specs.Occurrence.{OccursAt}
 use Rattle.bytes_utils_protocols.specs.Digits.{WriteNumber}
-use Rattle.bytes_utils_protocols.specs.Redis.{redis_line_end, redis_no_length, IsRedisPlain, IsRedisTextLine, IsRedisLineWithin, LacksRedisByte, LacksRedisDigit, LacksRedisLength, WriteRedisInteger, WriteRedisLength, redis_first_byte, IsRedisLineRest, IsRedisLineOf, redis_body, redis_items_in}
+use Rattle.bytes_utils_protocols.specs.Redis.{redis_line_end, redis_no_length, IsRedisPlain, IsRedisTextLine, IsRedisLineOverLimit, LacksRedisByte, LacksRedisDigit, LacksRedisLength, WriteRedisInteger, WriteRedisLength, redis_first_byte, IsRedisLineRest, IsRedisLineOf, redis_body, redis_items_in}
 use Rattle.bytes_utils_protocols.specs.RedisLine.{IsRedisLineHeadOf, IsRedisLineHeadWithin, NoLineReturn}
 use Rattle.bytes_utils_protocols.specs.declared.redis.line.LineHead.{LineHead}
 use Rattle.bytes_utils_protocols.specs.declared.redis.line.LineHead.TheVariants.{Whole, Plain, Body}
@@ -20,6 +20,13 @@ use Rattle.bytes_utils_protocols.specs.declared.redis.item.Item.{Item}
 use Rattle.bytes_utils_protocols.specs.declared.redis.item.Item.TheVariants.{Simple, Error, Integer, Bulk, Array}
 use Rattle.bytes_utils_protocols.specs.declared.redis.limits.Limits.{Limits}
 use Rattle.bytes_utils_protocols.proofs.RedisLemmas.{no_item_of_none, no_integer, no_bulk, no_array}
+
+-- the line is that of an item within the limits, which has at most `room` items of its own
+pub record IsRedisLineWithin (limits : Limits) (room : ℕ) (item : Item) (line : List ℕ) : Type 0 where
+  pub is : IsRedisLineOf item line
+  pub short : length line ≤ limits.line
+  pub small : length (redis_body item) ≤ limits.bulk
+  pub few : redis_items_in item ≤ room
 
 -- ---- fronts of texts and numbers
 
@@ -276,13 +283,21 @@ bulk_line : (len : ℕ) (line : List ℕ) → IsRedisLineHeadOf (Body len) line 
 bulk_line len line head = (head.0, head.1, subst (WriteNumber head.0) (sym (length-replicate {A = ℕ} len 0)) head.2)
 
 module _ (limits : Limits) (room : ℕ) (line : List ℕ) where
-  pub large_head : (head : LineHead) → IsRedisLineHeadOf head line → (¬ IsRedisLineHeadWithin limits.bulk room head) → (item : Item) (more : List ℕ) → ¬ IsRedisLineWithin limits room item (line ++ more)
-  large_head (Whole one) is large item more within =
-      let grows = line_grows one item line more is.0 within.is in large (omega (arith, grows.1, within.few))
-  large_head Plain is large item more within = large tt
-  large_head (Body len) is large item more within =
-      let grows = line_grows (Bulk (Some (replicate len 0))) item line more (bulk_line len line is) within.is in
-      large (omega (arith, grows.0, within.small, length-replicate {A = ℕ} len 0))
+  -- it reports too much
+  pub large_head : (head : LineHead) → IsRedisLineHeadOf head line → (¬ IsRedisLineHeadWithin limits.bulk room head) → (after : List ℕ) → IsRedisLineOverLimit limits room line after
+  large_head (Whole one) is large after = let many : redis_items_in one ≤ room → ⊥ = large in inr (inr (one, is.0, inr (omega (arith, many))))
+  large_head Plain is large after = absurd (large tt)
+  large_head (Body len) is large after =
+      let long : len ≤ limits.bulk → ⊥ = large in
+      inr (inr (Bulk (Some (replicate len 0)), bulk_line len line is, inl (omega (arith, long, length-replicate {A = ℕ} len 0))))
+
+  -- it is over a limit
+  pub over_line : (after : List ℕ) → IsRedisLineOverLimit limits room line after → (item : Item) (more : List ℕ) → ¬ IsRedisLineWithin limits room item (line ++ more)
+  over_line after (inl long) item more within = omega (arith, long, within.short, length-append line more)
+  over_line after (inr (inl (none, full, lacks))) item [] within = lacks_none line lacks item (subst (IsRedisLineOf item) (append-nil line) within.is)
+  over_line after (inr (inl (none, full, lacks))) item (b ∷ more) within = omega (arith, full, within.short, length-append line (b ∷ more))
+  over_line after (inr (inr (one, is, inl long))) item more within = let grows = line_grows one item line more is within.is in omega (arith, long, grows.0, within.small)
+  over_line after (inr (inr (one, is, inr many))) item more within = let grows = line_grows one item line more is within.is in omega (arith, many, grows.1, within.few)
 
   module _ (short : length line ≤ limits.line) where
     text_within : IsRedisTextLine line → (item : Item) × IsRedisLineWithin limits room item line
@@ -296,10 +311,6 @@ module _ (limits : Limits) (room : ℕ) (line : List ℕ) where
     line_within Plain is within = text_within is
     line_within (Body len) is within =
         (Bulk (Some (replicate len 0)), record { is = bulk_line len line is; short = short; small = omega (arith, within, length-replicate {A = ℕ} len 0); few = omega arith })
-
-  -- it is too long
-  pub long_line : limits.line < length line → (item : Item) (more : List ℕ) → ¬ IsRedisLineWithin limits room item (line ++ more)
-  long_line long item more within = omega (arith, long, within.short, length-append line more)
 
   -- it lacks a byte, for which there is a place
   pub completed_within : LacksRedisByte line → length line < limits.line → (more : List ℕ) × (item : Item) × IsRedisLineWithin limits room item (line ++ more)

@@ -110,6 +110,17 @@ pub record IsMultipartDue (delimiter : List ℕ) (limits : Limits) (bytes : List
 abbrev pub AsksForMultipart : List ℕ → Limits → List ℕ → Type 0
 AsksForMultipart delimiter limits bytes = (due : IsMultipartDue delimiter limits bytes) × (front : List ℕ) × (body : List ℕ) × HasMultipartHeadEnd limits due.raw front body
 
+-- more bytes come before the first delimiter than there is room for, whatever comes after the bytes
+abbrev pub PassesMultipartRoom : List ℕ → ℕ → List ℕ → Type 0
+PassesMultipartRoom delimiter room bytes = (more frame rest : List ℕ) → TakesFrame delimiter (bytes ++ more) frame rest → room < length frame
+
+-- What is between two delimiters has the end of a head. What comes before the body is over its limit, or the body is.
+pub record IsMultipartRawOverLimit (limits : Limits) (raw : List ℕ) : Type 0 where
+  pub front : List ℕ
+  pub body : List ℕ
+  pub cut : TakesFrame multipart_head_end raw front body
+  pub over : (limits.head < length front + length multipart_head_end) ⊎ (limits.body < length body)
+
 -- `P` is true of each part that is in the bytes
 abbrev pub EachMultipart : (MultipartBytes → Type 0) → List ℕ → Limits → List ℕ → Type 0
 EachMultipart P delimiter limits bytes = (part : MultipartBytes) (rest : List ℕ) → TakesMultipart delimiter limits bytes part rest → P part
@@ -125,6 +136,22 @@ ClosesMultipart delimiter bytes = (preamble : List ℕ) × (rest : List ℕ) × 
 -- the delimiter after the first one has not come
 abbrev pub LacksNextInMultipart : List ℕ → List ℕ → Type 0
 LacksNextInMultipart delimiter bytes = (preamble after : List ℕ) → TakesFrame delimiter bytes preamble after → ¬ Occurs delimiter after
+
+-- After the first delimiter, which is no close delimiter, the next one has not come, and more bytes come before it than both limits allow.
+pub record IsMultipartNextOverLimit (delimiter : List ℕ) (limits : Limits) (bytes : List ℕ) : Type 0 where
+  pub goes_on : ¬ ClosesMultipart delimiter bytes
+  pub lacks : LacksNextInMultipart delimiter bytes
+  pub preamble : List ℕ
+  pub after : List ℕ
+  pub begins : TakesFrame delimiter bytes preamble after
+  pub passes : PassesMultipartRoom delimiter (limits.head + limits.body) after
+
+-- A limit is passed. More bytes come before the first delimiter than both limits allow, or between it and the next one, which has not come; or the
+-- next part is due, and its head or its body is over its own limit.
+abbrev pub IsMultipartOverLimit : List ℕ → Limits → List ℕ → Type 0
+IsMultipartOverLimit delimiter limits bytes =
+    PassesMultipartRoom delimiter (limits.head + limits.body) bytes
+    ⊎ (IsMultipartNextOverLimit delimiter limits bytes ⊎ ((due : IsMultipartDue delimiter limits bytes) × IsMultipartRawOverLimit limits due.raw))
 
 -- Few bytes wait: those before the first delimiter are within the limits, and those that wait for a delimiter pass them by at most the length of one.
 pub record FewWaitInMultipart (delimiter : List ℕ) (limits : Limits) (bytes : List ℕ) : Type 0 where
@@ -270,7 +297,7 @@ part_error_text TooLarge = codes "the part is too large"
 abbrev pub IsMultipartRawFault : PartError → Limits → List ℕ → Type 0
 IsMultipartRawFault Malformed limits raw = (any : Limits) (part : MultipartBytes) → IsMultipartPart any raw part → ¬ AreMultipartFields part.head
 IsMultipartRawFault NotUtf8 limits raw = (part : MultipartBytes) × IsMultipartPart limits raw part × (¬ IsUtf8 part.head)
-IsMultipartRawFault TooLarge limits raw = (part : MultipartBytes) → ¬ IsMultipartPart limits raw part
+IsMultipartRawFault TooLarge limits raw = IsMultipartRawOverLimit limits raw
 IsMultipartRawFault (Refused reason) limits raw = (reason ≡ OutOfMemory) × (front : List ℕ) × (body : List ℕ) × HasMultipartHeadEnd limits raw front body
 
 -- why there is no part in the held bytes
@@ -278,7 +305,7 @@ abbrev pub IsMultipartFault : PartError → List ℕ → Limits → List ℕ →
 IsMultipartFault Malformed delimiter limits held = IsMultipartDue delimiter limits held × ((any : Limits) (more : List ℕ) → NoMultipartWithFields delimiter any (held ++ more))
 IsMultipartFault NotUtf8 delimiter limits held =
     IsMultipartDue delimiter limits held × (part : MultipartBytes) × (rest : List ℕ) × TakesMultipart delimiter limits held part rest × (¬ IsUtf8 part.head)
-IsMultipartFault TooLarge delimiter limits held = (more : List ℕ) → NoMultipart delimiter limits (held ++ more)
+IsMultipartFault TooLarge delimiter limits held = IsMultipartOverLimit delimiter limits held
 IsMultipartFault (Refused reason) delimiter limits held = (reason ≡ OutOfMemory) × AsksForMultipart delimiter limits held
 
 -- ---- a run of calls

@@ -6,7 +6,7 @@ use Rattle.bytes_utils_codec.specs.Frames.{TakesFrame}
 use Rattle.bytes_utils_codec.specs.Search.{NoneBeginsInSearch}
 use Rattle.bytes_utils_codec.specs.StreamRuns.{StreamEvent, IsRunOver, AreFirstOfRun, pushed_in_stream, given_in_stream}
 use Rattle.bytes_utils_buf.specs.declared.refused.Reason.TheVariants.{OutOfMemory}
-use Rattle.bytes_utils_protocols.specs.Multipart.{AreMultipartFields, ClosesMultipart, HasMultipartParameter, IsMultipartHead, IsMultipartPadding, MultipartBytes, NoMultipart, TakesMultipart, multipart_bytes, multipart_dashes, multipart_file_name, multipart_head_end, multipart_line_end, multipart_name}
+use Rattle.bytes_utils_protocols.specs.Multipart.{AreMultipartFields, ClosesMultipart, HasMultipartParameter, IsMultipartHead, IsMultipartPadding, MultipartBytes, NoMultipart, PassesMultipartRoom, TakesMultipart, multipart_bytes, multipart_dashes, multipart_file_name, multipart_head_end, multipart_line_end, multipart_name}
 use Rattle.bytes_utils_protocols.specs.declared.multipart.event.PartEvent.{PartEvent}
 use Rattle.bytes_utils_protocols.specs.declared.multipart.event.PartEvent.TheVariants.{Head, Body, End}
 use Rattle.bytes_utils_protocols.specs.declared.multipart.head.PartHead.{PartHead}
@@ -201,7 +201,7 @@ IsPartAwaited Ended s = ⊤
 
 -- before the next delimiter come more bytes of a preamble or of a body than the limits allow, whatever comes after the held bytes
 abbrev pub PassesPartRoom : PartStreaming → Type 0
-PassesPartRoom s = (more frame rest : List ℕ) → TakesFrame s.delimiter (s.held ++ more) frame rest → s.room < length frame
+PassesPartRoom s = PassesMultipartRoom s.delimiter s.room s.held
 
 -- In a body some bytes have come in which no delimiter begins, whatever comes after the held bytes.
 abbrev pub HasPartPiece : List ℕ → List ℕ → Type 0

@@ -114,13 +114,6 @@ pub record IsRedisTextLine (line : List ℕ) : Type 0 where
   pub is : IsRedisText kind
   pub plain : IsRedisPlain text
 
--- the line is that of an item within the limits, which has at most `room` items of its own
-pub record IsRedisLineWithin (limits : Limits) (room : ℕ) (item : Item) (line : List ℕ) : Type 0 where
-  pub is : IsRedisLineOf item line
-  pub short : length line ≤ limits.line
-  pub small : length (redis_body item) ≤ limits.bulk
-  pub few : redis_items_in item ≤ room
-
 -- what follows the first byte of a line with a length is nothing, or a sign whose digit is to come
 abbrev pub LacksRedisLength : List ℕ → Type 0
 LacksRedisLength said = (said ≡ []) ⊎ (said ≡ 45 ∷ [])
@@ -145,10 +138,6 @@ BeginsRedisBody len bytes = (more : List ℕ) × (front : List ℕ) × (length f
 -- the bytes don't begin with an item
 abbrev pub NoRedisItem : Limits → List ℕ → Type 0
 NoRedisItem limits bytes = (item : Item) (rest : List ℕ) → ¬ TakesRedisItem limits bytes item rest
-
--- the bytes don't begin with an item that has at most `room` items of its own
-abbrev pub NoRedisItemWithin : Limits → ℕ → List ℕ → Type 0
-NoRedisItemWithin limits room bytes = (item : Item) (rest : List ℕ) → TakesRedisItem limits bytes item rest → room < redis_items_in item
 
 -- with some bytes after them, the bytes are an item that has at most `room` items of its own
 abbrev pub BeginsRedisItem : Limits → ℕ → List ℕ → Type 0
@@ -208,3 +197,28 @@ pub record AsksForRedisReply (limits : Limits) (held : List ℕ) (seen : ℕ) : 
   pub few : length items + due ≤ limits.items
   pub asks : AsksForRedisItem limits rest after
   pub unseen : seen + length after < length held
+
+-- What has come of an item's line is over a limit: the line is too long; or nothing comes after it yet, it has as many bytes as it may, and lacks one;
+-- or it is the line of a bulk item that is too long, or of an array with more than `room` items of its own.
+abbrev pub IsRedisLineOverLimit : Limits → ℕ → List ℕ → List ℕ → Type 0
+IsRedisLineOverLimit limits room line after =
+    (limits.line < length line)
+    ⊎ (((after ≡ []) × (limits.line ≤ length line) × LacksRedisByte line)
+    ⊎ ((item : Item) × IsRedisLineOf item line × ((limits.bulk < length (redis_body item)) ⊎ (room < redis_items_in item))))
+
+-- the first line of the bytes is over a limit
+pub record IsRedisItemOverLimit (limits : Limits) (room : ℕ) (bytes : List ℕ) : Type 0 where
+  pub line : List ℕ
+  pub after : List ℕ
+  pub has : HasFirstRedisLine bytes line after
+  pub over : IsRedisLineOverLimit limits room line after
+
+-- After these items a further one is due. With those that are due there are more items than the limit allows, or that one is over a limit.
+pub record IsRedisReplyOverLimit (limits : Limits) (held : List ℕ) : Type 0 where
+  pub items : List Item
+  pub rest : List ℕ
+  pub due : ℕ
+  pub are : AreFirstOfRun (TakesRedisItem limits) held items rest
+  pub leave : LeaveRedisItemsDue 1 items due
+  pub some : 0 < due
+  pub over : (limits.items < length items + due) ⊎ IsRedisItemOverLimit limits (limits.items - (length items + due)) rest

@@ -5,7 +5,7 @@ use Rattle.bytes_utils_buf.specs.declared.refused.Reason.{Reason}
 use Rattle.bytes_utils_buf.specs.declared.refused.Reason.TheVariants.{OutOfMemory}
 use Rattle.bytes_utils_codec.specs.Frames.{TakesFrame}
 use Rattle.bytes_utils_codec.specs.StreamRuns.{AreFirstOfRun}
-use Rattle.bytes_utils_protocols.specs.Redis.{redis_line_end, AsksForRedisItem, TakesRedisItem, LeaveRedisItemsDue, BeginsRedisItem, BeginsRedisReply, NoRedisItem, NoRedisItemWithin, NoRedisReply, redis_items_in}
+use Rattle.bytes_utils_protocols.specs.Redis.{redis_line_end, AsksForRedisItem, TakesRedisItem, LeaveRedisItemsDue, BeginsRedisItem, BeginsRedisReply, IsRedisItemOverLimit, NoRedisItem, NoRedisReply, redis_items_in}
 use Rattle.bytes_utils_protocols.specs.RedisLine.{IsRedisLineHeadOf, IsRedisLineReadTo, IsRedisLineHead}
 use Rattle.bytes_utils_protocols.specs.declared.redis.item.Item.{Item}
 use Rattle.bytes_utils_protocols.specs.declared.redis.limits.Limits.{Limits}
@@ -48,7 +48,7 @@ pub record AsksForPendingItem (limits : Limits) (bytes : List ℕ) (seen : ℕ) 
 -- why there is no item, whatever comes after the bytes; or memory is refused that may be asked for
 pub record IsNoPendingItem (limits : Limits) (room : ℕ) (bytes : List ℕ) (seen : ℕ) (e : ReplyError) : Type 0 where
   pub malformed : e ≡ Malformed → (any : Limits) (more : List ℕ) → NoRedisItem any (bytes ++ more)
-  pub too_large : e ≡ TooLarge → (more : List ℕ) → NoRedisItemWithin limits room (bytes ++ more)
+  pub too_large : e ≡ TooLarge → IsRedisItemOverLimit limits room bytes
   pub memory : (reason : Reason) → e ≡ Refused reason → (reason ≡ OutOfMemory) × AsksForPendingItem limits bytes seen
 
 -- the first item of the bytes, if it has come, of which at most `seen` bytes were seen

@@ -3,7 +3,7 @@
 ghost use Rattle.std.specs.Prelude.{◌≡◌, ◌≢◌, ◌+◌, ◌-◌, ◌^◌, ◌<◌, ◌≤◌, ◌↔◌, ℕ, List, [], ◌++◌, length, false, true, IsUtf8, IsOk, IsTrue, IfOk, IfErr, IfSome, IfNone, OnOk, OnErr};
 ghost use Rattle.bytes_utils_codec.specs.Pushing.{IsPush};
 ghost use Rattle.bytes_utils_protocols.specs.Disposition.{SameDispositionParameterLaw};
-ghost use Rattle.bytes_utils_protocols.specs.Multipart.{AreMultipartFields, AsksForMultipart, FewWaitInMultipart, HasMultipartParameter, IsMultipartDivided, IsMultipartDue, IsMultipartFault, IsMultipartIdle, IsMultipartWithin, NoMultipart, NoMultipartWithFields, MultipartBytes, MultipartLaw, SameMultipartLaw, TakesMultipart, WaitsInMultipart, multipart_appended, bytes_of_multipart, multipart_delimiter, multipart_file_name, held_by_multipart, multipart_line_end, multipart_name};
+ghost use Rattle.bytes_utils_protocols.specs.Multipart.{AreMultipartFields, AsksForMultipart, FewWaitInMultipart, HasMultipartParameter, IsMultipartDivided, IsMultipartDue, IsMultipartFault, IsMultipartIdle, IsMultipartOverLimit, IsMultipartWithin, NoMultipart, NoMultipartWithFields, MultipartBytes, MultipartLaw, SameMultipartLaw, TakesMultipart, WaitsInMultipart, multipart_appended, bytes_of_multipart, multipart_delimiter, multipart_file_name, held_by_multipart, multipart_line_end, multipart_name};
 
 mod delimiter;
 mod disposition;
@@ -157,11 +157,11 @@ impl PartReader {
     /// Returns the next part, or `None` while some of it or of the delimiter after it is to come,
     /// and after the close delimiter. At `None` no more bytes wait than the limits and a delimiter
     /// have. Fails with `Malformed` only if the held bytes begin with no part whose head is header
-    /// fields, whatever comes after them, with `TooLarge` only if they begin with none within the
-    /// limits, with `NotUtf8` if the head isn't UTF-8, and with `Refused` if memory is refused; then
-    /// nothing has changed. Each but `TooLarge` comes only after the delimiter at the end of the
-    /// part, and only if what is before the first delimiter is within the limits. Memory is asked for
-    /// only then, and only if the head has an end, and head and body are within the limits.
+    /// fields, whatever comes after them, with `TooLarge` only if a limit is passed, so that they begin
+    /// with none within the limits, with `NotUtf8` if the head isn't UTF-8, and with `Refused` if memory
+    /// is refused; then nothing has changed. Each but `TooLarge` comes only after the delimiter at the
+    /// end of the part, and only if what is before the first delimiter is within the limits. Memory is
+    /// asked for only then, and only if the head has an end, and head and body are within the limits.
     pub fn next_part(&mut self) -> Result<Option<Part>, PartError>
         ensures part { IfOk result (λ next. IfSome next (λ part. TakesMultipart self.old.delimiter
             self.old.limits self.old.held (bytes_of_multipart part) self.new.held)) }
@@ -188,6 +188,8 @@ impl PartReader {
             → IsMultipartDue self.old.delimiter self.old.limits self.old.held) }
         ensures too_large { IfErr result (λ e. e ≡ PartError.TooLarge → (more : List ℕ)
             → NoMultipart self.old.delimiter self.old.limits (self.old.held ++ more)) }
+        ensures over { IfErr result (λ e. e ≡ PartError.TooLarge
+            → IsMultipartOverLimit self.old.delimiter self.old.limits self.old.held) }
         ensures not_utf8 { IfErr result (λ e. e ≡ PartError.NotUtf8
             → (part : MultipartBytes) × (rest : List ℕ)
             × TakesMultipart self.old.delimiter self.old.limits self.old.held part rest

@@ -2,7 +2,7 @@
 //! that comes in pieces.
 ghost use Rattle.std.specs.Prelude.{◌≡◌, ℕ, ◌+◌, ◌^◌, ◌<◌, ◌≤◌, ◌↔◌, List, [], ◌++◌, length, IfOk, IfErr, IfSome, IfNone, IsOk, OnOk, OnErr};
 ghost use Rattle.bytes_utils_codec.specs.Pushing.{IsPush};
-ghost use Rattle.bytes_utils_protocols.specs.Redis.{AsksForRedisReply, BeginsRedisReply, NoRedisReply, TakesRedisReply};
+ghost use Rattle.bytes_utils_protocols.specs.Redis.{AsksForRedisReply, BeginsRedisReply, IsRedisReplyOverLimit, NoRedisReply, TakesRedisReply};
 
 mod commands;
 mod item;
@@ -112,10 +112,11 @@ impl ReplyReader {
     /// Returns the next reply, as its items in order, or `None` while the held bytes are only a
     /// beginning of one within the limits. A bulk item in one piece of more than 512 bytes is
     /// shared. Fails with `Malformed` only if they begin with no reply, whatever comes after them,
-    /// with `TooLarge` only if they begin with none within the limits, and with `Refused` if memory
-    /// is refused; then nothing has changed. Memory is asked for only to look at a line of an item that
-    /// is due, of two bytes or more and within its limit, or to keep such an item once it is whole,
-    /// and only if bytes of that line or item have come since the last call that returned `None`.
+    /// with `TooLarge` only if a limit is passed, so that they begin with none within the limits, and
+    /// with `Refused` if memory is refused; then nothing has changed. Memory is asked for only to look
+    /// at a line of an item that is due, of two bytes or more and within its limit, or to keep such an
+    /// item once it is whole, and only if bytes of that line or item have come since the last call that
+    /// returned `None`.
     pub fn next_reply(&mut self) -> Result<Option<Vec<Item>>, ReplyError>
         ensures reply { IfOk result (λ next. IfSome next (λ items.
             TakesRedisReply self.old.limits self.old.held items.items self.new.held)) }
@@ -132,6 +133,8 @@ impl ReplyReader {
             → (limits : Limits) (more : List ℕ) → NoRedisReply limits (self.old.held ++ more)) }
         ensures too_large { IfErr result (λ e. e ≡ ReplyError.TooLarge
             → (more : List ℕ) → NoRedisReply self.old.limits (self.old.held ++ more)) }
+        ensures over { IfErr result (λ e. e ≡ ReplyError.TooLarge
+            → IsRedisReplyOverLimit self.old.limits self.old.held) }
         ensures reason { IfErr result (λ e. (reason : _) → e ≡ ReplyError.Refused reason
             → reason ≡ Reason.OutOfMemory) }
         ensures asks { IfErr result (λ e. (reason : _) → e ≡ ReplyError.Refused reason

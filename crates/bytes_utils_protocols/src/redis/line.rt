@@ -1,8 +1,8 @@
 //! Lines of replies, which are read as their bytes come.
-ghost use Rattle.std.specs.Prelude.{◌≡◌, ℕ, ◌↔◌, ◌<◌, ◌≤◌, List, [], ◌∷◌, ◌++◌, length, true, FitsSigned, IsTrue, IfOk, IfErr, IfSome, IfNone, MatchOption};
+ghost use Rattle.std.specs.Prelude.{◌≡◌, ℕ, ◌↔◌, ◌<◌, ◌≤◌, List, [], ◌∷◌, ◌++◌, length, true, false, FitsSigned, IsTrue, IfOk, IfErr, IfSome, IfNone, MatchOption};
 ghost use Rattle.std.specs.Int.{w64};
 ghost use Rattle.std.specs.Bool.{MatchBool};
-ghost use Rattle.bytes_utils_protocols.specs.Redis.{IsRedisLineOf, IsRedisLineWithin, LacksRedisByte};
+ghost use Rattle.bytes_utils_protocols.specs.Redis.{IsRedisLineOf, IsRedisLineOverLimit, LacksRedisByte};
 ghost use Rattle.bytes_utils_protocols.specs.RedisLine.{AreLineDigits, IsRedisLineHeadOf, IsRedisLineHeadWithin, IsRedisLineReadAs, ReadsOnRedisLine, LineReports, signed_line_number};
 ghost use Rattle.bytes_utils_protocols.specs.Digits.{WriteNumber};
 
@@ -217,8 +217,8 @@ impl BegunLine {
             → MatchBool ended ((item : Item) → ¬ IsRedisLineOf item bytes)
             ((item : Item) (more : List ℕ) → ¬ IsRedisLineOf item (bytes ++ more))) }
         ensures too_large { IfErr result (λ e. e ≡ ReplyError.TooLarge
-            → (bytes : List ℕ) → IsRedisLineReadAs self.line bytes → length bytes ≡ self.len
-            → (item : Item) (more : List ℕ) → ¬ IsRedisLineWithin limits room item (bytes ++ more)) }
+            → (bytes after : List ℕ) → IsRedisLineReadAs self.line bytes → length bytes ≡ self.len
+            → (ended ≡ false → after ≡ []) → IsRedisLineOverLimit limits room bytes after) }
         ensures reason { IfErr result (λ e. (reason : _) → ¬ (e ≡ ReplyError.Refused reason)) }
     {
         if let Some(head) = self.line.head() {

@@ -4,7 +4,7 @@ ghost use Rattle.std.specs.List.{concat};
 ghost use Rattle.std.specs.Bool.{OnFalse, OnTrue};
 ghost use Rattle.bytes_utils_codec.specs.Cursor.{unread};
 ghost use Rattle.bytes_utils_codec.specs.Pushing.{IsPush};
-ghost use Rattle.bytes_utils_protocols.specs.Redis.{BeginsRedisBody, BeginsRedisReply, HasNoRedisBody, IsRedisLineOf, IsRedisTextLine, NoRedisReply, after_redis_line, redis_body, redis_items_in, redis_line_end};
+ghost use Rattle.bytes_utils_protocols.specs.Redis.{BeginsRedisBody, BeginsRedisReply, HasNoRedisBody, IsRedisLineOf, IsRedisReplyOverLimit, IsRedisTextLine, NoRedisReply, after_redis_line, redis_body, redis_items_in, redis_line_end};
 ghost use Rattle.bytes_utils_protocols.specs.RedisLine.{RedisLineEndsAt, IsRedisLineReadTo, NoLineReturn, NoLineEnds};
 ghost use Rattle.bytes_utils_protocols.specs.RedisPending.{AsksForPending, AwaitsPendingBody, FindsPendingHead, FindsPendingItem, IsPendingNext, IsPending, held_by_pending, most_seen_by_pending, most_seen_of_next, unread_by_pending};
 
@@ -129,7 +129,7 @@ impl Pending {
         ensures malformed { IfErr result (λ e. e ≡ ReplyError.Malformed
             → (any : Limits) (more : List ℕ) → NoRedisReply any (held_by_pending self.old ++ more)) }
         ensures too_large { IfErr result (λ e. e ≡ ReplyError.TooLarge
-            → (more : List ℕ) → NoRedisReply limits (held_by_pending self.old ++ more)) }
+            → IsRedisReplyOverLimit limits (held_by_pending self.old)) }
         ensures reason { IfErr result (λ e. (reason : _) → e ≡ ReplyError.Refused reason
             → reason ≡ Reason.OutOfMemory) }
         ensures asks { IfErr result (λ e. (reason : _) → e ≡ ReplyError.Refused reason

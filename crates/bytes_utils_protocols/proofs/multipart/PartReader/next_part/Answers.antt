@@ -2,7 +2,8 @@ use Rattle.std.proofs.Common.{arith, ◌<◌, ◌≤◌, ◌+◌, ◌∙◌, sym
 use Rattle.std.proofs.lemmas.Bool.{false≢true}
 use Rattle.std.proofs.lemmas.Result.{err_from_is_err_and}
 use Rattle.bytes_utils_protocols.specs.Multipart.{AfterMultipartSearch}
-use Rattle.bytes_utils_protocols.proofs.MultipartLemmas.{due_by_fault, fault_is, fault_of_same, few_wait, idle_after, none_after, over_limits}
+use Rattle.bytes_utils_protocols.specs.declared.multipart.limits.PartError.TheVariants.{TooLarge}
+use Rattle.bytes_utils_protocols.proofs.MultipartLemmas.{due_by_fault, fault_is, fault_of_same, few_wait, idle_after, none_after, none_by_fault, over_limits}
 use Rattle.bytes_utils_protocols.proofs.multipart.PartReader.next_part.Goals as goal
 
 pub returns-in_err-search-clause-malformed : goal.returns-in_err-search-clause-malformed
@@ -17,6 +18,11 @@ returns-in_err-search-clause-due c =
 
 pub returns-in_err-search-clause-too_large : goal.returns-in_err-search-clause-too_large
 returns-in_err-search-clause-too_large c =
+    let out = err_from_is_err_and c.from_residual.result c.from_residual.ensures.1 in
+    rw (← c.self.view_is) (rw out.1 (λ is. none_by_fault c.self.inside.sections c.self.inside.limits _ c.in_err-search.ensures.fault (sym out.2 ∙ is)))
+
+pub returns-in_err-search-clause-over : goal.returns-in_err-search-clause-over
+returns-in_err-search-clause-over c =
     let out = err_from_is_err_and c.from_residual.result c.from_residual.ensures.1 in
     rw (← c.self.view_is) (rw out.1 (λ is. fault_is c.self.inside.sections c.self.inside.limits _ _ c.in_err-search.ensures.fault (sym out.2 ∙ is)))
 
@@ -41,7 +47,16 @@ returns-then-is_over-clause-too_large c _ =
     let limits = c.self.inside.limits in
     let waits = c.is_over.ensures.over.0 c.if-is_over.true in
     let long : limits.head + limits.body + length new.waiting.delimiter < length new.waiting.held = omega (arith, waits.1, c.is_over.ensures.fits, c.most_multipart_bytes.ensures) in
-    rw (← c.self.view_is) (λ more. over_limits limits c.self.inside.sections new more new.stage refl c.in_ok-search.ensures.ok c.search.ensures.divided waits.0 long)
+    let over = over_limits limits c.self.inside.sections new new.stage refl c.in_ok-search.ensures.ok c.search.ensures.divided waits.0 long in
+    rw (← c.self.view_is) (none_by_fault c.self.inside.sections limits TooLarge over refl)
+
+pub returns-then-is_over-clause-over : goal.returns-then-is_over-clause-over
+returns-then-is_over-clause-over c _ =
+    let new = c.search.new.self in
+    let limits = c.self.inside.limits in
+    let waits = c.is_over.ensures.over.0 c.if-is_over.true in
+    let long : limits.head + limits.body + length new.waiting.delimiter < length new.waiting.held = omega (arith, waits.1, c.is_over.ensures.fits, c.most_multipart_bytes.ensures) in
+    rw (← c.self.view_is) (over_limits limits c.self.inside.sections new new.stage refl c.in_ok-search.ensures.ok c.search.ensures.divided waits.0 long)
 
 pub returns-in_err-take_part-in-Found-clause-malformed : goal.returns-in_err-take_part-in-Found-clause-malformed
 returns-in_err-take_part-in-Found-clause-malformed c =
@@ -61,6 +76,14 @@ returns-in_err-take_part-in-Found-clause-due c =
 
 pub returns-in_err-take_part-in-Found-clause-too_large : goal.returns-in_err-take_part-in-Found-clause-too_large
 returns-in_err-take_part-in-Found-clause-too_large c =
+    let s = c.self.inside.sections in
+    let same = subst (λ stage. AfterMultipartSearch stage s c.search.new.self) c.in-Found.is c.in_ok-search.ensures.ok in
+    let why = fault_of_same s c.search.new.self same c.self.inside.limits _ c.in_err-take_part-in-Found.ensures.fault in
+    let out = err_from_is_err_and c.from_residual-in_err-take_part-in-Found.result c.from_residual-in_err-take_part-in-Found.ensures.1 in
+    rw (← c.self.view_is) (rw out.1 (λ is. none_by_fault s c.self.inside.limits _ why (sym out.2 ∙ is)))
+
+pub returns-in_err-take_part-in-Found-clause-over : goal.returns-in_err-take_part-in-Found-clause-over
+returns-in_err-take_part-in-Found-clause-over c =
     let s = c.self.inside.sections in
     let same = subst (λ stage. AfterMultipartSearch stage s c.search.new.self) c.in-Found.is c.in_ok-search.ensures.ok in
     let why = fault_of_same s c.search.new.self same c.self.inside.limits _ c.in_err-take_part-in-Found.ensures.fault in

@@ -5,13 +5,19 @@ use Rattle.bytes_utils_protocols.specs.RedisLine.{RedisLineEndsAt, NoLineEnds}
 use Rattle.bytes_utils_protocols.specs.declared.redis.pending.LineEnd.{LineEnd}
 use Rattle.bytes_utils_protocols.specs.declared.redis.pending.LineEnd.TheVariants.{Missing, Half, Here}
 use Rattle.bytes_utils_protocols.proofs.LineSteps.{read_no_return}
-use Rattle.bytes_utils_protocols.proofs.ReplyEnds.{awaits_feed, awaits_line, finds_head, half_after, not_checked, stays_none}
+use Rattle.bytes_utils_protocols.proofs.ReplyEnds.{awaits_feed, awaits_line, finds_head, first_line, half_after, none_after, not_checked, stays_none, too_long}
 use Rattle.bytes_utils_protocols.proofs.ReplyAsks.{asks_for_line}
 use Rattle.bytes_utils_protocols.proofs.redis.pending.read_pending_line.Goals.{In_ok-begun}
 use Rattle.bytes_utils_protocols.proofs.redis.pending.read_pending_line.Goals as goal
 
 pub end_of_pending_line-len-requires-clause-none : goal.end_of_pending_line-len-requires-clause-none
 end_of_pending_line-len-requires-clause-none c = read_no_return c.args.begun.now.line _ c.requires.1
+
+pub returns-then-len-limits-clause-head : goal.returns-then-len-limits-clause-head
+returns-then-len-limits-clause-head c =
+    let line = c.end_of_pending_line-len in
+    too_long c.args.limits c.args.room (concat c.args.pieces.now.held.segments) line.result.0 line.ensures.within.1 line.ensures.none (c.args.begun.now.len + 1) line.result.1 line.ensures.end
+    c.if-len-limits.true
 
 pub returns-in_err-begun-clause-head : goal.returns-in_err-begun-clause-head
 returns-in_err-begun-clause-head c =
@@ -55,18 +61,19 @@ returns-in_err-check-in-Missing-clause-head c =
     let read = c.in_ok-begun.ensures.read.1 in
     let out = err_from_is_err_and c.from_residual-in_err-check-in-Missing.result c.from_residual-in_err-check-in-Missing.ensures.1 in
     let check = c.in_err-check-in-Missing.ensures in
+    let all = ends line Missing c.in-Missing.is in
     rw out.1 (not_checked c.args.limits c.args.room (bytes line) (len line) read.0 (none line) c.in_ok-begun.field-0.line read.1 (c.args.begun.now.len + 1) false
-    tt out.0 (λ is. check.malformed (sym out.2 ∙ is)) (λ is. check.too_large (sym out.2 ∙ is)) (λ reason is. check.reason reason (sym out.2 ∙ is)))
+    (first_line (bytes line) (len line) read.0 Missing all (none line)) (none_after (bytes line) (len line) all) out.0 (λ is. check.malformed (sym out.2 ∙ is)) (λ is. check.too_large (sym out.2 ∙ is)) (λ reason is. check.reason reason (sym out.2 ∙ is)))
 
 pub returns-in_err-check-in-Half-clause-head : goal.returns-in_err-check-in-Half-clause-head
 returns-in_err-check-in-Half-clause-head c =
     let line = (goal.at.returns-in_err-check-in-Half-clause-head c).In_ok-begun in
     let read = c.in_ok-begun.ensures.read.1 in
-    let after = half_after (bytes line) (len line) read.0 (ends line Half c.in-Half.is) in
+    let half = ends line Half c.in-Half.is in
     let out = err_from_is_err_and c.from_residual-in_err-check-in-Half.result c.from_residual-in_err-check-in-Half.ensures.1 in
     let check = c.in_err-check-in-Half.ensures in
     rw out.1 (not_checked c.args.limits c.args.room (bytes line) (len line) read.0 (none line) c.in_ok-begun.field-0.line read.1 (c.args.begun.now.len + 1) true
-    ([], after) out.0 (λ is. check.malformed (sym out.2 ∙ is)) (λ is. check.too_large (sym out.2 ∙ is))
+    (first_line (bytes line) (len line) read.0 Half half (none line)) ([], half_after (bytes line) (len line) read.0 half) out.0 (λ is. check.malformed (sym out.2 ∙ is)) (λ is. check.too_large (sym out.2 ∙ is))
     (λ reason is. check.reason reason (sym out.2 ∙ is)))
 
 pub returns-in_ok-check-in-Missing-clause-head : goal.returns-in_ok-check-in-Missing-clause-head

@@ -4,10 +4,10 @@ use Rattle.bytes_utils_protocols.proofs.MultipartLemmas.{fault_of_same, much_bef
 use Rattle.bytes_utils_protocols.proofs.multipart.sections.Sections.search.Goals as goal
 
 pub returns-then-len-most_multipart_bytes-clause-fault : goal.returns-then-len-most_multipart_bytes-clause-fault
-returns-then-len-most_multipart_bytes-clause-fault c more =
+returns-then-len-most_multipart_bytes-clause-fault c =
     let s = c.pass_preamble.new.self in
     let much : c.args.limits.head + c.args.limits.body < length s.preamble = omega (arith, c.if-len-most_multipart_bytes.true, c.len.ensures.value, c.len.ensures.fits, c.most_multipart_bytes.ensures) in
-    much_before c.args.limits c.args.self.now s more s.stage refl c.pass_preamble.ensures.same c.pass_preamble.ensures.divided much
+    much_before c.args.limits c.args.self.now s s.stage refl c.pass_preamble.ensures.same c.pass_preamble.ensures.divided much
 
 pub returns-in_err-find_next-clause-fault : goal.returns-in_err-find_next-clause-fault
 returns-in_err-find_next-clause-fault c =

@@ -6,9 +6,9 @@ use Rattle.bytes_utils_protocols.proofs.redis.line.BegunLine.check.Goals as goal
 use Rattle.bytes_utils_protocols.proofs.redis.line.BegunLine.check.Goals.{then-ended-via-then-ended, then-ended-via-else-ended+then-not-lacks_byte}
 
 pub returns-then-not-is_line_within-clause-too_large : goal.returns-then-not-is_line_within-clause-too_large
-returns-then-not-is_line_within-clause-too_large c _ bytes is size item more =
+returns-then-not-is_line_within-clause-too_large c _ bytes after is size open_line =
     large_head c.args.limits c.args.room bytes c.in-Some.head (c.in-Some.ensures bytes is)
-    (λ within. true≢false (sym (c.is_line_within.ensures.1 within) ∙ c.if-not-is_line_within.true)) item more
+    (λ within. true≢false (sym (c.is_line_within.ensures.1 within) ∙ c.if-not-is_line_within.true)) after
 
 pub returns-then-ended-clause-malformed : goal.returns-then-ended-clause-malformed
 returns-then-ended-clause-malformed c _ bytes is = elim c.then-ended.branch [

@@ -1,8 +1,8 @@
-use Rattle.std.proofs.Common.{[], ap, ◌++◌, ◌-◌, ◌∙◌, sym, subst, arith, append-nil}
+use Rattle.std.proofs.Common.{◌≡◌, [], inr, ap, ◌++◌, ◌+◌, ◌-◌, length, ◌∙◌, sym, subst, arith, append-nil}
 use Rattle.std.proofs.lemmas.Result.{err_from_is_err_and}
-use Rattle.bytes_utils_protocols.specs.Redis.{BeginsRedisReply, NoRedisItem, NoRedisReply}
+use Rattle.bytes_utils_protocols.specs.Redis.{BeginsRedisReply, IsRedisItemOverLimit, IsRedisReplyOverLimit, NoRedisItem, NoRedisReply}
 use Rattle.bytes_utils_protocols.specs.RedisPending.{AsksForPending, held_by_pending, most_seen_by_pending, most_seen_of_next, unread_by_pending}
-use Rattle.bytes_utils_protocols.proofs.RedisLemmas.{no_next, no_room}
+use Rattle.bytes_utils_protocols.proofs.RedisLemmas.{no_next}
 use Rattle.bytes_utils_protocols.proofs.ReplyBeginnings.{begins_reply}
 use Rattle.bytes_utils_protocols.proofs.PendingReplies.{one_kept}
 use Rattle.bytes_utils_protocols.proofs.ReplyAsks.{asks_for_kept, asks_in_pending}
@@ -22,10 +22,16 @@ returns-in_err-item-clause-too_large c =
     let p = c.loop-self.self in
     let now = c.loop-self.invariant in
     let out = err_from_is_err_and c.from_residual.result c.from_residual.ensures.1 in
-    rw out.1 (λ is more. subst (λ held. NoRedisReply c.args.limits (held ++ more)) now.same
-    (no_room c.args.limits c.args.limits more (held_by_pending p) p.items.items (unread_by_pending p) p.due now.pending.are now.pending.due
-    (c.args.limits.items - c.len.result - p.due) (omega (arith, c.loop-self-test.true)) (omega (arith, now.pending.within c.requires.some, c.len.ensures))
-    (c.in_err-item.ensures.found.too_large (sym out.2 ∙ is) more)))
+    let room : c.args.limits.items - c.len.result - p.due ≡ c.args.limits.items - (length p.items.items + p.due) = omega (arith, c.len.ensures) in
+    rw out.1 (λ is. subst (IsRedisReplyOverLimit c.args.limits) now.same (record {
+      items = p.items.items;
+      rest = unread_by_pending p;
+      due = p.due;
+      are = now.pending.are;
+      leave = now.pending.due;
+      some = omega (arith, c.loop-self-test.true);
+      over = inr (subst (λ n. IsRedisItemOverLimit c.args.limits n (unread_by_pending p)) room (c.in_err-item.ensures.found.too_large (sym out.2 ∙ is)));
+    }))
 
 pub returns-in_default-clause-waits : goal.returns-in_default-clause-waits
 returns-in_default-clause-waits c =
