@@ -1,10 +1,10 @@
 //! Reading on in a buffer that is only borrowed.
 ghost use Rattle.std.specs.Prelude.{◌≡◌, ◌≢◌, ℕ, ◌+◌, ◌<◌, ◌≤◌, ◌↔◌, List, ◌++◌, [], ◌∷◌, length, take, drop, false, IsTrue, IsOk, IfOk, IfErr, IfSome, IfNone, OnErr};
 ghost use Rattle.std.specs.List.{concat, slice_get};
-ghost use Rattle.bytes_utils_codec.specs.Cursor.{AreNextSegments, IsBegunAtCursor, CursorFindsWithin, NeverBeginsAtCursor, CursorHasNoFrameWithin, OneCursorReplyLaw, CursorReadsPart, SameCursorLaw, CursorStaysLaw, CursorStaysWrongLaw, CursorTakesFirst, CursorTakesUpTo, passed_on, unread};
+ghost use Rattle.bytes_utils_codec.specs.Cursor.{AreNextSegments, IsBegunAtCursor, NeverBeginsAtCursor, CursorHasNoFrameWithin, OneCursorReplyLaw, CursorReadsPart, SameCursorLaw, CursorStaysLaw, CursorStaysWrongLaw, CursorTakesFirst, CursorTakesUpTo, passed_on, unread};
 ghost use Rattle.bytes_utils_codec.specs.Frames.{HasFrame, HasFrameWithin, TakesFrame};
 ghost use Rattle.bytes_utils.specs.Lines.{line_feed};
-ghost use Rattle.bytes_utils.specs.Occurrence.{Occurs, OccursAt, OccursFirstAt};
+ghost use Rattle.bytes_utils.specs.Occurrence.{Occurs, OccursFirstAt};
 ghost use Rattle.bytes_utils_codec.specs.LineReading.{IsTextLineItem};
 ghost use Rattle.bytes_utils_codec.specs.StreamLines.{TakesStreamLine};
 
@@ -245,13 +245,11 @@ impl<'a, B: ContiguousBuf + Drop> Cursor<'a, B> {
         ensures too_long { IfErr result (λ reason. (reason ≡ Reason.TooLong)
             × CursorHasNoFrameWithin most needle.now (unread self.now)) }
     {
-        if let Some(len) = self.first_within(needle, most) {
-            return Ok(Some(len));
+        match self.find(needle) {
+            Some(place) if place <= most => Ok(Some(place)),
+            None if !self.has_all_within(needle, most) => Ok(None),
+            _ => Err(Reason::TooLong),
         }
-        if self.has_all_within(needle, most) {
-            return Err(Reason::TooLong);
-        }
-        Ok(None)
     }
 
     /// Whether at least as many bytes have come as `most` and the needle have together.
@@ -259,15 +257,6 @@ impl<'a, B: ContiguousBuf + Drop> Cursor<'a, B> {
         ensures { IsTrue result ↔ (most + length needle.now ≤ length (unread self.now)) }
     {
         needle.len() <= self.remaining() && most <= self.remaining() - needle.len()
-    }
-
-    /// Returns how many bytes after the cursor `needle` occurs first, if these are at most `most`.
-    fn first_within(&self, needle: &[u8], most: usize) -> Option<usize>
-        requires { 0 < length needle.now }
-        ensures { CursorFindsWithin most needle.now (unread self.now) result }
-    {
-        let place = self.find(needle)?;
-        (place <= most).then_some(place)
     }
 
     /// As `take_until`, but the needle isn't passed: the cursor is at its first byte then.
