@@ -158,8 +158,7 @@ impl<'a, B: ContiguousBuf + Drop> Cursor<'a, B> {
 
     /// Passes `len` bytes and returns them, or returns `None` if fewer are there. They are shared
     /// if one segment has them all and shares its own, and else copied into one block. Fails with
-    /// `OutOfMemory` if memory for bytes that have all come is refused, never for none. The cursor
-    /// then stays, as with `None`.
+    /// `OutOfMemory` if memory for bytes that have all come is refused, never for none.
     pub fn take(&mut self, len: usize) -> Result<Option<Bytes>, Reason>
         ensures gives { CursorReadsPart (λ part old new. CursorTakesFirst len old part new)
             (λ bytes. length bytes < len) self.old self.new result }
@@ -194,7 +193,7 @@ impl<'a, B: ContiguousBuf + Drop> Cursor<'a, B> {
     /// Returns the bytes before the next `needle`, as `take` does, and passes them and the needle.
     /// Returns `None` if it has not come yet. Requires that `needle` is not empty (test:
     /// `is_empty`). Fails with `OutOfMemory` if memory for the bytes before the needle is refused,
-    /// never if there are none. The cursor then stays, as with `None`.
+    /// never if there are none.
     pub fn take_until(&mut self, needle: &[u8]) -> Result<Option<Bytes>, Reason>
         requires { 0 < length needle.now }
         ensures gives { CursorReadsPart (λ part old new. TakesFrame needle.now old part new)
@@ -211,8 +210,7 @@ impl<'a, B: ContiguousBuf + Drop> Cursor<'a, B> {
     /// As `take_until`, if at most `most` bytes are before the needle. Fails with `TooLong` if there
     /// are more, as soon as the bytes that have come are enough for `most` and the needle, and the
     /// needle isn't among them. Fails with `OutOfMemory` if memory is refused for bytes within the
-    /// limit that have come, never if none are before the needle. The cursor then stays, as with
-    /// `None`.
+    /// limit that have come, never if none are before the needle.
     pub fn take_until_within(&mut self, needle: &[u8], most: usize) -> Result<Option<Bytes>, Reason>
         requires { 0 < length needle.now }
         ensures gives { CursorReadsPart (λ part old new. TakesFrame needle.now old part new)
@@ -274,8 +272,7 @@ impl<'a, B: ContiguousBuf + Drop> Cursor<'a, B> {
     }
 
     /// Passes `bytes` if they are next. Returns `None` if only a beginning of them has come, or
-    /// nothing yet. Fails with `Mismatch` at a wrong byte, as early as it has come. The cursor then
-    /// stays, as with `None`.
+    /// nothing yet. Fails with `Mismatch` at a wrong byte, as early as it has come.
     pub fn tag(&mut self, bytes: &[u8]) -> Result<Option<()>, Mismatch>
         ensures passed { IfOk result (λ next. IfSome next (λ _.
             unread self.old ≡ bytes.now ++ unread self.new)) }
@@ -299,7 +296,7 @@ impl<'a, B: ContiguousBuf + Drop> Cursor<'a, B> {
     /// Passes the next line with its end and returns it, as [`Lines`](crate::decode::Lines) does: if
     /// it is not UTF-8, a fault that has its bytes. Returns `None` if its line feed has not come yet.
     /// Fails with `OutOfMemory` if memory for a line that has come is refused, never if nothing is
-    /// before its line feed. The cursor then stays, as with `None`.
+    /// before its line feed.
     pub fn line(&mut self) -> Result<Option<Result<Str, LineFault>>, Reason>
         ensures gives { CursorReadsPart
             (λ item old new. (line : List ℕ) × TakesStreamLine old line new × IsTextLineItem false item line)
