@@ -9,15 +9,17 @@ use Rattle.bytes.specs.Unread.{IsChunkOf}
 use Rattle.bytes_utils_buf.specs.Segments.{IsPlace}
 use Rattle.memchr.specs.Find.{FindsNeedle}
 use Rattle.memchr.proofs.lemmas.MatchLemmas.{OccursAt-part, OccursAt-from_part}
+use Rattle.bytes_utils.specs.Lines.{IsWithoutReturn, line_feed}
 use Rattle.bytes_utils.specs.Occurrence.{Occurs, OccursAt, OccursFirstAt}
 use Rattle.bytes_utils_codec.specs.Frames.{TakesFrame, HasFrame, HasFrameWithin}
+use Rattle.bytes_utils_codec.specs.StreamLines.{TakesStreamLine}
 use Rattle.bytes_utils_codec.specs.Cursor.{CursorReading, unread, passed_on, CursorWanted, Tag, First, Until, UpTo, Line, CursorReads, AreReadByCursor, CursorTakesFirst, CursorTakesUpTo, IsBegunAtCursor, CursorHasNoFrameWithin, SameCursorLaw, CursorStaysLaw, CursorStaysWrongLaw, OneCursorReplyLaw}
 use Rattle.bytes_utils.proofs.Boundaries.{OccursAt-fits}
 use Rattle.bytes_utils_codec.proofs.FindLemmas.{has_read}
 use Rattle.bytes_utils_codec.proofs.FramesLemmas.{HasFrame-taken, HasFrameWithin-taken, TakesFrame-more, TakesFrame-same, first_more}
 use Rattle.bytes_utils.proofs.Joins.{append_same}
 use Rattle.bytes_utils.proofs.OccurrenceLemmas.{cut_whole, first_places_same}
-use Rattle.bytes_utils_codec.proofs.StreamLinesLemmas.{TakesStreamLine-more, same_lines_law}
+use Rattle.bytes_utils_codec.proofs.StreamLinesLemmas.{TakesStreamLine-framed, TakesStreamLine-more, same_lines_law}
 
 -- ---- a search from a place on
 
@@ -126,6 +128,16 @@ module _ (r : CursorReading) (n : ℕ) where
         bytes = sym (cut_whole p (unread r) n first.here) ∙ ap (λ l. take n (unread r) ++ (p ++ l)) rest;
         first = subst (OccursFirstAt p (unread r)) (sym (length-take-le n (unread r) some)) first;
       }
+
+  -- the next line, of this length, after which the feed that ends it was passed
+  pub TakesStreamLine-passed : (line_len : ℕ) (new : CursorReading) → line_len ≤ n → n + 1 ≤ length (unread r) → OccursFirstAt (line_feed ∷ []) (unread r) n
+      → IsWithoutReturn (take line_len (unread r)) (take n (unread r)) → new ≡ passed_on (n - line_len + 1) (passed_on line_len r)
+      → TakesStreamLine (unread r) (take line_len (unread r)) (unread new)
+  TakesStreamLine-passed line_len new few some first without is =
+      let sum : r.at + line_len + (n - line_len + 1) ≡ r.at + n + 1 = omega (arith, few) in
+      let passed : new ≡ passed_on 1 (passed_on n r) = is ∙ ap (λ k. record r { at = k }) sum in
+      TakesStreamLine-framed (unread r) (take n (unread r)) (take line_len (unread r)) (unread new)
+      (subst (λ s. TakesFrame (line_feed ∷ []) (unread r) (take n (unread r)) (unread s)) (sym passed) (TakesFrame-passed (line_feed ∷ []) (omega (arith, some)) first)) without
 
   pub passed_tag : (wanted : List ℕ) → n ≡ length wanted → take (length (take n wanted)) (unread r) ≡ take n wanted
       → unread r ≡ wanted ++ unread (passed_on n r)

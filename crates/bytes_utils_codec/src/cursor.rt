@@ -1,18 +1,18 @@
 //! Reading on in a buffer that is only borrowed.
-ghost use Rattle.std.specs.Prelude.{◌≡◌, ◌≢◌, ℕ, ◌+◌, ◌<◌, ◌≤◌, ◌↔◌, List, ◌++◌, [], ◌∷◌, length, take, drop, false, IsTrue, IsOk, IfOk, IfErr, IfSome, IfNone, OnErr};
+ghost use Rattle.std.specs.Prelude.{◌≡◌, ◌≢◌, ℕ, ◌+◌, ◌-◌, ◌<◌, ◌≤◌, ◌↔◌, List, ◌++◌, [], ◌∷◌, length, take, drop, false, IsTrue, IsOk, IfOk, IfErr, IfSome, IfNone, OnErr};
 ghost use Rattle.std.specs.List.{concat, slice_get};
 ghost use Rattle.bytes_utils_codec.specs.Cursor.{AreNextSegments, IsBegunAtCursor, NeverBeginsAtCursor, CursorHasNoFrameWithin, OneCursorReplyLaw, CursorReadsPart, SameCursorLaw, CursorStaysLaw, CursorStaysWrongLaw, CursorTakesFirst, CursorTakesUpTo, passed_on, unread};
 ghost use Rattle.bytes_utils_codec.specs.Frames.{HasFrame, HasFrameWithin, TakesFrame};
-ghost use Rattle.bytes_utils.specs.Lines.{line_feed};
+ghost use Rattle.bytes_utils.specs.Lines.{IsWithoutReturn, line_feed};
 ghost use Rattle.bytes_utils.specs.Occurrence.{Occurs, OccursFirstAt};
 ghost use Rattle.bytes_utils_codec.specs.LineReading.{IsTextLineItem};
-ghost use Rattle.bytes_utils_codec.specs.StreamLines.{TakesStreamLine};
+ghost use Rattle.bytes_utils_codec.specs.StreamLines.{HasStreamLine, TakesStreamLine};
 
 pub mod integers;
 pub mod read;
 
 use crate::decode::LineFault;
-use crate::decode::lines::{drop_return, text_of_line};
+use crate::decode::lines::text_of_line;
 use crate::find::find_from;
 use bytes::{Buf, Bytes};
 use bytes_utils::string::Str;
@@ -295,19 +295,20 @@ impl<'a, B: ContiguousBuf + Drop> Cursor<'a, B> {
 
     /// Passes the next line with its end and returns it, as [`Lines`](crate::decode::Lines) does: if
     /// it is not UTF-8, a fault that has its bytes. Returns `None` if its line feed has not come yet.
-    /// Fails with `OutOfMemory` if memory for a line that has come is refused, never if nothing is
-    /// before its line feed.
+    /// Fails with `OutOfMemory` if memory for a line that has come is refused, never for an empty one.
     pub fn line(&mut self) -> Result<Option<Result<Str, LineFault>>, Reason>
         ensures gives { CursorReadsPart
             (λ item old new. (line : List ℕ) × TakesStreamLine old line new × IsTextLineItem false item line)
             (λ bytes. ¬ Occurs (line_feed ∷ []) bytes) self.old self.new result }
         ensures reason { IfErr result (λ reason. reason ≡ Reason.OutOfMemory) }
-        ensures due { OnErr result (HasFrame (line_feed ∷ []) (unread self.old)) }
+        ensures due { OnErr result (HasStreamLine (unread self.old)) }
     {
-        let Some(mut line) = self.take_until(b"\n")? else {
+        let Some(len) = self.find(b"\n") else {
             return Ok(None);
         };
-        drop_return(&mut line);
+        let line_len = len_without_return(self.buf, self.at, self.at + len);
+        let line = self.take_bytes(line_len)?;
+        self.advance(len - line_len + 1);
         Ok(Some(text_of_line(line)))
     }
 
@@ -340,6 +341,25 @@ impl<'a, B: ContiguousBuf + Drop> Cursor<'a, B> {
         let bytes = self.buf.copy_range(self.alloc, self.at..self.at + len)?;
         self.at += len;
         Ok(bytes)
+    }
+}
+
+/// The number of the bytes from `start` to `end` without one carriage return at their end, if they
+/// have one.
+fn len_without_return<B: ContiguousBuf + Drop>(
+    buf: &SegmentedBuf<B>,
+    start: usize,
+    end: usize,
+) -> usize
+    requires { (start ≤ end) × (end ≤ length (concat buf.now.segments)) }
+    ensures line { IsWithoutReturn (take result (drop start (concat buf.now.segments)))
+        (take (end - start) (drop start (concat buf.now.segments))) }
+    ensures within { result ≤ end - start }
+{
+    if start < end && buf.byte_at(end - 1) == Some(b'\r') {
+        end - 1 - start
+    } else {
+        end - start
     }
 }
 
