@@ -1,24 +1,25 @@
 -- Reading on in held bytes.
-use Rattle.std.proofs.Common.{◌≡◌, ℕ, ◌+◌, ◌-◌, ◌<◌, ◌≤◌, List, [], ◌∷◌, ◌++◌, length, take, drop, slice_get, Option, None, Some, leb, ap, ◌∙◌, sym, refl, subst, arith, append_assoc, append-nil, length-append, length-drop, take-append-drop, take_all, drop-drop, ⊎_elim}
-use Rattle.std.proofs.lemmas.Bool.{cases_lt, le-leb, lt-leb}
+use Rattle.std.proofs.Common.{◌≡◌, ℕ, ◌+◌, ◌-◌, ◌<◌, ◌≤◌, List, [], ◌∷◌, ◌++◌, length, take, drop, slice_get, None, Some, ap, ◌∙◌, sym, refl, subst, arith, append_assoc, append-nil, length-append, length-drop, take-append-drop, take_all, drop-drop, ⊎_elim}
+use Rattle.std.proofs.lemmas.Bool.{cases_lt}
 use Rattle.std.proofs.lemmas.List.{append_cancel_left, drop-append-le, length-take-le}
 use Rattle.std.proofs.lemmas.Option.{get_or_from_slice_get, slice_get_within}
 use Rattle.std.proofs.Math.Seq.{take-append_seam}
-use Rattle.std.specs.Bool.{then_some}
 use Rattle.std.specs.List.{concat}
 use Rattle.bytes.specs.Unread.{IsChunkOf}
 use Rattle.bytes_utils_buf.specs.Segments.{IsPlace}
 use Rattle.memchr.specs.Find.{FindsNeedle}
 use Rattle.memchr.proofs.lemmas.MatchLemmas.{OccursAt-part, OccursAt-from_part}
+use Rattle.bytes_utils.specs.Lines.{IsWithoutReturn, line_feed}
 use Rattle.bytes_utils.specs.Occurrence.{Occurs, OccursAt, OccursFirstAt}
 use Rattle.bytes_utils_codec.specs.Frames.{TakesFrame, HasFrame, HasFrameWithin}
-use Rattle.bytes_utils_codec.specs.Cursor.{CursorReading, unread, passed_on, CursorWanted, Tag, First, Until, UpTo, Line, CursorReads, AreReadByCursor, CursorTakesFirst, CursorTakesUpTo, IsBegunAtCursor, CursorFindsWithin, CursorHasNoFrameWithin, SameCursorLaw, CursorStaysLaw, CursorStaysWrongLaw, OneCursorReplyLaw}
+use Rattle.bytes_utils_codec.specs.StreamLines.{TakesStreamLine}
+use Rattle.bytes_utils_codec.specs.Cursor.{CursorReading, unread, passed_on, CursorWanted, Tag, First, Until, UpTo, Line, CursorReads, AreReadByCursor, CursorTakesFirst, CursorTakesUpTo, IsBegunAtCursor, CursorHasNoFrameWithin, SameCursorLaw, CursorStaysLaw, CursorStaysWrongLaw, OneCursorReplyLaw}
 use Rattle.bytes_utils.proofs.Boundaries.{OccursAt-fits}
 use Rattle.bytes_utils_codec.proofs.FindLemmas.{has_read}
 use Rattle.bytes_utils_codec.proofs.FramesLemmas.{HasFrame-taken, HasFrameWithin-taken, TakesFrame-more, TakesFrame-same, first_more}
 use Rattle.bytes_utils.proofs.Joins.{append_same}
-use Rattle.bytes_utils.proofs.OccurrenceLemmas.{OccursAt-front, cut_whole, first_places_same}
-use Rattle.bytes_utils_codec.proofs.StreamLinesLemmas.{TakesStreamLine-more, same_lines_law}
+use Rattle.bytes_utils.proofs.OccurrenceLemmas.{cut_whole, first_places_same}
+use Rattle.bytes_utils_codec.proofs.StreamLinesLemmas.{TakesStreamLine-framed, TakesStreamLine-more, same_lines_law}
 
 -- ---- a search from a place on
 
@@ -70,29 +71,6 @@ module _ (p old : List ℕ) where
       let rest = drop (n + length p) old in
       let takes = subst (λ bytes. TakesFrame p bytes (take n old) rest) (sym (append-nil old)) (TakesFrame-first n fits first) in
       omega (arith, within, length-take-le n old (omega (arith, fits)), none.1 [] (take n old) rest takes)
-
-  module _ (most : ℕ) (some : 0 < length p) (none : (n : ℕ) → OccursAt p old n → most < n) where
-    -- all places within the limit have come, and the needle begins at none of them
-    pub CursorHasNoFrameWithin-none : most + length p ≤ length old → CursorHasNoFrameWithin most p old
-    CursorHasNoFrameWithin-none all = (
-      all,
-      λ more front rest takes. ⊎_elim
-          (λ above. above)
-          (λ within. none (length front) (OccursAt-front p old more (length front) takes.first.here (omega (arith, within, all))))
-          (cases_lt most (length front)),
-    )
-
-    -- not all of them have come
-    pub lacks_within : length old < most + length p → ¬ Occurs p old
-    lacks_within few occurs = omega (arith, few, none occurs.0 occurs.1, OccursAt-fits p old occurs.0 some occurs.1)
-
--- the first place of the needle, within the limit
-module _ (p old : List ℕ) (most place : ℕ) where
-  pub CursorFindsWithin-kept : (r : Option ℕ) → OccursFirstAt p old place → r ≡ then_some (leb place most) place → CursorFindsWithin most p old r
-  CursorFindsWithin-kept r first is = ⊎_elim
-      (λ past. subst (CursorFindsWithin most p old) (sym (is ∙ ap (λ b. then_some b place) (lt-leb place most past))) (λ n there. omega (arith, past, first.none_before n there)))
-      (λ within. subst (CursorFindsWithin most p old) (sym (is ∙ ap (λ b. then_some b place) (le-leb place most within))) (first, within))
-      (cases_lt most place)
 
 -- the bytes of a segment from a place on are the next ones
 pub IsChunkOf-segment : (xs : List (List ℕ)) (segment : List ℕ) (place index offset : ℕ) → IsPlace place index offset xs
@@ -150,6 +128,16 @@ module _ (r : CursorReading) (n : ℕ) where
         bytes = sym (cut_whole p (unread r) n first.here) ∙ ap (λ l. take n (unread r) ++ (p ++ l)) rest;
         first = subst (OccursFirstAt p (unread r)) (sym (length-take-le n (unread r) some)) first;
       }
+
+  -- the next line, of this length, after which the feed that ends it was passed
+  pub TakesStreamLine-passed : (line_len : ℕ) (new : CursorReading) → line_len ≤ n → n + 1 ≤ length (unread r) → OccursFirstAt (line_feed ∷ []) (unread r) n
+      → IsWithoutReturn (take line_len (unread r)) (take n (unread r)) → new ≡ passed_on (n - line_len + 1) (passed_on line_len r)
+      → TakesStreamLine (unread r) (take line_len (unread r)) (unread new)
+  TakesStreamLine-passed line_len new few some first without is =
+      let sum : r.at + line_len + (n - line_len + 1) ≡ r.at + n + 1 = omega (arith, few) in
+      let passed : new ≡ passed_on 1 (passed_on n r) = is ∙ ap (λ k. record r { at = k }) sum in
+      TakesStreamLine-framed (unread r) (take n (unread r)) (take line_len (unread r)) (unread new)
+      (subst (λ s. TakesFrame (line_feed ∷ []) (unread r) (take n (unread r)) (unread s)) (sym passed) (TakesFrame-passed (line_feed ∷ []) (omega (arith, some)) first)) without
 
   pub passed_tag : (wanted : List ℕ) → n ≡ length wanted → take (length (take n wanted)) (unread r) ≡ take n wanted
       → unread r ≡ wanted ++ unread (passed_on n r)

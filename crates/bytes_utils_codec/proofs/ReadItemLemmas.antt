@@ -3,8 +3,8 @@ use Rattle.std.proofs.Common.{◌≡◌, refl, sym, subst, ◌∙◌, ℕ, List,
 use Rattle.std.proofs.KnownBytes.{Consumes-nil, Consumes-trans, Consumes-whole}
 use Rattle.std.specs.Prelude.{◌⊎◌, IfOk, IfErr, IfSome, IfNone, OnErr}
 use Rattle.std.specs.Io.KnownBytes.{Consumes, IsAtEnd, Keeps}
-use Rattle.bytes_utils_codec.specs.Decoding.{Decoding, IsFedBy, Next, Item, Last, Gives, fed, HasSameNext, KeepsNext, LacksItem, IsStable, IsSingle, AreItems}
-use Rattle.bytes_utils_codec.specs.ReadItem.{ReadsNext, ReadsMore, ReadItemTakesHeld, ReadItemTakesLast, IsItemDue, IsReadDue, IsReadItemErrorOfDecoder, read_items_of, ReadItemsLaw, ReadWholeLaw, ReadSameLaw}
+use Rattle.bytes_utils_codec.specs.Decoding.{Decoding, IsFedBy, Next, Item, Last, Gives, fed, Decodes, DecodesAtEnd, HasSameNext, KeepsNext, IsStable, IsSingle, AreItems}
+use Rattle.bytes_utils_codec.specs.ReadItem.{ReadsNext, ReadsMore, IsItemDue, IsLeftWaiting, IsReadDue, IsReadItemErrorOfDecoder, read_items_of, ReadItemsLaw, ReadWholeLaw, ReadSameLaw}
 use Rattle.bytes_utils_codec.specs.declared.decode.read.error.ReadItemError.{ReadItemError}
 use Rattle.bytes_utils_codec.specs.declared.decode.read.error.ReadItemError.TheVariants.{Decoder, Io, TooManyReads}
 use Rattle.bytes_utils_codec.proofs.DecodingLemmas.{fed-none, fed-joined, SameNext-refl, SameNext-trans, SameNext-fed, SameNext-now, items_fed, decoder_whole}
@@ -17,6 +17,33 @@ fed_by_none b c old new keeps same = record { got = []; consumed = none b c keep
     none None c keeps = tt
     none (Some xs) None keeps = absurd keeps
     none (Some xs) (Some ys) keeps = sym keeps
+
+-- ---- the cause of an error
+
+module _ {D A E : Type 0} (gives : Gives D A) (waits : Decoding D → Type 0) (fails fails_at_end : Decoding D → E → Type 0)
+    (keeps : Decoding D → Decoding D → Type 0) (left : Option (List ℕ)) (s t : Decoding D) where
+  pub held_due : (e : ReadItemError E) → Decodes gives waits (IsReadItemErrorOfDecoder fails) keeps s (Err e) t → IsItemDue waits fails fails_at_end keeps left t e
+  held_due (Decoder e) took = (s, inl took.0, took.1)
+  held_due (Io e) took = absurd took.0
+  held_due TooManyReads took = absurd took.0
+
+  -- a read failed, and changed nothing
+  pub read_due : t ≡ s → IsLeftWaiting waits keeps s → (e : ReadItemError E) → IsReadDue e → IsItemDue waits fails fails_at_end keeps left t e
+  read_due same waiting (Decoder e) due = absurd due
+  read_due same waiting (Io e) due = (subst (IsLeftWaiting waits keeps) (sym same) waiting, due)
+  read_due same waiting TooManyReads due = absurd due
+
+  pub last_due : IsAtEnd left → (r : Result (Option A) (ReadItemError E))
+      → DecodesAtEnd gives (IsReadItemErrorOfDecoder fails) (IsReadItemErrorOfDecoder fails_at_end) keeps s r t → IfErr r (IsItemDue waits fails fails_at_end keeps left t)
+  last_due ends (Ok last) took = tt
+  last_due ends (Err (Decoder e)) (inl fault, keep) = (s, inl fault, keep)
+  last_due ends (Err (Decoder e)) (inr fault, keep) = (s, inr (ends, fault), keep)
+  last_due ends (Err (Io e)) (inl fault, keep) = absurd fault
+  last_due ends (Err (Io e)) (inr fault, keep) = absurd fault
+  last_due ends (Err TooManyReads) (inl fault, keep) = absurd fault
+  last_due ends (Err TooManyReads) (inr fault, keep) = absurd fault
+
+-- ---- what was read
 
 module _ {D A : Type 0} (gives : Gives D A) where
   -- nothing was read yet
@@ -53,63 +80,27 @@ module _ {D A : Type 0} (gives : Gives D A) where
       given = (SameNext-now gives (fed old reads.got) mid reads.same next new).1 given;
     }
 
-  pub LacksItem-same : (s t : Decoding D) → HasSameNext gives s t → LacksItem gives s → LacksItem gives t
-  LacksItem-same s t same lacks item after given = lacks item after ((SameNext-now gives s t same (Item item) after).1 given)
+  -- ---- the end of the input
 
-  -- ---- calls on what is held
+  module _ {E : Type 0} (fails fails_at_end : Decoding D → ReadItemError E → Type 0) (keeps : Decoding D → Decoding D → Type 0) {a b : Option (List ℕ)}
+      {old s : Decoding D} (t : Decoding D) (reads : ReadsMore gives a b old s) where
+    pub last_some : IsAtEnd b → (r : Result (Option A) (ReadItemError E)) → DecodesAtEnd gives fails fails_at_end keeps s r t
+        → IfOk r (λ next. IfSome next (λ item. ReadsNext gives a b old (Item item) t ⊎ (IsAtEnd b × ReadsNext gives a b old (Last (Some item)) t)))
+    last_some ends (Ok (Some item)) (inl given) = inl (ReadsNext-taken reads (Item item) t given)
+    last_some ends (Ok (Some item)) (inr given) = inr (ends, ReadsNext-taken reads (Last (Some item)) t given)
+    last_some ends (Ok None) took = tt
+    last_some ends (Err e) took = tt
 
-  module _ {E : Type 0} (fails : Decoding D → E → Type 0) (keeps : Decoding D → Decoding D → Type 0) (s t : Decoding D) where
-    pub held_same : KeepsNext gives keeps → (e : ReadItemError E) → ReadItemTakesHeld gives fails keeps s (Err e) t → HasSameNext gives s t
-    held_same law (Decoder e) took = law s t took.1
-    held_same law (Io e) took = absurd took
-    held_same law TooManyReads took = absurd took
+    pub last_none : IsAtEnd b → (r : Result (Option A) (ReadItemError E)) → DecodesAtEnd gives fails fails_at_end keeps s r t
+        → IfOk r (λ next. IfNone next (IsAtEnd b × ReadsNext gives a b old (Last None) t))
+    last_none ends (Ok (Some item)) took = tt
+    last_none ends (Ok None) took = (ends, ReadsNext-taken reads (Last None) t took)
+    last_none ends (Err e) took = tt
 
-    pub held_due : (fails_at_end : Decoding D → E → Type 0) (left : Option (List ℕ)) (e : ReadItemError E) → ReadItemTakesHeld gives fails keeps s (Err e) t
-        → IsItemDue gives fails fails_at_end keeps left t e
-    held_due fails_at_end left (Decoder e) took = (s, inl took.0, took.1)
-    held_due fails_at_end left (Io e) took = absurd took
-    held_due fails_at_end left TooManyReads took = absurd took
-
-    pub held_error : (e : ReadItemError E) → ReadItemTakesHeld gives fails keeps s (Err e) t → IsReadItemErrorOfDecoder fails s e
-    held_error (Decoder e) took = took.0
-    held_error (Io e) took = absurd took
-    held_error TooManyReads took = absurd took
-
-  module _ {E : Type 0} (fails fails_at_end : Decoding D → E → Type 0) (keeps : Decoding D → Decoding D → Type 0) (s t : Decoding D) where
-    module _ {a b : Option (List ℕ)} {old : Decoding D} (reads : ReadsMore gives a b old s) where
-      pub last_some : IsAtEnd b → (r : Result (Option A) (ReadItemError E)) → ReadItemTakesLast gives fails fails_at_end keeps s r t
-          → IfOk r (λ next. IfSome next (λ item. ReadsNext gives a b old (Item item) t ⊎ (IsAtEnd b × ReadsNext gives a b old (Last (Some item)) t)))
-      last_some ends (Ok (Some item)) took = inr (ends, ReadsNext-taken reads (Last (Some item)) t took)
-      last_some ends (Ok None) took = tt
-      last_some ends (Err e) took = tt
-
-      pub last_none : IsAtEnd b → (r : Result (Option A) (ReadItemError E)) → ReadItemTakesLast gives fails fails_at_end keeps s r t
-          → IfOk r (λ next. IfNone next (IsAtEnd b × ReadsNext gives a b old (Last None) t))
-      last_none ends (Ok (Some item)) took = tt
-      last_none ends (Ok None) took = (ends, ReadsNext-taken reads (Last None) t took)
-      last_none ends (Err e) took = tt
-
-      pub last_lost : KeepsNext gives keeps → (r : Result (Option A) (ReadItemError E)) → ReadItemTakesLast gives fails fails_at_end keeps s r t
-          → OnErr r (ReadsMore gives a b old t)
-      last_lost law (Ok last) took = tt
-      last_lost law (Err (Decoder e)) took = ReadsMore-same reads t (law s t took.1)
-      last_lost law (Err (Io e)) took = absurd took
-      last_lost law (Err TooManyReads) took = absurd took
-
-    pub last_due : (left : Option (List ℕ)) → IsAtEnd left → (r : Result (Option A) (ReadItemError E)) → ReadItemTakesLast gives fails fails_at_end keeps s r t
-        → IfErr r (IsItemDue gives fails fails_at_end keeps left t)
-    last_due left ends (Ok last) took = tt
-    last_due left ends (Err (Decoder e)) (inl fault, keep) = (s, inl fault, keep)
-    last_due left ends (Err (Decoder e)) (inr fault, keep) = (s, inr (ends, fault), keep)
-    last_due left ends (Err (Io e)) took = absurd took
-    last_due left ends (Err TooManyReads) took = absurd took
-
-  -- a read failed while no item was held
-  pub read_due : {E : Type 0} (fails fails_at_end : Decoding D → E → Type 0) (keeps : Decoding D → Decoding D → Type 0) (left : Option (List ℕ))
-      (s : Decoding D) → LacksItem gives s → (e : ReadItemError E) → IsReadDue e → IsItemDue gives fails fails_at_end keeps left s e
-  read_due fails fails_at_end keeps left s lacks (Decoder e) due = absurd due
-  read_due fails fails_at_end keeps left s lacks (Io e) due = (lacks, due)
-  read_due fails fails_at_end keeps left s lacks TooManyReads due = lacks
+    pub last_lost : KeepsNext gives keeps → (r : Result (Option A) (ReadItemError E)) → DecodesAtEnd gives fails fails_at_end keeps s r t
+        → OnErr r (ReadsMore gives a b old t)
+    last_lost law (Ok last) took = tt
+    last_lost law (Err e) took = ReadsMore-same reads t (law s t took.1)
 
   -- ---- runs
 

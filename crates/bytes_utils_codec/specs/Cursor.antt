@@ -1,8 +1,8 @@
 -- Reading on in held bytes, which stay held.
-use Rattle.std.specs.Prelude.{◌≡◌, ◌≢◌, ℕ, ◌+◌, ◌<◌, ◌≤◌, List, [], ◌∷◌, ◌++◌, length, take, drop, Option, None, Some, Result, IfOk, IfSome, IfNone, OnErr}
+use Rattle.std.specs.Prelude.{◌≡◌, ◌≢◌, ℕ, ◌+◌, ◌<◌, ◌≤◌, List, [], ◌∷◌, ◌++◌, length, take, drop, Option, Result, IfOk, IfSome, IfNone, OnErr}
 use Rattle.std.specs.List.{concat}
 use Rattle.bytes_utils_buf.specs.Segments.{HeldSegments, IsInOneSegment, SkipsSegments, newly_held, take_from_segments}
-use Rattle.bytes_utils.specs.Occurrence.{OccursAt, OccursFirstAt}
+use Rattle.bytes_utils.specs.Occurrence.{OccursFirstAt}
 use Rattle.bytes_utils_codec.specs.Frames.{TakesFrame}
 use Rattle.bytes_utils_codec.specs.StreamLines.{TakesStreamLine}
 
@@ -51,11 +51,6 @@ NeverBeginsAtCursor wanted bytes = (more rest : List ℕ) → bytes ++ more ≢ 
 abbrev pub CursorHasNoFrameWithin : ℕ → List ℕ → List ℕ → Type 0
 CursorHasNoFrameWithin most needle bytes = (most + length needle ≤ length bytes)
     × ((more front rest : List ℕ) → TakesFrame needle (bytes ++ more) front rest → most < length front)
-
--- the first place of the needle in the bytes, if that is within the limit
-abbrev pub CursorFindsWithin : ℕ → List ℕ → List ℕ → Option ℕ → Type 0
-CursorFindsWithin most needle bytes (Some place) = OccursFirstAt needle bytes place × (place ≤ most)
-CursorFindsWithin most needle bytes None = (place : ℕ) → OccursAt needle bytes place → most < place
 
 -- what a call that reads a part returns: the part, and then the cursor is after it; none, if the bytes lack it, or an error, and then the cursor stays
 pub record CursorReadsPart {A E : Type 0} (IsPart : A → List ℕ → List ℕ → Type 0) (Lack : List ℕ → Type 0) (old new : CursorReading) (result : Result (Option A) E) : Type 0 where

@@ -99,10 +99,11 @@ IsPrefixedUnread s = (0 < s.decoder.skipped) ⊎ ((length s.held < s.decoder.nee
 abbrev pub awaits_prefixed_front : Decoding Prefixing → Type 0
 awaits_prefixed_front s = IsPrefixedUnread s ⊎ IsPrefixedPart s.decoder s.held
 
--- memory was refused for the next frame, which has come and is within the limit
+-- memory was refused for the next frame, which has come, is within the limit and isn't empty
 abbrev pub fails_prefixed_front : Decoding Prefixing → Reason → Type 0
 fails_prefixed_front s TooLong = ⊥
-fails_prefixed_front s OutOfMemory = IsPrefixedLookedAt s × ((n : ℕ) × IsPrefixedWithinLimit s.decoder s.held n × (prefixed_head_len s.decoder + n ≤ length s.held))
+fails_prefixed_front s OutOfMemory = IsPrefixedLookedAt s × ((n : ℕ) × IsPrefixedWithinLimit s.decoder s.held n
+    × (prefixed_head_len s.decoder + n ≤ length s.held) × (dropped_prefixed_len s.decoder < prefixed_head_len s.decoder + n))
 
 -- the same, where n bytes are needed
 abbrev pub needing_prefixed : ℕ → Decoding Prefixing → Decoding Prefixing

@@ -1,10 +1,10 @@
 -- Items of a decoder read from a reader, piece by piece.
-use Rattle.std.specs.Prelude.{◌≡◌, ◌≢◌, ◌⊎◌, ℕ, List, [], ◌∷◌, Option, None, Some, Result, Ok, Err, codes}
+use Rattle.std.specs.Prelude.{◌≡◌, ◌≢◌, ◌⊎◌, ℕ, List, [], ◌∷◌, Option, None, Some, codes}
 use Rattle.std.specs.List.{filter_map}
 use Rattle.std.specs.Io.KnownBytes.{Consumes, IsAtEnd}
 use Rattle.std.specs.IoError.{error_kind}
 use Rattle.std.specs.declared.io.ErrorKind.TheVariants.{Interrupted}
-use Rattle.bytes_utils_codec.specs.Decoding.{Decoding, Gives, Next, Item, Last, AreItems, HasSameNext, LacksItem, fed}
+use Rattle.bytes_utils_codec.specs.Decoding.{Decoding, Gives, Next, Item, Last, AreItems, HasSameNext, fed}
 use Rattle.bytes_utils_codec.specs.declared.decode.read.error.ReadItemError.{ReadItemError}
 use Rattle.bytes_utils_codec.specs.declared.decode.read.error.ReadItemError.TheVariants.{Decoder, Io, TooManyReads}
 
@@ -26,37 +26,24 @@ item_error_text text (Decoder error) = text error
 item_error_text text (Io error) = None
 item_error_text text TooManyReads = Some (codes "too many reads")
 
--- What a call for the next item of the held bytes did, by what it returned. `keeps` says what a call that gives no item leaves.
-abbrev pub ReadItemTakesHeld : {D A E : Type 0} → Gives D A → (Decoding D → E → Type 0) → (Decoding D → Decoding D → Type 0) → Decoding D
-    → Result (Option A) (ReadItemError E) → Decoding D → Type 0
-ReadItemTakesHeld gives fails keeps old (Ok (Some item)) new = gives old (Item item) new
-ReadItemTakesHeld gives fails keeps old (Ok None) new = LacksItem gives old × keeps old new
-ReadItemTakesHeld gives fails keeps old (Err (Decoder error)) new = fails old error × keeps old new
-ReadItemTakesHeld gives fails keeps old (Err (Io error)) new = ⊥
-ReadItemTakesHeld gives fails keeps old (Err TooManyReads) new = ⊥
-
--- the same of a call at the end of the stream, while no item is held
-abbrev pub ReadItemTakesLast : {D A E : Type 0} → Gives D A → (Decoding D → E → Type 0) → (Decoding D → E → Type 0)
-    → (Decoding D → Decoding D → Type 0) → Decoding D → Result (Option A) (ReadItemError E) → Decoding D → Type 0
-ReadItemTakesLast gives fails fails_at_end keeps old (Ok last) new = gives old (Last last) new
-ReadItemTakesLast gives fails fails_at_end keeps old (Err (Decoder error)) new = (fails old error ⊎ fails_at_end old error) × keeps old new
-ReadItemTakesLast gives fails fails_at_end keeps old (Err (Io error)) new = ⊥
-ReadItemTakesLast gives fails fails_at_end keeps old (Err TooManyReads) new = ⊥
-
 -- the error is that of a read, which is not an interruption
 abbrev pub IsReadDue : {E : Type 0} → ReadItemError E → Type 0
 IsReadDue (Decoder error) = ⊥
 IsReadDue (Io error) = error_kind error ≢ Interrupted
 IsReadDue TooManyReads = ⊥
 
--- The cause of each error: the decoder failed, and this is what its call left of the state; or no item is held, and a read failed, or there were too
--- many. For what the end of the stream alone ends the decoder fails only at the end of the input.
-abbrev pub IsItemDue : {D A E : Type 0} → Gives D A → (Decoding D → E → Type 0) → (Decoding D → E → Type 0) → (Decoding D → Decoding D → Type 0)
+-- the decoder waited for more bytes, and this is what its call left of the state
+abbrev pub IsLeftWaiting : {D : Type 0} → (Decoding D → Type 0) → (Decoding D → Decoding D → Type 0) → Decoding D → Type 0
+IsLeftWaiting {D} waits keeps new = (s : Decoding D) × waits s × keeps s new
+
+-- The cause of each error: the decoder failed, and this is what its call left of the state; or it waited for more bytes, and a read failed, or there were
+-- too many. For what the end of the stream alone ends the decoder fails only at the end of the input.
+abbrev pub IsItemDue : {D E : Type 0} → (Decoding D → Type 0) → (Decoding D → E → Type 0) → (Decoding D → E → Type 0) → (Decoding D → Decoding D → Type 0)
     → Option (List ℕ) → Decoding D → ReadItemError E → Type 0
-IsItemDue {D} gives fails fails_at_end keeps left new (Decoder error) = (s : Decoding D) × (fails s error ⊎ (IsAtEnd left × fails_at_end s error))
+IsItemDue {D} waits fails fails_at_end keeps left new (Decoder error) = (s : Decoding D) × (fails s error ⊎ (IsAtEnd left × fails_at_end s error))
     × keeps s new
-IsItemDue gives fails fails_at_end keeps left new (Io error) = LacksItem gives new × (error_kind error ≢ Interrupted)
-IsItemDue gives fails fails_at_end keeps left new TooManyReads = LacksItem gives new
+IsItemDue waits fails fails_at_end keeps left new (Io error) = IsLeftWaiting waits keeps new × (error_kind error ≢ Interrupted)
+IsItemDue waits fails fails_at_end keeps left new TooManyReads = IsLeftWaiting waits keeps new
 
 -- the error is the decoder's, which fails so in this state
 abbrev pub IsReadItemErrorOfDecoder : {D E : Type 0} → (Decoding D → E → Type 0) → Decoding D → ReadItemError E → Type 0

@@ -1,5 +1,5 @@
 -- Lines of a stream of bytes that comes in pieces, each ended by a line feed.
-use Rattle.std.specs.Prelude.{◌≡◌, ℕ, List, [], ◌∷◌, ◌++◌, map, All, IsUtf8}
+use Rattle.std.specs.Prelude.{◌≡◌, ℕ, ◌<◌, List, [], ◌∷◌, ◌++◌, length, map, All, IsUtf8}
 use Rattle.std.specs.Str.{chars}
 use Rattle.bytes_utils.specs.Occurrence.{Occurs}
 use Rattle.bytes_utils.specs.Lines.{lines, line_feed, IsFeedEnd}
@@ -11,6 +11,10 @@ pub record TakesStreamLine (old line rest : List ℕ) : Type 0 where
   pub bytes : old ≡ line ++ (end ++ rest)
   pub ends : IsFeedEnd line end
   pub lacks : ¬ Occurs (line_feed ∷ []) line
+
+-- the first line has come, and isn't empty
+abbrev pub HasStreamLine : List ℕ → Type 0
+HasStreamLine bytes = (line : List ℕ) × (rest : List ℕ) × TakesStreamLine bytes line rest × (0 < length line)
 
 -- these are the first lines of the bytes, in order, and the bytes after them
 abbrev pub AreFirstStreamLines : List ℕ → List (List ℕ) → List ℕ → Type 0

@@ -1,18 +1,18 @@
 //! Reading on in a buffer that is only borrowed.
-ghost use Rattle.std.specs.Prelude.{◌≡◌, ◌≢◌, ℕ, ◌+◌, ◌<◌, ◌≤◌, ◌↔◌, List, ◌++◌, [], ◌∷◌, length, take, drop, false, IsTrue, IsOk, IfOk, IfErr, IfSome, IfNone, OnErr};
+ghost use Rattle.std.specs.Prelude.{◌≡◌, ◌≢◌, ℕ, ◌+◌, ◌-◌, ◌<◌, ◌≤◌, ◌↔◌, List, ◌++◌, [], ◌∷◌, length, take, drop, false, IsTrue, IsOk, IfOk, IfErr, IfSome, IfNone, OnErr};
 ghost use Rattle.std.specs.List.{concat, slice_get};
-ghost use Rattle.bytes_utils_codec.specs.Cursor.{AreNextSegments, IsBegunAtCursor, CursorFindsWithin, NeverBeginsAtCursor, CursorHasNoFrameWithin, OneCursorReplyLaw, CursorReadsPart, SameCursorLaw, CursorStaysLaw, CursorStaysWrongLaw, CursorTakesFirst, CursorTakesUpTo, passed_on, unread};
+ghost use Rattle.bytes_utils_codec.specs.Cursor.{AreNextSegments, IsBegunAtCursor, NeverBeginsAtCursor, CursorHasNoFrameWithin, OneCursorReplyLaw, CursorReadsPart, SameCursorLaw, CursorStaysLaw, CursorStaysWrongLaw, CursorTakesFirst, CursorTakesUpTo, passed_on, unread};
 ghost use Rattle.bytes_utils_codec.specs.Frames.{HasFrame, HasFrameWithin, TakesFrame};
-ghost use Rattle.bytes_utils.specs.Lines.{line_feed};
-ghost use Rattle.bytes_utils.specs.Occurrence.{Occurs, OccursAt, OccursFirstAt};
+ghost use Rattle.bytes_utils.specs.Lines.{IsWithoutReturn, line_feed};
+ghost use Rattle.bytes_utils.specs.Occurrence.{Occurs, OccursFirstAt};
 ghost use Rattle.bytes_utils_codec.specs.LineReading.{IsTextLineItem};
-ghost use Rattle.bytes_utils_codec.specs.StreamLines.{TakesStreamLine};
+ghost use Rattle.bytes_utils_codec.specs.StreamLines.{HasStreamLine, TakesStreamLine};
 
 pub mod integers;
 pub mod read;
 
 use crate::decode::LineFault;
-use crate::decode::lines::{drop_return, text_of_line};
+use crate::decode::lines::text_of_line;
 use crate::find::find_from;
 use bytes::{Buf, Bytes};
 use bytes_utils::string::Str;
@@ -158,8 +158,7 @@ impl<'a, B: ContiguousBuf + Drop> Cursor<'a, B> {
 
     /// Passes `len` bytes and returns them, or returns `None` if fewer are there. They are shared
     /// if one segment has them all and shares its own, and else copied into one block. Fails with
-    /// `OutOfMemory` if memory for bytes that have all come is refused, never for none. The cursor
-    /// then stays, as with `None`.
+    /// `OutOfMemory` if memory for bytes that have all come is refused, never for none.
     pub fn take(&mut self, len: usize) -> Result<Option<Bytes>, Reason>
         ensures gives { CursorReadsPart (λ part old new. CursorTakesFirst len old part new)
             (λ bytes. length bytes < len) self.old self.new result }
@@ -194,7 +193,7 @@ impl<'a, B: ContiguousBuf + Drop> Cursor<'a, B> {
     /// Returns the bytes before the next `needle`, as `take` does, and passes them and the needle.
     /// Returns `None` if it has not come yet. Requires that `needle` is not empty (test:
     /// `is_empty`). Fails with `OutOfMemory` if memory for the bytes before the needle is refused,
-    /// never if there are none. The cursor then stays, as with `None`.
+    /// never if there are none.
     pub fn take_until(&mut self, needle: &[u8]) -> Result<Option<Bytes>, Reason>
         requires { 0 < length needle.now }
         ensures gives { CursorReadsPart (λ part old new. TakesFrame needle.now old part new)
@@ -211,8 +210,7 @@ impl<'a, B: ContiguousBuf + Drop> Cursor<'a, B> {
     /// As `take_until`, if at most `most` bytes are before the needle. Fails with `TooLong` if there
     /// are more, as soon as the bytes that have come are enough for `most` and the needle, and the
     /// needle isn't among them. Fails with `OutOfMemory` if memory is refused for bytes within the
-    /// limit that have come, never if none are before the needle. The cursor then stays, as with
-    /// `None`.
+    /// limit that have come, never if none are before the needle.
     pub fn take_until_within(&mut self, needle: &[u8], most: usize) -> Result<Option<Bytes>, Reason>
         requires { 0 < length needle.now }
         ensures gives { CursorReadsPart (λ part old new. TakesFrame needle.now old part new)
@@ -245,13 +243,11 @@ impl<'a, B: ContiguousBuf + Drop> Cursor<'a, B> {
         ensures too_long { IfErr result (λ reason. (reason ≡ Reason.TooLong)
             × CursorHasNoFrameWithin most needle.now (unread self.now)) }
     {
-        if let Some(len) = self.first_within(needle, most) {
-            return Ok(Some(len));
+        match self.find(needle) {
+            Some(place) if place <= most => Ok(Some(place)),
+            None if !self.has_all_within(needle, most) => Ok(None),
+            _ => Err(Reason::TooLong),
         }
-        if self.has_all_within(needle, most) {
-            return Err(Reason::TooLong);
-        }
-        Ok(None)
     }
 
     /// Whether at least as many bytes have come as `most` and the needle have together.
@@ -259,15 +255,6 @@ impl<'a, B: ContiguousBuf + Drop> Cursor<'a, B> {
         ensures { IsTrue result ↔ (most + length needle.now ≤ length (unread self.now)) }
     {
         needle.len() <= self.remaining() && most <= self.remaining() - needle.len()
-    }
-
-    /// Returns how many bytes after the cursor `needle` occurs first, if these are at most `most`.
-    fn first_within(&self, needle: &[u8], most: usize) -> Option<usize>
-        requires { 0 < length needle.now }
-        ensures { CursorFindsWithin most needle.now (unread self.now) result }
-    {
-        let place = self.find(needle)?;
-        (place <= most).then_some(place)
     }
 
     /// As `take_until`, but the needle isn't passed: the cursor is at its first byte then.
@@ -285,8 +272,7 @@ impl<'a, B: ContiguousBuf + Drop> Cursor<'a, B> {
     }
 
     /// Passes `bytes` if they are next. Returns `None` if only a beginning of them has come, or
-    /// nothing yet. Fails with `Mismatch` at a wrong byte, as early as it has come. The cursor then
-    /// stays, as with `None`.
+    /// nothing yet. Fails with `Mismatch` at a wrong byte, as early as it has come.
     pub fn tag(&mut self, bytes: &[u8]) -> Result<Option<()>, Mismatch>
         ensures passed { IfOk result (λ next. IfSome next (λ _.
             unread self.old ≡ bytes.now ++ unread self.new)) }
@@ -309,19 +295,20 @@ impl<'a, B: ContiguousBuf + Drop> Cursor<'a, B> {
 
     /// Passes the next line with its end and returns it, as [`Lines`](crate::decode::Lines) does: if
     /// it is not UTF-8, a fault that has its bytes. Returns `None` if its line feed has not come yet.
-    /// Fails with `OutOfMemory` if memory for a line that has come is refused, never if nothing is
-    /// before its line feed. The cursor then stays, as with `None`.
+    /// Fails with `OutOfMemory` if memory for a line that has come is refused, never for an empty one.
     pub fn line(&mut self) -> Result<Option<Result<Str, LineFault>>, Reason>
         ensures gives { CursorReadsPart
             (λ item old new. (line : List ℕ) × TakesStreamLine old line new × IsTextLineItem false item line)
             (λ bytes. ¬ Occurs (line_feed ∷ []) bytes) self.old self.new result }
         ensures reason { IfErr result (λ reason. reason ≡ Reason.OutOfMemory) }
-        ensures due { OnErr result (HasFrame (line_feed ∷ []) (unread self.old)) }
+        ensures due { OnErr result (HasStreamLine (unread self.old)) }
     {
-        let Some(mut line) = self.take_until(b"\n")? else {
+        let Some(len) = self.find(b"\n") else {
             return Ok(None);
         };
-        drop_return(&mut line);
+        let line_len = len_without_return(self.buf, self.at, self.at + len);
+        let line = self.take_bytes(line_len)?;
+        self.advance(len - line_len + 1);
         Ok(Some(text_of_line(line)))
     }
 
@@ -354,6 +341,25 @@ impl<'a, B: ContiguousBuf + Drop> Cursor<'a, B> {
         let bytes = self.buf.copy_range(self.alloc, self.at..self.at + len)?;
         self.at += len;
         Ok(bytes)
+    }
+}
+
+/// The number of the bytes from `start` to `end` without one carriage return at their end, if they
+/// have one.
+fn len_without_return<B: ContiguousBuf + Drop>(
+    buf: &SegmentedBuf<B>,
+    start: usize,
+    end: usize,
+) -> usize
+    requires { (start ≤ end) × (end ≤ length (concat buf.now.segments)) }
+    ensures line { IsWithoutReturn (take result (drop start (concat buf.now.segments)))
+        (take (end - start) (drop start (concat buf.now.segments))) }
+    ensures within { result ≤ end - start }
+{
+    if start < end && buf.byte_at(end - 1) == Some(b'\r') {
+        end - 1 - start
+    } else {
+        end - start
     }
 }
 

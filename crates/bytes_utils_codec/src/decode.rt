@@ -27,9 +27,8 @@ pub use universal_lines::{UniversalLines, universal_line_laws};
 /// `decode` over the bytes that have come. [`Framed`] holds these, and makes a reader of it, whose
 /// items don't depend on where the pieces were cut (`decoder_laws`).
 ///
-/// The bytes are in a [`PackedBuf`], so that a peer that sends single bytes doesn't fill the memory
-/// with segments. Bytes that wait for more can be looked at before they are taken, by `as_segmented`
-/// and the calls of `SegmentedBuf`.
+/// The bytes are in a [`PackedBuf`]. Those that wait for more can be looked at before they are taken,
+/// by `as_segmented` and the calls of `SegmentedBuf`.
 ///
 /// The members that are ghosts say what a decoder does; the clauses and the last four are its laws.
 /// If its state never changes but for the bytes that it holds, one relation and three facts give

@@ -79,17 +79,10 @@ impl Search {
     {
         let found = find_prepared(held, self.searched, &self.finder, &mut self.window);
         if found.is_none() {
-            self.pass(held.remaining());
+            let most = self.finder.needle().len() - 1;
+            self.searched = self.searched.max(held.remaining().saturating_sub(most));
         }
         found
-    }
-
-    /// Notes that the needle is not in the first `len` bytes.
-    fn pass(&mut self, len: usize)
-        ensures { (bytes : _) → length bytes ≡ len → self.new ≡ searched_all self.old bytes }
-    {
-        let begun = len.saturating_sub(self.finder.needle().len() - 1);
-        self.searched = self.searched.max(begun);
     }
 
     /// Returns the place from which the next call searches.

@@ -8,8 +8,7 @@ use super::Cursor;
 use bytes_utils_buf::contiguous::ContiguousBuf;
 
 impl<'a, B: ContiguousBuf + Drop> Cursor<'a, B> {
-    /// Passes the next `N` bytes and returns them, or returns `None` if fewer are there. The cursor
-    /// then stays.
+    /// Passes the next `N` bytes and returns them, or returns `None` if fewer are there.
     pub fn take_array<const N: usize>(&mut self) -> Option<[u8; N]>
         ensures { CursorReadsValue N (λ bytes. bytes) self.old self.new result }
     {

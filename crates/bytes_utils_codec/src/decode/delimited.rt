@@ -119,28 +119,6 @@ impl Delimited {
         self.next_len(held)
     }
 
-    /// Takes the next frame, or reports that it is longer than the limit.
-    fn take_frame(&mut self, alloc: Global, held: &mut PackedBuf) -> Result<Option<Frame>, Reason>
-        ensures step { Decodes gives_delimited AwaitsDelimitedFrame fails_delimited keeps_delimited
-            (decoding self.old held.old) result (decoding self.new held.new) }
-        ensures stops { IfOk result (λ next. IfNone next
-            (StopsDelimited (decoding self.old held.old) (decoding self.new held.new))) }
-
-        // All waiting bytes were searched, but for the last ones, in which a separator may begin.
-        ensures searched { self.old.skipping ≡ false → IfOk result (λ next. IfNone next
-            (decoding self.new held.new ≡ all_delimited_searched (decoding self.old held.old))) }
-    {
-        match self.next_frame(held) {
-            None => Ok(None),
-            Some(Err(over)) => Ok(Some(Err(over))),
-            Some(Ok(len)) => {
-                let frame = held.take_bytes(alloc, len)?;
-                self.pass_separator(held);
-                Ok(Some(Ok(frame)))
-            }
-        }
-    }
-
     /// Drops the frame that is skipped, if there is one, or those of its bytes that have come. Returns
     /// whether the held bytes begin with the next frame now.
     fn pass_skipped(&mut self, held: &mut PackedBuf) -> bool
@@ -258,12 +236,29 @@ impl Decoder for Delimited {
 
     ghost restarted = { ready_delimited };
 
-    fn decode(&mut self, alloc: Global, held: &mut PackedBuf) -> Result<Option<Frame>, Reason> {
-        self.take_frame(alloc, held)
+    fn decode(&mut self, alloc: Global, held: &mut PackedBuf) -> Result<Option<Frame>, Reason>
+        ensures step { Decodes gives_delimited AwaitsDelimitedFrame fails_delimited keeps_delimited
+            (decoding self.old held.old) result (decoding self.new held.new) }
+        ensures stops { IfOk result (λ next. IfNone next
+            (StopsDelimited (decoding self.old held.old) (decoding self.new held.new))) }
+
+        // All waiting bytes were searched, but for the last ones, in which a separator may begin.
+        ensures searched { self.old.skipping ≡ false → IfOk result (λ next. IfNone next
+            (decoding self.new held.new ≡ all_delimited_searched (decoding self.old held.old))) }
+    {
+        match self.next_frame(held) {
+            None => Ok(None),
+            Some(Err(over)) => Ok(Some(Err(over))),
+            Some(Ok(len)) => {
+                let frame = held.take_bytes(alloc, len)?;
+                self.pass_separator(held);
+                Ok(Some(Ok(frame)))
+            }
+        }
     }
 
     fn decode_eof(&mut self, alloc: Global, held: &mut PackedBuf) -> Result<Option<Frame>, Reason> {
-        let frame = self.take_frame(alloc, held)?;
+        let frame = self.decode(alloc, held)?;
         if frame.is_none() {
             self.pass_end(held);
         }

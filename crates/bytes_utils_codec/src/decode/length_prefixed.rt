@@ -1,5 +1,5 @@
 //! Frames that come after their lengths.
-ghost use Rattle.std.specs.Prelude.{◌≡◌, ◌+◌, ◌*◌, ◌-◌, ◌^◌, ◌<◌, ◌≤◌, ◌↔◌, length, reverse, take, drop, false, true, Some, IsTrue, IfOk, IfErr, IfSome, IfNone};
+ghost use Rattle.std.specs.Prelude.{◌≡◌, ◌+◌, ◌*◌, ◌-◌, ◌^◌, ◌<◌, ◌≤◌, ◌↔◌, length, reverse, take, drop, false, true, Some, IsTrue, IfOk, IfErr, IfSome, IfNone, OnErr, OnOk};
 ghost use Rattle.std.specs.List.{concat};
 ghost use Rattle.std.specs.Int.Digits.{number_from_digits};
 ghost use Rattle.bytes_utils_codec.specs.Decoding.{Decodes, DecodesAtEnd, decoding};
@@ -40,8 +40,8 @@ type Frame = Result<Bytes, FrameTooLong>;
 ///
 /// A frame that lies with its head in one segment shares it: a piece of more than 512 bytes, or a
 /// block of copied ones. Any other is copied into one block. `OutOfMemory` comes only for a frame
-/// within the limit that has come. At the end of the stream, bytes that are no whole frame are
-/// left, but for those of a frame that is skipped.
+/// within the limit that has come and isn't empty. At the end of the stream, bytes that are no whole
+/// frame are left, but for those of a frame that is skipped.
 ///
 /// tokio-util's `LengthDelimitedCodec` differs in two things: its limit is on the length before the
 /// adjustment, and that adjusts the number of bytes after those that are dropped, not after the head.
@@ -262,6 +262,29 @@ fn little_endian_number(bytes: &[u8]) -> u64
     number
 }
 
+/// Takes the first `end` bytes, and returns those from `start` on. Fails with `OutOfMemory` if memory
+/// is refused, never for none; then nothing has changed.
+fn take_from(alloc: Global, held: &mut PackedBuf, start: usize, end: usize) -> Result<Bytes, Reason>
+    requires { (start ≤ end) × (end ≤ length (concat held.old.held.segments)) }
+    ensures bytes { IfOk result
+        (λ bytes. bytes ≡ drop start (take end (concat held.old.held.segments))) }
+    ensures ok { OnOk result
+        (concat held.new.held.segments ≡ drop end (concat held.old.held.segments)) }
+    ensures err { OnErr result
+        (concat held.new.held.segments ≡ concat held.old.held.segments) }
+    ensures some { OnErr result (start < end) }
+    ensures threshold { held.new.threshold ≡ held.old.threshold }
+    ensures reason { IfErr result (λ reason. reason ≡ Reason.OutOfMemory) }
+{
+    if start == end {
+        held.advance(end);
+        return Ok(Bytes::new());
+    }
+    let mut bytes = held.take_bytes(alloc, end)?;
+    bytes.advance(start);
+    Ok(bytes)
+}
+
 impl Decoder for LengthPrefixed {
     type Item = Result<Bytes, FrameTooLong>;
 
@@ -300,9 +323,8 @@ impl Decoder for LengthPrefixed {
             return Ok(None);
         }
         let end = head + len;
-        let mut frame = held.take_bytes(alloc, end)?;
+        let frame = take_from(alloc, held, self.dropped.unwrap_or(head).min(end), end)?;
         self.needed = 0;
-        frame.advance(self.dropped.unwrap_or(head).min(end));
         Ok(Some(Ok(frame)))
     }
 

@@ -258,15 +258,6 @@ fn is_return_at(held: &PackedBuf, place: usize) -> bool
     }
 }
 
-/// Removes one carriage return from the end, if there is one.
-pub(crate) fn drop_return(line: &mut Bytes)
-    ensures { IsWithoutReturn line.new line.old }
-{
-    if line.as_slice().ends_with(b"\r") {
-        line.truncate(line.len() - 1);
-    }
-}
-
 /// Takes all bytes as the last line, if there are any.
 pub(super) fn take_last_line(
     alloc: Global,

@@ -2,8 +2,8 @@
 ghost use Rattle.std.specs.Prelude.{◌≡◌, ◌⊎◌, None, Some, IfOk, IfErr, IfSome, IfNone, OnErr};
 ghost use Rattle.std.specs.Bool.{OnFalse};
 ghost use Rattle.std.specs.Io.KnownBytes.{IsAtEnd};
-ghost use Rattle.bytes_utils_codec.specs.Decoding.{Decoding, IsFedBy, Item, LacksItem, Last};
-ghost use Rattle.bytes_utils_codec.specs.ReadItem.{IsItemDue, IsReadItemErrorOfDecoder, IsReadDue, ReadItemsLaw, ReadSameLaw, ReadWholeLaw, ReadsMore, ReadsNext, ReadItemTakesHeld, ReadItemTakesLast};
+ghost use Rattle.bytes_utils_codec.specs.Decoding.{Decodes, DecodesAtEnd, IsFedBy, Item, Last};
+ghost use Rattle.bytes_utils_codec.specs.ReadItem.{IsItemDue, IsReadItemErrorOfDecoder, IsReadDue, ReadItemsLaw, ReadSameLaw, ReadWholeLaw, ReadsMore, ReadsNext};
 
 mod error;
 
@@ -32,13 +32,12 @@ impl<D: Decoder> Framed<D> {
         ensures none_lost { OnErr result (ReadsMore D.gives
             (R.remaining input.old) (R.remaining input.new) self.old self.new) }
         ensures due { IfErr result
-            (IsItemDue D.gives D.fails D.fails_at_end D.keeps (R.remaining input.new) self.new) }
+            (IsItemDue D.waits D.fails D.fails_at_end D.keeps (R.remaining input.new) self.new) }
 
-        // If an item is held, nothing is read, and the only error is the decoder's.
-        ensures unread { (item : D.Item) (after : Decoding D)
-            → D.gives self.old (Item item) after → input.new ≡ input.old }
-        ensures at_once { (item : D.Item) (after : Decoding D)
-            → D.gives self.old (Item item) after → IfErr result (IsReadItemErrorOfDecoder D.fails self.old) }
+        // Unless the decoder waits for more bytes, nothing is read, and the only error is the
+        // decoder's.
+        ensures unread { (¬ D.waits self.old) → input.new ≡ input.old }
+        ensures at_once { (¬ D.waits self.old) → IfErr result (IsReadItemErrorOfDecoder D.fails self.old) }
     {
         if let Some(held) = self.held_item()? {
             return Ok(Some(held));
@@ -71,7 +70,8 @@ impl<D: Decoder> Framed<D> {
 
     /// Returns the next item that the held bytes have.
     fn held_item(&mut self) -> Result<Option<D::Item>, ReadItemError<D::Error>>
-        ensures { ReadItemTakesHeld D.gives D.fails D.keeps self.old result self.new }
+        ensures { Decodes D.gives D.waits (IsReadItemErrorOfDecoder D.fails) D.keeps
+            self.old result self.new }
     {
         match self.next_item() {
             Ok(next) => Ok(next),
@@ -81,8 +81,8 @@ impl<D: Decoder> Framed<D> {
 
     /// Returns the item that the end of the input ends.
     fn end_item(&mut self) -> Result<Option<D::Item>, ReadItemError<D::Error>>
-        requires { LacksItem D.gives self.old }
-        ensures { ReadItemTakesLast D.gives D.fails D.fails_at_end D.keeps self.old result self.new }
+        ensures { DecodesAtEnd D.gives (IsReadItemErrorOfDecoder D.fails)
+            (IsReadItemErrorOfDecoder D.fails_at_end) D.keeps self.old result self.new }
     {
         match self.last_item() {
             Ok(last) => Ok(last),
