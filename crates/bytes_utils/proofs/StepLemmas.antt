@@ -1,14 +1,32 @@
 -- What a caller concludes from the steps of a splitter.
-use Rattle.std.proofs.Common.{◌≡◌, sym, ap, subst, ◌∙◌, ℕ, ◌<◌, List, [], ◌∷◌, ◌++◌, Result, Ok, MatchResult, length, map, arith, append_assoc, append-nil}
+use Rattle.std.proofs.Common.{◌≡◌, refl, sym, ap, subst, ◌∙◌, ℕ, ◌<◌, List, [], ◌∷◌, ◌++◌, Option, None, Some, MatchOption, Result, Ok, MatchResult, length, map, take, drop, arith, append_assoc, append-nil, take-append-drop}
 use Rattle.std.proofs.lemmas.List.{map-append}
 use Rattle.std.specs.Str.{chars}
-use Rattle.bytes_utils.specs.Step.{StepGivesFirst, StepGivesItem, StepsHaveGiven}
+use Rattle.bytes_utils.specs.Step.{LeavesEnd, StepGivesFirst, StepGivesItem, StepsHaveGiven}
 
 -- a step that gave a part gives the first of those to come
 pub given : {S E : Type 0} {coming : S → List (List ℕ) → Type 0} {refuses : S → E → Type 0} {s t : S} {item : Result (List ℕ) E} {part : List ℕ}
     → item ≡ Ok part → StepGivesItem chars coming refuses s item t → StepGivesFirst coming s (chars part) t
 given {coming} {refuses} {s} {t} is step =
     subst (λ i. MatchResult i (λ p. StepGivesFirst coming s (chars p) t) (λ reason. refuses s reason × coming t [])) is step.gives
+
+-- what is left ends itself
+pub LeavesEnd-self : (s : Option (List ℕ)) → LeavesEnd s s
+LeavesEnd-self None = tt
+LeavesEnd-self (Some text) = ([], refl)
+
+-- an end of an end is an end
+pub LeavesEnd-trans : (s t u : Option (List ℕ)) → LeavesEnd s t → LeavesEnd t u → LeavesEnd s u
+LeavesEnd-trans s t None first next = tt
+LeavesEnd-trans s None (Some rest) first next = absurd next
+LeavesEnd-trans None (Some middle) (Some rest) first next = absurd first
+LeavesEnd-trans (Some text) (Some middle) (Some rest) first next =
+    (first.0 ++ next.0, append_assoc first.0 next.0 rest ∙ ap (λ z. first.0 ++ z) next.1 ∙ first.1)
+
+-- what is after a byte place, if anything, is an end
+pub LeavesEnd-after : (text : List ℕ) (end : ℕ) (left : Option (List ℕ)) → MatchOption left (end ≡ length text) (λ rest. rest ≡ drop end text) → LeavesEnd (Some text) left
+LeavesEnd-after text end None at_end = tt
+LeavesEnd-after text end (Some rest) is = (take end text, ap (λ z. take end text ++ z) is ∙ take-append-drop end text)
 
 -- Steps of a loop over a splitter.
 module _ {S X : Type 0} (coming : S → List X → Type 0) (start : S) where

@@ -1,6 +1,7 @@
 -- What one call of a splitter's `next` does.
-use Rattle.std.specs.Prelude.{ℕ, List, [], ◌∷◌, ◌++◌, Option, Result, MatchOption, MatchResult}
+use Rattle.std.specs.Prelude.{ℕ, List, [], ◌∷◌, ◌++◌, Option, Result, MatchOption, MatchResult, IfSome, IsSomeAnd}
 use Rattle.std.specs.Str.{chars}
+use Rattle.bytes_utils.specs.Ends.{EndsWith}
 
 -- Below, `coming s parts` says that in the state s of a splitter these parts are to come; at most one list is. `seen`
 -- maps an item to the member of such a list, a text to its characters. `refuses s reason` says that a step from s may be
@@ -25,6 +26,10 @@ IsStepOf seen coming refuses s r t = MatchOption r (coming s [] × coming t []) 
 -- a step of a splitter whose items are texts
 abbrev pub IsStep : {S E : Type 0} → (S → List (List ℕ) → Type 0) → (S → E → Type 0) → S → Option (Result (List ℕ) E) → S → Type 0
 IsStep coming refuses s r t = IsStepOf chars coming refuses s r t
+
+-- The states s and t are what is still to be split, if anything: what is left in t, if anything, ends what was left in s.
+abbrev pub LeavesEnd : Option (List ℕ) → Option (List ℕ) → Type 0
+LeavesEnd s t = IfSome t (λ rest. IsSomeAnd s (EndsWith rest))
 
 -- What a loop over a splitter keeps: since the state `start` the splitter has given these parts, and it is in the state
 -- `now`. Some list is to come, and the parts followed by each such list were to come at the start.

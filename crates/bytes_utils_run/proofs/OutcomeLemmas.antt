@@ -1,5 +1,5 @@
 -- What follows from an outcome.
-use Rattle.std.proofs.Common.{◌≡◌, sym, List, ◌++◌, ◌<◌, length, Option, None, Some, Result, Ok, Err, map, subst, arith, IfErr, IsErrAnd}
+use Rattle.std.proofs.Common.{◌≡◌, sym, List, ◌++◌, ◌<◌, length, Option, None, Some, Result, Ok, Err, map, subst, arith, IfErr, IfSome, IsErrAnd}
 use Rattle.std.proofs.lemmas.Bool.{false≢true}
 use Rattle.std.proofs.lemmas.List.{map-append, length-map}
 use Rattle.std.specs.Result.{IsErr, result_err}
@@ -31,3 +31,8 @@ Outcome-refused Is given (Err _) _ missing = missing
 pub IfErr-same : {T E : Type 0} (result : Result T E) (e : E) (P : E → Type 0) → IsErrAnd result (λ x. x ≡ e) → P e → IfErr result P
 IfErr-same (Ok _) e P is holds = tt
 IfErr-same (Err _) e P is holds = subst P (sym is) holds
+
+-- what holds of a result's error holds of it as an option
+pub IfSome-error : {T E : Type 0} (P : E → Type 0) (result : Result T E) (refused : Option E) → refused ≡ result_err result → IfErr result P → IfSome refused P
+IfSome-error P (Ok _) refused is holds = subst (λ r. IfSome r P) (sym is) tt
+IfSome-error P (Err e) refused is holds = subst (λ r. IfSome r P) (sym is) holds

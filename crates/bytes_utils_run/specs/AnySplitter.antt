@@ -1,11 +1,11 @@
 -- The parts to come of a text by any of the ways to split, one part a step.
-use Rattle.std.specs.Prelude.{◌≡◌, ℕ, List, length, Option, None, Some, ⊤}
+use Rattle.std.specs.Prelude.{◌≡◌, ℕ, List, [], length, Option, None, Some}
 use Rattle.std.specs.Char.{is_whitespace, is_ascii_whitespace}
 use Rattle.std.specs.Option.{option_map_or}
 use Rattle.bytes_utils.specs.Keeping.{Keeping, AreInclusivePartsToCome, RefusesInclusive, most_inclusive_parts}
 use Rattle.bytes_utils.specs.Lines.{AreLinesToCome, RefusesLine}
 use Rattle.bytes_utils.specs.Splitting.{Splitting, AreForwardPartsToCome, AreBackwardPartsToCome, RefusesSplit, all_of, most_parts}
-use Rattle.bytes_utils.specs.Step.{StepsHaveGiven}
+use Rattle.bytes_utils.specs.Step.{LeavesEnd, StepsHaveGiven}
 use Rattle.bytes_utils.specs.Words.{AreWordsToCome, RefusesWord}
 use Rattle.bytes_utils.specs.declared.split.direction.Direction.TheVariants.{Forward, Backward}
 use Rattle.bytes_utils_run.specs.declared.how.How.{How}
@@ -43,31 +43,25 @@ splitter_of (AtEachFromBack separator) text = RSplit (all_of text separator.now 
 splitter_of (AtMostFromBack most separator) text = RSplit (all_of text separator.now (Some most))
 splitter_of (AfterEach separator) text = Inclusive (record { rest = Some text; separator = separator.now })
 
--- the second splitter is of the kind of the first
-abbrev pub IsOfKind : {S C : Type 0} → AnySplitter S C → AnySplitter S C → Type 0
-IsOfKind (Words _) s = (rest : Option (List ℕ)) × (s ≡ Words rest)
-IsOfKind (AsciiWords _) s = (rest : Option (List ℕ)) × (s ≡ AsciiWords rest)
-IsOfKind (Lines _) s = (rest : Option (List ℕ)) × (s ≡ Lines rest)
-IsOfKind (Split _) s = (state : Splitting) × (s ≡ Split state)
-IsOfKind (RSplit _) s = (state : Splitting) × (s ≡ RSplit state)
-IsOfKind (Inclusive _) s = (state : Keeping) × (s ≡ Inclusive state)
+-- The second splitter may come of steps of the first. It is of the same kind; of words and lines it has an end left, and
+-- from the back it has the same separator.
+abbrev pub GoesOnTo : {S C : Type 0} → AnySplitter S C → AnySplitter S C → Type 0
+GoesOnTo (Words left) s = (rest : Option (List ℕ)) × (s ≡ Words rest) × LeavesEnd left rest
+GoesOnTo (AsciiWords left) s = (rest : Option (List ℕ)) × (s ≡ AsciiWords rest) × LeavesEnd left rest
+GoesOnTo (Lines left) s = (rest : Option (List ℕ)) × (s ≡ Lines rest) × LeavesEnd left rest
+GoesOnTo (Split _) s = (state : Splitting) × (s ≡ Split state)
+GoesOnTo (RSplit first) s = (state : Splitting) × (s ≡ RSplit state) × (state.separator ≡ first.separator)
+GoesOnTo (Inclusive _) s = (state : Keeping) × (s ≡ Inclusive state)
 
--- since the state `start` these parts were given, up to a state in which a step may be refused for this reason
-abbrev RefusesAfter : {T E : Type 0} → (T → List (List ℕ) → Type 0) → (T → E → Type 0) → T → List (List ℕ) → E → Type 0
-RefusesAfter {T} coming refuses start parts reason = (last : T) × StepsHaveGiven coming start parts last × refuses last reason
+-- since the splitter `start` these parts were given, up to `now`, which is the start if none was
+pub record HasGiven {S C : Type 0} (start : AnySplitter S C) (parts : List (List ℕ)) (now : AnySplitter S C) : Type 0 where
+  pub had : StepsHaveGiven AreToCome start parts now
+  pub goes : GoesOnTo start now
+  pub first : parts ≡ [] → now ≡ start
 
--- the same of any splitter, which stays of its kind
+-- after these parts a step may be refused for this reason
 abbrev pub MayRefuseAfter : {S C E : Type 0} → (Type 0 → E → Type 0) → AnySplitter S C → List (List ℕ) → E → Type 0
-MayRefuseAfter refuses_cut (Words rest) = RefusesAfter (AreWordsToCome is_whitespace) (RefusesWord refuses_cut is_whitespace) rest
-MayRefuseAfter refuses_cut (AsciiWords rest) = RefusesAfter (AreWordsToCome is_ascii_whitespace) (RefusesWord refuses_cut is_ascii_whitespace) rest
-MayRefuseAfter refuses_cut (Lines rest) = RefusesAfter AreLinesToCome (RefusesLine refuses_cut) rest
-MayRefuseAfter refuses_cut (Split s) = RefusesAfter AreForwardPartsToCome (RefusesSplit refuses_cut Forward) s
-MayRefuseAfter refuses_cut (RSplit s) = RefusesAfter AreBackwardPartsToCome (RefusesSplit refuses_cut Backward) s
-MayRefuseAfter refuses_cut (Inclusive s) = RefusesAfter AreInclusivePartsToCome (RefusesInclusive refuses_cut) s
-
--- the same of the splitter of a text, whatever its storage
-abbrev pub MayRefuseTextAfter : {E : Type 0} → (Type 0 → E → Type 0) → How → List ℕ → List (List ℕ) → E → Type 0
-MayRefuseTextAfter refuses_cut how text = MayRefuseAfter {S = ⊤} {C = ⊤} refuses_cut (splitter_of how text)
+MayRefuseAfter {S} {C} refuses_cut start parts reason = (last : AnySplitter S C) × HasGiven start parts last × RefusesNext refuses_cut last reason
 
 -- a bound on the number of parts to come
 abbrev pub most_to_come : {S C : Type 0} → AnySplitter S C → ℕ

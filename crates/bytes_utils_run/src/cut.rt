@@ -4,7 +4,7 @@ ghost use Rattle.std.specs.Result.{result_err};
 ghost use Rattle.std.specs.Str.{chars};
 ghost use Rattle.bytes_utils.specs.Ends.{RefusesCut};
 ghost use Rattle.bytes_utils.specs.Outcome.{Outcome};
-ghost use Rattle.bytes_utils_run.specs.AnySplitter.{AreToCome, MayRefuseAfter, MayRefuseTextAfter};
+ghost use Rattle.bytes_utils_run.specs.AnySplitter.{AreToCome, MayRefuseAfter, splitter_of};
 ghost use Rattle.bytes_utils_run.specs.Cutting.{ArePartsBy, JoinTo, cutting, IsCuttingAllowed};
 
 use crate::how::How;
@@ -61,8 +61,8 @@ pub fn cut_all<S: Storage>(alloc: Global, text: StrInner<S>, how: How<'_>) -> Pa
         (λ reason. S.refuses reason ⊎ (reason ≡ Reason.OutOfMemory)) }
     // After the given parts a split may be refused for it, or the list is full.
     ensures cause { IfSome result.refused (λ reason.
-        MayRefuseTextAfter (RefusesCut S.refuses S.refuses_empty S.refuses_side)
-        how.entry text (map chars result.given.items) reason
+        MayRefuseAfter (RefusesCut S.refuses S.refuses_empty S.refuses_side)
+        (splitter_of {S = S} {C = S.Creator} how.entry text) (map chars result.given.items) reason
         ⊎ ((reason ≡ Reason.OutOfMemory) × (vec_capacity result.given ≤ vec_len result.given))) }
 {
     let mut given = Vec::new(alloc);

@@ -4,7 +4,7 @@ ghost use Rattle.std.specs.Iterator.{at_most};
 ghost use Rattle.std.specs.Str.{chars};
 ghost use Rattle.bytes_utils.specs.Ends.{RefusesCut};
 ghost use Rattle.bytes_utils.specs.Step.{IsStep};
-ghost use Rattle.bytes_utils_run.specs.AnySplitter.{AreToCome, IsOfKind, RefusesNext, most_to_come, splitter_of};
+ghost use Rattle.bytes_utils_run.specs.AnySplitter.{AreToCome, GoesOnTo, RefusesNext, most_to_come, splitter_of};
 ghost use Rattle.bytes_utils_run.specs.Cutting.{ArePartsBy, cutting, IsCuttingAllowed};
 
 use crate::how::How;
@@ -64,7 +64,7 @@ impl<'s, S: Storage> AnySplitter<'s, S> {
 impl<'s, S: Storage> Iterator for AnySplitter<'s, S> {
     type Item = Result<StrInner<S>, Reason>;
 
-    ghost next_gives = { λ s r t. IsOfKind s t × IsStep AreToCome
+    ghost next_gives = { λ s r t. GoesOnTo s t × IsStep AreToCome
         (RefusesNext (RefusesCut S.refuses S.refuses_empty S.refuses_side)) s r t };
 
     ghost remaining = { λ s. at_most (most_to_come s) };

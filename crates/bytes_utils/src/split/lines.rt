@@ -5,7 +5,7 @@ ghost use Rattle.std.specs.Option.{option_map_or};
 ghost use Rattle.std.specs.Str.{chars};
 ghost use Rattle.bytes_utils.specs.Ends.{RefusesAtEnd, RefusesCut};
 ghost use Rattle.bytes_utils.specs.Lines.{AreLinesToCome, HoldsLineFeed, RefusesLine, lines, text_after_line};
-ghost use Rattle.bytes_utils.specs.Step.{StepGivesFirst, IsStep};
+ghost use Rattle.bytes_utils.specs.Step.{StepGivesFirst, IsStep, LeavesEnd};
 
 use super::cut::{Cut, cut_around, yield_part};
 use super::search::search_alone;
@@ -52,6 +52,7 @@ pub fn line_place(text: &str) -> Option<(usize, usize)>
 fn first_line<S: Storage>(text: StrInner<S>) -> Result<Cut<S>, Reason>
     requires { 0 < length text }
     ensures gives { IfOk result (λ cut. StepGivesFirst AreLinesToCome (Some text) (chars cut.0) cut.1) }
+    ensures leaves { IfOk result (λ cut. LeavesEnd (Some text) cut.1) }
     ensures shorter { IfOk result (λ cut. IfSome cut.1 (λ rest. length rest < length text)) }
     ensures err { OnErr result (HoldsLineFeed (Some text)) }
     ensures ends { text_after_line (chars text) ≡ []
@@ -65,8 +66,8 @@ fn first_line<S: Storage>(text: StrInner<S>) -> Result<Cut<S>, Reason>
     Ok((line, Some(rest)))
 }
 
-/// An iterator over the lines of a text, first to last, as `str::lines` has them. If a split is
-/// refused, the error is the last item.
+/// An iterator over the lines of a text, first to last, as `str::lines` has them. What a step leaves
+/// is an end of the text. If a split is refused, the error is the last item.
 #[derive(Drop)]
 pub struct LinesBytes<S: Storage> {
     rest: Option<StrInner<S>>,
@@ -94,7 +95,7 @@ impl<S: Storage> StrInner<S> {
 impl<S: Storage> Iterator for LinesBytes<S> {
     type Item = Result<StrInner<S>, Reason>;
 
-    ghost next_gives = { λ s r t. IsStep AreLinesToCome
+    ghost next_gives = { λ s r t. LeavesEnd s t × IsStep AreLinesToCome
         (RefusesLine (RefusesCut S.refuses S.refuses_empty S.refuses_side)) s r t };
 
     ghost remaining = { λ s. at_most (option_map_or length s 0) };

@@ -135,8 +135,9 @@ impl<S: Storage> StrInner<S> {
 impl<'s, S: Storage> Iterator for RSplitBytes<'s, S> {
     type Item = Result<StrInner<S>, Reason>;
 
-    ghost next_gives = { IsStep AreBackwardPartsToCome
-        (RefusesSplit (RefusesCut S.refuses S.refuses_empty S.refuses_side) Backward) };
+    ghost next_gives = { λ s r t. (t.separator ≡ s.separator)
+        × IsStep AreBackwardPartsToCome
+        (RefusesSplit (RefusesCut S.refuses S.refuses_empty S.refuses_side) Backward) s r t };
 
     ghost remaining = { λ s. at_most (most_parts s) };
 

@@ -5,7 +5,7 @@ ghost use Rattle.std.specs.Iterator.{at_most};
 ghost use Rattle.std.specs.Option.{option_map_or};
 ghost use Rattle.std.specs.Str.{chars, NoCharPasses};
 ghost use Rattle.bytes_utils.specs.Ends.{RefusesCut};
-ghost use Rattle.bytes_utils.specs.Step.{IsStep};
+ghost use Rattle.bytes_utils.specs.Step.{IsStep, LeavesEnd};
 ghost use Rattle.bytes_utils.specs.Words.{AreWordsToCome, HoldsSpaceAfterWord, HoldsSpaceBetweenWords, RefusesWord, ends_word, words};
 
 mod graphic;
@@ -114,7 +114,7 @@ fn cut_word<S: Storage>(text: StrInner<S>, start: usize, end: usize) -> Result<C
     Ok((word, rest))
 }
 
-/// Takes the first word off `rest`.
+/// Takes the first word off `rest`, and leaves what is after it, if anything.
 #[inline(always)]
 fn next_word<W: WhiteSpace, S: Storage>(
     rest: &mut Option<StrInner<S>>,
@@ -122,6 +122,7 @@ fn next_word<W: WhiteSpace, S: Storage>(
     ensures step { IsStep (AreWordsToCome W.is_space)
         (RefusesWord (RefusesCut S.refuses S.refuses_empty S.refuses_side) W.is_space)
         rest.old result rest.new }
+    ensures leaves { LeavesEnd rest.old rest.new }
     ensures shorter { OnSome result
         (option_map_or length rest.new 0 < option_map_or length rest.old 0) }
 {
@@ -131,8 +132,8 @@ fn next_word<W: WhiteSpace, S: Storage>(
 }
 
 /// An iterator over the words of a text between characters with Unicode's property White_Space,
-/// first to last, as `str::split_whitespace` has them. If a split is refused, the error is the last
-/// item.
+/// first to last, as `str::split_whitespace` has them. What a step leaves is an end of the text. If
+/// a split is refused, the error is the last item.
 #[derive(Drop)]
 pub struct SplitWhitespaceBytes<S: Storage> {
     rest: Option<StrInner<S>>,
@@ -147,7 +148,8 @@ impl<S: Storage> Model for SplitWhitespaceBytes<S> {
 }
 
 /// An iterator over the words of a text between ASCII white space, first to last, as
-/// `str::split_ascii_whitespace` has them. If a split is refused, the error is the last item.
+/// `str::split_ascii_whitespace` has them. What a step leaves is an end of the text. If a split is
+/// refused, the error is the last item.
 #[derive(Drop)]
 pub struct SplitAsciiWhitespaceBytes<S: Storage> {
     rest: Option<StrInner<S>>,
@@ -184,7 +186,7 @@ impl<S: Storage> StrInner<S> {
 impl<S: Storage> Iterator for SplitWhitespaceBytes<S> {
     type Item = Result<StrInner<S>, Reason>;
 
-    ghost next_gives = { λ s r t. IsStep (AreWordsToCome is_whitespace)
+    ghost next_gives = { λ s r t. LeavesEnd s t × IsStep (AreWordsToCome is_whitespace)
         (RefusesWord (RefusesCut S.refuses S.refuses_empty S.refuses_side) is_whitespace) s r t };
 
     ghost remaining = { λ s. at_most (option_map_or length s 0) };
@@ -198,7 +200,7 @@ impl<S: Storage> Iterator for SplitWhitespaceBytes<S> {
 impl<S: Storage> Iterator for SplitAsciiWhitespaceBytes<S> {
     type Item = Result<StrInner<S>, Reason>;
 
-    ghost next_gives = { λ s r t. IsStep (AreWordsToCome is_ascii_whitespace)
+    ghost next_gives = { λ s r t. LeavesEnd s t × IsStep (AreWordsToCome is_ascii_whitespace)
         (RefusesWord (RefusesCut S.refuses S.refuses_empty S.refuses_side) is_ascii_whitespace)
         s r t };
 

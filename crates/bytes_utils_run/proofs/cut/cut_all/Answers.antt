@@ -1,14 +1,11 @@
-use Rattle.std.proofs.Common.{arith, map, subst, sym, ◌≡◌, ◌≤◌, vec_capacity, vec_len}
+use Rattle.std.proofs.Common.{arith, map, subst, sym}
 use Rattle.std.proofs.lemmas.List.{length-map}
 use Rattle.std.specs.Str.{chars}
-use Rattle.bytes_utils_buf.specs.declared.refused.Reason.TheVariants.{OutOfMemory}
-use Rattle.bytes_utils.specs.Ends.{RefusesCut}
 use Rattle.bytes_utils.specs.Outcome.{Outcome}
 use Rattle.bytes_utils_run.specs.Cutting.{ArePartsBy, cutting}
-use Rattle.bytes_utils_run.proofs.AnySplitterLemmas.{MayRefuseTextAfter-result}
 use Rattle.bytes_utils_run.proofs.Counts.{length-outcome}
 use Rattle.bytes_utils_run.proofs.Joining.{outcome_joins}
-use Rattle.bytes_utils_run.proofs.OutcomeLemmas.{Outcome-right}
+use Rattle.bytes_utils_run.proofs.OutcomeLemmas.{IfSome-error, Outcome-right}
 use Rattle.bytes_utils_run.proofs.cut.cut_all.Goals as goal
 
 pub returns-clause-outcome : goal.returns-clause-outcome
@@ -26,7 +23,4 @@ returns-clause-joined g c = outcome_joins _ _ _ _ (returns-clause-outcome g c)
 -- the state after the given parts may refuse a step, or the list is full
 pub returns-clause-cause : goal.returns-clause-cause
 returns-clause-cause g c =
-    MayRefuseTextAfter-result _ _ (RefusesCut g.S.Storage.refuses g.S.Storage.refuses_empty g.S.Storage.refuses_side) c.args.how c.args.text
-    (map chars c.gather_cut.new.given.items)
-    (λ reason. (reason ≡ OutOfMemory) × (vec_capacity c.gather_cut.new.given ≤ vec_len c.gather_cut.new.given))
-    c.new-splitter.result c.new-splitter.ensures.value c.gather_cut.result _ c.err-refused.ensures.value c.gather_cut.ensures.cause
+    rw (← c.new-splitter.ensures.value) (IfSome-error _ c.gather_cut.result _ c.err-refused.ensures.value c.gather_cut.ensures.cause)

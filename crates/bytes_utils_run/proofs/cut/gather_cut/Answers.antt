@@ -1,11 +1,15 @@
 use Rattle.std.proofs.Common.{inl, sym, ap, ◌∙◌, subst, [], ◌∷◌, ◌++◌, ◌<◌, List, ℕ, length, map}
+use Rattle.std.proofs.lemmas.List.{map-append}
 use Rattle.std.specs.Str.{chars}
-use Rattle.bytes_utils.specs.Ends.{RefusesCut}
-use Rattle.bytes_utils.proofs.StepLemmas.{StepsHaveGiven-pushed, StepsHaveGiven-refused, StepsHaveGiven-dropped}
+use Rattle.bytes_utils.proofs.StepLemmas.{StepsHaveGiven-refused, StepsHaveGiven-dropped}
 use Rattle.bytes_utils_run.specs.AnySplitter.{AreToCome}
-use Rattle.bytes_utils_run.proofs.AnySplitterLemmas.{IsOfKind-trans, MayRefuseAfter-now}
+use Rattle.bytes_utils_run.proofs.AnySplitterLemmas.{HasGiven-none, HasGiven-more}
 use Rattle.bytes_utils_run.proofs.OutcomeLemmas.{IfErr-same, Outcome-refused}
 use Rattle.bytes_utils_run.proofs.cut.gather_cut.Goals as goal
+
+pub loop-item-init : goal.loop-item-init
+loop-item-init g c =
+    HasGiven-none c.args.splitter.now c.requires.some (ap (map chars) c.requires.empty) (ap (λ s. s.now) c.into_iter-item-iterator.ensures.into_iter_gives)
 
 -- a split was refused: the parts that were to come are missing
 pub returns-in_err-part-clause-outcome : goal.returns-in_err-part-clause-outcome
@@ -18,20 +22,13 @@ returns-in_err-part-clause-outcome g c =
 pub returns-in_err-part-clause-cause : goal.returns-in_err-part-clause-cause
 returns-in_err-part-clause-cause g c =
     let step = rw c.in_err-part.was at c.in-Some.ensures.steps.1 in
-    let before = c.loop-item.invariant in
-    IfErr-same c.from_residual.result c.in_err-part.field-0.0 _ c.from_residual.ensures.1
-    (inl (MayRefuseAfter-now (RefusesCut g.S.Storage.refuses g.S.Storage.refuses_empty g.S.Storage.refuses_side)
-    (map chars c.loop-item.given.items) c.in_err-part.field-0.0 _ _ before.kind before.had step.gives.0))
+    IfErr-same c.from_residual.result c.in_err-part.field-0.0 _ c.from_residual.ensures.1 (inl (_, c.loop-item.invariant, step.gives.0))
 
 pub loop-item-preserved : goal.loop-item-preserved
 loop-item-preserved g c =
-    let before = c.loop-item.invariant in
     let step = rw c.in_ok-part.was at c.in-Some.ensures.steps.1 in
     let items = c.in_ok-push.ensures.items ∙ ap (λ given. given ++ c.in_ok-part.part ∷ []) c.in_ok-reserve.ensures.items in
-    record {
-      had = StepsHaveGiven-pushed AreToCome c.args.splitter.now chars _ _ c.in_ok-part.part before.had step.gives items;
-      kind = IsOfKind-trans _ _ _ before.kind c.in-Some.ensures.steps.0;
-    }
+    rw (items, map-append) (HasGiven-more c.args.splitter.now (chars c.in_ok-part.part) c.loop-item.invariant c.in-Some.ensures.steps.0 step.gives)
 
 -- memory for a part was refused: that part and those after it are missing
 pub returns-in_err-reserve-clause-outcome : goal.returns-in_err-reserve-clause-outcome

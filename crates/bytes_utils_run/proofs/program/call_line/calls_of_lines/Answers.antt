@@ -9,11 +9,11 @@ loop-line-init c =
 
 pub loop-line-preserved : goal.loop-line-preserved
 loop-line-preserved c =
-    let gives = given c.in-Ok.is c.in-Some.ensures.steps in
+    let gives = given c.in-Ok.is c.in-Some.ensures.steps.1 in
     let pushed : c.push.new.self.items ≡ c.loop-line.calls.items ++ c.in_ok-call.call ∷ [] = search rules in
     HasRead-more _ _ _ _ _ c.in_ok-call.call _ c.loop-line.invariant gives c.in_ok-call.ensures.ok pushed
 
 pub returns-in_err-call-clause-unknown : goal.returns-in_err-call-clause-unknown
 returns-in_err-call-clause-unknown c is =
-    let gives = given c.in-Ok.is c.in-Some.ensures.steps in
+    let gives = given c.in-Ok.is c.in-Some.ensures.steps.1 in
     no-calls-read _ _ _ _ _ c.loop-line.invariant gives (c.in_err-call.ensures.unknown (search rules))

@@ -2,22 +2,20 @@ use Rattle.std.proofs.Common.{List, [], ◌∷◌, ◌++◌, ℕ, map, refl, sym
 use Rattle.std.proofs.KnownBytes.{Appends-nil}
 use Rattle.std.specs.List.{concat}
 use Rattle.std.specs.Str.{chars}
-use Rattle.bytes_utils.specs.Ends.{RefusesCut}
-use Rattle.bytes_utils.proofs.StepLemmas.{StepsHaveGiven-none, StepsHaveGiven-more, StepsHaveGiven-refused}
-use Rattle.bytes_utils_run.specs.AnySplitter.{AreToCome, IsOfKind}
+use Rattle.bytes_utils.proofs.StepLemmas.{StepsHaveGiven-refused}
+use Rattle.bytes_utils_run.specs.AnySplitter.{AreToCome}
 use Rattle.bytes_utils_run.specs.AppendsAndConsumes.{AppendsBeginning}
 use Rattle.bytes_utils_run.specs.Printed.{printed_part}
 use Rattle.bytes_utils_buf.proofs.Results.{OnErr-always}
-use Rattle.bytes_utils_run.proofs.AnySplitterLemmas.{IsOfKind-self, IsOfKind-trans, MayRefuseAfter-now}
+use Rattle.bytes_utils_run.proofs.AnySplitterLemmas.{HasGiven-none, HasGiven-more}
 use Rattle.bytes_utils_run.proofs.PrintedLemmas.{print_after, print_begun_after}
 use Rattle.bytes_utils_run.proofs.program.print.print_parts.Goals as goal
 
 pub loop-item-init : goal.loop-item-init
 loop-item-init g c = record {
   parts = [];
-  had = StepsHaveGiven-none AreToCome c.args.splitter.now c.requires refl (ap (λ s. s.now) c.into_iter-item-iterator.ensures.into_iter_gives);
+  given = HasGiven-none c.args.splitter.now c.requires refl (ap (λ s. s.now) c.into_iter-item-iterator.ensures.into_iter_gives);
   none = λ none. subst (λ s. AreToCome s []) (sym (ap (λ s. s.now) c.into_iter-item-iterator.ensures.into_iter_gives)) none;
-  kind = subst (IsOfKind c.args.splitter.now) (sym (ap (λ s. s.now) c.into_iter-item-iterator.ensures.into_iter_gives)) (IsOfKind-self c.args.splitter.now);
   printed = Appends-nil _;
 }
 
@@ -27,8 +25,8 @@ returns-in-Err-clause-ok g c =
     let before = c.loop-item.invariant in
     let step = rw c.in-Err.is at c.in-Some.ensures.steps.1 in (
       before.parts,
-      StepsHaveGiven-refused AreToCome c.args.splitter.now before.had step.some,
-      MayRefuseAfter-now (RefusesCut g.S.Storage.refuses g.S.Storage.refuses_empty g.S.Storage.refuses_side) before.parts c.in-Err.reason _ _ before.kind before.had step.gives.0,
+      StepsHaveGiven-refused AreToCome c.args.splitter.now before.given.had step.some,
+      (_, before.given, step.gives.0),
       before.printed,
     )
 
@@ -42,7 +40,7 @@ returns-in_err-print-in-Ok-clause-err g c =
     let begun : (parts : List (List ℕ)) × AreToCome c.args.splitter.now parts
     × AppendsBeginning (g.W.Write.contents c.args.writer.now) (g.W.Write.contents c.print.new.writer) (concat (map printed_part parts)) = (
       before.parts ++ part ∷ others.0,
-      before.had.each (part ∷ others.0) (step.gives.each others.0 others.1),
+      before.given.had.each (part ∷ others.0) (step.gives.each others.0 others.1),
       print_begun_after printed_part before.parts part others.0 _ _ _ before.printed c.in_err-print-in-Ok.ensures.err,
     ) in
     OnErr-always _ _ begun
@@ -59,8 +57,7 @@ loop-item-preserved g c =
     let step = rw c.in-Ok.is at c.in-Some.ensures.steps.1 in
     record {
       parts = before.parts ++ part ∷ [];
-      had = StepsHaveGiven-more AreToCome c.args.splitter.now part before.had step.gives;
+      given = HasGiven-more c.args.splitter.now part before.given c.in-Some.ensures.steps.0 step.gives;
       none = λ none. absurd (step.some (before.none none));
-      kind = IsOfKind-trans _ _ _ before.kind c.in-Some.ensures.steps.0;
       printed = print_after printed_part before.parts part _ _ _ before.printed c.in_ok-print-in-Ok.ensures.ok;
     }

@@ -1,8 +1,7 @@
 use Rattle.std.proofs.Common.{ℕ, List, [], map}
 use Rattle.std.specs.Io.KnownBytes.{Appends}
 use Rattle.std.specs.List.{concat}
-use Rattle.bytes_utils.specs.Step.{StepsHaveGiven}
-use Rattle.bytes_utils_run.specs.AnySplitter.{AreToCome, IsOfKind}
+use Rattle.bytes_utils_run.specs.AnySplitter.{AreToCome, HasGiven}
 use Rattle.bytes_utils_run.specs.Printed.{printed_part}
 use Rattle.bytes_utils_run.proofs.program.print.print_parts.Given as goal
 
@@ -10,8 +9,7 @@ use Rattle.bytes_utils_run.proofs.program.print.print_parts.Given as goal
 abbrev pub invariant-loop-item : goal.invariant-loop-item
 invariant-loop-item g l = record {
   parts : List (List ℕ);
-  had : StepsHaveGiven AreToCome l.fn.splitter parts l.item-iterator;
+  given : HasGiven l.fn.splitter parts l.item-iterator;
   none : AreToCome l.fn.splitter [] → AreToCome l.item-iterator [];
-  kind : IsOfKind l.fn.splitter l.item-iterator;
   printed : Appends (g.W.Write.contents l.initial.writer) (g.W.Write.contents l.writer) (concat (map printed_part parts));
 }
