@@ -1,4 +1,4 @@
-use Rattle.std.proofs.Common.{◌≢◌, ◌<◌, ◌+◌, ◌-◌, rules, refl, arith, length, length-drop, length-take, drop}
+use Rattle.std.proofs.Common.{◌≡◌, ◌≢◌, ◌<◌, ◌∙◌, ◌+◌, ◌-◌, rules, refl, ap, arith, length, length-drop, length-take, drop}
 use Rattle.std.proofs.lemmas.Bool.{false≢true}
 use Rattle.std.proofs.lemmas.Result.{err_from_is_err_and}
 use Rattle.std.specs.List.{concat, slice_range}
@@ -38,4 +38,6 @@ returns-clause-item c =
     let comma = rw c.as_segmented-pieces.ensures at c.holds_at.ensures in
     let takes = whole_text c.args.self.max_length held c.in-Some.start c.in-Some.len begins (comma.0 c.if-not-holds_at.false).1 in
     let text = rw c.as_segmented-pieces.ensures at c.in_ok-text.ensures.value in
-    (search rules, rw (text, c.advance.ensures.bytes) takes)
+    let left : concat c.advance.new.self.held.segments ≡ drop (c.in-Some.start + c.in-Some.len + 1) held =
+    c.advance.ensures.bytes ∙ ap (λ n. drop n held) (omega arith) in
+    (search rules, rw (text, left) takes)
