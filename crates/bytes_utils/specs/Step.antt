@@ -27,7 +27,7 @@ IsStepOf seen coming refuses s r t = MatchOption r (coming s [] × coming t []) 
 abbrev pub IsStep : {S E : Type 0} → (S → List (List ℕ) → Type 0) → (S → E → Type 0) → S → Option (Result (List ℕ) E) → S → Type 0
 IsStep coming refuses s r t = IsStepOf chars coming refuses s r t
 
--- The states s and t are what is still to be split, if anything: what is left in t, if anything, ends what was left in s.
+-- Here a state is what is still to be split, if anything. What is left in t, if anything, is an end of what is left in s.
 abbrev pub LeavesEnd : Option (List ℕ) → Option (List ℕ) → Type 0
 LeavesEnd s t = IfSome t (λ rest. IsSomeAnd s (EndsWith rest))
 

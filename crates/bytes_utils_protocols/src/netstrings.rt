@@ -94,7 +94,7 @@ impl Netstrings {
         Ok(Some(text))
     }
 
-    /// Returns where the next text begins, and its length, or `None` if no colon has come yet.
+    /// Returns where the next text begins, and its length, or `None` if more bytes have to come.
     fn front(self, held: &PackedBuf) -> Result<Option<(usize, usize)>, NetstringError>
         ensures within { IfOk result (λ next. IfSome next
             (λ text. text.0 ≤ length (concat held.now.held.segments))) }

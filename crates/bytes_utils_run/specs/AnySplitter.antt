@@ -43,8 +43,8 @@ splitter_of (AtEachFromBack separator) text = RSplit (all_of text separator.now 
 splitter_of (AtMostFromBack most separator) text = RSplit (all_of text separator.now (Some most))
 splitter_of (AfterEach separator) text = Inclusive (record { rest = Some text; separator = separator.now })
 
--- The second splitter may come of steps of the first. It is of the same kind; of words and lines it has an end left, and
--- from the back it has the same separator.
+-- Steps of the first splitter may lead to the second. It is of the same kind. Of words and lines, what it has left is an
+-- end of what the first had left; from the back it has the same separator.
 abbrev pub GoesOnTo : {S C : Type 0} → AnySplitter S C → AnySplitter S C → Type 0
 GoesOnTo (Words left) s = (rest : Option (List ℕ)) × (s ≡ Words rest) × LeavesEnd left rest
 GoesOnTo (AsciiWords left) s = (rest : Option (List ℕ)) × (s ≡ AsciiWords rest) × LeavesEnd left rest

@@ -263,7 +263,7 @@ fn little_endian_number(bytes: &[u8]) -> u64
 }
 
 /// Takes the first `end` bytes, and returns those from `start` on. Fails with `OutOfMemory` if memory
-/// is refused, never for none; then nothing has changed.
+/// is refused, never if there are none to return; then the held bytes are the same.
 fn take_from(alloc: Global, held: &mut PackedBuf, start: usize, end: usize) -> Result<Bytes, Reason>
     requires { (start ≤ end) × (end ≤ length (concat held.old.held.segments)) }
     ensures bytes { IfOk result

@@ -13,7 +13,7 @@ use std::marker::Model;
 /// Lines of data, joined.
 #[derive(Drop)]
 pub(super) enum Data {
-    /// One line, which shares its bytes, or the text of more lines once it was taken.
+    /// One line, which shares its bytes; or the joined text of more lines, put back after a refusal.
     One(Str),
     More(JoinedLines),
 }
