@@ -306,7 +306,7 @@ impl<'a, B: ContiguousBuf + Drop> Cursor<'a, B> {
         let Some(len) = self.find(b"\n") else {
             return Ok(None);
         };
-        let line_len = len_without_return(self.buf, self.at, self.at + len);
+        let line_len = line_len_between(self.buf, self.at, self.at + len);
         let line = self.take_bytes(line_len)?;
         self.advance(len - line_len + 1);
         Ok(Some(text_of_line(line)))
@@ -346,7 +346,7 @@ impl<'a, B: ContiguousBuf + Drop> Cursor<'a, B> {
 
 /// The number of the bytes from `start` to `end` without one carriage return at their end, if they
 /// have one.
-fn len_without_return<B: ContiguousBuf + Drop>(
+fn line_len_between<B: ContiguousBuf + Drop>(
     buf: &SegmentedBuf<B>,
     start: usize,
     end: usize,

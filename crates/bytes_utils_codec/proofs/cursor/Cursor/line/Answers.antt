@@ -11,13 +11,13 @@ pub returns-clause-gives : goal.returns-clause-gives
 returns-clause-gives g c =
     let old = c.args.self.now in
     let len = c.in-Some.len in
-    let line_len = c.len_without_return-line_len.result in
+    let line_len = c.line_len_between-line_len.result in
     let is = c.advance.ensures ∙ ap (passed_on (len - line_len + 1)) c.in_ok-line.ensures.passed in
     let q = c.self.inside in
     let same : q.at + len - q.at ≡ len = omega arith in
-    let few : line_len ≤ len = omega (arith, c.len_without_return-line_len.ensures.within) in
+    let few : line_len ≤ len = omega (arith, c.line_len_between-line_len.ensures.within) in
     let without = subst (λ (r : CursorReading). IsWithoutReturn (take line_len (unread r)) (take len (unread r))) c.self.view_is
-    (rw same at c.len_without_return-line_len.ensures.line) in
+    (rw same at c.line_len_between-line_len.ensures.line) in
     let takes = TakesStreamLine-passed old len line_len c.advance.new.self few c.in-Some.ensures.within c.in-Some.ensures.found without is in
     record {
       bytes = (take line_len (unread old), takes, subst (IsTextLineItem false c.text_of_line.result) c.in_ok-line.ensures.bytes c.text_of_line.ensures);
@@ -30,13 +30,13 @@ pub returns-in_err-line-clause-due : goal.returns-in_err-line-clause-due
 returns-in_err-line-clause-due g c =
     let old = c.args.self.now in
     let len = c.in-Some.len in
-    let line_len = c.len_without_return-line_len.result in
+    let line_len = c.line_len_between-line_len.result in
     let new = passed_on (len - line_len + 1) (passed_on line_len old) in
     let q = c.self.inside in
     let same : q.at + len - q.at ≡ len = omega arith in
-    let few : line_len ≤ len = omega (arith, c.len_without_return-line_len.ensures.within) in
+    let few : line_len ≤ len = omega (arith, c.line_len_between-line_len.ensures.within) in
     let without = subst (λ (r : CursorReading). IsWithoutReturn (take line_len (unread r)) (take len (unread r))) c.self.view_is
-    (rw same at c.len_without_return-line_len.ensures.line) in
+    (rw same at c.line_len_between-line_len.ensures.line) in
     let takes = TakesStreamLine-passed old len line_len new few c.in-Some.ensures.within c.in-Some.ensures.found without refl in
     let some : 0 < line_len = ⊎_elim (λ more. more) (λ none. absurd (false≢true (c.in_err-line.ensures.none (omega (arith, none))))) (cases_lt 0 line_len) in
     let bound : line_len ≤ length (unread old) = omega (arith, few, c.in-Some.ensures.within) in
