@@ -6,7 +6,7 @@ from pathlib import Path
 
 sys.path.append(os.path.dirname(os.path.dirname(os.path.realpath(__file__))))
 from programs import ROOT, source
-from kit import C_CODE, CLANG, PROCESSORS, QUIET, TRY, each, tried, turn, written
+from kit import C_CODE, CLANG, QUIET, TRY, each, tried, turn, written
 from table import Rung, said
 
 CRATES = ["bytes_utils_buf", "bytes_utils", "bytes_utils_codec", "bytes_utils_protocols"]
@@ -20,16 +20,15 @@ ARM = re.compile(r'^ +"(\w+)" .*=> \w+::climb\(.*\n', re.M)
 
 
 def rungs(cases, crates=f"{ROOT}/crates", only=""):
-    """Builds the program unproved, over its own heap and the crates in a folder, and runs it on the cases, on each
-    processor for some of its modules: the rungs of each call, or of those of one module. It also refuses request after
-    request of each call: what was tried, each with what is wrong with it."""
+    """Builds the program unproved, over its own heap and the crates in a folder, and runs it on the cases, its modules
+    side by side: the rungs of each call, or of those of one module. It also refuses request after request of each call:
+    what was tried, each with what is wrong with it."""
     found, refused = defaultdict(list), []
     with tempfile.TemporaryDirectory(prefix="ladder-") as room:
         folder = source("ladder/ours", room)
         modules = [only] if only else ARM.findall(Path(folder, "src/main.rt").read_text("utf-8"))
         fault = built(room, folder, modules, crates)
-        parts = [modules[it::PROCESSORS] for it in range(PROCESSORS)]
-        commands = [["timeout", "300", f"{room}/ladder", ",".join(it), *map(str, chain(*cases))] for it in parts if it]
+        commands = [["timeout", "300", f"{room}/ladder", it, *map(str, chain(*cases))] for it in modules]
         ended = [] if fault else each(ran, commands)
     for status, wrote in ended:
         texts = wrote.split("a rung\n")[1:]
