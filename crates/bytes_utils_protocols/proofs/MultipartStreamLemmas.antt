@@ -139,7 +139,10 @@ module _ (d held : List ℕ) (len : ℕ) (some : 0 < length d) where
   pub none_in_front : (¬ Occurs d held) → ¬ Occurs d (take len held)
   none_in_front none occurs = none (occurs.0, in_all occurs.0 occurs.1)
 
-  module _ (at : ℕ) (first : OccursFirstAt d held at) where
+  module _ (at : ℕ) (within : at + length d ≤ length held) (found : OccursFirstAt d held (length (take at held))) where
+    first : OccursFirstAt d held at
+    first = subst (OccursFirstAt d held) (length-take-le at held (omega (arith, within))) found
+
     -- nor if the first one ends after them
     pub late_in_front : len < at + length d → ¬ Occurs d (take len held)
     late_in_front late occurs =

@@ -1,7 +1,5 @@
-use Rattle.std.proofs.Common.{arith, subst}
-use Rattle.std.proofs.lemmas.List.{length-take-le}
+use Rattle.std.proofs.Common.{arith}
 use Rattle.std.specs.List.{concat}
-use Rattle.bytes_utils.specs.Occurrence.{OccursFirstAt}
 use Rattle.bytes_utils_protocols.proofs.MultipartStreamLemmas.{first_in_front, late_in_front, none_in_front}
 use Rattle.bytes_utils_protocols.proofs.multipart.waiting.Waiting.find_before.Goals as goal
 
@@ -17,8 +15,7 @@ returns-then-saturating_sub-needle-clause-none c =
     let at = c.in-Some.at in
     let frame = rw c.as_segmented.ensures at c.in-Some.ensures.frame in
     let within = rw c.as_segmented.ensures at c.in-Some.ensures.within in
-    let first = subst (OccursFirstAt needle held) (length-take-le at held (omega (arith, within))) frame.first in
-    rw (← c.self.view_is) (late_in_front needle held c.args.len c.requires.some at first (omega (arith, c.if-saturating_sub-needle.true, c.saturating_sub.ensures)))
+    rw (← c.self.view_is) (late_in_front needle held c.args.len c.requires.some at within frame.first (omega (arith, c.if-saturating_sub-needle.true, c.saturating_sub.ensures)))
 
 pub returns-clause-frame : goal.returns-clause-frame
 returns-clause-frame c =
@@ -27,6 +24,5 @@ returns-clause-frame c =
     let at = c.in-Some.at in
     let frame = rw c.as_segmented.ensures at c.in-Some.ensures.frame in
     let within = rw c.as_segmented.ensures at c.in-Some.ensures.within in
-    let first = subst (OccursFirstAt needle held) (length-take-le at held (omega (arith, within))) frame.first in
     let come = rw (← c.self.view_is) at c.requires.come in
-    rw (← c.self.view_is) (first_in_front needle held c.args.len c.requires.some at first come (omega (arith, c.if-saturating_sub-needle.false, c.saturating_sub.ensures, c.requires.some)))
+    rw (← c.self.view_is) (first_in_front needle held c.args.len c.requires.some at within frame.first come (omega (arith, c.if-saturating_sub-needle.false, c.saturating_sub.ensures, c.requires.some)))
