@@ -5,10 +5,10 @@ use Rattle.std.proofs.lemmas.Str.{encodes-append, encodes-chars}
 use Rattle.std.specs.Bool.{OnTrue}
 use Rattle.std.specs.Option.{option_map, option_map_or}
 use Rattle.std.specs.Str.{chars, encode_utf8_all as encodes}
-use Rattle.bytes_utils.specs.Indices.{Indexing, indexed, AreIndexedPartsToCome, RefusesIndexed, index_and_chars}
+use Rattle.bytes_utils.specs.Indices.{Indexing, indexed, AreIndexedPartsToCome, index_and_chars}
 use Rattle.bytes_utils.specs.Occurrence.{OccursAt}
 use Rattle.bytes_utils.specs.Parts.{join, ArePartsFromFront}
-use Rattle.bytes_utils.specs.Splitting.{Splitting, splitting, AreForwardPartsToCome, ArePartsToCome, RefusesSplit, most_parts}
+use Rattle.bytes_utils.specs.Splitting.{Splitting, splitting, AreForwardPartsToCome, ArePartsToCome, most_parts}
 use Rattle.bytes_utils.specs.Step.{StepGivesFirst, StepGivesItem, IsStepOf}
 use Rattle.bytes_utils.specs.declared.split.direction.Direction.{Direction}
 use Rattle.bytes_utils.specs.declared.split.direction.Direction.TheVariants.{Forward}
@@ -104,21 +104,23 @@ measured_after None separator begun at size left is empty left_is within at_is =
 measured_after (Some r) separator begun at size left is empty left_is within at_is = (is, omega (arith, left_is, within, at_is), empty)
 
 -- a step that gives an item gives it with its place
-module _ {E : Type 0} (refuses_cut : Type 0 → E → Type 0) (from : Direction) (forward : from ≡ Forward) (s t : Indexing) (item : Result (List ℕ) E)
-    (gives : StepGivesItem chars (ArePartsToCome from) (RefusesSplit refuses_cut from) s.parts item t.parts) where
-  forward_item : (it : Result (List ℕ) E) → item ≡ it → StepGivesItem chars AreForwardPartsToCome (RefusesSplit refuses_cut Forward) s.parts it t.parts
+module _ {E : Type 0} (refuses : Direction → Splitting → E → Type 0) (from : Direction) (forward : from ≡ Forward) (s t : Indexing) (item : Result (List ℕ) E)
+    (gives : StepGivesItem chars (ArePartsToCome from) (refuses from) s.parts item t.parts) where
+  abbrev IsIndexedStep : Option (Result (ℕ × List ℕ) E) → Type 0
+  IsIndexedStep r = IsStepOf index_and_chars AreIndexedPartsToCome (λ i. refuses Forward i.parts) s r t
+
+  forward_item : (it : Result (List ℕ) E) → item ≡ it → StepGivesItem chars AreForwardPartsToCome (refuses Forward) s.parts it t.parts
   forward_item it is = grind arith
 
   pub ok_indexed : (size at : ℕ) (part : List ℕ) → t.parts.separator ≡ s.parts.separator → IsMeasured size s → IsMeasured size t → item ≡ Ok part → at ≡ s.at
-      → (r : Option (Result (ℕ × List ℕ) E)) → r ≡ Some (Ok (at, part)) → IsStepOf index_and_chars AreIndexedPartsToCome (RefusesIndexed refuses_cut) s r t
+      → (r : Option (Result (ℕ × List ℕ) E)) → r ≡ Some (Ok (at, part)) → IsIndexedStep r
   ok_indexed size at part same is also part_is at_is r r_is =
       let step = forward_item (Ok part) part_is in
-      let found : IsStepOf index_and_chars AreIndexedPartsToCome (RefusesIndexed refuses_cut) s (Some (Ok (s.at, part))) t =
+      let found : IsIndexedStep (Some (Ok (s.at, part))) =
       record { some = some_indexed s step.some; gives = gives_indexed s t size (chars part) same is also step.gives } in
-      subst (λ o. IsStepOf index_and_chars AreIndexedPartsToCome (RefusesIndexed refuses_cut) s o t) (ap (λ a. Some (Ok (a, part))) (sym at_is) ∙ sym r_is) found
+      subst IsIndexedStep (ap (λ a. Some (Ok (a, part))) (sym at_is) ∙ sym r_is) found
 
-  pub err_indexed : (reason : E) → item ≡ Err reason → (r : Option (Result (ℕ × List ℕ) E)) → r ≡ Some (Err reason)
-      → IsStepOf index_and_chars AreIndexedPartsToCome (RefusesIndexed refuses_cut) s r t
+  pub err_indexed : (reason : E) → item ≡ Err reason → (r : Option (Result (ℕ × List ℕ) E)) → r ≡ Some (Err reason) → IsIndexedStep r
   err_indexed reason reason_is r r_is = grind (arith, forward_item, none_indexed, some_indexed)
 
 -- each of the parts of a text occurs in it at its place

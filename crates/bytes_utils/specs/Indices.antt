@@ -20,8 +20,8 @@ abbrev pub AreIndexedPartsToCome : Indexing → List (ℕ × List ℕ) → Type 
 AreIndexedPartsToCome s items = (parts : List (List ℕ)) × AreForwardPartsToCome s.parts parts × (items ≡ indexed s.parts.separator s.at parts)
 
 -- the reasons for which the next step may be refused, those of the step without places
-abbrev pub RefusesIndexed : {E : Type 0} → (Type 0 → E → Type 0) → Indexing → E → Type 0
-RefusesIndexed refuses_cut s = RefusesSplit refuses_cut Forward s.parts
+abbrev pub RefusesIndexed : {E : Type 0} → (E → Type 0) → (E → Type 0) → (E → Type 0) → Indexing → E → Type 0
+RefusesIndexed refuses refuses_empty refuses_side s = RefusesSplit refuses refuses_empty refuses_side Forward s.parts
 
 -- an item as its place and the characters of its part
 abbrev pub index_and_chars : ℕ × List ℕ → ℕ × List ℕ

@@ -19,9 +19,9 @@ abbrev pub CutsAfterNext : Keeping → Type 0
 CutsAfterNext s = IsSomeAnd s.rest
     (λ text. Occurs (chars s.separator) (chars text) × (¬ PartEndsAtFirst (chars s.separator) (chars text)))
 
--- the reasons for which the next step may be refused: those of a cut, which is at no end of what is left
-abbrev pub RefusesInclusive : {E : Type 0} → (Type 0 → E → Type 0) → Keeping → E → Type 0
-RefusesInclusive refuses_cut s reason = CutsAfterNext s × refuses_cut ⊥ reason
+-- the reasons for which the next step may be refused: those of a split, which is at no end of what is left
+abbrev pub RefusesInclusive : {E : Type 0} → (E → Type 0) → Keeping → E → Type 0
+RefusesInclusive refuses s reason = CutsAfterNext s × refuses reason
 
 -- a bound on the number of parts to come: the bytes left, since no part is empty
 abbrev pub most_inclusive_parts : Keeping → ℕ

@@ -4,6 +4,7 @@
 use Rattle.std.specs.Prelude.{◌≡◌, ◌≢◌, ◌⊎◌, ℕ, List, [], ◌∷◌, ◌++◌, ◌==◌, ◌&&◌, if◌then◌else◌, nat_eq, Option, MatchOption, IsSomeAnd}
 use Rattle.std.specs.List.{starts_with}
 use Rattle.std.specs.Str.{chars}
+use Rattle.bytes_utils.specs.Ends.{RefusesCut}
 use Rattle.bytes_utils.specs.Occurrence.{Occurs}
 
 -- the codes of a line feed and a carriage return
@@ -49,5 +50,6 @@ abbrev pub HoldsLineFeed : Option (List ℕ) → Type 0
 HoldsLineFeed rest = IsSomeAnd rest (λ text. Occurs (line_feed ∷ []) (chars text))
 
 -- the reasons for which the next step may be refused: those of a cut, at the end if nothing follows the first line feed
-abbrev pub RefusesLine : {E : Type 0} → (Type 0 → E → Type 0) → Option (List ℕ) → E → Type 0
-RefusesLine refuses_cut rest reason = HoldsLineFeed rest × refuses_cut (IsSomeAnd rest (λ text. text_after_line (chars text) ≡ [])) reason
+abbrev pub RefusesLine : {E : Type 0} → (E → Type 0) → (E → Type 0) → (E → Type 0) → Option (List ℕ) → E → Type 0
+RefusesLine refuses refuses_empty refuses_side rest reason = HoldsLineFeed rest
+    × RefusesCut refuses refuses_empty refuses_side (IsSomeAnd rest (λ text. text_after_line (chars text) ≡ [])) reason

@@ -3,7 +3,7 @@ use Rattle.std.specs.Prelude.{◌≡◌, ◌⊎◌, ℕ, suc, ◌+◌, ◌-◌, 
 use Rattle.std.specs.Bool.{MatchBool, OnTrue}
 use Rattle.std.specs.Option.{option_map, option_map_or}
 use Rattle.std.specs.Str.{chars}
-use Rattle.bytes_utils.specs.Ends.{EndsWith}
+use Rattle.bytes_utils.specs.Ends.{EndsWith, RefusesCut}
 use Rattle.bytes_utils.specs.Halves.{AreHalvesAtFirst}
 use Rattle.bytes_utils.specs.Occurrence.{Occurs}
 use Rattle.bytes_utils.specs.Parts.{ArePartsFromFront, ArePartsFromBack}
@@ -74,9 +74,16 @@ SeparatorEnds Backward separator text = EndsWith separator text
 abbrev pub CutsAtEnd : Direction → List ℕ → Bool → List ℕ → Type 0
 CutsAtEnd end separator begun text = ((length separator ≡ 0) × OnTrue begun (length (chars text) ≤ 1)) ⊎ ((0 < length separator) × SeparatorEnds end separator text)
 
--- the reasons for which the next step from this end may be refused: those of its cut, if it splits the storage
-abbrev pub RefusesSplit : {E : Type 0} → (Type 0 → E → Type 0) → Direction → Splitting → E → Type 0
-RefusesSplit refuses_cut end s reason = SplitsNext s × refuses_cut (IsSomeAnd s.rest (CutsAtEnd end s.separator s.begun)) reason
+-- the next part is the first one by the empty separator: it is empty, and one split at an end takes it
+abbrev pub GivesEmptyFirst : List ℕ → Bool → Type 0
+GivesEmptyFirst separator begun = (length separator ≡ 0) × (begun ≡ false)
+
+-- the reasons for which the next step from this end may be refused, if it splits the storage: those of its cut, and for
+-- the first part by the empty separator only those of a split at an end
+abbrev pub RefusesSplit : {E : Type 0} → (E → Type 0) → (E → Type 0) → (E → Type 0) → Direction → Splitting → E → Type 0
+RefusesSplit refuses refuses_empty refuses_side end s reason = SplitsNext s
+    × RefusesCut refuses refuses_empty refuses_side (IsSomeAnd s.rest (CutsAtEnd end s.separator s.begun)) reason
+    × (GivesEmptyFirst s.separator s.begun → refuses_empty reason)
 
 -- a bound on the number of parts to come
 abbrev pub most_parts : Splitting → ℕ

@@ -30,7 +30,8 @@ HoldsSpaceBetweenWords is_space rest = IsSomeAnd rest (λ text. (i : ℕ) × (i 
 abbrev pub HoldsSpaceAfterWord : (ℕ → Bool) → List ℕ → Type 0
 HoldsSpaceAfterWord is_space t = (before : List ℕ) × (c : ℕ) × (following : List ℕ) × (before ++ c ∷ following ≡ t) × IsTrue (is_space c) × (words is_space before ≢ [])
 
--- the reasons for which the next step may be refused: those of a cut, at an end if no white space comes after a word
-abbrev pub RefusesWord : {E : Type 0} → (Type 0 → E → Type 0) → (ℕ → Bool) → Option (List ℕ) → E → Type 0
-RefusesWord refuses_cut is_space rest reason =
-    HoldsSpaceBetweenWords is_space rest × refuses_cut (IsSomeAnd rest (λ text. ¬ HoldsSpaceAfterWord is_space (chars text))) reason
+-- the reasons for which the next step may be refused: those of a cut, and only those of one side alone if no white space
+-- comes after a word, since the step then makes no split
+abbrev pub RefusesWord : {E : Type 0} → (E → Type 0) → (E → Type 0) → (ℕ → Bool) → Option (List ℕ) → E → Type 0
+RefusesWord refuses refuses_side is_space rest reason = HoldsSpaceBetweenWords is_space rest × refuses reason
+    × (IsSomeAnd rest (λ text. ¬ HoldsSpaceAfterWord is_space (chars text)) → refuses_side reason)

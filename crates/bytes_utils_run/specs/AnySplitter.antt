@@ -24,13 +24,13 @@ AreToCome (RSplit s) = AreBackwardPartsToCome s
 AreToCome (Inclusive s) = AreInclusivePartsToCome s
 
 -- the reasons for which the next step may be refused
-abbrev pub RefusesNext : {S C E : Type 0} → (Type 0 → E → Type 0) → AnySplitter S C → E → Type 0
-RefusesNext refuses_cut (Words rest) = RefusesWord refuses_cut is_whitespace rest
-RefusesNext refuses_cut (AsciiWords rest) = RefusesWord refuses_cut is_ascii_whitespace rest
-RefusesNext refuses_cut (Lines rest) = RefusesLine refuses_cut rest
-RefusesNext refuses_cut (Split s) = RefusesSplit refuses_cut Forward s
-RefusesNext refuses_cut (RSplit s) = RefusesSplit refuses_cut Backward s
-RefusesNext refuses_cut (Inclusive s) = RefusesInclusive refuses_cut s
+abbrev pub RefusesNext : {S C E : Type 0} → (E → Type 0) → (E → Type 0) → (E → Type 0) → AnySplitter S C → E → Type 0
+RefusesNext refuses refuses_empty refuses_side (Words rest) = RefusesWord refuses refuses_side is_whitespace rest
+RefusesNext refuses refuses_empty refuses_side (AsciiWords rest) = RefusesWord refuses refuses_side is_ascii_whitespace rest
+RefusesNext refuses refuses_empty refuses_side (Lines rest) = RefusesLine refuses refuses_empty refuses_side rest
+RefusesNext refuses refuses_empty refuses_side (Split s) = RefusesSplit refuses refuses_empty refuses_side Forward s
+RefusesNext refuses refuses_empty refuses_side (RSplit s) = RefusesSplit refuses refuses_empty refuses_side Backward s
+RefusesNext refuses refuses_empty refuses_side (Inclusive s) = RefusesInclusive refuses s
 
 -- the splitter of a text, in bytes, for a way to split
 abbrev pub splitter_of : {S C : Type 0} → How → List ℕ → AnySplitter S C
@@ -60,8 +60,10 @@ pub record HasGiven {S C : Type 0} (start : AnySplitter S C) (parts : List (List
   pub first : parts ≡ [] → now ≡ start
 
 -- after these parts a step may be refused for this reason
-abbrev pub MayRefuseAfter : {S C E : Type 0} → (Type 0 → E → Type 0) → AnySplitter S C → List (List ℕ) → E → Type 0
-MayRefuseAfter {S} {C} refuses_cut start parts reason = (last : AnySplitter S C) × HasGiven start parts last × RefusesNext refuses_cut last reason
+abbrev pub MayRefuseAfter : {S C E : Type 0} → (E → Type 0) → (E → Type 0) → (E → Type 0) → AnySplitter S C → List (List ℕ) → E
+    → Type 0
+MayRefuseAfter {S} {C} refuses refuses_empty refuses_side start parts reason =
+    (last : AnySplitter S C) × HasGiven start parts last × RefusesNext refuses refuses_empty refuses_side last reason
 
 -- a bound on the number of parts to come
 abbrev pub most_to_come : {S C : Type 0} → AnySplitter S C → ℕ

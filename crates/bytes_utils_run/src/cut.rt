@@ -2,7 +2,6 @@
 ghost use Rattle.std.specs.Prelude.{◌≡◌, ◌+◌, ◌≤◌, ◌⊎◌, ℕ, List, [], IfErr, IfNone, IfSome, length, map, vec_capacity, vec_len};
 ghost use Rattle.std.specs.Result.{result_err};
 ghost use Rattle.std.specs.Str.{chars};
-ghost use Rattle.bytes_utils.specs.Ends.{RefusesCut};
 ghost use Rattle.bytes_utils.specs.Outcome.{Outcome};
 ghost use Rattle.bytes_utils_run.specs.AnySplitter.{AreToCome, MayRefuseAfter, splitter_of};
 ghost use Rattle.bytes_utils_run.specs.Cutting.{ArePartsBy, JoinTo, cutting, IsCuttingAllowed};
@@ -33,7 +32,7 @@ fn gather_cut<S: Storage>(
     ensures reason { IfErr result
         (λ reason. S.refuses reason ⊎ (reason ≡ Reason.OutOfMemory)) }
     ensures cause { IfErr result (λ reason.
-        MayRefuseAfter (RefusesCut S.refuses S.refuses_empty S.refuses_side)
+        MayRefuseAfter S.refuses S.refuses_empty S.refuses_side
         splitter.old (map chars given.new.items) reason
         ⊎ ((reason ≡ Reason.OutOfMemory) × (vec_capacity given.new ≤ vec_len given.new))) }
 {
@@ -61,7 +60,7 @@ pub fn cut_all<S: Storage>(alloc: Global, text: StrInner<S>, how: How<'_>) -> Pa
         (λ reason. S.refuses reason ⊎ (reason ≡ Reason.OutOfMemory)) }
     // After the given parts a split may be refused for it, or the list is full.
     ensures cause { IfSome result.refused (λ reason.
-        MayRefuseAfter (RefusesCut S.refuses S.refuses_empty S.refuses_side)
+        MayRefuseAfter S.refuses S.refuses_empty S.refuses_side
         (splitter_of {S = S} {C = S.Creator} how.entry text) (map chars result.given.items) reason
         ⊎ ((reason ≡ Reason.OutOfMemory) × (vec_capacity result.given ≤ vec_len result.given))) }
 {

@@ -2,7 +2,6 @@
 ghost use Rattle.std.specs.Prelude.{◌≡◌, ℕ, List};
 ghost use Rattle.std.specs.Iterator.{at_most};
 ghost use Rattle.std.specs.Str.{chars};
-ghost use Rattle.bytes_utils.specs.Ends.{RefusesCut};
 ghost use Rattle.bytes_utils.specs.Step.{IsStep};
 ghost use Rattle.bytes_utils_run.specs.AnySplitter.{AreToCome, GoesOnTo, RefusesNext, most_to_come, splitter_of};
 ghost use Rattle.bytes_utils_run.specs.Cutting.{ArePartsBy, cutting, IsCuttingAllowed};
@@ -65,7 +64,7 @@ impl<'s, S: Storage> Iterator for AnySplitter<'s, S> {
     type Item = Result<StrInner<S>, Reason>;
 
     ghost next_gives = { λ s r t. GoesOnTo s t × IsStep AreToCome
-        (RefusesNext (RefusesCut S.refuses S.refuses_empty S.refuses_side)) s r t };
+        (RefusesNext S.refuses S.refuses_empty S.refuses_side) s r t };
 
     ghost remaining = { λ s. at_most (most_to_come s) };
 

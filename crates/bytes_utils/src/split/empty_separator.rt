@@ -97,6 +97,7 @@ pub(super) fn cut_by_empty_separator<S: Storage>(
     ensures err { OnErr result (OnTrue begun (0 < length text)) }
     ensures ends { OnTrue begun (length (chars text) ≤ 1)
         → IfErr result (RefusesAtEnd S.refuses_empty S.refuses_side) }
+    ensures first { begun ≡ false → IfErr result S.refuses_empty }
     ensures reason { IfErr result S.refuses }
 {
     if !begun {

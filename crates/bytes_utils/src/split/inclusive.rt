@@ -2,7 +2,6 @@
 ghost use Rattle.std.specs.Prelude.{◌≡◌, ◌<◌, ℕ, List, Some, length, IfOk, IfErr, OnErr, IfSome};
 ghost use Rattle.std.specs.Iterator.{at_most};
 ghost use Rattle.std.specs.Str.{chars};
-ghost use Rattle.bytes_utils.specs.Ends.{RefusesCut};
 ghost use Rattle.bytes_utils.specs.Keeping.{AreInclusivePartsToCome, CutsAfterNext, RefusesInclusive};
 ghost use Rattle.bytes_utils.specs.Keeping.{most_inclusive_parts};
 ghost use Rattle.bytes_utils.specs.Step.{StepGivesFirst, IsStep};
@@ -76,8 +75,7 @@ impl<'s, S: Storage> Iterator for SplitInclusiveBytes<'s, S> {
     type Item = Result<StrInner<S>, Reason>;
 
     ghost next_gives = { λ s r t. (t.separator ≡ s.separator)
-        × IsStep AreInclusivePartsToCome
-        (RefusesInclusive (RefusesCut S.refuses S.refuses_empty S.refuses_side)) s r t };
+        × IsStep AreInclusivePartsToCome (RefusesInclusive S.refuses) s r t };
 
     ghost remaining = { λ s. at_most (most_inclusive_parts s) };
 

@@ -1,7 +1,6 @@
 //! The parts of a text between separators, each with the byte place at which it begins.
 ghost use Rattle.std.specs.Prelude.{◌≡◌};
 ghost use Rattle.std.specs.Iterator.{at_most};
-ghost use Rattle.bytes_utils.specs.Ends.{RefusesCut};
 ghost use Rattle.bytes_utils.specs.Indices.{AreIndexedPartsToCome, RefusesIndexed, index_and_chars};
 ghost use Rattle.bytes_utils.specs.Splitting.{most_parts};
 ghost use Rattle.bytes_utils.specs.Step.{IsStepOf};
@@ -57,7 +56,7 @@ impl<'s, S: Storage> Iterator for SplitIndicesBytes<'s, S> {
     type Item = Result<(usize, StrInner<S>), Reason>;
 
     ghost next_gives = { IsStepOf index_and_chars AreIndexedPartsToCome
-        (RefusesIndexed (RefusesCut S.refuses S.refuses_empty S.refuses_side)) };
+        (RefusesIndexed S.refuses S.refuses_empty S.refuses_side) };
 
     ghost remaining = { λ s. at_most (most_parts s.parts) };
 

@@ -3,7 +3,7 @@ ghost use Rattle.std.specs.Prelude.{◌≡◌, ◌<◌, ℕ, List, [], ◌∷◌
 ghost use Rattle.std.specs.Iterator.{at_most};
 ghost use Rattle.std.specs.Option.{option_map_or};
 ghost use Rattle.std.specs.Str.{chars};
-ghost use Rattle.bytes_utils.specs.Ends.{RefusesAtEnd, RefusesCut};
+ghost use Rattle.bytes_utils.specs.Ends.{RefusesAtEnd};
 ghost use Rattle.bytes_utils.specs.Lines.{AreLinesToCome, HoldsLineFeed, RefusesLine, lines, text_after_line};
 ghost use Rattle.bytes_utils.specs.Step.{StepGivesFirst, IsStep, LeavesEnd};
 
@@ -96,7 +96,7 @@ impl<S: Storage> Iterator for LinesBytes<S> {
     type Item = Result<StrInner<S>, Reason>;
 
     ghost next_gives = { λ s r t. LeavesEnd s t × IsStep AreLinesToCome
-        (RefusesLine (RefusesCut S.refuses S.refuses_empty S.refuses_side)) s r t };
+        (RefusesLine S.refuses S.refuses_empty S.refuses_side) s r t };
 
     ghost remaining = { λ s. at_most (option_map_or length s 0) };
 

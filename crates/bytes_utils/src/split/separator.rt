@@ -1,7 +1,6 @@
 //! The splitters by a separator, from either end, with or without a limit.
 ghost use Rattle.std.specs.Prelude.{◌≡◌, ℕ, List, None, Some};
 ghost use Rattle.std.specs.Iterator.{at_most};
-ghost use Rattle.bytes_utils.specs.Ends.{RefusesCut};
 ghost use Rattle.bytes_utils.specs.Splitting.{AreForwardPartsToCome, AreBackwardPartsToCome};
 ghost use Rattle.bytes_utils.specs.Splitting.{RefusesSplit, all_of, most_parts};
 ghost use Rattle.bytes_utils.specs.Step.{IsStep};
@@ -76,7 +75,7 @@ impl<'s, S: Storage> Iterator for SplitBytes<'s, S> {
     type Item = Result<StrInner<S>, Reason>;
 
     ghost next_gives = { IsStep AreForwardPartsToCome
-        (RefusesSplit (RefusesCut S.refuses S.refuses_empty S.refuses_side) Forward) };
+        (RefusesSplit S.refuses S.refuses_empty S.refuses_side Forward) };
 
     ghost remaining = { λ s. at_most (most_parts s) };
 
@@ -137,7 +136,7 @@ impl<'s, S: Storage> Iterator for RSplitBytes<'s, S> {
 
     ghost next_gives = { λ s r t. (t.separator ≡ s.separator)
         × IsStep AreBackwardPartsToCome
-        (RefusesSplit (RefusesCut S.refuses S.refuses_empty S.refuses_side) Backward) s r t };
+        (RefusesSplit S.refuses S.refuses_empty S.refuses_side Backward) s r t };
 
     ghost remaining = { λ s. at_most (most_parts s) };
 

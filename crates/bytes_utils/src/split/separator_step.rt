@@ -3,10 +3,10 @@ ghost use Rattle.std.specs.Prelude.{◌≡◌, ◌≢◌, ◌<◌, ◌==◌, ℕ
 ghost use Rattle.std.specs.Bool.{OnTrue};
 ghost use Rattle.std.specs.Option.{option_map_or};
 ghost use Rattle.std.specs.Str.{chars};
-ghost use Rattle.bytes_utils.specs.Ends.{RefusesAtEnd, RefusesCut};
+ghost use Rattle.bytes_utils.specs.Ends.{RefusesAtEnd};
 ghost use Rattle.bytes_utils.specs.Occurrence.{Occurs};
 ghost use Rattle.bytes_utils.specs.SeparatorSearch.{end_of, needle_of};
-ghost use Rattle.bytes_utils.specs.Splitting.{ArePartsToCome, AreForwardPartsToCome, AreBackwardPartsToCome, CutsAtEnd, RefusesSplit, SeparatorEnds, LeavesMoreToSplit, limit_after_split, most_parts, splitting, all_of};
+ghost use Rattle.bytes_utils.specs.Splitting.{ArePartsToCome, AreForwardPartsToCome, AreBackwardPartsToCome, CutsAtEnd, GivesEmptyFirst, RefusesSplit, SeparatorEnds, LeavesMoreToSplit, limit_after_split, most_parts, splitting, all_of};
 ghost use Rattle.bytes_utils.specs.Step.{StepGivesFirst, IsStep};
 ghost use Rattle.bytes_utils.specs.declared.split.direction.Direction.TheVariants.{Forward, Backward};
 
@@ -95,6 +95,7 @@ fn cut_separated<S: Storage>(
     ensures more { OnErr result (OnTrue begun (0 < length text)) }
     ensures ends { CutsAtEnd (end_of search.now) separator.now begun text
         → IfErr result (RefusesAtEnd S.refuses_empty S.refuses_side) }
+    ensures first { GivesEmptyFirst separator.now begun → IfErr result S.refuses_empty }
     ensures reason { IfErr result S.refuses }
 {
     if separator.is_empty() {
@@ -131,6 +132,7 @@ fn next_separated_part<S: Storage>(
     ensures more { OnErr result (OnTrue begun (0 < length text)) }
     ensures ends { CutsAtEnd (end_of search.now) separator.now begun text
         → IfErr result (RefusesAtEnd S.refuses_empty S.refuses_side) }
+    ensures first { GivesEmptyFirst separator.now begun → IfErr result S.refuses_empty }
     ensures reason { IfErr result S.refuses }
     ensures limit { OnErr result (LeavesMoreToSplit limit) }
 {
@@ -216,7 +218,7 @@ impl<'s, S: Storage> SeparatedText<'s, S> {
     #[inline(always)]
     pub(super) fn next(&mut self) -> Option<Result<StrInner<S>, Reason>>
         ensures step { IsStep (ArePartsToCome self.old.end)
-            (RefusesSplit (RefusesCut S.refuses S.refuses_empty S.refuses_side) self.old.end)
+            (RefusesSplit S.refuses S.refuses_empty S.refuses_side self.old.end)
             self.old.state result self.new.state }
         ensures none { result ≡ None → self.new.state ≡ self.old.state }
         ensures separator { self.new.state.separator ≡ self.old.state.separator }

@@ -4,7 +4,6 @@ ghost use Rattle.std.specs.Char.{IsAsciiGraphic, is_ascii_whitespace, is_whitesp
 ghost use Rattle.std.specs.Iterator.{at_most};
 ghost use Rattle.std.specs.Option.{option_map_or};
 ghost use Rattle.std.specs.Str.{chars, NoCharPasses};
-ghost use Rattle.bytes_utils.specs.Ends.{RefusesCut};
 ghost use Rattle.bytes_utils.specs.Step.{IsStep, LeavesEnd};
 ghost use Rattle.bytes_utils.specs.Words.{AreWordsToCome, HoldsSpaceAfterWord, HoldsSpaceBetweenWords, RefusesWord, ends_word, words};
 
@@ -120,7 +119,7 @@ fn next_word<W: WhiteSpace, S: Storage>(
     rest: &mut Option<StrInner<S>>,
 ) -> Option<Result<StrInner<S>, Reason>>
     ensures step { IsStep (AreWordsToCome W.is_space)
-        (RefusesWord (RefusesCut S.refuses S.refuses_empty S.refuses_side) W.is_space)
+        (RefusesWord S.refuses S.refuses_side W.is_space)
         rest.old result rest.new }
     ensures leaves { LeavesEnd rest.old rest.new }
     ensures shorter { OnSome result
@@ -187,7 +186,7 @@ impl<S: Storage> Iterator for SplitWhitespaceBytes<S> {
     type Item = Result<StrInner<S>, Reason>;
 
     ghost next_gives = { λ s r t. LeavesEnd s t × IsStep (AreWordsToCome is_whitespace)
-        (RefusesWord (RefusesCut S.refuses S.refuses_empty S.refuses_side) is_whitespace) s r t };
+        (RefusesWord S.refuses S.refuses_side is_whitespace) s r t };
 
     ghost remaining = { λ s. at_most (option_map_or length s 0) };
 
@@ -201,8 +200,7 @@ impl<S: Storage> Iterator for SplitAsciiWhitespaceBytes<S> {
     type Item = Result<StrInner<S>, Reason>;
 
     ghost next_gives = { λ s r t. LeavesEnd s t × IsStep (AreWordsToCome is_ascii_whitespace)
-        (RefusesWord (RefusesCut S.refuses S.refuses_empty S.refuses_side) is_ascii_whitespace)
-        s r t };
+        (RefusesWord S.refuses S.refuses_side is_ascii_whitespace) s r t };
 
     ghost remaining = { λ s. at_most (option_map_or length s 0) };
 

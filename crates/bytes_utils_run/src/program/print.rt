@@ -3,7 +3,6 @@ ghost use Rattle.std.specs.Prelude.{◌≡◌, ◌⊎◌, ℕ, List, [], None, S
 ghost use Rattle.std.specs.Io.KnownBytes.{Appends};
 ghost use Rattle.std.specs.List.{concat};
 ghost use Rattle.std.specs.Str.{chars};
-ghost use Rattle.bytes_utils.specs.Ends.{RefusesCut};
 ghost use Rattle.bytes_utils.specs.Outcome.{Outcome};
 ghost use Rattle.bytes_utils_buf.specs.declared.refused.Reason.{Reason as WhyRefused};
 ghost use Rattle.bytes_utils_run.specs.Answer.{HasParts, PrintsBeginning, PrintsGiven};
@@ -106,7 +105,7 @@ pub fn print_parts<S: Storage, W: Write>(
     requires { (parts : List (List ℕ)) × AreToCome splitter.now parts }
     ensures ok { IfOk result (λ refused. (parts : List (List ℕ))
         × Outcome (AreToCome splitter.old) parts refused
-        × IfSome refused (MayRefuseAfter (RefusesCut S.refuses S.refuses_empty S.refuses_side) splitter.old parts)
+        × IfSome refused (MayRefuseAfter S.refuses S.refuses_empty S.refuses_side splitter.old parts)
         × Appends (W.contents writer.old) (W.contents writer.new)
         (concat (map printed_part parts))) }
     ensures err { OnErr result ((parts : List (List ℕ)) × AreToCome splitter.old parts

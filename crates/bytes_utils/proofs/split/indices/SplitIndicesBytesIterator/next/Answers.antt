@@ -1,5 +1,5 @@
-use Rattle.bytes_utils.specs.Ends.{RefusesCut}
 use Rattle.bytes_utils.specs.Indices.{Indexing}
+use Rattle.bytes_utils.specs.Splitting.{RefusesSplit}
 use Rattle.bytes_utils.proofs.IndicesLemmas.{IsMeasured, step_within, measured_after, ok_indexed, err_indexed}
 use Rattle.bytes_utils.proofs.split.indices.SplitIndicesBytesIterator.next.Goals.{in-Ok, in-Err}
 use Rattle.bytes_utils.proofs.split.indices.SplitIndicesBytesIterator.next.Goals as goal
@@ -15,9 +15,10 @@ returns-clause-steps g c =
       rest = measured_after following.parts.rest following.parts.separator following.parts.begun following.at c.self.inside.total c.left.result c.left.ensures.utf8 c.left.ensures.begun c.left.ensures.value within
           c.replace-at.ensures.after;
     } in
+    let refuses = RefusesSplit g.S.Storage.refuses g.S.Storage.refuses_empty g.S.Storage.refuses_side in
     rw (← c.self.view_is) (elim c.match-part.branch [
-      | in-Ok w ↦ ok_indexed (RefusesCut g.S.Storage.refuses g.S.Storage.refuses_empty g.S.Storage.refuses_side) c.self.inside.parts.end c.self.invariant.0 before following c.in_ok-part.part c.in_ok-part.ensures.step c.self.inside.total
+      | in-Ok w ↦ ok_indexed refuses c.self.inside.parts.end c.self.invariant.0 before following c.in_ok-part.part c.in_ok-part.ensures.step c.self.inside.total
           c.replace-at.result w.in-Ok.part c.next.ensures.separator is also w.in-Ok.is c.replace-at.ensures.value c.match-part.result w.result-is
-      | in-Err w ↦ err_indexed (RefusesCut g.S.Storage.refuses g.S.Storage.refuses_empty g.S.Storage.refuses_side) c.self.inside.parts.end c.self.invariant.0 before following c.in_ok-part.part c.in_ok-part.ensures.step w.in-Err.reason
+      | in-Err w ↦ err_indexed refuses c.self.inside.parts.end c.self.invariant.0 before following c.in_ok-part.part c.in_ok-part.ensures.step w.in-Err.reason
           w.in-Err.is c.match-part.result w.result-is
     ])

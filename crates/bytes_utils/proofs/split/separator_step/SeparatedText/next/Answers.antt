@@ -8,5 +8,8 @@ returns-in-Err-clause-step g c =
     let not_zero : c.self.inside.limit ≢ Some 0 = search rules in
     record {
       some = rw (← c.self.view_is, rest_is) (some_to_come _ _ _ _ _ not_zero);
-      gives = ((search rules, (search rules, rw (← c.self.view_is, rest_is) c.in-Err.ensures.ends)), grind arith);
+      gives = (
+        (search rules, (search rules, rw (← c.self.view_is, rest_is) c.in-Err.ensures.ends), rw (← c.self.view_is) c.in-Err.ensures.first),
+        grind arith,
+      );
     }
