@@ -159,13 +159,15 @@ const LATER_BLOCKS: &str = "\
 10: push/11 x*1100 100, push/1 x*5000 102, advance x*1100 2 = blocks 4096 of 4096, 904 of 4096
 10000: push x*10001 1, push/1 x*5000 2, advance x*10001 1 = blocks 5000 of 8194";
 
-// A read takes as many bytes as there is room for, if that is for at least 512.
+// A read takes as many bytes as there is room for, if that is for at least 512, or for as many as were
+// set before, whatever was called since.
 const READ_BLOCKS: &str = "\
 512: reads x*10000 3 = blocks 4096 of 4096, 4096 of 4096, 1808 of 4096
 512: read/1 x*5000 2 = blocks 3585 of 4096, 1415 of 4096
 512: read/1000 x*5000 2 = blocks 4000 of 4096, 1000 of 4096
 512: wide x*9000 1, wide x*10500 1 = blocks 19500 of 20000
-512: read x*9 1, wide y*10 1, wide x*9000 1 = blocks 9019 of 20018";
+512: read x*9 1, wide y*10 1, wide x*9000 1 = blocks 9019 of 20018
+512: wide x*9 1, push x*600 2, copy y*5 3, take x*9 2, split x*600 1, advance y*5 0, read x*9000 1";
 
 // A short rest of a block moves to the next one.
 const MOVED: &str = "512: push/1 x*4096 1, take x*3900 1, copy y*500 1";
